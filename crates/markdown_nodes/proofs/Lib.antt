@@ -1,0 +1,4 @@
+pub mod Spellings
+pub mod Unique
+pub mod Joining
+pub mod Views
