@@ -1,0 +1,179 @@
+-- What the run over a list of events says of the list.
+use Rattle.std.proofs.Common.{◌≡◌, ◌≢◌, inl, inr, ℕ, ◌-◌, Bool, true, false, ◌&&◌, List, [], ◌∷◌, ◌++◌, length, Option, Some, Result, Ok, Err, arith, refl, sym, ap, ◌∙◌}
+use Rattle.std.specs.Prelude.{slice_get}
+use Rattle.std.proofs.lemmas.List.{append-nil}
+use Rattle.markdown_nodes.specs.declared.event.Event.{Event}
+use Rattle.markdown_nodes.specs.declared.event.Name.{Name}
+use Rattle.markdown_nodes.specs.declared.event.Point.{Point}
+use Rattle.markdown_nodes.specs.declared.mdast.Node.TheVariants as nodes
+use Rattle.markdown_nodes.specs.declared.mdast.Root.{Root as RootNode}
+use Rattle.markdown_nodes.specs.declared.unist.Position.{Position}
+use Rattle.markdown_nodes.specs.Forest.{Forest, empty, span, spell, enter, exit, has_right_shape}
+use Rattle.markdown_nodes.specs.Slices.{between}
+use Rattle.markdown_nodes.specs.Tree.{Tree, Trees, root}
+use Rattle.markdown_nodes.specs.View.{views}
+use Rattle.markdown_nodes.proofs.Views.{view-Root}
+use Rattle.markdown_tree.specs.declared.builder.Holder.TheVariants.{Root}
+use Rattle.markdown_tree.specs.declared.refusal.Refusal.TheVariants.{Unbalanced}
+use Rattle.markdown_tree.specs.Accepted.{Accepted, accepted}
+use Rattle.markdown_tree.specs.Correct.{IsMeaning, IsRefused, extent_between, extent_of}
+use Rattle.markdown_tree.specs.Grammar.{fits}
+use Rattle.markdown_tree.specs.Items.{items}
+use Rattle.markdown_tree.specs.Machine.{Rejection, Holds, fresh, in_the_open, State, opening, run, ◌>>=◌}
+use Rattle.markdown_tree.specs.Meaning.{extent, last_end}
+use Rattle.markdown_tree.specs.Nodes.{nodes as nodes_of_items}
+use Rattle.markdown_tree.specs.Source.{Source}
+use Rattle.markdown_tree.proofs.Eval.{eval, eval-walk}
+use Rattle.markdown_tree.proofs.Runs.{over, at, spelled, bind_ok, ok_is, done}
+use Rattle.markdown_tree.proofs.Shape.{shaped-is, and-left, and-right, and-both}
+use Rattle.markdown_tree.proofs.Stops.{stopped, never_unbalanced, err_clash}
+use Rattle.markdown_tree.proofs.Walk.{ok, when, walk, walk-is, behind}
+
+-- ---- The evaluator and the grammar, in one equation
+
+abbrev pub start : Holds
+start = fresh Root
+
+when-when : {A : Type 0} (a b : Bool) (o : Option A) → when a (when b o) ≡ when (a && b) o
+when-when true b o = refl
+when-when false b o = refl
+
+pub eval-is : (s : Source) (f : Forest) → ok (eval s in_the_open f start) ≡ when (accepted s f) (Some (behind s start (items f)))
+eval-is s f =
+    eval-walk s in_the_open f start
+    ∙ (λ t. when (shaped-is f t) (walk s start (items f)))
+    ∙ ap (when (has_right_shape f)) (walk-is s start (items f))
+    ∙ when-when (has_right_shape f) (fits s Root (items f)) (Some (behind s start (items f)))
+
+some_is : {A : Type 0} (x y : A) → ◌≡◌ {A = Option A} (Some x) (Some y) → x ≡ y
+some_is x y e = cc
+
+ok-inv : {A : Type 0} (r : Result A Rejection) (x : A) → ok r ≡ Some x → r ≡ Ok x
+ok-inv (Ok y) x e = ap done (some_is y x e)
+ok-inv (Err m) x e = absurd cc
+
+when-inv : {A : Type 0} (b : Bool) (x y : A) → when b (Some x) ≡ Some y → (b ≡ true) × (x ≡ y)
+when-inv true x y e = (refl, some_is x y e)
+when-inv false x y e = absurd cc
+
+is-accepted : (s : Source) (f : Forest) → Accepted s f → accepted s f ≡ true
+is-accepted s f a = and-both (has_right_shape f) (fits s Root (items f)) a.shape a.items_fit
+
+-- the run over the spelling of a forest, and nothing else
+pub over-all : (s : Source) (f : Forest) → run s (spell f) opening ≡ (eval s in_the_open f start >>= λ t. done (at [] in_the_open t))
+unfolding run
+over-all s f = ap (λ (es : List Event). run s es opening) (sym (append-nil (spell f))) ∙ over s f [] [] in_the_open start
+
+-- an accepted forest runs to its nodes
+accepted-runs : (s : Source) (f : Forest) → Accepted s f → run s (spell f) opening ≡ Ok (at [] in_the_open (behind s start (items f)))
+accepted-runs s f a =
+    over-all s f
+    ∙ ap (λ (r : Result Holds Rejection). r >>= λ t. done (at [] in_the_open t))
+    (ok-inv (eval s in_the_open f start) (behind s start (items f)) (eval-is s f ∙ ap (λ b. when b (Some (behind s start (items f)))) (is-accepted s f a)))
+
+-- ---- A run that ends with no span open
+
+pub record Ran (s : Source) (es : List Event) (st : State) : Type 0 where
+  pub forest : Forest
+  pub is_spelled : spell forest ≡ es
+  pub accepted : Accepted s forest
+  pub gives : st.top.nodes ≡ nodes_of_items s (items forest)
+
+pub ran : (s : Source) (es : List Event) (st : State) → run s es opening ≡ Ok st → st.frames ≡ [] → Ran s es st
+ran s es st h none_open =
+    let p = spelled s es in_the_open start st h none_open in
+    let f : Forest = p.0 in
+    let whole : (eval s in_the_open f start >>= λ t. done (at [] in_the_open t)) ≡ Ok st = sym (over-all s f) ∙ ap (λ (x : List Event). run s x opening) (sym p.1) ∙ h in
+    let e = bind_ok (eval s in_the_open f start) (λ t. done (at [] in_the_open t)) st whole in
+    let w = when-inv (accepted s f) (behind s start (items f)) e.0 (sym (eval-is s f) ∙ ap ok e.1) in
+    let st_is : at [] in_the_open (behind s start (items f)) ≡ st = ap (at [] in_the_open) w.1 ∙ ok_is (at [] in_the_open e.0) st e.2 in
+    record {
+      forest = f;
+      is_spelled = sym p.1;
+      accepted = record { shape = and-left (has_right_shape f) (fits s Root (items f)) w.0; items_fit = and-right (has_right_shape f) (fits s Root (items f)) w.0 };
+      gives = ap (λ (x : State). x.top.nodes) (sym st_is);
+    }
+
+-- ---- From the first event to the last
+
+last_or : Event → List Event → Event
+last_or e [] = e
+last_or e (d ∷ es) = last_or d es
+
+last_at : (e : Event) (es : List Event) → slice_get (e ∷ es) (length es) ≡ Some (last_or e es)
+unfolding last_or
+last_at e [] = refl
+last_at e (d ∷ es) = last_at d es
+
+last_after : (e d : Event) (es fs : List Event) → last_or e (es ++ (d ∷ fs)) ≡ last_or d fs
+unfolding last_or
+last_after e d [] fs = refl
+last_after e d (x ∷ es) fs = last_after x d es fs
+
+last_spelled : (n : Name) (p : Point) (f : Forest) → (last_or (exit n p) (spell f)).point ≡ last_end p f
+unfolding last_or
+last_spelled n p empty = refl
+last_spelled n p (span m a b c r) = ap (λ (x : Event). x.point) (last_after (enter m a) (exit m b) (spell c) (spell r)) ∙ last_spelled m b r
+
+pub extent-is : (f : Forest) → extent_of (spell f) ≡ extent f
+extent-is empty = refl
+extent-is (span n a b c r) =
+    let tail = spell c ++ (exit n b ∷ spell r) in
+    let first = enter n a in
+    let count : length (first ∷ tail) - 1 ≡ length tail = omega arith in
+    ap (λ (k : ℕ). extent_between (Some first) (slice_get (first ∷ tail) k)) count
+    ∙ ap (λ (o : Option Event). extent_between (Some first) o) (last_at first tail)
+    ∙ ap (between a) (ap (λ (x : Event). x.point) (last_after first (exit n b) (spell c) (spell r)) ∙ last_spelled n b r)
+
+-- the tree of a run that ended with no span open
+pub tree_is : (s : Source) (es : List Event) (st : State) (r : RootNode) → run s es opening ≡ Ok st → st.frames ≡ [] → views r.children.items ≡ st.top.nodes → r.position ≡ Some (extent_of es) → IsMeaning (nodes.Root r) es s
+tree_is s es st r h none_open children position =
+    let a = ran s es st h none_open in
+    let tree : Trees → Option Position → Tree = λ ts p. record { label = root; children = ts; position = p } in
+    record {
+      forest = a.forest;
+      spelled = a.is_spelled;
+      accepted = a.accepted;
+      is_meaning = view-Root r
+          ∙ ap (λ (ts : Trees). tree ts r.position) (children ∙ a.gives)
+          ∙ ap (tree (nodes_of_items s (items a.forest))) (position ∙ ap (λ (x : List Event). Some (extent_of x)) (sym a.is_spelled) ∙ ap (λ (p : Position). Some p) (extent-is a.forest));
+    }
+
+-- ---- A run that is refused
+
+pub run_refuses : (s : Source) (es : List Event) (why : Rejection) → run s es opening ≡ Err why → IsRefused why.refusal why.point es s
+run_refuses s es why h =
+    let stop = stopped s es opening why h in
+    record {
+      none_accepted = λ f e a. err_clash (run s es opening) (at [] in_the_open (behind s start (items f))) why (ap (λ (x : List Event). run s x opening) (sym e) ∙ accepted-runs s f a) h;
+      unbalanced = λ u f e. never_unbalanced s f why (sym (over-all s f) ∙ ap (λ (x : List Event). run s x opening) e ∙ h) u;
+      place = inl (record {
+        front = stop.front;
+        event = stop.event;
+        back = stop.back;
+        parts = stop.parts;
+        named = stop.named;
+        none_accepted = λ f others e a. err_clash (run s (stop.front ++ (stop.event ∷ others)) opening) (at [] in_the_open (behind s start (items f))) why
+            (ap (λ (x : List Event). run s x opening) (sym e) ∙ accepted-runs s f a) (stop.always others);
+      });
+    }
+
+ends_shut : (r : Result Holds Rejection) (st : State) → (r >>= λ t. done (at [] in_the_open t)) ≡ Ok st → st.frames ≡ []
+ends_shut (Ok t) st h = ap (λ (x : State). x.frames) (sym (ok_is (at [] in_the_open t) st h))
+ends_shut (Err k) st h = absurd cc
+
+last_part : (es : List Event) (e : Event) → slice_get es (length es - 1) ≡ Some e → (front : List Event) × (es ≡ front ++ (e ∷ []))
+last_part [] e h = absurd cc
+last_part (d ∷ []) e h = ([], ap (λ (x : Event). x ∷ []) (cc))
+last_part (d ∷ x ∷ es) e h =
+    let shorter : length (d ∷ x ∷ es) - 1 ≡ length (x ∷ es) = omega arith in
+    let same : length (x ∷ es) - 1 ≡ length es = omega arith in
+    let p = last_part (x ∷ es) e (ap (slice_get (x ∷ es)) same ∙ sym (ap (slice_get (d ∷ x ∷ es)) shorter) ∙ h) in
+    (d ∷ p.0, ap (λ (y : List Event). d ∷ y) p.1)
+
+-- a run that ends with spans open
+pub open_refuses : (s : Source) (es : List Event) (st : State) (last : Event) → run s es opening ≡ Ok st → st.frames ≢ [] → slice_get es (length es - 1) ≡ Some last → IsRefused Unbalanced last.point es s
+open_refuses s es st last h left_open at_last =
+    let p = last_part es last at_last in
+    let none : (f : Forest) → spell f ≡ es → ⊥ = λ f e. left_open (ends_shut (eval s in_the_open f start) st (sym (over-all s f) ∙ ap (λ (x : List Event). run s x opening) e ∙ h)) in
+    record { none_accepted = λ f e a. none f e; unbalanced = λ u f e. none f e; place = inr (record { front = p.0; event = last; parts = p.1; named = refl; unbalanced = refl }) }

@@ -1,0 +1,82 @@
+-- What the program's values are, and what is put at their end.
+use Rattle.std.proofs.Common.{◌≡◌, ℕ, false, List, [], ◌∷◌, ◌++◌, Option, map, reverse, refl, sym, ap, ◌∙◌}
+use Rattle.std.specs.Prelude.{string_bytes}
+use Rattle.std.proofs.lemmas.List.{map_push, reverse-append}
+use Rattle.markdown_nodes.specs.declared.mdast.Node.{Node}
+use Rattle.markdown_nodes.specs.declared.mdast.Node.TheVariants as nodes
+use Rattle.markdown_nodes.specs.declared.mdast.Text.{Text}
+use Rattle.markdown_nodes.specs.declared.unist.Position.{Position}
+use Rattle.markdown_nodes.specs.Tree.{Trees, Tree, Label, nothing, node, before, only, seam, join, text}
+use Rattle.markdown_nodes.specs.View.{view, views}
+use Rattle.markdown_nodes.proofs.Views.{view-Text}
+use Rattle.markdown_tree.specs.declared.builder.Frame.{Frame}
+use Rattle.markdown_tree.specs.Machine.{open_of, is_text, longer}
+use Rattle.markdown_tree.specs.Nodes.{text_tree}
+
+-- the stack after a push
+pub stack_push : (fs : List Frame) (f : Frame) → reverse (map open_of (fs ++ f ∷ [])) ≡ open_of f ∷ reverse (map open_of fs)
+stack_push fs f = ap reverse (map_push open_of fs f) ∙ reverse-append (map open_of fs) (open_of f ∷ [])
+
+-- nodes before trees
+onto : List Node → Trees → Trees
+onto [] others = others
+onto (n ∷ ns) others = before (view n) (onto ns others)
+
+views_then : (ns : List Node) (n : Node) → views (ns ++ n ∷ []) ≡ onto ns (only (view n))
+unfolding onto
+views_then [] n = refl
+views_then (m ∷ ns) n = ap (before (view m)) (views_then ns n)
+
+views_then_two : (ns : List Node) (n m : Node) → views ((ns ++ n ∷ []) ++ m ∷ []) ≡ onto ns (before (view n) (only (view m)))
+unfolding onto
+views_then_two [] n m = refl
+views_then_two (k ∷ ns) n m = ap (before (view k)) (views_then_two ns n m)
+
+-- only the last node meets what follows
+join_onto : (ns : List Node) (t : Tree) (others : Trees) → join (onto ns (only t)) others ≡ onto ns (seam t.label t.children t.position others)
+unfolding onto
+join_onto [] t others = refl
+join_onto (n ∷ []) t others = refl
+join_onto (n ∷ m ∷ ns) t others = ap (before (view n)) (join_onto (m ∷ ns) t others)
+
+-- a node that is no text meets nothing
+seam_first : (l : Label) (c : Trees) (p : Option Position) (others : Trees) → is_text l ≡ false → seam l c p others ≡ node l c p others
+seam_first (text v) c p others h = let z : ⊥ = cc in absurd z
+seam_first l c p others h = refl
+
+seam_second : (l m : Label) (c d : Trees) (p q : Option Position) (rest : Trees) → is_text m ≡ false → seam l c p (node m d q rest) ≡ node l c p (node m d q rest)
+seam_second (text v) (text w) c d p q rest h = let z : ⊥ = cc in absurd z
+seam_second (text v) m c d p q rest h = refl
+seam_second l m c d p q rest h = refl
+
+-- a node that is no text goes to the end
+pub views_put : (ns : List Node) (n : Node) → is_text (view n).label ≡ false → views (ns ++ n ∷ []) ≡ join (views ns) (only (view n))
+views_put [] n h = refl
+views_put (m ∷ []) n h = sym (seam_second (view m).label (view n).label (view m).children (view n).children (view m).position (view n).position nothing h)
+views_put (m ∷ k ∷ ns) n h = ap (before (view m)) (views_put (k ∷ ns) n h)
+
+-- a text goes on
+pub views_longer : (old rest new : List Node) (t : Text) (n : Node) (value : List ℕ) (p : Position)
+    → old ≡ rest ++ nodes.Text t ∷ [] → new ≡ rest ++ n ∷ [] → view n ≡ longer (string_bytes t.value) t.position value p → views new ≡ join (views old) (only (text_tree value p))
+views_longer old rest new t n value p was is made =
+    ap views is ∙ views_then rest n ∙ ap (λ (x : Tree). onto rest (only x)) made
+    ∙ sym (ap (λ (ns : List Node). join (views ns) (only (text_tree value p))) was
+    ∙ ap (λ (ts : Trees). join ts (only (text_tree value p))) (views_then rest (nodes.Text t) ∙ ap (λ (x : Tree). onto rest (only x)) (view-Text t))
+    ∙ join_onto rest (record { label = text (string_bytes t.value); children = nothing; position = t.position }) (only (text_tree value p)))
+
+-- a text begins behind a node that is none
+pub views_begun : (old rest mid new : List Node) (last n : Node) (t : Tree)
+    → old ≡ rest ++ last ∷ [] → mid ≡ rest ++ last ∷ [] → new ≡ mid ++ n ∷ [] → view n ≡ t → is_text (view last).label ≡ false → views new ≡ join (views old) (only t)
+views_begun old rest mid new last n t was kept is made none =
+    ap views (is ∙ ap (λ (ns : List Node). ns ++ n ∷ []) kept) ∙ views_then_two rest last n ∙ ap (λ (x : Tree). onto rest (before (view last) (only x))) made
+    ∙ sym (ap (λ (ns : List Node). join (views ns) (only t)) was
+    ∙ ap (λ (ts : Trees). join ts (only t)) (views_then rest last)
+    ∙ join_onto rest (view last) (only t)
+    ∙ ap (onto rest) (seam_first (view last).label (view last).children (view last).position (only t) none))
+
+-- what is not the variant is no text
+pub no_text : (n : Node) → ((t : Text) → n ≡ nodes.Text t → ⊥) → is_text (view n).label ≡ false
+unfolding view
+no_text (nodes.Root' _ row p) h = refl
+no_text (nodes.Paragraph' _ row p) h = refl
+no_text (nodes.Text t) h = absurd (h t refl)

@@ -1,0 +1,63 @@
+-- The steps over items alone: they are taken exactly where the items fit, and give the nodes of the items.
+use Rattle.std.proofs.Common.{◌≡◌, Bool, true, false, ◌&&◌, cond, List, [], ◌∷◌, Option, Some, None, Result, Ok, Err, refl, sym, ◌∙◌, ap}
+use Rattle.std.specs.Option.{option_and_then}
+use Rattle.markdown_nodes.specs.declared.event.Point.{Point}
+use Rattle.markdown_nodes.specs.Tree.{Trees, join}
+use Rattle.markdown_nodes.proofs.Joining.{join_assoc, join-nothing}
+use Rattle.markdown_tree.specs.declared.refusal.Refusal.{Refusal}
+use Rattle.markdown_tree.specs.Grammar.{holder_of, takes, is_read, fits}
+use Rattle.markdown_tree.specs.Items.{Items, none, item}
+use Rattle.markdown_tree.specs.Machine.{Rejection, checked, Holds, fresh, closed, enter_checks, exit_checks}
+use Rattle.markdown_tree.specs.Nodes.{nodes, node_of}
+use Rattle.markdown_tree.specs.Source.{Source}
+
+-- what was given, without why nothing was
+abbrev pub ok : {A : Type 0} → Result A Rejection → Option A
+ok (Ok x) = Some x
+ok (Err e) = None
+
+abbrev pub when : {A : Type 0} → Bool → Option A → Option A
+when true o = o
+when false o = None
+
+abbrev pub passes : List (Bool × Refusal) → Bool
+passes [] = true
+passes (c ∷ cs) = c.0 && passes cs
+
+one-check : {A : Type 0} (b q : Bool) (r x : Result A Rejection) (e : Rejection) → ok x ≡ when q (ok r) → ok (cond b x (Err e)) ≡ when (b && q) (ok r)
+one-check true q r x e h = h
+one-check false q r x e h = refl
+
+pub ok-checked : {A : Type 0} (cs : List (Bool × Refusal)) (p : Point) (r : Result A Rejection) → ok (checked cs p r) ≡ when (passes cs) (ok r)
+ok-checked [] p r = refl
+ok-checked (c ∷ cs) p r = one-check c.0 (passes cs) r (checked cs p r) (record { refusal = c.1; point = p }) (ok-checked cs p r)
+
+-- the steps over items, without what is refused by
+abbrev pub walk : Source → Holds → Items → Option Holds
+walk s top none = Some top
+walk s top (item what a b inner rest) =
+    when (passes (enter_checks top what))
+    (option_and_then (λ (own : Holds). when (passes (exit_checks s what a b)) (walk s (closed s top what a b own.nodes) rest)) (walk s (fresh (holder_of what)) inner))
+
+-- a holder behind items
+abbrev pub behind : Source → Holds → Items → Holds
+behind s top xs = record { holder = top.holder; nodes = join top.nodes (nodes s xs) }
+
+one-step : (e i x r : Bool) (w : Option Holds) (f : Holds → Option Holds) (own out : Holds) → w ≡ when i (Some own) → f own ≡ when (x && true) (when r (Some out))
+    → when (e && true) (option_and_then f w) ≡ when ((e && (i && x)) && r) (Some out)
+one-step false i x r w f own out h k = refl
+one-step true false x r w f own out h k = ap (option_and_then f) h
+one-step true true false r w f own out h k = ap (option_and_then f) h ∙ k
+one-step true true true r w f own out h k = ap (option_and_then f) h ∙ k
+
+pub walk-is : (s : Source) (top : Holds) (xs : Items) → walk s top xs ≡ when (fits s top.holder xs) (Some (behind s top xs))
+walk-is s top none = ap (λ (ts : Trees). Some (record { holder = top.holder; nodes = ts })) (sym (join-nothing top.nodes))
+walk-is s top (item what a b inner rest) =
+    let own : Holds = behind s (fresh (holder_of what)) inner in
+    let node : Trees = node_of s what a b (nodes s inner) in
+    one-step (takes top.holder what) (fits s (holder_of what) inner) (is_read s what a b) (fits s top.holder rest)
+    (walk s (fresh (holder_of what)) inner) (λ (o : Holds). when (passes (exit_checks s what a b)) (walk s (closed s top what a b o.nodes) rest)) own (behind s top (item what a b inner rest))
+    (walk-is s (fresh (holder_of what)) inner)
+    (ap (when (is_read s what a b && true))
+    (walk-is s (closed s top what a b (nodes s inner)) rest
+    ∙ ap (λ (ts : Trees). when (fits s top.holder rest) (Some (record { holder = top.holder; nodes = ts }))) (join_assoc top.nodes node (nodes s rest))))

@@ -1,0 +1,11 @@
+pub mod Source
+pub mod Items
+pub mod Grammar
+pub mod Nodes
+pub mod Meaning
+pub mod Accepted
+pub mod Refusals
+pub mod Correct
+pub mod Counted
+pub mod Steps
+pub mod Machine

@@ -1,0 +1,37 @@
+-- What a refusal says.
+use Rattle.std.specs.Prelude.{◌≡◌, ℕ, List, codes, Some}
+use Rattle.markdown_nodes.specs.declared.event.Point.{Point}
+use Rattle.markdown_nodes.specs.declared.message.Fault.{Fault}
+use Rattle.markdown_nodes.specs.declared.message.Fault.TheVariants as faults
+use Rattle.markdown_nodes.specs.declared.message.Message.{Message}
+use Rattle.markdown_nodes.specs.declared.message.Place.TheVariants as places
+use Rattle.markdown_nodes.specs.Slices.{to_unist}
+use Rattle.markdown_tree.specs.declared.refusal.Refusal.{Refusal}
+use Rattle.markdown_tree.specs.declared.refusal.Refusal.TheVariants.{Unbalanced, Misplaced, Held, InvalidSlice}
+use Rattle.markdown_tree.specs.declared.refusal.Stop.{Stop}
+use Rattle.markdown_tree.specs.declared.refusal.Stop.TheVariants as stops
+
+abbrev pub rule_of : Refusal → List ℕ
+rule_of Unbalanced = codes "events-unbalanced"
+rule_of Misplaced = codes "name-misplaced"
+rule_of Held = codes "span-held"
+rule_of InvalidSlice = codes "slice-invalid"
+
+abbrev pub reason_of : Refusal → List ℕ
+reason_of Unbalanced = codes "an exit does not match the open span, or a span is left open"
+reason_of Misplaced = codes "this name cannot stand here"
+reason_of Held = codes "a span stands inside one that cannot hold it"
+reason_of InvalidSlice = codes "the span is not a text of the document"
+
+-- the message says that the event at this point is refused so
+pub record Says (message : Message) (refusal : Refusal) (point : Point) : Type 0 where
+  pub place : message.place ≡ Some (places.Point (to_unist point))
+  pub rule : message.rule_id.now ≡ rule_of refusal
+  pub reason : message.reason.now ≡ reason_of refusal
+  pub source : message.source.now ≡ codes "markdown-rs"
+
+-- the answer for an event that was not taken
+abbrev pub IsFaultOf : Stop → Point → Fault → Type 0
+IsFaultOf (stops.Refused refusal) point (faults.Message message) = Says message refusal point
+IsFaultOf (stops.Refused refusal) point (faults.Memory error) = ⊥
+IsFaultOf (stops.Memory error) point fault = fault ≡ faults.Memory error

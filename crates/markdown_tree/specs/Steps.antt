@@ -1,0 +1,11 @@
+-- The steps of a compilation.
+use Rattle.std.specs.Prelude.{ℕ, List, length, Option, Some, None}
+use Rattle.markdown_nodes.specs.declared.event.Event.{Event}
+
+-- a read of an event is one step, and a read past the list is none
+abbrev pub steps_of : Option Event → ℕ
+steps_of None = 0
+steps_of (Some event) = 1
+
+abbrev pub events_in : List Event → ℕ
+events_in events = length events

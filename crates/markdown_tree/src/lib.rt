@@ -1,0 +1,10 @@
+//! From the events of a tokenizer to a syntax tree of mdast.
+#![tactic(auto)]
+
+mod builder;
+mod count;
+mod references;
+mod refusal;
+mod slice;
+pub mod steps;
+pub mod to_mdast;

@@ -1,0 +1,21 @@
+//! What character references stand for.
+
+ghost use Rattle.std.specs.Prelude.{◌≡◌, List, ℕ, Option, option_map, string_bytes, IfOk};
+
+use std::alloc::{AllocError, Global};
+
+/// What the values of character references stand for: a decoder, which the caller hands in.
+///
+/// Its meaning is `text`: a text or none for each value and marker. An implementation is lawful
+/// when each answer that is no want of memory is that meaning, and it is proved to be.
+pub trait References {
+    /// The text that a value and a marker stand for, if they stand for one.
+    ghost text: { Self → List ℕ → ℕ → Option (List ℕ) };
+
+    /// The text of a value behind the marker `&`, `#` or `x`, or None where there is none.
+    ///
+    /// For HTML's references `decode(alloc, "amp", b'&')` gives `&`. It errs only where memory
+    /// runs out.
+    fn decode(&self, alloc: Global, value: &str, marker: u8) -> Result<Option<String>, AllocError>
+        ensures { IfOk result (λ found. option_map string_bytes found ≡ text self.now value.now marker) };
+}
