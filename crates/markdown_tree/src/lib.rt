@@ -7,4 +7,6 @@ mod references;
 mod refusal;
 mod slice;
 pub mod steps;
+#[cfg(test)]
+mod tests;
 pub mod to_mdast;

@@ -7,7 +7,7 @@ ghost use Rattle.markdown_tree.specs.Source.{source};
 ghost use Rattle.markdown_tree.specs.Steps.{events_in};
 
 use crate::builder::{Builder, Holding};
-use crate::references::References;
+pub use crate::references::References;
 use crate::refusal::{Refusal, Stop};
 use crate::slice::position_of;
 use crate::steps::Steps;
