@@ -5,3 +5,5 @@ pub mod Slices
 pub mod Forest
 pub mod Tree
 pub mod View
+pub mod Access
+pub mod Rows
