@@ -3,7 +3,7 @@ use Rattle.std.proofs.Common.{◌≡◌, ℕ, ◌+◌, ◌<◌, List, [], ◌∷
 use Rattle.markdown_nodes.specs.declared.mdast.Node.{Node}
 use Rattle.markdown_nodes.specs.Tree.{Trees, Tree, before, only, plain_text, value_of}
 use Rattle.markdown_nodes.specs.View.{view, views}
-use Rattle.markdown_nodes.specs.Access.{children_of, items_in, label_of, nodes_in, tree_of}
+use Rattle.markdown_nodes.specs.Access.{children_of, items_in, label_of, nodes_in}
 use Rattle.markdown_nodes.proofs.Views.{view-is}
 
 -- a node's text stands before that of the nodes behind it

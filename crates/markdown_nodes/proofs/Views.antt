@@ -1,5 +1,5 @@
 -- What the nodes of the program are, and nodes at the end of a list.
-use Rattle.std.proofs.Common.{◌≡◌, ℕ, List, [], ◌∷◌, ◌++◌, Option, None, Some, Vec, Global, refl, sym, ap, ◌∙◌}
+use Rattle.std.proofs.Common.{◌≡◌, Some, Vec, Global, refl, sym, ap, ◌∙◌}
 use Rattle.std.specs.Prelude.{option_map, string_bytes}
 use denote.Hole.Carrier
 use Rattle.markdown_nodes.specs.declared.mdast.Node.{Node, Row_of-Node, end_of-Node, more_of-Node, items-the_row-Node, items_hidden-the_row-Node-0, items_shown-the_row-Node-0}
@@ -35,9 +35,9 @@ use Rattle.markdown_nodes.specs.declared.mdast.TableCell.{TableCell}
 use Rattle.markdown_nodes.specs.declared.mdast.ListItem.{ListItem}
 use Rattle.markdown_nodes.specs.declared.mdast.Definition.{Definition}
 use Rattle.markdown_nodes.specs.declared.mdast.Paragraph.{Paragraph}
-use Rattle.markdown_nodes.specs.Tree.{Trees, Tree, nothing, before, root, paragraph, blockquote, emphasis, strong, delete, table_row, table_cell, thematic_break, «break», text, html, inline_code, inline_math, yaml, toml, heading, list, list_item, table, code, math, link, image, link_reference, image_reference, footnote_reference, footnote_definition, definition}
+use Rattle.markdown_nodes.specs.Tree.{Trees, nothing, before, root, paragraph, blockquote, emphasis, strong, delete, table_row, table_cell, thematic_break, «break», text, html, inline_code, inline_math, yaml, toml, heading, list, list_item, table, code, math, link, image, link_reference, image_reference, footnote_reference, footnote_definition, definition}
 use Rattle.markdown_nodes.specs.View.{view, row_view, views}
-use Rattle.markdown_nodes.specs.Access.{children_of, label_of, nodes_in, position_of, tree_of, with_children}
+use Rattle.markdown_nodes.specs.Access.{children_of, label_of, position_of, tree_of, with_children}
 
 -- the nodes that a `Vec` holds, as trees
 row_view-is : {m : _} (row : Row_of-Node m) → row_view row ≡ views (items-the_row-Node m row)

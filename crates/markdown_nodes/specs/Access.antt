@@ -12,7 +12,7 @@ use Rattle.markdown_nodes.specs.View.{views}
 -- the children of a parent
 abbrev pub children_of : Node → Option (Vec Node Global)
 children_of node = elim (out-Node node) [
-    Node-F.Root node ↦ Some node.children
+  | Node-F.Root node ↦ Some node.children
   | Node-F.Blockquote node ↦ Some node.children
   | Node-F.FootnoteDefinition node ↦ Some node.children
   | Node-F.List node ↦ Some node.children
@@ -27,12 +27,13 @@ children_of node = elim (out-Node node) [
   | Node-F.TableCell node ↦ Some node.children
   | Node-F.ListItem node ↦ Some node.children
   | Node-F.Paragraph node ↦ Some node.children
-  | _ ↦ None ]
+  | _ ↦ None
+]
 
 -- where a node stands
 abbrev pub position_of : Node → Option Position
 position_of node = elim (out-Node node) [
-    Node-F.Root node ↦ node.position
+  | Node-F.Root node ↦ node.position
   | Node-F.Blockquote node ↦ node.position
   | Node-F.FootnoteDefinition node ↦ node.position
   | Node-F.List node ↦ node.position
@@ -60,12 +61,13 @@ position_of node = elim (out-Node node) [
   | Node-F.TableCell node ↦ node.position
   | Node-F.ListItem node ↦ node.position
   | Node-F.Definition node ↦ node.position
-  | Node-F.Paragraph node ↦ node.position ]
+  | Node-F.Paragraph node ↦ node.position
+]
 
 -- a parent with these children in place of its own, and any other node as it is
 abbrev pub with_children : Node → Vec Node Global → Node
 with_children it children = elim (out-Node it) [
-    Node-F.Root node ↦ nodes.Root (record node { children = children })
+  | Node-F.Root node ↦ nodes.Root (record node { children = children })
   | Node-F.Blockquote node ↦ nodes.Blockquote (record node { children = children })
   | Node-F.FootnoteDefinition node ↦ nodes.FootnoteDefinition (record node { children = children })
   | Node-F.List node ↦ nodes.List (record node { children = children })
@@ -80,12 +82,13 @@ with_children it children = elim (out-Node it) [
   | Node-F.TableCell node ↦ nodes.TableCell (record node { children = children })
   | Node-F.ListItem node ↦ nodes.ListItem (record node { children = children })
   | Node-F.Paragraph node ↦ nodes.Paragraph (record node { children = children })
-  | _ ↦ it ]
+  | _ ↦ it
+]
 
 -- a node with this position in place of its own
 abbrev pub with_position : Node → Option Position → Node
 with_position it position = elim (out-Node it) [
-    Node-F.Root node ↦ nodes.Root (record node { position = position })
+  | Node-F.Root node ↦ nodes.Root (record node { position = position })
   | Node-F.Blockquote node ↦ nodes.Blockquote (record node { position = position })
   | Node-F.FootnoteDefinition node ↦ nodes.FootnoteDefinition (record node { position = position })
   | Node-F.List node ↦ nodes.List (record node { position = position })
@@ -113,12 +116,13 @@ with_position it position = elim (out-Node it) [
   | Node-F.TableCell node ↦ nodes.TableCell (record node { position = position })
   | Node-F.ListItem node ↦ nodes.ListItem (record node { position = position })
   | Node-F.Definition node ↦ nodes.Definition (record node { position = position })
-  | Node-F.Paragraph node ↦ nodes.Paragraph (record node { position = position }) ]
+  | Node-F.Paragraph node ↦ nodes.Paragraph (record node { position = position })
+]
 
 -- a node's kind, with its fields but for children and position
 abbrev pub label_of : Node → Label
 label_of it = elim (out-Node it) [
-    Node-F.Root node ↦ root
+  | Node-F.Root node ↦ root
   | Node-F.Blockquote node ↦ blockquote
   | Node-F.FootnoteDefinition node ↦ footnote_definition (string_bytes node.identifier) (option_map string_bytes node.label)
   | Node-F.List node ↦ list node.ordered node.start node.spread
@@ -146,7 +150,8 @@ label_of it = elim (out-Node it) [
   | Node-F.TableCell node ↦ table_cell
   | Node-F.ListItem node ↦ list_item node.spread node.checked
   | Node-F.Definition node ↦ definition (string_bytes node.url) (option_map string_bytes node.title) (string_bytes node.identifier) (option_map string_bytes node.label)
-  | Node-F.Paragraph node ↦ paragraph ]
+  | Node-F.Paragraph node ↦ paragraph
+]
 
 -- the nodes in a list that may be there
 abbrev pub items_in : Option (Vec Node Global) → List Node

@@ -4,7 +4,12 @@ ghost use Rattle.std.specs.Prelude.{◌≡◌, IfOk, option_map, string_bytes};
 ghost use Rattle.markdown_nodes.specs.Access.{nodes_in};
 ghost use Rattle.markdown_nodes.specs.View.{view, views};
 
-use crate::mdast::{AlignKind, Blockquote, Break, Code, Definition, Delete, Emphasis, FootnoteDefinition, FootnoteReference, Heading, Html, Image, ImageReference, InlineCode, InlineMath, Link, LinkReference, List, ListItem, Math, Node, Paragraph, Root, Strong, Table, TableCell, TableRow, Text, ThematicBreak, Toml, Yaml};
+use crate::mdast::{
+    AlignKind, Blockquote, Break, Code, Definition, Delete, Emphasis, FootnoteDefinition,
+    FootnoteReference, Heading, Html, Image, ImageReference, InlineCode, InlineMath, Link,
+    LinkReference, List, ListItem, Math, Node, Paragraph, Root, Strong, Table, TableCell, TableRow,
+    Text, ThematicBreak, Toml, Yaml,
+};
 use std::alloc::{AllocError, Global};
 
 /// A copy of a text that may be there.

@@ -1,5 +1,5 @@
-use Rattle.std.proofs.Common.{◌≡◌, string_bytes, sym}
-use Rattle.markdown_nodes.proofs.Reading.{begins, goes_on, ends}
+use Rattle.std.proofs.Common.{sym}
+use Rattle.markdown_nodes.proofs.Reading.{begins, ends}
 use Rattle.markdown_nodes.proofs.mdast.reading.+add_text.Goals as goal
 
 pub loop-child-init : goal.loop-child-init
