@@ -4,3 +4,4 @@ pub mod Joining
 pub mod Views
 pub mod Reading
 pub mod Copying
+pub mod Comparing

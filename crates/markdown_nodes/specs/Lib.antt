@@ -7,3 +7,5 @@ pub mod Tree
 pub mod View
 pub mod Access
 pub mod Rows
+pub mod Equality
+pub mod EqualityLaws

@@ -8,6 +8,7 @@ ghost use Rattle.markdown_nodes.specs.Access.{children_of, position_of, with_chi
 ghost use Rattle.markdown_nodes.specs.Tree.{only, plain_text};
 ghost use Rattle.markdown_nodes.specs.View.{view};
 
+mod comparing;
 mod copying;
 mod reading;
 
@@ -371,7 +372,7 @@ impl fmt::Debug for Node {
 ///
 /// The file `a` is a root that holds a paragraph.
 #[cycle(node)]
-#[derive(Debug, Drop)]
+#[derive(PartialEq, Eq, Debug, Drop)]
 pub struct Root {
     /// What it holds, in order.
     pub children: Vec<Node>,
@@ -383,7 +384,7 @@ pub struct Root {
 ///
 /// `> a` is a block quote of a paragraph.
 #[cycle(node)]
-#[derive(Debug, Drop)]
+#[derive(PartialEq, Eq, Debug, Drop)]
 pub struct Blockquote {
     /// What it holds, in order.
     pub children: Vec<Node>,
@@ -395,7 +396,7 @@ pub struct Blockquote {
 ///
 /// `[^a]: b` defines the footnote `a`.
 #[cycle(node)]
-#[derive(Debug, Drop)]
+#[derive(PartialEq, Eq, Debug, Drop)]
 pub struct FootnoteDefinition {
     /// What it holds, in order.
     pub children: Vec<Node>,
@@ -411,7 +412,7 @@ pub struct FootnoteDefinition {
 ///
 /// `* a` is a list of one item with no number; `3. a` is an ordered one that starts at 3.
 #[cycle(node)]
-#[derive(Debug, Drop)]
+#[derive(PartialEq, Eq, Debug, Drop)]
 pub struct List {
     /// What it holds, in order.
     pub children: Vec<Node>,
@@ -482,7 +483,7 @@ pub struct InlineMath {
 ///
 /// `~~a~~` is a deletion of the text `a`.
 #[cycle(node)]
-#[derive(Debug, Drop)]
+#[derive(PartialEq, Eq, Debug, Drop)]
 pub struct Delete {
     /// What it holds, in order.
     pub children: Vec<Node>,
@@ -494,7 +495,7 @@ pub struct Delete {
 ///
 /// `*a*` is emphasis of the text `a`.
 #[cycle(node)]
-#[derive(Debug, Drop)]
+#[derive(PartialEq, Eq, Debug, Drop)]
 pub struct Emphasis {
     /// What it holds, in order.
     pub children: Vec<Node>,
@@ -562,7 +563,7 @@ pub struct ImageReference {
 ///
 /// `[a](b "c")` is a link to `b` with the title `c`.
 #[cycle(node)]
-#[derive(Debug, Drop)]
+#[derive(PartialEq, Eq, Debug, Drop)]
 pub struct Link {
     /// What it holds, in order.
     pub children: Vec<Node>,
@@ -578,7 +579,7 @@ pub struct Link {
 ///
 /// `[a][b]` refers to the definition `b`.
 #[cycle(node)]
-#[derive(Debug, Drop)]
+#[derive(PartialEq, Eq, Debug, Drop)]
 pub struct LinkReference {
     /// What it holds, in order.
     pub children: Vec<Node>,
@@ -596,7 +597,7 @@ pub struct LinkReference {
 ///
 /// `**a**` is strong emphasis of the text `a`.
 #[cycle(node)]
-#[derive(Debug, Drop)]
+#[derive(PartialEq, Eq, Debug, Drop)]
 pub struct Strong {
     /// What it holds, in order.
     pub children: Vec<Node>,
@@ -647,7 +648,7 @@ pub struct Math {
 ///
 /// `## a` is a heading of depth 2.
 #[cycle(node)]
-#[derive(Debug, Drop)]
+#[derive(PartialEq, Eq, Debug, Drop)]
 pub struct Heading {
     /// What it holds, in order.
     pub children: Vec<Node>,
@@ -661,7 +662,7 @@ pub struct Heading {
 ///
 /// `| a |` above `| - |` is a table of one row and one column.
 #[cycle(node)]
-#[derive(Debug, Drop)]
+#[derive(PartialEq, Eq, Debug, Drop)]
 pub struct Table {
     /// What it holds, in order.
     pub children: Vec<Node>,
@@ -684,7 +685,7 @@ pub struct ThematicBreak {
 ///
 /// `| a | b |` is a row of two cells.
 #[cycle(node)]
-#[derive(Debug, Drop)]
+#[derive(PartialEq, Eq, Debug, Drop)]
 pub struct TableRow {
     /// What it holds, in order.
     pub children: Vec<Node>,
@@ -696,7 +697,7 @@ pub struct TableRow {
 ///
 /// `| a |` is a row of a cell that holds the text `a`.
 #[cycle(node)]
-#[derive(Debug, Drop)]
+#[derive(PartialEq, Eq, Debug, Drop)]
 pub struct TableCell {
     /// What it holds, in order.
     pub children: Vec<Node>,
@@ -708,7 +709,7 @@ pub struct TableCell {
 ///
 /// `* [x] a` is an item that is checked.
 #[cycle(node)]
-#[derive(Debug, Drop)]
+#[derive(PartialEq, Eq, Debug, Drop)]
 pub struct ListItem {
     /// What it holds, in order.
     pub children: Vec<Node>,
@@ -741,7 +742,7 @@ pub struct Definition {
 ///
 /// The line `a` is a paragraph of the text `a`.
 #[cycle(node)]
-#[derive(Debug, Drop)]
+#[derive(PartialEq, Eq, Debug, Drop)]
 pub struct Paragraph {
     /// What it holds, in order.
     pub children: Vec<Node>,
