@@ -1,5 +1,5 @@
 -- Joining lists of nodes.
-use Rattle.std.proofs.Common.{◌≡◌, ℕ, List, ◌++◌, Option, None, Some, refl, sym, ◌∙◌, ap, append_assoc}
+use Rattle.std.proofs.Common.{◌≡◌, ℕ, List, ◌++◌, Option, None, Some, refl, ◌∙◌, ap, append_assoc}
 use Rattle.markdown_nodes.specs.declared.unist.Position.{Position}
 use Rattle.markdown_nodes.specs.Tree.{Trees, Label, node, nothing, join, seam, from_to, text}
 

@@ -2,3 +2,6 @@ pub mod Spellings
 pub mod Unique
 pub mod Joining
 pub mod Views
+pub mod Reading
+pub mod Copying
+pub mod Comparing

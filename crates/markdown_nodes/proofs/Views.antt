@@ -1,30 +1,235 @@
 -- What the nodes of the program are, and nodes at the end of a list.
-use Rattle.std.proofs.Common.{◌≡◌, ℕ, List, [], ◌∷◌, ◌++◌, refl, sym, ap, ◌∙◌}
-use Rattle.std.specs.Prelude.{string_bytes}
-use Rattle.markdown_nodes.specs.declared.mdast.Node.{Node, Row_of-Node, end_of-Node, more_of-Node, items-the_row-Node, items_hidden-the_row-Node-0}
+use Rattle.std.proofs.Common.{◌≡◌, Some, Vec, Global, refl, sym, ap, ◌∙◌}
+use Rattle.std.specs.Prelude.{option_map, string_bytes}
+use denote.Hole.Carrier
+use Rattle.markdown_nodes.specs.declared.mdast.Node.{Node, Row_of-Node, end_of-Node, more_of-Node, items-the_row-Node, items_hidden-the_row-Node-0, items_shown-the_row-Node-0}
 use Rattle.markdown_nodes.specs.declared.mdast.Node.TheBlock.{hidden-the_row-Node-0}
 use Rattle.markdown_nodes.specs.declared.mdast.Node.TheVariants as nodes
+use Rattle.markdown_nodes.specs.declared.mdast.Node.TheViews.{out-Node}
 use Rattle.markdown_nodes.specs.declared.mdast.Root.{Root}
-use Rattle.markdown_nodes.specs.declared.mdast.Paragraph.{Paragraph}
+use Rattle.markdown_nodes.specs.declared.mdast.Blockquote.{Blockquote}
+use Rattle.markdown_nodes.specs.declared.mdast.FootnoteDefinition.{FootnoteDefinition}
+use Rattle.markdown_nodes.specs.declared.mdast.List.{List as ListNode}
+use Rattle.markdown_nodes.specs.declared.mdast.Toml.{Toml}
+use Rattle.markdown_nodes.specs.declared.mdast.Yaml.{Yaml}
+use Rattle.markdown_nodes.specs.declared.mdast.Break.{Break}
+use Rattle.markdown_nodes.specs.declared.mdast.InlineCode.{InlineCode}
+use Rattle.markdown_nodes.specs.declared.mdast.InlineMath.{InlineMath}
+use Rattle.markdown_nodes.specs.declared.mdast.Delete.{Delete}
+use Rattle.markdown_nodes.specs.declared.mdast.Emphasis.{Emphasis}
+use Rattle.markdown_nodes.specs.declared.mdast.FootnoteReference.{FootnoteReference}
+use Rattle.markdown_nodes.specs.declared.mdast.Html.{Html}
+use Rattle.markdown_nodes.specs.declared.mdast.Image.{Image}
+use Rattle.markdown_nodes.specs.declared.mdast.ImageReference.{ImageReference}
+use Rattle.markdown_nodes.specs.declared.mdast.Link.{Link}
+use Rattle.markdown_nodes.specs.declared.mdast.LinkReference.{LinkReference}
+use Rattle.markdown_nodes.specs.declared.mdast.Strong.{Strong}
 use Rattle.markdown_nodes.specs.declared.mdast.Text.{Text}
-use Rattle.markdown_nodes.specs.Tree.{Trees, Tree, nothing, node, before, root, paragraph, text}
+use Rattle.markdown_nodes.specs.declared.mdast.Code.{Code}
+use Rattle.markdown_nodes.specs.declared.mdast.Math.{Math}
+use Rattle.markdown_nodes.specs.declared.mdast.Heading.{Heading}
+use Rattle.markdown_nodes.specs.declared.mdast.Table.{Table}
+use Rattle.markdown_nodes.specs.declared.mdast.ThematicBreak.{ThematicBreak}
+use Rattle.markdown_nodes.specs.declared.mdast.TableRow.{TableRow}
+use Rattle.markdown_nodes.specs.declared.mdast.TableCell.{TableCell}
+use Rattle.markdown_nodes.specs.declared.mdast.ListItem.{ListItem}
+use Rattle.markdown_nodes.specs.declared.mdast.Definition.{Definition}
+use Rattle.markdown_nodes.specs.declared.mdast.Paragraph.{Paragraph}
+use Rattle.markdown_nodes.specs.Tree.{Trees, nothing, before, root, paragraph, blockquote, emphasis, strong, delete, table_row, table_cell, thematic_break, «break», text, html, inline_code, inline_math, yaml, toml, heading, list, list_item, table, code, math, link, image, link_reference, image_reference, footnote_reference, footnote_definition, definition}
 use Rattle.markdown_nodes.specs.View.{view, row_view, views}
+use Rattle.markdown_nodes.specs.Access.{children_of, label_of, position_of, tree_of, with_children}
 
+-- the nodes that a `Vec` holds, as trees
 row_view-is : {m : _} (row : Row_of-Node m) → row_view row ≡ views (items-the_row-Node m row)
 unfolding view row_view
 row_view-is end_of-Node = refl
 row_view-is (more_of-Node x rest) = ap (before (view x)) (row_view-is rest)
 
+vec_view-is : (c : Vec Node Global) → row_view (hidden-the_row-Node-0 c) ≡ views c.items
+vec_view-is c = row_view-is (hidden-the_row-Node-0 c) ∙ ap views (items_hidden-the_row-Node-0 c)
+
+-- the node of each kind as a tree
+
 pub view-Root : (x : Root) → view (nodes.Root x) ≡ record { label = root; children = views x.children.items; position = x.position }
 unfolding view row_view
-view-Root x =
-    ap (λ (ts : Trees). record { label = root; children = ts; position = x.position }) (row_view-is (hidden-the_row-Node-0 x.children) ∙ ap views (items_hidden-the_row-Node-0 x.children))
+view-Root x = ap (λ (ts : Trees). record { label = root; children = ts; position = x.position }) (vec_view-is x.children)
 
-pub view-Paragraph : (x : Paragraph) → view (nodes.Paragraph x) ≡ record { label = paragraph; children = views x.children.items; position = x.position }
+pub view-Blockquote : (x : Blockquote) → view (nodes.Blockquote x) ≡ record { label = blockquote; children = views x.children.items; position = x.position }
 unfolding view row_view
-view-Paragraph x =
-    ap (λ (ts : Trees). record { label = paragraph; children = ts; position = x.position }) (row_view-is (hidden-the_row-Node-0 x.children) ∙ ap views (items_hidden-the_row-Node-0 x.children))
+view-Blockquote x = ap (λ (ts : Trees). record { label = blockquote; children = ts; position = x.position }) (vec_view-is x.children)
+
+pub view-FootnoteDefinition : (x : FootnoteDefinition) → view (nodes.FootnoteDefinition x) ≡ record { label = footnote_definition (string_bytes x.identifier) (option_map string_bytes x.label); children = views x.children.items; position = x.position }
+unfolding view row_view
+view-FootnoteDefinition x = ap (λ (ts : Trees). record { label = footnote_definition (string_bytes x.identifier) (option_map string_bytes x.label); children = ts; position = x.position }) (vec_view-is x.children)
+
+pub view-List : (x : ListNode) → view (nodes.List x) ≡ record { label = list x.ordered x.start x.spread; children = views x.children.items; position = x.position }
+unfolding view row_view
+view-List x = ap (λ (ts : Trees). record { label = list x.ordered x.start x.spread; children = ts; position = x.position }) (vec_view-is x.children)
+
+pub view-Toml : (x : Toml) → view (nodes.Toml x) ≡ record { label = toml (string_bytes x.value); children = nothing; position = x.position }
+unfolding view row_view
+view-Toml x = refl
+
+pub view-Yaml : (x : Yaml) → view (nodes.Yaml x) ≡ record { label = yaml (string_bytes x.value); children = nothing; position = x.position }
+unfolding view row_view
+view-Yaml x = refl
+
+pub view-Break : (x : Break) → view (nodes.Break x) ≡ record { label = «break»; children = nothing; position = x.position }
+unfolding view row_view
+view-Break x = refl
+
+pub view-InlineCode : (x : InlineCode) → view (nodes.InlineCode x) ≡ record { label = inline_code (string_bytes x.value); children = nothing; position = x.position }
+unfolding view row_view
+view-InlineCode x = refl
+
+pub view-InlineMath : (x : InlineMath) → view (nodes.InlineMath x) ≡ record { label = inline_math (string_bytes x.value); children = nothing; position = x.position }
+unfolding view row_view
+view-InlineMath x = refl
+
+pub view-Delete : (x : Delete) → view (nodes.Delete x) ≡ record { label = delete; children = views x.children.items; position = x.position }
+unfolding view row_view
+view-Delete x = ap (λ (ts : Trees). record { label = delete; children = ts; position = x.position }) (vec_view-is x.children)
+
+pub view-Emphasis : (x : Emphasis) → view (nodes.Emphasis x) ≡ record { label = emphasis; children = views x.children.items; position = x.position }
+unfolding view row_view
+view-Emphasis x = ap (λ (ts : Trees). record { label = emphasis; children = ts; position = x.position }) (vec_view-is x.children)
+
+pub view-FootnoteReference : (x : FootnoteReference) → view (nodes.FootnoteReference x) ≡ record { label = footnote_reference (string_bytes x.identifier) (option_map string_bytes x.label); children = nothing; position = x.position }
+unfolding view row_view
+view-FootnoteReference x = refl
+
+pub view-Html : (x : Html) → view (nodes.Html x) ≡ record { label = html (string_bytes x.value); children = nothing; position = x.position }
+unfolding view row_view
+view-Html x = refl
+
+pub view-Image : (x : Image) → view (nodes.Image x) ≡ record { label = image (string_bytes x.alt) (string_bytes x.url) (option_map string_bytes x.title); children = nothing; position = x.position }
+unfolding view row_view
+view-Image x = refl
+
+pub view-ImageReference : (x : ImageReference) → view (nodes.ImageReference x) ≡ record { label = image_reference (string_bytes x.alt) x.reference_kind (string_bytes x.identifier) (option_map string_bytes x.label); children = nothing; position = x.position }
+unfolding view row_view
+view-ImageReference x = refl
+
+pub view-Link : (x : Link) → view (nodes.Link x) ≡ record { label = link (string_bytes x.url) (option_map string_bytes x.title); children = views x.children.items; position = x.position }
+unfolding view row_view
+view-Link x = ap (λ (ts : Trees). record { label = link (string_bytes x.url) (option_map string_bytes x.title); children = ts; position = x.position }) (vec_view-is x.children)
+
+pub view-LinkReference : (x : LinkReference) → view (nodes.LinkReference x) ≡ record { label = link_reference x.reference_kind (string_bytes x.identifier) (option_map string_bytes x.label); children = views x.children.items; position = x.position }
+unfolding view row_view
+view-LinkReference x = ap (λ (ts : Trees). record { label = link_reference x.reference_kind (string_bytes x.identifier) (option_map string_bytes x.label); children = ts; position = x.position }) (vec_view-is x.children)
+
+pub view-Strong : (x : Strong) → view (nodes.Strong x) ≡ record { label = strong; children = views x.children.items; position = x.position }
+unfolding view row_view
+view-Strong x = ap (λ (ts : Trees). record { label = strong; children = ts; position = x.position }) (vec_view-is x.children)
 
 pub view-Text : (x : Text) → view (nodes.Text x) ≡ record { label = text (string_bytes x.value); children = nothing; position = x.position }
 unfolding view row_view
 view-Text x = refl
+
+pub view-Code : (x : Code) → view (nodes.Code x) ≡ record { label = code (string_bytes x.value) (option_map string_bytes x.lang) (option_map string_bytes x.meta); children = nothing; position = x.position }
+unfolding view row_view
+view-Code x = refl
+
+pub view-Math : (x : Math) → view (nodes.Math x) ≡ record { label = math (string_bytes x.value) (option_map string_bytes x.meta); children = nothing; position = x.position }
+unfolding view row_view
+view-Math x = refl
+
+pub view-Heading : (x : Heading) → view (nodes.Heading x) ≡ record { label = heading x.depth; children = views x.children.items; position = x.position }
+unfolding view row_view
+view-Heading x = ap (λ (ts : Trees). record { label = heading x.depth; children = ts; position = x.position }) (vec_view-is x.children)
+
+pub view-Table : (x : Table) → view (nodes.Table x) ≡ record { label = table x.align.items; children = views x.children.items; position = x.position }
+unfolding view row_view
+view-Table x = ap (λ (ts : Trees). record { label = table x.align.items; children = ts; position = x.position }) (vec_view-is x.children)
+
+pub view-ThematicBreak : (x : ThematicBreak) → view (nodes.ThematicBreak x) ≡ record { label = thematic_break; children = nothing; position = x.position }
+unfolding view row_view
+view-ThematicBreak x = refl
+
+pub view-TableRow : (x : TableRow) → view (nodes.TableRow x) ≡ record { label = table_row; children = views x.children.items; position = x.position }
+unfolding view row_view
+view-TableRow x = ap (λ (ts : Trees). record { label = table_row; children = ts; position = x.position }) (vec_view-is x.children)
+
+pub view-TableCell : (x : TableCell) → view (nodes.TableCell x) ≡ record { label = table_cell; children = views x.children.items; position = x.position }
+unfolding view row_view
+view-TableCell x = ap (λ (ts : Trees). record { label = table_cell; children = ts; position = x.position }) (vec_view-is x.children)
+
+pub view-ListItem : (x : ListItem) → view (nodes.ListItem x) ≡ record { label = list_item x.spread x.checked; children = views x.children.items; position = x.position }
+unfolding view row_view
+view-ListItem x = ap (λ (ts : Trees). record { label = list_item x.spread x.checked; children = ts; position = x.position }) (vec_view-is x.children)
+
+pub view-Definition : (x : Definition) → view (nodes.Definition x) ≡ record { label = definition (string_bytes x.url) (option_map string_bytes x.title) (string_bytes x.identifier) (option_map string_bytes x.label); children = nothing; position = x.position }
+unfolding view row_view
+view-Definition x = refl
+
+pub view-Paragraph : (x : Paragraph) → view (nodes.Paragraph x) ≡ record { label = paragraph; children = views x.children.items; position = x.position }
+unfolding view row_view
+view-Paragraph x = ap (λ (ts : Trees). record { label = paragraph; children = ts; position = x.position }) (vec_view-is x.children)
+
+pub ruleset tree_rules = (view-Root, view-Blockquote, view-FootnoteDefinition, view-List, view-Toml, view-Yaml, view-Break, view-InlineCode, view-InlineMath, view-Delete, view-Emphasis, view-FootnoteReference, view-Html, view-Image, view-ImageReference, view-Link, view-LinkReference, view-Strong, view-Text, view-Code, view-Math, view-Heading, view-Table, view-ThematicBreak, view-TableRow, view-TableCell, view-ListItem, view-Definition, view-Paragraph)
+
+-- a node as a tree is its parts
+pub view-is : (node : Node) → view node ≡ tree_of node
+unfolding view row_view out-Node denote.Hole.Carrier.out
+view-is (nodes.Root' shape row position) = ap (λ (ts : Trees). record { label = root; children = ts; position = position }) (row_view-is row ∙ ap views (sym (items_shown-the_row-Node-0 shape row)))
+view-is (nodes.Blockquote' shape row position) = ap (λ (ts : Trees). record { label = blockquote; children = ts; position = position }) (row_view-is row ∙ ap views (sym (items_shown-the_row-Node-0 shape row)))
+view-is (nodes.FootnoteDefinition' shape row position identifier label) = ap (λ (ts : Trees). record { label = footnote_definition (string_bytes identifier) (option_map string_bytes label); children = ts; position = position }) (row_view-is row ∙ ap views (sym (items_shown-the_row-Node-0 shape row)))
+view-is (nodes.List' shape row position ordered start spread) = ap (λ (ts : Trees). record { label = list ordered start spread; children = ts; position = position }) (row_view-is row ∙ ap views (sym (items_shown-the_row-Node-0 shape row)))
+view-is (nodes.Toml x) = refl
+view-is (nodes.Yaml x) = refl
+view-is (nodes.Break x) = refl
+view-is (nodes.InlineCode x) = refl
+view-is (nodes.InlineMath x) = refl
+view-is (nodes.Delete' shape row position) = ap (λ (ts : Trees). record { label = delete; children = ts; position = position }) (row_view-is row ∙ ap views (sym (items_shown-the_row-Node-0 shape row)))
+view-is (nodes.Emphasis' shape row position) = ap (λ (ts : Trees). record { label = emphasis; children = ts; position = position }) (row_view-is row ∙ ap views (sym (items_shown-the_row-Node-0 shape row)))
+view-is (nodes.FootnoteReference x) = refl
+view-is (nodes.Html x) = refl
+view-is (nodes.Image x) = refl
+view-is (nodes.ImageReference x) = refl
+view-is (nodes.Link' shape row position url title) = ap (λ (ts : Trees). record { label = link (string_bytes url) (option_map string_bytes title); children = ts; position = position }) (row_view-is row ∙ ap views (sym (items_shown-the_row-Node-0 shape row)))
+view-is (nodes.LinkReference' shape row position reference_kind identifier label) = ap (λ (ts : Trees). record { label = link_reference reference_kind (string_bytes identifier) (option_map string_bytes label); children = ts; position = position }) (row_view-is row ∙ ap views (sym (items_shown-the_row-Node-0 shape row)))
+view-is (nodes.Strong' shape row position) = ap (λ (ts : Trees). record { label = strong; children = ts; position = position }) (row_view-is row ∙ ap views (sym (items_shown-the_row-Node-0 shape row)))
+view-is (nodes.Text x) = refl
+view-is (nodes.Code x) = refl
+view-is (nodes.Math x) = refl
+view-is (nodes.Heading' shape row position depth) = ap (λ (ts : Trees). record { label = heading depth; children = ts; position = position }) (row_view-is row ∙ ap views (sym (items_shown-the_row-Node-0 shape row)))
+view-is (nodes.Table' shape row position align) = ap (λ (ts : Trees). record { label = table align.items; children = ts; position = position }) (row_view-is row ∙ ap views (sym (items_shown-the_row-Node-0 shape row)))
+view-is (nodes.ThematicBreak x) = refl
+view-is (nodes.TableRow' shape row position) = ap (λ (ts : Trees). record { label = table_row; children = ts; position = position }) (row_view-is row ∙ ap views (sym (items_shown-the_row-Node-0 shape row)))
+view-is (nodes.TableCell' shape row position) = ap (λ (ts : Trees). record { label = table_cell; children = ts; position = position }) (row_view-is row ∙ ap views (sym (items_shown-the_row-Node-0 shape row)))
+view-is (nodes.ListItem' shape row position spread checked) = ap (λ (ts : Trees). record { label = list_item spread checked; children = ts; position = position }) (row_view-is row ∙ ap views (sym (items_shown-the_row-Node-0 shape row)))
+view-is (nodes.Definition x) = refl
+view-is (nodes.Paragraph' shape row position) = ap (λ (ts : Trees). record { label = paragraph; children = ts; position = position }) (row_view-is row ∙ ap views (sym (items_shown-the_row-Node-0 shape row)))
+
+-- a parent as a tree, once its children are others
+pub view-with_children : (node : Node) (old children : Vec Node Global) → children_of node ≡ Some old → view (with_children node children) ≡ record { label = label_of node; children = views children.items; position = position_of node }
+unfolding out-Node denote.Hole.Carrier.out
+view-with_children (nodes.Root' shape row position) old children some = view-Root _
+view-with_children (nodes.Blockquote' shape row position) old children some = view-Blockquote _
+view-with_children (nodes.FootnoteDefinition' shape row position identifier label) old children some = view-FootnoteDefinition _
+view-with_children (nodes.List' shape row position ordered start spread) old children some = view-List _
+view-with_children (nodes.Toml x) old children some = cc
+view-with_children (nodes.Yaml x) old children some = cc
+view-with_children (nodes.Break x) old children some = cc
+view-with_children (nodes.InlineCode x) old children some = cc
+view-with_children (nodes.InlineMath x) old children some = cc
+view-with_children (nodes.Delete' shape row position) old children some = view-Delete _
+view-with_children (nodes.Emphasis' shape row position) old children some = view-Emphasis _
+view-with_children (nodes.FootnoteReference x) old children some = cc
+view-with_children (nodes.Html x) old children some = cc
+view-with_children (nodes.Image x) old children some = cc
+view-with_children (nodes.ImageReference x) old children some = cc
+view-with_children (nodes.Link' shape row position url title) old children some = view-Link _
+view-with_children (nodes.LinkReference' shape row position reference_kind identifier label) old children some = view-LinkReference _
+view-with_children (nodes.Strong' shape row position) old children some = view-Strong _
+view-with_children (nodes.Text x) old children some = cc
+view-with_children (nodes.Code x) old children some = cc
+view-with_children (nodes.Math x) old children some = cc
+view-with_children (nodes.Heading' shape row position depth) old children some = view-Heading _
+view-with_children (nodes.Table' shape row position align) old children some = view-Table _
+view-with_children (nodes.ThematicBreak x) old children some = cc
+view-with_children (nodes.TableRow' shape row position) old children some = view-TableRow _
+view-with_children (nodes.TableCell' shape row position) old children some = view-TableCell _
+view-with_children (nodes.ListItem' shape row position spread checked) old children some = view-ListItem _
+view-with_children (nodes.Definition x) old children some = cc
+view-with_children (nodes.Paragraph' shape row position) old children some = view-Paragraph _

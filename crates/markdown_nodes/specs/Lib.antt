@@ -5,3 +5,7 @@ pub mod Slices
 pub mod Forest
 pub mod Tree
 pub mod View
+pub mod Access
+pub mod Rows
+pub mod Equality
+pub mod EqualityLaws

@@ -1,9 +1,22 @@
 //! The nodes of the syntax tree, in the terms of mdast.
+//!
+//! A `Node` is one of 29 kinds. Fifteen of them are parents and hold nodes; eight are literals and
+//! hold a value; six are neither. Each has a place in a document, or none where it was made by hand.
+
+ghost use Rattle.std.specs.Prelude.{◌≡◌, Some, IfOk, option_map, string_bytes};
+ghost use Rattle.markdown_nodes.specs.Access.{children_of, position_of, with_children, with_position};
+ghost use Rattle.markdown_nodes.specs.Tree.{only, plain_text};
+ghost use Rattle.markdown_nodes.specs.View.{view};
+
+mod comparing;
+mod copying;
+mod reading;
 
 use crate::unist::Position;
+use std::alloc::{AllocError, Global};
 use std::fmt;
 
-/// How a reference was written.
+/// How a reference was written (mdast, reference type).
 #[derive(Clone, Copy, PartialEq, Eq, Debug)]
 pub enum ReferenceKind {
     /// `[a]`
@@ -14,7 +27,7 @@ pub enum ReferenceKind {
     Full,
 }
 
-/// How a column of a table is aligned.
+/// How a column of a table is aligned (GFM, tables).
 #[derive(Clone, Copy, PartialEq, Eq, Debug)]
 pub enum AlignKind {
     /// `| :-- |`
@@ -28,15 +41,294 @@ pub enum AlignKind {
 }
 
 /// A node of the tree. Debug prints it as its struct.
+///
+/// The text `a` with no place is `Node::Text(Text { value, position: None })` and is printed as
+/// `Text { value: "a", position: None }`.
 #[cycle(node)]
 #[derive(Drop)]
 pub enum Node {
-    /// A document.
+    /// A whole document.
     Root(Root),
-    /// A paragraph.
-    Paragraph(Paragraph),
-    /// A text.
+    /// A quote set off from its surroundings.
+    Blockquote(Blockquote),
+    /// What a footnote says.
+    FootnoteDefinition(FootnoteDefinition),
+    /// Items, numbered or with bullets.
+    List(List),
+    /// Metadata in TOML.
+    Toml(Toml),
+    /// Metadata in YAML.
+    Yaml(Yaml),
+    /// A line that ends on purpose.
+    Break(Break),
+    /// Code among words.
+    InlineCode(InlineCode),
+    /// Mathematics among words.
+    InlineMath(InlineMath),
+    /// Words that no longer hold.
+    Delete(Delete),
+    /// Words with stress.
+    Emphasis(Emphasis),
+    /// A mark that leads to a footnote.
+    FootnoteReference(FootnoteReference),
+    /// HTML as it was written.
+    Html(Html),
+    /// A picture that names its place itself.
+    Image(Image),
+    /// A picture whose place a definition names.
+    ImageReference(ImageReference),
+    /// A link to a place that it names itself.
+    Link(Link),
+    /// A link to a place that a definition names.
+    LinkReference(LinkReference),
+    /// Words that matter.
+    Strong(Strong),
+    /// Characters that mean themselves.
     Text(Text),
+    /// Lines of code.
+    Code(Code),
+    /// Lines of mathematics.
+    Math(Math),
+    /// A heading.
+    Heading(Heading),
+    /// Rows of cells.
+    Table(Table),
+    /// A change of topic.
+    ThematicBreak(ThematicBreak),
+    /// One row of a table.
+    TableRow(TableRow),
+    /// One cell of a row.
+    TableCell(TableCell),
+    /// One item of a list.
+    ListItem(ListItem),
+    /// The place that references name.
+    Definition(Definition),
+    /// Words that stand together.
+    Paragraph(Paragraph),
+}
+
+impl Node {
+    ghost use Rattle.std.specs.Borrow.{LendsIf, sem};
+    ghost use Rattle.markdown_nodes.specs.Rows.{list_row};
+    ghost use Rattle.markdown_nodes.specs.contracts.mdast.Node.{the_row};
+    ghost use Rattle.markdown_nodes.specs.contracts.unist.Position as position_type;
+
+    /// The nodes in a parent, in order, and `None` for a node that is no parent.
+    ///
+    /// An empty paragraph has `Some` of an empty list; a text has `None`.
+    pub fn children(&self) -> Option<&Vec<Node>>
+        ensures { option_map (λ c. c.now) result ≡ children_of self.now }
+    {
+        match self {
+            Node::Root(node) => Some(&node.children),
+            Node::Blockquote(node) => Some(&node.children),
+            Node::FootnoteDefinition(node) => Some(&node.children),
+            Node::List(node) => Some(&node.children),
+            Node::Toml(_) => None,
+            Node::Yaml(_) => None,
+            Node::Break(_) => None,
+            Node::InlineCode(_) => None,
+            Node::InlineMath(_) => None,
+            Node::Delete(node) => Some(&node.children),
+            Node::Emphasis(node) => Some(&node.children),
+            Node::FootnoteReference(_) => None,
+            Node::Html(_) => None,
+            Node::Image(_) => None,
+            Node::ImageReference(_) => None,
+            Node::Link(node) => Some(&node.children),
+            Node::LinkReference(node) => Some(&node.children),
+            Node::Strong(node) => Some(&node.children),
+            Node::Text(_) => None,
+            Node::Code(_) => None,
+            Node::Math(_) => None,
+            Node::Heading(node) => Some(&node.children),
+            Node::Table(node) => Some(&node.children),
+            Node::ThematicBreak(_) => None,
+            Node::TableRow(node) => Some(&node.children),
+            Node::TableCell(node) => Some(&node.children),
+            Node::ListItem(node) => Some(&node.children),
+            Node::Definition(_) => None,
+            Node::Paragraph(node) => Some(&node.children),
+        }
+    }
+
+    /// The nodes in a parent, to be changed, and `None` for a node that is no parent.
+    ///
+    /// What is written through it becomes the node's children, and changes nothing else.
+    pub fn children_mut(&mut self) -> Option<&mut Vec<Node>>
+        ensures* writes_back { sem 𝓛 (LendsIf the_row list_row self.entry result (with_children self.old) self.old) }
+        ensures value { option_map (λ c. c.now) result ≡ children_of self.old }
+    {
+        match self {
+            Node::Root(node) => Some(&mut node.children),
+            Node::Blockquote(node) => Some(&mut node.children),
+            Node::FootnoteDefinition(node) => Some(&mut node.children),
+            Node::List(node) => Some(&mut node.children),
+            Node::Toml(_) => None,
+            Node::Yaml(_) => None,
+            Node::Break(_) => None,
+            Node::InlineCode(_) => None,
+            Node::InlineMath(_) => None,
+            Node::Delete(node) => Some(&mut node.children),
+            Node::Emphasis(node) => Some(&mut node.children),
+            Node::FootnoteReference(_) => None,
+            Node::Html(_) => None,
+            Node::Image(_) => None,
+            Node::ImageReference(_) => None,
+            Node::Link(node) => Some(&mut node.children),
+            Node::LinkReference(node) => Some(&mut node.children),
+            Node::Strong(node) => Some(&mut node.children),
+            Node::Text(_) => None,
+            Node::Code(_) => None,
+            Node::Math(_) => None,
+            Node::Heading(node) => Some(&mut node.children),
+            Node::Table(node) => Some(&mut node.children),
+            Node::ThematicBreak(_) => None,
+            Node::TableRow(node) => Some(&mut node.children),
+            Node::TableCell(node) => Some(&mut node.children),
+            Node::ListItem(node) => Some(&mut node.children),
+            Node::Definition(_) => None,
+            Node::Paragraph(node) => Some(&mut node.children),
+        }
+    }
+
+    /// Where the node stands, and `None` for one that stands in no document.
+    pub fn position(&self) -> Option<&Position>
+        ensures { option_map (λ p. p.now) result ≡ position_of self.now }
+    {
+        match self {
+            Node::Root(node) => node.position.as_ref(),
+            Node::Blockquote(node) => node.position.as_ref(),
+            Node::FootnoteDefinition(node) => node.position.as_ref(),
+            Node::List(node) => node.position.as_ref(),
+            Node::Toml(node) => node.position.as_ref(),
+            Node::Yaml(node) => node.position.as_ref(),
+            Node::Break(node) => node.position.as_ref(),
+            Node::InlineCode(node) => node.position.as_ref(),
+            Node::InlineMath(node) => node.position.as_ref(),
+            Node::Delete(node) => node.position.as_ref(),
+            Node::Emphasis(node) => node.position.as_ref(),
+            Node::FootnoteReference(node) => node.position.as_ref(),
+            Node::Html(node) => node.position.as_ref(),
+            Node::Image(node) => node.position.as_ref(),
+            Node::ImageReference(node) => node.position.as_ref(),
+            Node::Link(node) => node.position.as_ref(),
+            Node::LinkReference(node) => node.position.as_ref(),
+            Node::Strong(node) => node.position.as_ref(),
+            Node::Text(node) => node.position.as_ref(),
+            Node::Code(node) => node.position.as_ref(),
+            Node::Math(node) => node.position.as_ref(),
+            Node::Heading(node) => node.position.as_ref(),
+            Node::Table(node) => node.position.as_ref(),
+            Node::ThematicBreak(node) => node.position.as_ref(),
+            Node::TableRow(node) => node.position.as_ref(),
+            Node::TableCell(node) => node.position.as_ref(),
+            Node::ListItem(node) => node.position.as_ref(),
+            Node::Definition(node) => node.position.as_ref(),
+            Node::Paragraph(node) => node.position.as_ref(),
+        }
+    }
+
+    /// Where the node stands, to be changed, and `None` for one that stands in no document.
+    ///
+    /// What is written through it becomes the node's position, and changes nothing else. Give a
+    /// position to a node that has none by `position_set`.
+    pub fn position_mut(&mut self) -> Option<&mut Position>
+        ensures* writes_back { sem 𝓛 (LendsIf the_row position_type.the_row self.entry result (λ p. with_position self.old (Some p)) self.old) }
+        ensures value { option_map (λ p. p.now) result ≡ position_of self.old }
+    {
+        match self {
+            Node::Root(node) => node.position.as_mut(),
+            Node::Blockquote(node) => node.position.as_mut(),
+            Node::FootnoteDefinition(node) => node.position.as_mut(),
+            Node::List(node) => node.position.as_mut(),
+            Node::Toml(node) => node.position.as_mut(),
+            Node::Yaml(node) => node.position.as_mut(),
+            Node::Break(node) => node.position.as_mut(),
+            Node::InlineCode(node) => node.position.as_mut(),
+            Node::InlineMath(node) => node.position.as_mut(),
+            Node::Delete(node) => node.position.as_mut(),
+            Node::Emphasis(node) => node.position.as_mut(),
+            Node::FootnoteReference(node) => node.position.as_mut(),
+            Node::Html(node) => node.position.as_mut(),
+            Node::Image(node) => node.position.as_mut(),
+            Node::ImageReference(node) => node.position.as_mut(),
+            Node::Link(node) => node.position.as_mut(),
+            Node::LinkReference(node) => node.position.as_mut(),
+            Node::Strong(node) => node.position.as_mut(),
+            Node::Text(node) => node.position.as_mut(),
+            Node::Code(node) => node.position.as_mut(),
+            Node::Math(node) => node.position.as_mut(),
+            Node::Heading(node) => node.position.as_mut(),
+            Node::Table(node) => node.position.as_mut(),
+            Node::ThematicBreak(node) => node.position.as_mut(),
+            Node::TableRow(node) => node.position.as_mut(),
+            Node::TableCell(node) => node.position.as_mut(),
+            Node::ListItem(node) => node.position.as_mut(),
+            Node::Definition(node) => node.position.as_mut(),
+            Node::Paragraph(node) => node.position.as_mut(),
+        }
+    }
+
+    /// Gives the node a position, or takes it away, and changes nothing else.
+    ///
+    /// `node.position_set(None)` leaves a node with no place.
+    pub fn position_set(&mut self, position: Option<Position>)
+        ensures { self.new ≡ with_position self.old position }
+    {
+        match self {
+            Node::Root(node) => node.position = position,
+            Node::Blockquote(node) => node.position = position,
+            Node::FootnoteDefinition(node) => node.position = position,
+            Node::List(node) => node.position = position,
+            Node::Toml(node) => node.position = position,
+            Node::Yaml(node) => node.position = position,
+            Node::Break(node) => node.position = position,
+            Node::InlineCode(node) => node.position = position,
+            Node::InlineMath(node) => node.position = position,
+            Node::Delete(node) => node.position = position,
+            Node::Emphasis(node) => node.position = position,
+            Node::FootnoteReference(node) => node.position = position,
+            Node::Html(node) => node.position = position,
+            Node::Image(node) => node.position = position,
+            Node::ImageReference(node) => node.position = position,
+            Node::Link(node) => node.position = position,
+            Node::LinkReference(node) => node.position = position,
+            Node::Strong(node) => node.position = position,
+            Node::Text(node) => node.position = position,
+            Node::Code(node) => node.position = position,
+            Node::Math(node) => node.position = position,
+            Node::Heading(node) => node.position = position,
+            Node::Table(node) => node.position = position,
+            Node::ThematicBreak(node) => node.position = position,
+            Node::TableRow(node) => node.position = position,
+            Node::TableCell(node) => node.position = position,
+            Node::ListItem(node) => node.position = position,
+            Node::Definition(node) => node.position = position,
+            Node::Paragraph(node) => node.position = position,
+        }
+    }
+
+    /// The node's plain text: the values of the literals in it, in tree order.
+    ///
+    /// An image has no such value, and its alternative text is left out. A paragraph of the text
+    /// `a` and an emphasis of the text `b` gives `ab`. Fails where memory runs out, and else never.
+    pub fn to_string(&self, alloc: Global) -> Result<String, AllocError>
+        ensures { IfOk result (λ text. string_bytes text ≡ plain_text (only (view self.now))) }
+    {
+        let mut text = String::new(alloc);
+        reading::add_text(self, &mut text)?;
+        Ok(text)
+    }
+
+    /// A copy of the node with all that is in it, in memory of its own.
+    ///
+    /// The copy equals the node. Fails where memory runs out, and else never.
+    pub fn clone(&self, alloc: Global) -> Result<Node, AllocError>
+        ensures { IfOk result (λ copy. view copy ≡ view self.now) }
+    {
+        copying::copy(self, alloc)
+    }
 }
 
 impl fmt::Debug for Node {
@@ -44,15 +336,43 @@ impl fmt::Debug for Node {
     fn fmt<W: fmt::Write>(&self, f: &mut fmt::Formatter<W>) -> fmt::Result {
         match self {
             Node::Root(node) => write!(f, "{node:?}"),
-            Node::Paragraph(node) => write!(f, "{node:?}"),
+            Node::Blockquote(node) => write!(f, "{node:?}"),
+            Node::FootnoteDefinition(node) => write!(f, "{node:?}"),
+            Node::List(node) => write!(f, "{node:?}"),
+            Node::Toml(node) => write!(f, "{node:?}"),
+            Node::Yaml(node) => write!(f, "{node:?}"),
+            Node::Break(node) => write!(f, "{node:?}"),
+            Node::InlineCode(node) => write!(f, "{node:?}"),
+            Node::InlineMath(node) => write!(f, "{node:?}"),
+            Node::Delete(node) => write!(f, "{node:?}"),
+            Node::Emphasis(node) => write!(f, "{node:?}"),
+            Node::FootnoteReference(node) => write!(f, "{node:?}"),
+            Node::Html(node) => write!(f, "{node:?}"),
+            Node::Image(node) => write!(f, "{node:?}"),
+            Node::ImageReference(node) => write!(f, "{node:?}"),
+            Node::Link(node) => write!(f, "{node:?}"),
+            Node::LinkReference(node) => write!(f, "{node:?}"),
+            Node::Strong(node) => write!(f, "{node:?}"),
             Node::Text(node) => write!(f, "{node:?}"),
+            Node::Code(node) => write!(f, "{node:?}"),
+            Node::Math(node) => write!(f, "{node:?}"),
+            Node::Heading(node) => write!(f, "{node:?}"),
+            Node::Table(node) => write!(f, "{node:?}"),
+            Node::ThematicBreak(node) => write!(f, "{node:?}"),
+            Node::TableRow(node) => write!(f, "{node:?}"),
+            Node::TableCell(node) => write!(f, "{node:?}"),
+            Node::ListItem(node) => write!(f, "{node:?}"),
+            Node::Definition(node) => write!(f, "{node:?}"),
+            Node::Paragraph(node) => write!(f, "{node:?}"),
         }
     }
 }
 
-/// A document.
+/// A whole document (mdast).
+///
+/// The file `a` is a root that holds a paragraph.
 #[cycle(node)]
-#[derive(Debug, Drop)]
+#[derive(PartialEq, Eq, Debug, Drop)]
 pub struct Root {
     /// What it holds, in order.
     pub children: Vec<Node>,
@@ -60,21 +380,372 @@ pub struct Root {
     pub position: Option<Position>,
 }
 
-/// A paragraph.
+/// A quote set off from its surroundings (CommonMark, block quotes).
+///
+/// `> a` is a block quote of a paragraph.
 #[cycle(node)]
-#[derive(Debug, Drop)]
-pub struct Paragraph {
+#[derive(PartialEq, Eq, Debug, Drop)]
+pub struct Blockquote {
     /// What it holds, in order.
     pub children: Vec<Node>,
     /// Where it stands, if it stands in a document.
     pub position: Option<Position>,
 }
 
-/// A text.
-#[derive(Debug, Drop)]
+/// What a footnote says (footnotes, as GitHub has them).
+///
+/// `[^a]: b` defines the footnote `a`.
+#[cycle(node)]
+#[derive(PartialEq, Eq, Debug, Drop)]
+pub struct FootnoteDefinition {
+    /// What it holds, in order.
+    pub children: Vec<Node>,
+    /// Where it stands, if it stands in a document.
+    pub position: Option<Position>,
+    /// The name of the footnote, cut down to what names are compared by.
+    pub identifier: String,
+    /// The name as it was written, if it is known.
+    pub label: Option<String>,
+}
+
+/// Items, numbered or with bullets (CommonMark, lists).
+///
+/// `* a` is a list of one item with no number; `3. a` is an ordered one that starts at 3.
+#[cycle(node)]
+#[derive(PartialEq, Eq, Debug, Drop)]
+pub struct List {
+    /// What it holds, in order.
+    pub children: Vec<Node>,
+    /// Where it stands, if it stands in a document.
+    pub position: Option<Position>,
+    /// Whether the items are numbered.
+    pub ordered: bool,
+    /// The number of the first item, if the items are numbered.
+    pub start: Option<u32>,
+    /// Whether a blank line stands between two of its items.
+    pub spread: bool,
+}
+
+/// Metadata in TOML at the head of a document (frontmatter, an extension of mdast).
+///
+/// `+++` above `a = 1` above `+++` is one.
+#[derive(PartialEq, Eq, Debug, Drop)]
+pub struct Toml {
+    /// Its characters.
+    pub value: String,
+    /// Where it stands, if it stands in a document.
+    pub position: Option<Position>,
+}
+
+/// Metadata in YAML at the head of a document (frontmatter, an extension of mdast).
+///
+/// `---` above `a: b` above `---` is one.
+#[derive(PartialEq, Eq, Debug, Drop)]
+pub struct Yaml {
+    /// Its characters.
+    pub value: String,
+    /// Where it stands, if it stands in a document.
+    pub position: Option<Position>,
+}
+
+/// A line that ends on purpose (CommonMark, hard line breaks).
+///
+/// A backslash at the end of a line is one.
+#[derive(PartialEq, Eq, Debug, Drop)]
+pub struct Break {
+    /// Where it stands, if it stands in a document.
+    pub position: Option<Position>,
+}
+
+/// Code among words (CommonMark, code spans).
+///
+/// `` `a` `` is one.
+#[derive(PartialEq, Eq, Debug, Drop)]
+pub struct InlineCode {
+    /// Its characters.
+    pub value: String,
+    /// Where it stands, if it stands in a document.
+    pub position: Option<Position>,
+}
+
+/// Mathematics among words (math, an extension of mdast).
+///
+/// `$a$` is one.
+#[derive(PartialEq, Eq, Debug, Drop)]
+pub struct InlineMath {
+    /// Its characters.
+    pub value: String,
+    /// Where it stands, if it stands in a document.
+    pub position: Option<Position>,
+}
+
+/// Words that no longer hold (GFM, strikethrough).
+///
+/// `~~a~~` is a deletion of the text `a`.
+#[cycle(node)]
+#[derive(PartialEq, Eq, Debug, Drop)]
+pub struct Delete {
+    /// What it holds, in order.
+    pub children: Vec<Node>,
+    /// Where it stands, if it stands in a document.
+    pub position: Option<Position>,
+}
+
+/// Words with stress (CommonMark, emphasis).
+///
+/// `*a*` is emphasis of the text `a`.
+#[cycle(node)]
+#[derive(PartialEq, Eq, Debug, Drop)]
+pub struct Emphasis {
+    /// What it holds, in order.
+    pub children: Vec<Node>,
+    /// Where it stands, if it stands in a document.
+    pub position: Option<Position>,
+}
+
+/// A mark that leads to a footnote (footnotes, as GitHub has them).
+///
+/// `[^a]` refers to the definition of the footnote `a`.
+#[derive(PartialEq, Eq, Debug, Drop)]
+pub struct FootnoteReference {
+    /// Where it stands, if it stands in a document.
+    pub position: Option<Position>,
+    /// The name of the footnote, cut down to what names are compared by.
+    pub identifier: String,
+    /// The name as it was written, if it is known.
+    pub label: Option<String>,
+}
+
+/// HTML as it was written (CommonMark, HTML blocks and raw HTML).
+///
+/// `<a>` is one, and is not looked into.
+#[derive(PartialEq, Eq, Debug, Drop)]
+pub struct Html {
+    /// Its characters.
+    pub value: String,
+    /// Where it stands, if it stands in a document.
+    pub position: Option<Position>,
+}
+
+/// A picture that names its place itself (CommonMark, images).
+///
+/// `![a](b "c")` shows `b`, with the alternative text `a` and the title `c`.
+#[derive(PartialEq, Eq, Debug, Drop)]
+pub struct Image {
+    /// Where it stands, if it stands in a document.
+    pub position: Option<Position>,
+    /// What to read where the picture is not seen.
+    pub alt: String,
+    /// The place that it names.
+    pub url: String,
+    /// More about that place, if it is given.
+    pub title: Option<String>,
+}
+
+/// A picture whose place a definition names (CommonMark, images).
+///
+/// `![a][b]` refers to the definition `b`.
+#[derive(PartialEq, Eq, Debug, Drop)]
+pub struct ImageReference {
+    /// Where it stands, if it stands in a document.
+    pub position: Option<Position>,
+    /// What to read where the picture is not seen.
+    pub alt: String,
+    /// How it was written.
+    pub reference_kind: ReferenceKind,
+    /// The name of the definition, cut down to what names are compared by.
+    pub identifier: String,
+    /// The name as it was written, if it is known.
+    pub label: Option<String>,
+}
+
+/// A link to a place that it names itself (CommonMark, links).
+///
+/// `[a](b "c")` is a link to `b` with the title `c`.
+#[cycle(node)]
+#[derive(PartialEq, Eq, Debug, Drop)]
+pub struct Link {
+    /// What it holds, in order.
+    pub children: Vec<Node>,
+    /// Where it stands, if it stands in a document.
+    pub position: Option<Position>,
+    /// The place that it names.
+    pub url: String,
+    /// More about that place, if it is given.
+    pub title: Option<String>,
+}
+
+/// A link to a place that a definition names (CommonMark, reference links).
+///
+/// `[a][b]` refers to the definition `b`.
+#[cycle(node)]
+#[derive(PartialEq, Eq, Debug, Drop)]
+pub struct LinkReference {
+    /// What it holds, in order.
+    pub children: Vec<Node>,
+    /// Where it stands, if it stands in a document.
+    pub position: Option<Position>,
+    /// How it was written.
+    pub reference_kind: ReferenceKind,
+    /// The name of the definition, cut down to what names are compared by.
+    pub identifier: String,
+    /// The name as it was written, if it is known.
+    pub label: Option<String>,
+}
+
+/// Words that matter (CommonMark, strong emphasis).
+///
+/// `**a**` is strong emphasis of the text `a`.
+#[cycle(node)]
+#[derive(PartialEq, Eq, Debug, Drop)]
+pub struct Strong {
+    /// What it holds, in order.
+    pub children: Vec<Node>,
+    /// Where it stands, if it stands in a document.
+    pub position: Option<Position>,
+}
+
+/// Characters that mean themselves (CommonMark, textual content).
+///
+/// The line `a` holds the text `a`.
+#[derive(PartialEq, Eq, Debug, Drop)]
 pub struct Text {
     /// Its characters.
     pub value: String,
+    /// Where it stands, if it stands in a document.
+    pub position: Option<Position>,
+}
+
+/// Lines of code (CommonMark, indented and fenced code blocks).
+///
+/// A fence with the words `rust ignore` behind it has the language `rust` and the meta `ignore`.
+#[derive(PartialEq, Eq, Debug, Drop)]
+pub struct Code {
+    /// Its characters.
+    pub value: String,
+    /// Where it stands, if it stands in a document.
+    pub position: Option<Position>,
+    /// The language that it is in, if it is given.
+    pub lang: Option<String>,
+    /// What is said behind the language, if it is given.
+    pub meta: Option<String>,
+}
+
+/// Lines of mathematics (math, an extension of mdast).
+///
+/// `$$` above `a` above `$$` is one.
+#[derive(PartialEq, Eq, Debug, Drop)]
+pub struct Math {
+    /// Its characters.
+    pub value: String,
+    /// Where it stands, if it stands in a document.
+    pub position: Option<Position>,
+    /// What is said behind the fence, if it is given.
+    pub meta: Option<String>,
+}
+
+/// A heading (CommonMark, ATX and setext headings).
+///
+/// `## a` is a heading of depth 2.
+#[cycle(node)]
+#[derive(PartialEq, Eq, Debug, Drop)]
+pub struct Heading {
+    /// What it holds, in order.
+    pub children: Vec<Node>,
+    /// Where it stands, if it stands in a document.
+    pub position: Option<Position>,
+    /// Its rank, from 1 to 6.
+    pub depth: u8,
+}
+
+/// Rows of cells (GFM, tables).
+///
+/// `| a |` above `| - |` is a table of one row and one column.
+#[cycle(node)]
+#[derive(PartialEq, Eq, Debug, Drop)]
+pub struct Table {
+    /// What it holds, in order.
+    pub children: Vec<Node>,
+    /// Where it stands, if it stands in a document.
+    pub position: Option<Position>,
+    /// How each column is aligned, from the first one on.
+    pub align: Vec<AlignKind>,
+}
+
+/// A change of topic (CommonMark, thematic breaks).
+///
+/// `***` alone on a line is one.
+#[derive(PartialEq, Eq, Debug, Drop)]
+pub struct ThematicBreak {
+    /// Where it stands, if it stands in a document.
+    pub position: Option<Position>,
+}
+
+/// One row of a table; the first one is its head (GFM, tables).
+///
+/// `| a | b |` is a row of two cells.
+#[cycle(node)]
+#[derive(PartialEq, Eq, Debug, Drop)]
+pub struct TableRow {
+    /// What it holds, in order.
+    pub children: Vec<Node>,
+    /// Where it stands, if it stands in a document.
+    pub position: Option<Position>,
+}
+
+/// One cell of a row (GFM, tables).
+///
+/// `| a |` is a row of a cell that holds the text `a`.
+#[cycle(node)]
+#[derive(PartialEq, Eq, Debug, Drop)]
+pub struct TableCell {
+    /// What it holds, in order.
+    pub children: Vec<Node>,
+    /// Where it stands, if it stands in a document.
+    pub position: Option<Position>,
+}
+
+/// One item of a list (CommonMark, list items; GFM, task list items).
+///
+/// `* [x] a` is an item that is checked.
+#[cycle(node)]
+#[derive(PartialEq, Eq, Debug, Drop)]
+pub struct ListItem {
+    /// What it holds, in order.
+    pub children: Vec<Node>,
+    /// Where it stands, if it stands in a document.
+    pub position: Option<Position>,
+    /// Whether a blank line stands between two of its children.
+    pub spread: bool,
+    /// Whether the task is done, if it is a task.
+    pub checked: Option<bool>,
+}
+
+/// The place that references name (CommonMark, link reference definitions).
+///
+/// `[a]: b "c"` says that `a` is at `b` and has the title `c`.
+#[derive(PartialEq, Eq, Debug, Drop)]
+pub struct Definition {
+    /// Where it stands, if it stands in a document.
+    pub position: Option<Position>,
+    /// The place that it names.
+    pub url: String,
+    /// More about that place, if it is given.
+    pub title: Option<String>,
+    /// The name that it defines, cut down to what names are compared by.
+    pub identifier: String,
+    /// The name as it was written, if it is known.
+    pub label: Option<String>,
+}
+
+/// Words that stand together (CommonMark, paragraphs).
+///
+/// The line `a` is a paragraph of the text `a`.
+#[cycle(node)]
+#[derive(PartialEq, Eq, Debug, Drop)]
+pub struct Paragraph {
+    /// What it holds, in order.
+    pub children: Vec<Node>,
     /// Where it stands, if it stands in a document.
     pub position: Option<Position>,
 }

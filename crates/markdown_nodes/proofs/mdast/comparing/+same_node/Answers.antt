@@ -1,0 +1,38 @@
+use Rattle.std.proofs.Common.{◌≡◌, ◌<◌, true≢false, length, refl, sym, ap, ◌∙◌, arith}
+use Rattle.markdown_nodes.specs.View.{view, views}
+use Rattle.markdown_nodes.proofs.Comparing.{label-same, nodes-same, position-same, same_at, same_length, same_parts, same_so_far}
+use Rattle.markdown_nodes.proofs.mdast.comparing.+same_node.Goals as goal
+
+pub same_node-returns-then-not-same_label : goal.same_node-returns-then-not-same_label
+same_node-returns-then-not-same_label t c = (λ e. absurd (true≢false (sym e)), λ e. c.if-not-same_label.ensures.1 (label-same _ _ e))
+
+pub same_node-returns-then-not-same_position : goal.same_node-returns-then-not-same_position
+same_node-returns-then-not-same_position t c = (λ e. absurd (true≢false (sym e)), λ e. c.if-not-same_position.ensures.1 (position-same _ _ e))
+
+pub same_node-returns : goal.same_node-returns
+same_node-returns t c = (
+  λ r. same_parts c.args.a.now c.args.b.now (c.if-not-same_label.ensures.0 refl) (c.if-not-same_position.ensures.0 refl) (ap views (sym c.nodes.ensures) ∙ c.same_nodes.ensures.0 r ∙ ap views c.nodes-2.ensures),
+  λ e. c.same_nodes.ensures.1 (ap views c.nodes.ensures ∙ nodes-same c.args.a.now c.args.b.now e ∙ ap views (sym c.nodes-2.ensures)),
+)
+
+pub same_nodes-returns-then-xs-ys : goal.same_nodes-returns-then-xs-ys
+same_nodes-returns-then-xs-ys t c = (
+  λ e. absurd (true≢false (sym e)),
+  λ e.
+      let long : length c.args.xs.now ≡ length c.args.ys.now = same_length _ _ e in
+      absurd (omega arith),
+)
+
+pub same_nodes-returns-then-not-same_node : goal.same_nodes-returns-then-not-same_node
+same_nodes-returns-then-not-same_node t c = (
+  λ e. absurd (true≢false (sym e)),
+  λ e.
+      let within : c.loop-i.i < length c.args.xs.now = omega arith in
+      c.if-not-same_node.ensures.1 (ap view c.index-xs-i.is ∙ same_at c.args.xs.now c.args.ys.now c.loop-i.i c.index-xs-i.result c.index-ys-i.result e within ∙ ap view (sym c.index-ys-i.is)),
+)
+
+pub same_nodes-loop-i-preserved : goal.same_nodes-loop-i-preserved
+same_nodes-loop-i-preserved t c =
+    let within : c.loop-i.i < length c.args.xs.now = omega arith in
+    let within_too : c.loop-i.i < length c.args.ys.now = omega arith in
+    same_so_far c.args.xs.now c.args.ys.now c.loop-i.i c.index-xs-i.result c.index-ys-i.result within within_too c.loop-i.invariant (ap view (sym c.index-xs-i.is) ∙ c.if-not-same_node.ensures.0 refl ∙ ap view c.index-ys-i.is)

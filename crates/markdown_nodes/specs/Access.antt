@@ -1,0 +1,167 @@
+-- The parts that every node has, or every parent.
+use Rattle.std.specs.Prelude.{List, [], Option, Some, None, option_map, string_bytes, Vec}
+use Rattle.std.specs.declared.alloc.Global.{Global}
+use Rattle.markdown_nodes.specs.declared.mdast.Node.{Node}
+use Rattle.markdown_nodes.specs.declared.mdast.Node.TheOpen.{Node-F}
+use Rattle.markdown_nodes.specs.declared.mdast.Node.TheVariants as nodes
+use Rattle.markdown_nodes.specs.declared.mdast.Node.TheViews.{out-Node}
+use Rattle.markdown_nodes.specs.declared.unist.Position.{Position}
+use Rattle.markdown_nodes.specs.Tree.{Label, Tree, root, paragraph, blockquote, emphasis, strong, delete, table_row, table_cell, thematic_break, «break», text, html, inline_code, inline_math, yaml, toml, heading, list, list_item, table, code, math, link, image, link_reference, image_reference, footnote_reference, footnote_definition, definition}
+use Rattle.markdown_nodes.specs.View.{views}
+
+-- the children of a parent
+abbrev pub children_of : Node → Option (Vec Node Global)
+children_of node = elim (out-Node node) [
+  | Node-F.Root node ↦ Some node.children
+  | Node-F.Blockquote node ↦ Some node.children
+  | Node-F.FootnoteDefinition node ↦ Some node.children
+  | Node-F.List node ↦ Some node.children
+  | Node-F.Delete node ↦ Some node.children
+  | Node-F.Emphasis node ↦ Some node.children
+  | Node-F.Link node ↦ Some node.children
+  | Node-F.LinkReference node ↦ Some node.children
+  | Node-F.Strong node ↦ Some node.children
+  | Node-F.Heading node ↦ Some node.children
+  | Node-F.Table node ↦ Some node.children
+  | Node-F.TableRow node ↦ Some node.children
+  | Node-F.TableCell node ↦ Some node.children
+  | Node-F.ListItem node ↦ Some node.children
+  | Node-F.Paragraph node ↦ Some node.children
+  | _ ↦ None
+]
+
+-- where a node stands
+abbrev pub position_of : Node → Option Position
+position_of node = elim (out-Node node) [
+  | Node-F.Root node ↦ node.position
+  | Node-F.Blockquote node ↦ node.position
+  | Node-F.FootnoteDefinition node ↦ node.position
+  | Node-F.List node ↦ node.position
+  | Node-F.Toml node ↦ node.position
+  | Node-F.Yaml node ↦ node.position
+  | Node-F.Break node ↦ node.position
+  | Node-F.InlineCode node ↦ node.position
+  | Node-F.InlineMath node ↦ node.position
+  | Node-F.Delete node ↦ node.position
+  | Node-F.Emphasis node ↦ node.position
+  | Node-F.FootnoteReference node ↦ node.position
+  | Node-F.Html node ↦ node.position
+  | Node-F.Image node ↦ node.position
+  | Node-F.ImageReference node ↦ node.position
+  | Node-F.Link node ↦ node.position
+  | Node-F.LinkReference node ↦ node.position
+  | Node-F.Strong node ↦ node.position
+  | Node-F.Text node ↦ node.position
+  | Node-F.Code node ↦ node.position
+  | Node-F.Math node ↦ node.position
+  | Node-F.Heading node ↦ node.position
+  | Node-F.Table node ↦ node.position
+  | Node-F.ThematicBreak node ↦ node.position
+  | Node-F.TableRow node ↦ node.position
+  | Node-F.TableCell node ↦ node.position
+  | Node-F.ListItem node ↦ node.position
+  | Node-F.Definition node ↦ node.position
+  | Node-F.Paragraph node ↦ node.position
+]
+
+-- a parent with these children in place of its own, and any other node as it is
+abbrev pub with_children : Node → Vec Node Global → Node
+with_children it children = elim (out-Node it) [
+  | Node-F.Root node ↦ nodes.Root (record node { children = children })
+  | Node-F.Blockquote node ↦ nodes.Blockquote (record node { children = children })
+  | Node-F.FootnoteDefinition node ↦ nodes.FootnoteDefinition (record node { children = children })
+  | Node-F.List node ↦ nodes.List (record node { children = children })
+  | Node-F.Delete node ↦ nodes.Delete (record node { children = children })
+  | Node-F.Emphasis node ↦ nodes.Emphasis (record node { children = children })
+  | Node-F.Link node ↦ nodes.Link (record node { children = children })
+  | Node-F.LinkReference node ↦ nodes.LinkReference (record node { children = children })
+  | Node-F.Strong node ↦ nodes.Strong (record node { children = children })
+  | Node-F.Heading node ↦ nodes.Heading (record node { children = children })
+  | Node-F.Table node ↦ nodes.Table (record node { children = children })
+  | Node-F.TableRow node ↦ nodes.TableRow (record node { children = children })
+  | Node-F.TableCell node ↦ nodes.TableCell (record node { children = children })
+  | Node-F.ListItem node ↦ nodes.ListItem (record node { children = children })
+  | Node-F.Paragraph node ↦ nodes.Paragraph (record node { children = children })
+  | _ ↦ it
+]
+
+-- a node with this position in place of its own
+abbrev pub with_position : Node → Option Position → Node
+with_position it position = elim (out-Node it) [
+  | Node-F.Root node ↦ nodes.Root (record node { position = position })
+  | Node-F.Blockquote node ↦ nodes.Blockquote (record node { position = position })
+  | Node-F.FootnoteDefinition node ↦ nodes.FootnoteDefinition (record node { position = position })
+  | Node-F.List node ↦ nodes.List (record node { position = position })
+  | Node-F.Toml node ↦ nodes.Toml (record node { position = position })
+  | Node-F.Yaml node ↦ nodes.Yaml (record node { position = position })
+  | Node-F.Break node ↦ nodes.Break (record node { position = position })
+  | Node-F.InlineCode node ↦ nodes.InlineCode (record node { position = position })
+  | Node-F.InlineMath node ↦ nodes.InlineMath (record node { position = position })
+  | Node-F.Delete node ↦ nodes.Delete (record node { position = position })
+  | Node-F.Emphasis node ↦ nodes.Emphasis (record node { position = position })
+  | Node-F.FootnoteReference node ↦ nodes.FootnoteReference (record node { position = position })
+  | Node-F.Html node ↦ nodes.Html (record node { position = position })
+  | Node-F.Image node ↦ nodes.Image (record node { position = position })
+  | Node-F.ImageReference node ↦ nodes.ImageReference (record node { position = position })
+  | Node-F.Link node ↦ nodes.Link (record node { position = position })
+  | Node-F.LinkReference node ↦ nodes.LinkReference (record node { position = position })
+  | Node-F.Strong node ↦ nodes.Strong (record node { position = position })
+  | Node-F.Text node ↦ nodes.Text (record node { position = position })
+  | Node-F.Code node ↦ nodes.Code (record node { position = position })
+  | Node-F.Math node ↦ nodes.Math (record node { position = position })
+  | Node-F.Heading node ↦ nodes.Heading (record node { position = position })
+  | Node-F.Table node ↦ nodes.Table (record node { position = position })
+  | Node-F.ThematicBreak node ↦ nodes.ThematicBreak (record node { position = position })
+  | Node-F.TableRow node ↦ nodes.TableRow (record node { position = position })
+  | Node-F.TableCell node ↦ nodes.TableCell (record node { position = position })
+  | Node-F.ListItem node ↦ nodes.ListItem (record node { position = position })
+  | Node-F.Definition node ↦ nodes.Definition (record node { position = position })
+  | Node-F.Paragraph node ↦ nodes.Paragraph (record node { position = position })
+]
+
+-- a node's kind, with its fields but for children and position
+abbrev pub label_of : Node → Label
+label_of it = elim (out-Node it) [
+  | Node-F.Root node ↦ root
+  | Node-F.Blockquote node ↦ blockquote
+  | Node-F.FootnoteDefinition node ↦ footnote_definition (string_bytes node.identifier) (option_map string_bytes node.label)
+  | Node-F.List node ↦ list node.ordered node.start node.spread
+  | Node-F.Toml node ↦ toml (string_bytes node.value)
+  | Node-F.Yaml node ↦ yaml (string_bytes node.value)
+  | Node-F.Break node ↦ «break»
+  | Node-F.InlineCode node ↦ inline_code (string_bytes node.value)
+  | Node-F.InlineMath node ↦ inline_math (string_bytes node.value)
+  | Node-F.Delete node ↦ delete
+  | Node-F.Emphasis node ↦ emphasis
+  | Node-F.FootnoteReference node ↦ footnote_reference (string_bytes node.identifier) (option_map string_bytes node.label)
+  | Node-F.Html node ↦ html (string_bytes node.value)
+  | Node-F.Image node ↦ image (string_bytes node.alt) (string_bytes node.url) (option_map string_bytes node.title)
+  | Node-F.ImageReference node ↦ image_reference (string_bytes node.alt) node.reference_kind (string_bytes node.identifier) (option_map string_bytes node.label)
+  | Node-F.Link node ↦ link (string_bytes node.url) (option_map string_bytes node.title)
+  | Node-F.LinkReference node ↦ link_reference node.reference_kind (string_bytes node.identifier) (option_map string_bytes node.label)
+  | Node-F.Strong node ↦ strong
+  | Node-F.Text node ↦ text (string_bytes node.value)
+  | Node-F.Code node ↦ code (string_bytes node.value) (option_map string_bytes node.lang) (option_map string_bytes node.meta)
+  | Node-F.Math node ↦ math (string_bytes node.value) (option_map string_bytes node.meta)
+  | Node-F.Heading node ↦ heading node.depth
+  | Node-F.Table node ↦ table node.align.items
+  | Node-F.ThematicBreak node ↦ thematic_break
+  | Node-F.TableRow node ↦ table_row
+  | Node-F.TableCell node ↦ table_cell
+  | Node-F.ListItem node ↦ list_item node.spread node.checked
+  | Node-F.Definition node ↦ definition (string_bytes node.url) (option_map string_bytes node.title) (string_bytes node.identifier) (option_map string_bytes node.label)
+  | Node-F.Paragraph node ↦ paragraph
+]
+
+-- the nodes in a list that may be there
+abbrev pub items_in : Option (Vec Node Global) → List Node
+items_in None = []
+items_in (Some children) = children.items
+
+-- the nodes in a node, and none in one that is no parent
+abbrev pub nodes_in : Node → List Node
+nodes_in node = items_in (children_of node)
+
+-- a node as a tree, by its parts
+abbrev pub tree_of : Node → Tree
+tree_of node = record { label = label_of node; children = views (nodes_in node); position = position_of node }

@@ -1,0 +1,39 @@
+//! The plain text of nodes.
+
+ghost use Rattle.std.specs.Prelude.{◌≡◌, ◌++◌, OnOk, string_bytes};
+ghost use Rattle.markdown_nodes.specs.Access.{label_of};
+ghost use Rattle.markdown_nodes.specs.Tree.{only, plain_text, value_of};
+ghost use Rattle.markdown_nodes.specs.View.{view};
+
+use crate::mdast::Node;
+use std::alloc::AllocError;
+
+/// The value of a literal, and no characters for any other kind.
+fn value(node: &Node) -> &str
+    ensures { result.now ≡ value_of (label_of node.now) }
+{
+    match node {
+        Node::Toml(node) => node.value.as_str(),
+        Node::Yaml(node) => node.value.as_str(),
+        Node::InlineCode(node) => node.value.as_str(),
+        Node::InlineMath(node) => node.value.as_str(),
+        Node::Html(node) => node.value.as_str(),
+        Node::Text(node) => node.value.as_str(),
+        Node::Code(node) => node.value.as_str(),
+        Node::Math(node) => node.value.as_str(),
+        _ => "",
+    }
+}
+
+/// Puts the plain text of a node behind a text. After an error an unknown part of it stands there.
+pub fn add_text(node: &Node, text: &mut String) -> Result<(), AllocError>
+    ensures { OnOk result (string_bytes text.new ≡ string_bytes text.old ++ plain_text (only (view node.now))) }
+{
+    text.push_str(value(node))?;
+    if let Some(children) = node.children() {
+        for child in children {
+            add_text(child, text)?;
+        }
+    }
+    Ok(())
+}
