@@ -2,3 +2,8 @@ pub mod Spellings
 pub mod Unique
 pub mod Joining
 pub mod Views
+pub mod Loose
+pub mod Lists
+pub mod Spans
+pub mod Aligns
+pub mod TextLemmas

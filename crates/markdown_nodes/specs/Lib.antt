@@ -5,3 +5,8 @@ pub mod Slices
 pub mod Forest
 pub mod Tree
 pub mod View
+pub mod Texts
+pub mod TextWalks
+pub mod Spread
+pub mod Begins
+pub mod Walks

@@ -3,8 +3,10 @@
 #![tactic(auto)]
 
 pub mod event;
+pub mod infer;
 pub mod laws;
 pub mod mdast;
 pub mod message;
 pub mod role;
+pub mod text;
 pub mod unist;
