@@ -6,4 +6,6 @@ pub mod Loose
 pub mod Lists
 pub mod Spans
 pub mod Aligns
-pub mod TextLemmas
+pub mod Cuts
+pub mod LineEndings
+pub mod Collapsing

@@ -86,6 +86,14 @@ fn before_last(value: &str, last: char) -> Option<&str>
     value.strip_suffix(last)
 }
 
+/// The value without this character at its end, if it ends with it.
+fn without_last(value: &str, last: char) -> &str
+    requires { last < 128 }
+    ensures { result.now ≡ unwrap_or (before_last last value.now) value.now }
+{
+    before_last(value, last).unwrap_or(value)
+}
+
 /// The value without one line ending at its start.
 fn without_first_line_ending(value: &str) -> &str
     ensures { result.now ≡ without_first_line_ending value.now }
@@ -101,8 +109,8 @@ fn without_last_line_ending(value: &str) -> &str
     ensures { result.now ≡ without_last_line_ending value.now }
 {
     match before_last(value, '\n') {
-        Some(front) => before_last(front, '\r').unwrap_or(front),
-        None => before_last(value, '\r').unwrap_or(value),
+        Some(front) => without_last(front, '\r'),
+        None => without_last(value, '\r'),
     }
 }
 
@@ -115,7 +123,7 @@ fn without_escapes(alloc: Global, value: &str) -> Result<String, AllocError>
     loop {
         match rest.split_once('|') {
             Some((front, back)) => {
-                text.push_str(without_last_backslash(front))?;
+                text.push_str(without_last(front, '\\'))?;
                 text.push_str("|")?;
                 rest = back;
             }
@@ -125,13 +133,6 @@ fn without_escapes(alloc: Global, value: &str) -> Result<String, AllocError>
             }
         }
     }
-}
-
-/// The text before a pipe, without the backslash that escapes it.
-fn without_last_backslash(front: &str) -> &str
-    ensures { result.now ≡ unwrap_or (before_last 92 front.now) front.now }
-{
-    before_last(front, '\\').unwrap_or(front)
 }
 
 /// The value without one space at each end, where both may go.

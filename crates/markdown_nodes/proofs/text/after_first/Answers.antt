@@ -1,5 +1,5 @@
 use Rattle.std.proofs.lemmas.Str.Pattern.{strip_prefix_char}
-use Rattle.markdown_nodes.proofs.TextLemmas.{after_first_is}
+use Rattle.markdown_nodes.proofs.Cuts.{after_first_is}
 use Rattle.markdown_nodes.proofs.text.after_first.Goals as goal
 
 pub returns : goal.returns

@@ -1,5 +1,5 @@
 use Rattle.std.proofs.lemmas.Str.Pattern.{strip_suffix_char}
-use Rattle.markdown_nodes.proofs.TextLemmas.{before_last_is}
+use Rattle.markdown_nodes.proofs.Cuts.{before_last_is}
 use Rattle.markdown_nodes.proofs.text.before_last.Goals as goal
 
 pub returns : goal.returns
