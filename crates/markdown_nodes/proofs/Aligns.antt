@@ -74,8 +74,8 @@ inside (span m a b c r) before first more h i e =
     let free = head_of is_delimiter_cell_value m a b c r i in
     enter_walk m a before first ((spell c ++ (exit m b ∷ spell r)) ++ more) e
     ∙ tail_walk m b c r more first (head_of is_delimiter_row m a b c r h) free (last_not c m cells free)
-        (λ es. inside c m first es rows cells free)
-        (inside r m first more (behind_of is_delimiter_row m a b c r h) (behind_of is_delimiter_cell_value m a b c r i) free)
+    (λ es. inside c m first es rows cells free)
+    (inside r m first more (behind_of is_delimiter_row m a b c r h) (behind_of is_delimiter_cell_value m a b c r i) free)
 
 last_marker : (t : Role → Bool) (r : Forest) (m : Name) (a b : Point) (c before : Forest) → begins_with t (reversed_onto (span m a b c before) r) ≡ t (role_of (last_name r m))
 last_marker t empty m a b c before = refl
@@ -116,15 +116,16 @@ value_walk (span m a' b' c' r') n b first es h i j =
     let cells = under_of is_delimiter_cell_value m a' b' c' r' j in
     let behind = behind_of is_delimiter_cell_value m a' b' c' r' j in
     let entered : cells_walk (spell (span m a' b' c' r') ++ (exit n b ∷ es)) n first ≡ cells_walk ((spell c' ++ (exit m b' ∷ spell r')) ++ (exit n b ∷ es)) m (marker_of m) =
-        ap (λ x. cells_walk ((spell c' ++ (exit m b' ∷ spell r')) ++ (exit n b ∷ es)) m x) (first_cell n m first h) in
+    ap (λ x. cells_walk ((spell c' ++ (exit m b' ∷ spell r')) ++ (exit n b ∷ es)) m x) (first_cell n m first h) in
     let tail = tail_walk m b' c' r' (exit n b ∷ es) (marker_of m) (head_of is_delimiter_row m a' b' c' r' i) free (last_not c' m cells free)
-        (λ l. inside c' m (marker_of m) l (under_of is_delimiter_row m a' b' c' r' i) cells free)
-        (inside r' m (marker_of m) (exit n b ∷ es) (behind_of is_delimiter_row m a' b' c' r' i) behind free) in
+    (λ l. inside c' m (marker_of m) l (under_of is_delimiter_row m a' b' c' r' i) cells free)
+    (inside r' m (marker_of m) (exit n b ∷ es) (behind_of is_delimiter_row m a' b' c' r' i) behind free) in
     let last = last_name r' m in
-    let kept = first_free last n (marker_of m) (last_not r' m behind free) in
-    (first_after last (marker_of m) n,
+    let kept = first_free last n (marker_of m) (last_not r' m behind free) in (
+      first_after last (marker_of m) n,
       entered ∙ tail ∙ value_exit n b last (marker_of m) es h
-      ∙ (λ k. align_kind_of (kept k) (sym (last_marker is_delimiter_marker r' m a' b' c' empty) k) ∷ cells_walk es n (first_after last (marker_of m) n)))
+          ∙ (λ k. align_kind_of (kept k) (sym (last_marker is_delimiter_marker r' m a' b' c' empty) k) ∷ cells_walk es n (first_after last (marker_of m) n)),
+    )
 
 entry_yes : (r : Role) (x y : List AlignKind) → is_delimiter_cell_value r ≡ true → elim r [ plain plains.DelimiterCellValue ↦ x | _ ↦ y ] ≡ x
 entry_yes (plain plains.DelimiterCellValue) x y e = refl
@@ -154,29 +155,33 @@ row_span : (n : Name) (a b : Point) (c r : Forest) (before : Name) (first : Bool
 row_span n a b c r before first more h s ihc ihr true e =
     let f0 = first_after before first n in
     let v = value_walk c n b f0 (spell r ++ more) e (under_of is_delimiter_row n a b c r h) (may_value (role_of n) c (shape_may n a b c r s) e) in
-    let w = ihr v.0 in
-    (w.0, w.1,
+    let w = ihr v.0 in (
+      w.0,
+      w.1,
       ap (λ es. cells_walk es n f0) (regroup n b (spell c) (spell r) more)
-      ∙ v.1 ∙ ap (λ l. kind_of c ∷ l) w.2
-      ∙ ap (λ l. l ++ cells_walk more w.0 w.1) (sym (entry_yes (role_of n) (kind_of c ∷ entries r) (entries c ++ entries r) e)))
+          ∙ v.1 ∙ ap (λ l. kind_of c ∷ l) w.2
+          ∙ ap (λ l. l ++ cells_walk more w.0 w.1) (sym (entry_yes (role_of n) (kind_of c ∷ entries r) (entries c ++ entries r) e)),
+    )
 row_span n a b c r before first more h s ihc ihr false e =
     let f0 = first_after before first n in
     let u = ihc f0 (exit n b ∷ (spell r ++ more)) in
     let w = ihr (first_after u.0 u.1 n) in
-    let out : cells_walk (exit n b ∷ (spell r ++ more)) u.0 u.1 ≡ cells_walk (spell r ++ more) n (first_after u.0 u.1 n) = rw (head_of is_delimiter_row n a b c r h, e) refl in
-    (w.0, w.1,
+    let out : cells_walk (exit n b ∷ (spell r ++ more)) u.0 u.1 ≡ cells_walk (spell r ++ more) n (first_after u.0 u.1 n) = rw (head_of is_delimiter_row n a b c r h, e) refl in (
+      w.0,
+      w.1,
       ap (λ es. cells_walk es n f0) (regroup n b (spell c) (spell r) more)
-      ∙ u.2 ∙ ap (λ l. entries c ++ l) (out ∙ w.2)
-      ∙ sym (append_assoc (entries c) (entries r) (cells_walk more w.0 w.1))
-      ∙ ap (λ l. l ++ cells_walk more w.0 w.1) (sym (entry_no (role_of n) (kind_of c ∷ entries r) (entries c ++ entries r) e)))
+          ∙ u.2 ∙ ap (λ l. entries c ++ l) (out ∙ w.2)
+          ∙ sym (append_assoc (entries c) (entries r) (cells_walk more w.0 w.1))
+          ∙ ap (λ l. l ++ cells_walk more w.0 w.1) (sym (entry_no (role_of n) (kind_of c ∷ entries r) (entries c ++ entries r) e)),
+    )
 
 row_walk : (f : Forest) (before : Name) (first : Bool) (more : List Event) → lacks is_delimiter_row f ≡ true → has_right_shape f ≡ true → Walked f before first more
 row_walk empty before first more h s = (before, first, refl)
 row_walk (span n a b c r) before first more h s =
     row_span n a b c r before first more h s
-      (λ x es. row_walk c n x es (under_of is_delimiter_row n a b c r h) (shape_c n a b c r s))
-      (λ x. row_walk r n x more (behind_of is_delimiter_row n a b c r h) (shape_r n a b c r s))
-      (cell_of n) refl
+    (λ x es. row_walk c n x es (under_of is_delimiter_row n a b c r h) (shape_c n a b c r s))
+    (λ x. row_walk r n x more (behind_of is_delimiter_row n a b c r h) (shape_r n a b c r s))
+    (cell_of n) refl
 
 -- ---- The table
 

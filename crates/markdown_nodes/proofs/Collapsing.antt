@@ -49,12 +49,14 @@ abbrev Both : List ℕ → Type 0
 Both cs = (collapse_walk cs waiting ≡ joint cs) × (collapse_walk cs behind ≡ without_trailing_blanks cs)
 
 both_at : (c : ℕ) (cs : List ℕ) → Both cs → (b : Bool) → is_blank c ≡ b → Both (c ∷ cs)
-both_at c cs ih true e =
-    (collapse_blank c cs waiting e ∙ ih.0 ∙ sym (trail_blank c cs e) ∙ sym (joint_blank c cs true e),
-     collapse_blank c cs behind e ∙ ih.0 ∙ sym (trail_blank c cs e))
-both_at c cs ih false e =
-    (collapse_other c cs waiting e ∙ ap (λ x. 32 ∷ c ∷ x) ih.1 ∙ ap (λ x. 32 ∷ x) (sym (trail_other c cs e)) ∙ sym (joint_blank c cs false e),
-     collapse_other c cs behind e ∙ ap (λ x. c ∷ x) ih.1 ∙ sym (trail_other c cs e))
+both_at c cs ih true e = (
+  collapse_blank c cs waiting e ∙ ih.0 ∙ sym (trail_blank c cs e) ∙ sym (joint_blank c cs true e),
+  collapse_blank c cs behind e ∙ ih.0 ∙ sym (trail_blank c cs e),
+)
+both_at c cs ih false e = (
+  collapse_other c cs waiting e ∙ ap (λ x. 32 ∷ c ∷ x) ih.1 ∙ ap (λ x. 32 ∷ x) (sym (trail_other c cs e)) ∙ sym (joint_blank c cs false e),
+  collapse_other c cs behind e ∙ ap (λ x. c ∷ x) ih.1 ∙ sym (trail_other c cs e),
+)
 
 both : (cs : List ℕ) → Both cs
 both [] = (refl, refl)

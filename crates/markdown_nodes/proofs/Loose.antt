@@ -62,7 +62,7 @@ skipped-exited : (s it : Bool) (test : Role → Bool) (n : Name) (a b : Point) (
 skipped-exited true it test n a b c before e = refl
 skipped-exited false it test n a b c before e = e
 
-kept-exited : (test : Role → Bool) (n : Name) (a b : Point) (c before : Forest) → child_exited (kept test before) (test (role_of n)) n ≡ kept test (span n a b c before)
+pub kept-exited : (test : Role → Bool) (n : Name) (a b : Point) (c before : Forest) → child_exited (kept test before) (test (role_of n)) n ≡ kept test (span n a b c before)
 kept-exited test n a b c before = (λ i. record { direct = test (role_of n); skipped = skipped-exited (is_space_or_tab (role_of n)) (test (role_of n)) test n a b c before refl i })
 
 counted : (blank bare x y : Bool) → x ≡ y → cond (blank && not bare) true x ≡ ((blank && not bare) || y)
@@ -77,10 +77,10 @@ item-children (span m a b c r) before n p more =
     let state = kept is_item_prefix before in
     let tail = spell r ++ (exit n p ∷ more) in
     counted (is_blank_line (role_of m)) (begins_with is_item_prefix (skip_space before)) _ _
-      (ap (λ es. item_walk es 1 state) (regroup m b (spell c) (spell r) (exit n p ∷ more))
-      ∙ item-deep c 0 state (exit m b ∷ tail)
-      ∙ ap (λ s. item_walk tail 0 s) (kept-exited is_item_prefix m a b c before)
-      ∙ item-children r (span m a b c before) n p more)
+    (ap (λ es. item_walk es 1 state) (regroup m b (spell c) (spell r) (exit n p ∷ more))
+    ∙ item-deep c 0 state (exit m b ∷ tail)
+    ∙ ap (λ s. item_walk tail 0 s) (kept-exited is_item_prefix m a b c before)
+    ∙ item-children r (span m a b c before) n p more)
 
 -- the walk behind an item's enter is the definition
 pub item-walked : (c : Forest) (n : Name) (p : Point) (more : List Event) → item_walk (spell c ++ (exit n p ∷ more)) 0 no_child ≡ loose_item c

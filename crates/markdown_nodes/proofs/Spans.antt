@@ -77,7 +77,7 @@ abbrev pub fits : Bool → Bool → Forest → Bool
 fits row cell empty = true
 fits row cell (span n a b c r) =
     not (row && is_delimiter_row (role_of n)) && (not (cell && is_delimiter_cell_value (role_of n)) && ((not (holds_nothing (role_of n)) || is_empty c)
-      && (fits (row || is_delimiter_row (role_of n)) (cell || is_delimiter_cell_value (role_of n)) c && fits row cell r)))
+    && (fits (row || is_delimiter_row (role_of n)) (cell || is_delimiter_cell_value (role_of n)) c && fits row cell r)))
 
 pub record Fit (row : Bool) (cell : Bool) (f : Forest) : Type 0 where
   shape : has_right_shape f ≡ true
@@ -120,7 +120,7 @@ from_fits row cell (span n a b c r) h =
     record {
       shape = and_both _ _ (and_both _ _ (may_of (role_of n) c x3 (λ e. fc.rows (or_right row _ e)) (λ e. fc.cells (or_right cell _ e))) fc.shape) fr.shape;
       rows = λ e. and_both _ _ (and_both _ _ (not_other row _ x1 e) (fc.rows (ap (λ x. x || row_of n) e))) (fr.rows e);
-      cells = λ e. and_both _ _ (and_both _ _ (not_other cell _ x2 e) (fc.cells (ap (λ x. x || cell_of n) e))) (fr.cells e)
+      cells = λ e. and_both _ _ (and_both _ _ (not_other cell _ x2 e) (fc.cells (ap (λ x. x || cell_of n) e))) (fr.cells e);
     }
 
 pub to_fits : (row cell : Bool) (f : Forest) → Fit row cell f → fits row cell f ≡ true
@@ -133,16 +133,16 @@ to_fits row cell (span n a b c r) h =
     let fc : Fit (row || row_of n) (cell || cell_of n) c = record {
       shape = and_right (may_hold (role_of n) c) (has_right_shape c) front;
       rows = λ e. either row (row_of n) (lacks is_delimiter_row c ≡ true) e (λ t. and_right (not (row_of n)) (lacks is_delimiter_row c) (rows t)) (λ t. may_row (role_of n) c may t);
-      cells = λ e. either cell (cell_of n) (lacks is_delimiter_cell_value c ≡ true) e (λ t. and_right (not (cell_of n)) (lacks is_delimiter_cell_value c) (cells t)) (λ t. may_value (role_of n) c may t)
+      cells = λ e. either cell (cell_of n) (lacks is_delimiter_cell_value c ≡ true) e (λ t. and_right (not (cell_of n)) (lacks is_delimiter_cell_value c) (cells t)) (λ t. may_value (role_of n) c may t);
     } in
     let fr : Fit row cell r = record {
       shape = and_right (may_hold (role_of n) c && has_right_shape c) (has_right_shape r) h.shape;
       rows = λ t. and_right (not (row_of n) && lacks is_delimiter_row c) (lacks is_delimiter_row r) (h.rows t);
-      cells = λ t. and_right (not (cell_of n) && lacks is_delimiter_cell_value c) (lacks is_delimiter_cell_value r) (h.cells t)
+      cells = λ t. and_right (not (cell_of n) && lacks is_delimiter_cell_value c) (lacks is_delimiter_cell_value r) (h.cells t);
     } in
     and_both _ _ (not_both row _ (λ t. and_left (not (row_of n)) (lacks is_delimiter_row c) (rows t)))
-      (and_both _ _ (not_both cell _ (λ t. and_left (not (cell_of n)) (lacks is_delimiter_cell_value c) (cells t)))
-      (and_both _ _ (may_closed (role_of n) c may) (and_both _ _ (to_fits _ _ c fc) (to_fits _ _ r fr))))
+    (and_both _ _ (not_both cell _ (λ t. and_left (not (cell_of n)) (lacks is_delimiter_cell_value c) (cells t)))
+    (and_both _ _ (may_closed (role_of n) c may) (and_both _ _ (to_fits _ _ c fc) (to_fits _ _ r fr))))
 
 -- ---- The walk over a spelling
 
@@ -234,10 +234,16 @@ deeper m n s st es k can (c1, p1, tail1, e1, good1, a1, k1, (c2, p2, tail2, e2, 
     let free : holds_nothing (role_of n) ≡ false = not_true _ (and_left _ (not (some_row (n ∷ st) && row_of m) && not (some_cell (n ∷ st) && cell_of m)) can) in
     let right = and_right (not (holds_nothing_on_top (n ∷ st))) (not (some_row (n ∷ st) && row_of m) && not (some_cell (n ∷ st) && cell_of m)) can in
     let spelled : enter m s ∷ es ≡ spell (span m s p1 c1 c2) ++ (exit n p2 ∷ tail2) =
-        ap (λ x. enter m s ∷ x) (e1 ∙ ap (λ x. spell c1 ++ (exit m p1 ∷ x)) e2 ∙ sym (append_assoc (spell c1) (exit m p1 ∷ spell c2) (exit n p2 ∷ tail2))) in
-    (span m s p1 c1 c2, p2, tail2, spelled,
+    ap (λ x. enter m s ∷ x) (e1 ∙ ap (λ x. spell c1 ++ (exit m p1 ∷ x)) e2 ∙ sym (append_assoc (spell c1) (exit m p1 ∷ spell c2) (exit n p2 ∷ tail2))) in (
+      span m s p1 c1 c2,
+      p2,
+      tail2,
+      spelled,
       (all_of _ _ _ _ (and_left (not (some_row (n ∷ st) && row_of m)) _ right) (and_right (not (some_row (n ∷ st) && row_of m)) _ right) good1.1 good1.0 _ good2.0, open_any n (span m s p1 c1 c2) free),
-      a2, nested (spell c1) (spell c2) (exit m p1) k k a1 a2 k1 k2, rest)
+      a2,
+      nested (spell c1) (spell c2) (exit m p1) k k a1 a2 k1 k2,
+      rest,
+    )
 
 abbrev pub EndsBy : List Name → List Event → ℕ → ℕ → Type 0
 EndsBy st es k j = (m : ℕ) × (k + m ≡ suc j) × Ends st es m
@@ -276,9 +282,16 @@ front : (kd : Kind) (n : Name) (a : Point) (es : List Event) (j : ℕ) → move 
 front Enter n a es j h =
     let (m, count, (c, p, tail, spelled, good, after, long, none)) = sound es n [] 1 j h in
     let fit = from_fits (row_of n) (cell_of n) c good.0 in
-    let may = may_of (role_of n) c good.1 fit.rows fit.cells in
-    (n, a, p, c, tail, ap (λ x. enter n a ∷ x) (spelled ∙ sym (regroup n p (spell c) [] tail)), and_both _ true (and_both _ _ may fit.shape) refl,
-      omega (arith, length-append (spell c) (exit n p ∷ []), none, long, count))
+    let may = may_of (role_of n) c good.1 fit.rows fit.cells in (
+      n,
+      a,
+      p,
+      c,
+      tail,
+      ap (λ x. enter n a ∷ x) (spelled ∙ sym (regroup n p (spell c) [] tail)),
+      and_both _ true (and_both _ _ may fit.shape) refl,
+      omega (arith, length-append (spell c) (exit n p ∷ []), none, long, count),
+    )
 front Exit n a es j h = absurd (let w : ⊥ = cc in w)
 
 one_span : (es : List Event) (j : ℕ) → run es [] 0 ≡ Some j → OneSpan es j
@@ -291,20 +304,23 @@ begins events i j h =
     (n, a, b, c, (more, spelled), shape, omega (arith, long))
 
 pub found : (events : List Event) (i last : ℕ) → SpanAt events i last → (j : ℕ) × (run (drop i events) [] 0 ≡ Some j) × (i + j ≡ last)
-found events i last (n, a, b, c, (more, spelled), shape, long) =
-    (1 + length (spell c),
-      ap (λ es. run es [] 0) (spelled ∙ ap (λ x. enter n a ∷ x) (regroup n b (spell c) [] more)) ∙ walked n a b c more shape,
-      omega (arith, length-append (spell c) (exit n b ∷ []), long))
+found events i last (n, a, b, c, (more, spelled), shape, long) = (
+  1 + length (spell c),
+  ap (λ es. run es [] 0) (spelled ∙ ap (λ x. enter n a ∷ x) (regroup n b (spell c) [] more)) ∙ walked n a b c more shape,
+  omega (arith, length-append (spell c) (exit n b ∷ []), long),
+)
 
 pub found_some : (events : List Event) (i j : ℕ) → run (drop i events) [] 0 ≡ Some j → (last : ℕ) → (Some (i + j) ≡ Some last) ↔ SpanAt events i last
-found_some events i j h last =
-    ((λ e. subst (λ x. SpanAt events i x) (some_is (i + j) last e) (begins events i j h)),
-     (λ s. let f = found events i last s in let e : j ≡ f.0 = some_is j f.0 (sym h ∙ f.1) in ap Some (omega (arith, e, f.2))))
+found_some events i j h last = (
+  (λ e. subst (λ x. SpanAt events i x) (some_is (i + j) last e) (begins events i j h)),
+  (λ s. let f = found events i last s in let e : j ≡ f.0 = some_is j f.0 (sym h ∙ f.1) in ap Some (omega (arith, e, f.2))),
+)
 
 pub found_none : (events : List Event) (i : ℕ) → run (drop i events) [] 0 ≡ None → (last : ℕ) → (None ≡ Some last) ↔ SpanAt events i last
-found_none events i h last =
-    ((λ e. absurd (let w : ⊥ = cc in w)),
-     (λ s. let f = found events i last s in let e : None ≡ Some f.0 = sym h ∙ f.1 in absurd (let w : ⊥ = cc in w)))
+found_none events i h last = (
+  (λ e. absurd (let w : ⊥ = cc in w)),
+  (λ s. let f = found events i last s in let e : None ≡ Some f.0 = sym h ∙ f.1 in absurd (let w : ⊥ = cc in w)),
+)
 
 -- ---- The stack, which the code keeps the other way round
 

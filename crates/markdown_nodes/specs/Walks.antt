@@ -54,26 +54,30 @@ item_walk [] d last = false
 item_walk (e ∷ es) d last = item_step e.kind e.name d last (item_walk es)
 
 abbrev pub no_ends : Ends
-no_ends = record { bare = false; inner = no_child; quote = false }
+no_ends = record { bare = false; counts = false; prefix = no_child; inner = no_child; quote = false }
+
+-- whether a blank line that stands so deep in the list makes it loose
+abbrev pub counts_blank : Ends → ℕ → Bool
+counts_blank ends d = if d == 0 then not ends.bare else ((d == 1) && (ends.counts && not ends.prefix.skipped))
+
+abbrev pub list_entered : Ends → ℕ → Bool → Name → Ends
+list_entered ends d include_items n = if d == 0 then (record { bare = ends.bare; counts = include_items && is_list_item (role_of n); prefix = ends.prefix; inner = ends.inner; quote = ends.quote }) else ends
 
 abbrev pub list_exited : Ends → ℕ → Name → Ends
 list_exited ends d n =
-    if d == 0 then (record { bare = is_list_item (role_of n) && ends.inner.skipped; inner = no_child; quote = false })
-    else (if d == 1 then (record { bare = ends.bare; inner = child_exited ends.inner (is_item_prefix (role_of n) || (is_block_quote (role_of n) && ends.quote)) n; quote = false })
-    else (if d == 2 then (record { bare = ends.bare; inner = ends.inner; quote = is_quote_prefix (role_of n) })
+    if d == 0 then (record { bare = is_list_item (role_of n) && ends.inner.skipped; counts = false; prefix = no_child; inner = no_child; quote = false })
+    else (if d == 1 then (record { bare = ends.bare; counts = ends.counts; prefix = child_exited ends.prefix (is_item_prefix (role_of n)) n; inner = child_exited ends.inner (is_item_prefix (role_of n) || (is_block_quote (role_of n) && ends.quote)) n; quote = false })
+    else (if d == 2 then (record { bare = ends.bare; counts = ends.counts; prefix = ends.prefix; inner = ends.inner; quote = is_quote_prefix (role_of n) })
     else ends))
 
-abbrev pub loosens : Bool → Bool → Name → List Event → Bool
-loosens bare with_items n es = (is_blank_line (role_of n) && not bare) || (with_items && (is_list_item (role_of n) && item_walk es 0 no_child))
-
-abbrev pub list_step : Bool → Kind → Name → ℕ → Ends → List Event → (ℕ → Ends → Bool) → Bool
-list_step with_items Enter n d ends es next = if (d == 0) && loosens ends.bare with_items n es then true else next (d + 1) ends
-list_step with_items Exit n d ends es next = if d == 0 then false else next (d - 1) (list_exited ends (d - 1) n)
+abbrev pub list_step : Bool → Kind → Name → ℕ → Ends → (ℕ → Ends → Bool) → Bool
+list_step include_items Enter n d ends next = if counts_blank ends d && is_blank_line (role_of n) then true else next (d + 1) (list_entered ends d include_items n)
+list_step include_items Exit n d ends next = if d == 0 then false else next (d - 1) (list_exited ends (d - 1) n)
 
 -- whether a blank line counts among the events of a list behind its enter, or where that is asked an item is loose
 abbrev pub list_walk : Bool → List Event → ℕ → Ends → Bool
-list_walk with_items [] d ends = false
-list_walk with_items (e ∷ es) d ends = list_step with_items e.kind e.name d ends es (list_walk with_items es)
+list_walk include_items [] d ends = false
+list_walk include_items (e ∷ es) d ends = list_step include_items e.kind e.name d ends (list_walk include_items es)
 
 abbrev pub holds_nothing_on_top : List Name → Bool
 holds_nothing_on_top [] = false

@@ -10,7 +10,7 @@ ghost use Rattle.markdown_nodes.specs.declared.event.Name.TheVariants as names;
 ghost use Rattle.markdown_nodes.specs.declared.event.Point.{Point};
 ghost use Rattle.markdown_nodes.specs.Forest.{Forest, empty, span, has_right_shape};
 ghost use Rattle.markdown_nodes.specs.Spread.{loose_item, loose, align, align_kind_of};
-ghost use Rattle.markdown_nodes.specs.Walks.{no_child, child_exited, item_walk, no_ends, list_exited, loosens, list_walk, first_after, cells_walk, table_walk};
+ghost use Rattle.markdown_nodes.specs.Walks.{no_child, child_exited, item_walk, no_ends, counts_blank, list_entered, list_exited, list_walk, first_after, cells_walk, table_walk};
 ghost use Rattle.markdown_nodes.specs.Begins.{Begins, IsSpelledAt, IsItemAt, IsListAt, IsTableAt};
 
 use crate::event::{Event, Kind, Name};
@@ -82,13 +82,29 @@ struct Child {
     skipped: bool,
 }
 
+impl Child {
+    /// Before the first child.
+    fn none() -> Child
+        ensures { result ≡ no_child }
+    {
+        Child {
+            direct: false,
+            skipped: false,
+        }
+    }
+}
+
 /// The same after one child more, of this name, which is of the kind or not.
 fn child_exited(before: Child, is_it: bool, name: Name) -> Child
     ensures { result ≡ child_exited before is_it name }
 {
     Child {
         direct: is_it,
-        skipped: if name.role().is_space_or_tab() { before.direct } else { is_it },
+        skipped: if name.role().is_space_or_tab() {
+            before.direct
+        } else {
+            is_it
+        },
     }
 }
 
@@ -97,7 +113,7 @@ fn item_walk(events: &[Event]) -> bool
     ensures { result ≡ item_walk events.now 0 no_child }
 {
     let mut depth = 0usize;
-    let mut last = Child { direct: false, skipped: false };
+    let mut last = Child::none();
     for event in events {
         let role = event.name.role();
         match event.kind {
@@ -121,15 +137,59 @@ fn item_walk(events: &[Event]) -> bool
     false
 }
 
-/// What the last children of a list, of its last child and of that one's last child were.
+/// What the children of a list, of its last child and of that one's last child end with.
 #[derive(Clone, Copy)]
 struct Ends {
     /// The list ends with an item without content at its end.
     bare: bool,
-    /// Its last child ends with what an item without content ends with.
+    /// Its last child is open, and is an item in which blank lines count.
+    counts: bool,
+    /// That child ends with its prefix.
+    prefix: Child,
+    /// That child ends with what an item without content ends with.
     inner: Child,
-    /// That one's last child ends with the prefix of a block quote.
+    /// The last child of that child ends with the prefix of a block quote.
     quote: bool,
+}
+
+impl Ends {
+    /// Before the first child.
+    fn none() -> Ends
+        ensures { result ≡ no_ends }
+    {
+        Ends {
+            bare: false,
+            counts: false,
+            prefix: Child::none(),
+            inner: Child::none(),
+            quote: false,
+        }
+    }
+}
+
+/// Whether a blank line that stands so deep in the list makes it loose.
+fn counts_blank(ends: Ends, depth: usize) -> bool
+    ensures { result ≡ counts_blank ends depth }
+{
+    match depth {
+        0 => !ends.bare,
+        1 => ends.counts && !ends.prefix.skipped,
+        _ => false,
+    }
+}
+
+/// The same after the enter of a span that stands so deep in the list.
+fn list_entered(ends: Ends, depth: usize, include_items: bool, name: Name) -> Ends
+    ensures { result ≡ list_entered ends depth include_items name }
+{
+    if depth == 0 {
+        Ends {
+            counts: include_items && name.role().is_list_item(),
+            ..ends
+        }
+    } else {
+        ends
+    }
 }
 
 /// The same after the exit of a span that stands so deep in the list.
@@ -140,32 +200,23 @@ fn list_exited(ends: Ends, depth: usize, name: Name) -> Ends
     match depth {
         0 => Ends {
             bare: role.is_list_item() && ends.inner.skipped,
-            inner: Child { direct: false, skipped: false },
-            quote: false,
+            ..Ends::none()
         },
         1 => {
             let is_bare = role.is_item_prefix() || (role.is_block_quote() && ends.quote);
             Ends {
-                bare: ends.bare,
+                prefix: child_exited(ends.prefix, role.is_item_prefix(), name),
                 inner: child_exited(ends.inner, is_bare, name),
                 quote: false,
+                ..ends
             }
         }
         2 => Ends {
-            bare: ends.bare,
-            inner: ends.inner,
             quote: role.is_quote_prefix(),
+            ..ends
         },
         _ => ends,
     }
-}
-
-/// Whether a child of this name makes its list loose, where these events stand behind its enter.
-fn loosens(bare: bool, include_items: bool, name: Name, events: &[Event]) -> bool
-    ensures { result ≡ loosens bare include_items name events.now }
-{
-    let role = name.role();
-    (role.is_blank_line() && !bare) || (include_items && role.is_list_item() && item_walk(events))
 }
 
 /// Whether a list is loose, from the events behind its enter.
@@ -173,11 +224,7 @@ fn list_walk(events: &[Event], include_items: bool) -> bool
     ensures { result ≡ list_walk include_items events.now 0 no_ends }
 {
     let mut depth = 0usize;
-    let mut ends = Ends {
-        bare: false,
-        inner: Child { direct: false, skipped: false },
-        quote: false,
-    };
+    let mut ends = Ends::none();
     let mut rest = events;
     loop {
         let Some((event, after)) = rest.split_first() else {
@@ -185,9 +232,10 @@ fn list_walk(events: &[Event], include_items: bool) -> bool
         };
         match event.kind {
             Kind::Enter => {
-                if depth == 0 && loosens(ends.bare, include_items, event.name, after) {
+                if counts_blank(ends, depth) && event.name.role().is_blank_line() {
                     return true;
                 }
+                ends = list_entered(ends, depth, include_items, event.name);
                 depth += 1;
             }
             Kind::Exit => {
@@ -280,3 +328,6 @@ fn table_align(alloc: Global, events: &[Event]) -> Result<Vec<AlignKind>, AllocE
         rest = after;
     }
 }
+
+#[cfg(test)]
+mod tests;

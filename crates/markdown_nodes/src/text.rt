@@ -18,8 +18,16 @@ use std::alloc::{AllocError, Global};
 pub fn trim_eol(value: &str, at_start: bool, at_end: bool) -> &str
     ensures { result.now ≡ trim value.now at_start at_end }
 {
-    let left = if at_start { without_first_line_ending(value) } else { value };
-    if at_end { without_last_line_ending(left) } else { left }
+    let left = if at_start {
+        without_first_line_ending(value)
+    } else {
+        value
+    };
+    if at_end {
+        without_last_line_ending(left)
+    } else {
+        left
+    }
 }
 
 /// The value of inline code or math: in a table without the backslashes that stand for the table
@@ -184,7 +192,10 @@ fn collapsed(alloc: Global, value: &str) -> Result<String, AllocError>
     ensures { IfOk result (λ text. string_bytes text ≡ encode_utf8_all (collapsed (chars value.now))) }
 {
     let mut text = String::new(alloc);
-    let mut blanks = Blanks { started: false, pending: false };
+    let mut blanks = Blanks {
+        started: false,
+        pending: false,
+    };
     for c in value.chars() {
         blanks = push_collapsed(&mut text, blanks, c)?;
     }
@@ -198,13 +209,19 @@ fn push_collapsed(text: &mut String, before: Blanks, c: char) -> Result<Blanks, 
     ensures bytes { IfOk result (λ _. string_bytes text.new ≡ string_bytes text.old ++ encode_utf8_all (collapsed_part before c)) }
 {
     if is_blank(c) {
-        return Ok(Blanks { started: before.started, pending: before.started });
+        return Ok(Blanks {
+            started: before.started,
+            pending: before.started,
+        });
     }
     if before.pending {
         text.push(' ')?;
     }
     text.push(c)?;
-    Ok(Blanks { started: true, pending: false })
+    Ok(Blanks {
+        started: true,
+        pending: false,
+    })
 }
 
 fn is_blank(c: char) -> bool
@@ -212,3 +229,6 @@ fn is_blank(c: char) -> bool
 {
     matches!(c, '\t' | '\n' | '\r' | ' ')
 }
+
+#[cfg(test)]
+mod tests;

@@ -124,3 +124,6 @@ fn holds_value(names: &[Name]) -> bool
     }
     false
 }
+
+#[cfg(test)]
+mod tests;
