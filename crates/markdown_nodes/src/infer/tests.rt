@@ -1,7 +1,7 @@
 use super::{gfm_table_align, list_item_loose, list_loose};
 use crate::event::{Event, Name, span_begins};
 use crate::mdast::AlignKind;
-use crate::testing::{enter, exit};
+use crate::testing::span;
 use std::alloc::{AllocError, Global};
 use std::test::Fail;
 
@@ -64,94 +64,47 @@ fn table_align(
 
 #[test]
 fn tells_loose_lists(rt: HostRuntime) -> Result<(), Fail> {
-    let list = Name::ListUnordered;
-    let item = Name::ListItem;
-    let prefix = Name::ListItemPrefix;
-    let blank = Name::BlankLineEnding;
-    let space = Name::SpaceOrTab;
-    let quote = Name::BlockQuote;
-    let quote_prefix = Name::BlockQuotePrefix;
-    let paragraph = Name::Paragraph;
-    let after_prefix = [
-        enter(list),
-        enter(item),
-        enter(prefix),
-        exit(prefix),
-        exit(item),
-        enter(blank),
-        exit(blank),
-        enter(item),
-        exit(item),
-        exit(list),
-    ];
-    let after_space = [
-        enter(list),
-        enter(item),
-        enter(prefix),
-        exit(prefix),
-        enter(space),
-        exit(space),
-        exit(item),
-        enter(blank),
-        exit(blank),
-        enter(item),
-        exit(item),
-        exit(list),
-    ];
-    let two_blanks = [
-        enter(list),
-        enter(item),
-        enter(prefix),
-        exit(prefix),
-        exit(item),
-        enter(blank),
-        exit(blank),
-        enter(blank),
-        exit(blank),
-        enter(item),
-        exit(item),
-        exit(list),
-    ];
-    let after_quote = [
-        enter(list),
-        enter(item),
-        enter(prefix),
-        exit(prefix),
-        enter(quote),
-        enter(quote_prefix),
-        exit(quote_prefix),
-        exit(quote),
-        exit(item),
-        enter(blank),
-        exit(blank),
-        enter(item),
-        exit(item),
-        exit(list),
-    ];
-    let loose_item = [
-        enter(list),
-        enter(item),
-        enter(prefix),
-        exit(prefix),
-        enter(paragraph),
-        exit(paragraph),
-        enter(blank),
-        exit(blank),
-        enter(paragraph),
-        exit(paragraph),
-        exit(item),
-        exit(list),
-    ];
+    let alloc = rt.alloc();
+    let prefix = span(alloc, Name::ListItemPrefix, &[])?;
+    let blank = span(alloc, Name::BlankLineEnding, &[])?;
+    let space = span(alloc, Name::SpaceOrTab, &[])?;
+    let paragraph = span(alloc, Name::Paragraph, &[])?;
+    let quote_prefix = span(alloc, Name::BlockQuotePrefix, &[])?;
+    let quote = span(alloc, Name::BlockQuote, &[&quote_prefix])?;
+    let item = span(alloc, Name::ListItem, &[&prefix])?;
+    let spaced = span(alloc, Name::ListItem, &[&prefix, &space])?;
+    let quoted = span(alloc, Name::ListItem, &[&prefix, &quote])?;
+    let loose = span(
+        alloc,
+        Name::ListItem,
+        &[&prefix, &paragraph, &blank, &paragraph],
+    )?;
     let cases = [
-        (after_prefix.as_slice(), false, false),
-        (after_space.as_slice(), false, false),
-        (two_blanks.as_slice(), false, true),
-        (after_quote.as_slice(), false, false),
-        (loose_item.as_slice(), false, false),
-        (loose_item.as_slice(), true, true),
+        (
+            span(alloc, Name::ListUnordered, &[&item, &blank, &item])?,
+            false,
+            false,
+        ),
+        (
+            span(alloc, Name::ListUnordered, &[&spaced, &blank, &item])?,
+            false,
+            false,
+        ),
+        (
+            span(alloc, Name::ListOrdered, &[&item, &blank, &blank, &item])?,
+            false,
+            true,
+        ),
+        (
+            span(alloc, Name::ListOrdered, &[&quoted, &blank, &item])?,
+            false,
+            false,
+        ),
+        (span(alloc, Name::ListUnordered, &[&loose])?, false, false),
+        (span(alloc, Name::ListUnordered, &[&loose])?, true, true),
     ];
-    for (events, include_items, expected) in cases {
-        let spread = list_spread(rt.alloc(), events, 0, include_items)?;
+    for (list, include_items, expected) in cases {
+        let spread = list_spread(alloc, list.as_slice(), 0, include_items)?;
         assert_eq!(rt; spread, Some(expected));
     }
     Ok(())
@@ -159,126 +112,52 @@ fn tells_loose_lists(rt: HostRuntime) -> Result<(), Fail> {
 
 #[test]
 fn tells_loose_items(rt: HostRuntime) -> Result<(), Fail> {
-    let item = Name::ListItem;
-    let prefix = Name::ListItemPrefix;
-    let blank = Name::BlankLineEnding;
-    let space = Name::SpaceOrTab;
-    let paragraph = Name::Paragraph;
-    let after_prefix = [
-        enter(item),
-        enter(prefix),
-        exit(prefix),
-        enter(blank),
-        exit(blank),
-        exit(item),
-    ];
-    let after_space = [
-        enter(item),
-        enter(prefix),
-        exit(prefix),
-        enter(space),
-        exit(space),
-        enter(blank),
-        exit(blank),
-        exit(item),
-    ];
-    let alone = [enter(item), enter(blank), exit(blank), exit(item)];
-    let after_paragraph = [
-        enter(item),
-        enter(prefix),
-        exit(prefix),
-        enter(paragraph),
-        exit(paragraph),
-        enter(blank),
-        exit(blank),
-        exit(item),
-    ];
+    let alloc = rt.alloc();
+    let prefix = span(alloc, Name::ListItemPrefix, &[])?;
+    let blank = span(alloc, Name::BlankLineEnding, &[])?;
+    let space = span(alloc, Name::SpaceOrTab, &[])?;
+    let paragraph = span(alloc, Name::Paragraph, &[])?;
     let cases = [
-        (after_prefix.as_slice(), false),
-        (after_space.as_slice(), false),
-        (alone.as_slice(), true),
-        (after_paragraph.as_slice(), true),
+        (span(alloc, Name::ListItem, &[&prefix, &blank])?, false),
+        (
+            span(alloc, Name::ListItem, &[&prefix, &space, &blank])?,
+            false,
+        ),
+        (span(alloc, Name::ListItem, &[&blank])?, true),
+        (
+            span(alloc, Name::ListItem, &[&prefix, &paragraph, &blank])?,
+            true,
+        ),
     ];
-    for (events, expected) in cases {
-        assert_eq!(rt; item_spread(rt.alloc(), events, 0)?, Some(expected));
+    for (item, expected) in cases {
+        assert_eq!(rt; item_spread(alloc, item.as_slice(), 0)?, Some(expected));
     }
     Ok(())
 }
 
 #[test]
 fn reads_alignments(rt: HostRuntime) -> Result<(), Fail> {
-    let table = Name::GfmTable;
-    let row = Name::GfmTableDelimiterRow;
+    let alloc = rt.alloc();
+    let marker = span(alloc, Name::GfmTableDelimiterMarker, &[])?;
+    let filler = span(alloc, Name::GfmTableDelimiterFiller, &[])?;
     let value = Name::GfmTableDelimiterCellValue;
-    let marker = Name::GfmTableDelimiterMarker;
-    let filler = Name::GfmTableDelimiterFiller;
-    let each_kind = [
-        enter(table),
-        enter(row),
-        enter(value),
-        enter(filler),
-        exit(filler),
-        exit(value),
-        enter(value),
-        enter(marker),
-        exit(marker),
-        enter(filler),
-        exit(filler),
-        exit(value),
-        enter(value),
-        enter(filler),
-        exit(filler),
-        enter(marker),
-        exit(marker),
-        exit(value),
-        enter(value),
-        enter(marker),
-        exit(marker),
-        enter(filler),
-        exit(filler),
-        enter(marker),
-        exit(marker),
-        exit(value),
-        enter(value),
-        enter(marker),
-        exit(marker),
-        exit(value),
-        enter(value),
-        exit(value),
-        exit(row),
-        exit(table),
-    ];
-    let no_row = [
-        enter(table),
-        exit(table),
-        enter(table),
-        enter(row),
-        enter(value),
-        exit(value),
-        exit(row),
-        exit(table),
-    ];
-    let two_rows = [
-        enter(table),
-        enter(row),
-        enter(value),
-        enter(marker),
-        exit(marker),
-        exit(value),
-        exit(row),
-        enter(row),
-        enter(value),
-        enter(filler),
-        exit(filler),
-        exit(value),
-        enter(value),
-        enter(filler),
-        exit(filler),
-        exit(value),
-        exit(row),
-        exit(table),
-    ];
-    let all = [
+    let plain = span(alloc, value, &[&filler])?;
+    let left = span(alloc, value, &[&marker, &filler])?;
+    let right = span(alloc, value, &[&filler, &marker])?;
+    let center = span(alloc, value, &[&marker, &filler, &marker])?;
+    let lone = span(alloc, value, &[&marker])?;
+    let nothing = span(alloc, value, &[])?;
+    let row = Name::GfmTableDelimiterRow;
+    let whole = span(
+        alloc,
+        row,
+        &[&plain, &left, &right, &center, &lone, &nothing],
+    )?;
+    let centered = span(alloc, row, &[&lone])?;
+    let plains = span(alloc, row, &[&plain, &plain])?;
+    let mut followed = span(alloc, Name::GfmTable, &[])?;
+    followed.extend_from_slice(span(alloc, Name::GfmTable, &[&centered])?.as_slice())?;
+    let kinds = [
         AlignKind::None,
         AlignKind::Left,
         AlignKind::Right,
@@ -287,13 +166,16 @@ fn reads_alignments(rt: HostRuntime) -> Result<(), Fail> {
         AlignKind::None,
     ];
     let cases = [
-        (each_kind.as_slice(), all.as_slice()),
-        (no_row.as_slice(), &[]),
-        (two_rows.as_slice(), &[AlignKind::Center]),
+        (span(alloc, Name::GfmTable, &[&whole])?, kinds.as_slice()),
+        (followed, &[]),
+        (
+            span(alloc, Name::GfmTable, &[&centered, &plains])?,
+            &[AlignKind::Center],
+        ),
     ];
-    for (events, expected) in cases {
-        let kinds = table_align(rt.alloc(), events, 0)?;
-        assert!(rt; matches!(&kinds, Some(kinds) if kinds.as_slice() == expected));
+    for (table, expected) in cases {
+        let found = table_align(alloc, table.as_slice(), 0)?;
+        assert!(rt; matches!(&found, Some(found) if found.as_slice() == expected));
     }
     Ok(())
 }

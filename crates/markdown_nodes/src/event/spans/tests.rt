@@ -1,33 +1,21 @@
 use super::span_begins;
 use crate::event::Name;
-use crate::testing::{enter, exit};
+use crate::testing::{enter, exit, span};
 use std::test::Fail;
 
 #[test]
 fn finds_the_exit(rt: HostRuntime) -> Result<(), Fail> {
-    let paragraph = [
-        enter(Name::Paragraph),
-        enter(Name::Data),
-        exit(Name::Data),
-        exit(Name::Paragraph),
-    ];
-    let quotes = [
-        enter(Name::BlockQuote),
-        enter(Name::BlockQuote),
-        exit(Name::BlockQuote),
-        exit(Name::BlockQuote),
-    ];
+    let alloc = rt.alloc();
+    let data = span(alloc, Name::Data, &[])?;
+    let paragraph = span(alloc, Name::Paragraph, &[&data])?;
+    let quote = span(alloc, Name::BlockQuote, &[])?;
+    let quotes = span(alloc, Name::BlockQuote, &[&quote])?;
+    let holding = span(alloc, Name::LineEnding, &[&data])?;
     let crossed = [
         enter(Name::Paragraph),
         enter(Name::Data),
         exit(Name::Paragraph),
         exit(Name::Data),
-    ];
-    let holding = [
-        enter(Name::LineEnding),
-        enter(Name::Data),
-        exit(Name::Data),
-        exit(Name::LineEnding),
     ];
     let cases = [
         (paragraph.as_slice(), 0, Some(3)),
@@ -42,11 +30,7 @@ fn finds_the_exit(rt: HostRuntime) -> Result<(), Fail> {
         (holding.as_slice(), 1, Some(2)),
     ];
     for (events, index, expected) in cases {
-        assert_eq!(rt;
-            span_begins(rt.alloc(), events, index)?,
-            expected,
-            "at {index}"
-        );
+        assert_eq!(rt; span_begins(alloc, events, index)?, expected, "at {index}");
     }
     Ok(())
 }
