@@ -9,3 +9,8 @@ pub mod Access
 pub mod Rows
 pub mod Equality
 pub mod EqualityLaws
+pub mod Texts
+pub mod TextWalks
+pub mod Spread
+pub mod Begins
+pub mod Walks

@@ -1,11 +1,16 @@
 //! Events: the flat list in which a tokenizer says what a document is made of.
 
-ghost use Rattle.std.specs.Prelude.{◌≡◌, ◌↔◌, Some, map};
+ghost use Rattle.std.specs.Prelude.{◌≡◌, ◌↔◌, IsTrue, Some, map};
 ghost use Rattle.markdown_nodes.specs.Spelling.{spelling, first_spelled, name_of_length, name_of};
 ghost use Rattle.markdown_nodes.specs.Slices.{to_unist};
+ghost use Rattle.markdown_nodes.specs.Walks.{is_same_name};
 ghost use Rattle.markdown_nodes.specs.declared.event.Name.{Name};
 
 use crate::unist;
+
+mod spans;
+
+pub use spans::span_begins;
 
 /// Whether an event is where a span begins or where it ends.
 #[derive(Clone, Copy, PartialEq, Eq, Debug)]
@@ -510,6 +515,16 @@ impl Name {
             Name::StrongText => "StrongText",
             Name::ThematicBreakSequence => "ThematicBreakSequence",
         }
+    }
+
+    /// Whether it is the same name.
+    ///
+    /// `Name::Data.is(Name::Data)` is true, and `Name::HtmlFlow.is(Name::HtmlText)` is false.
+    pub fn is(self, other: Name) -> bool
+        ensures value { result ≡ is_same_name self other }
+        ensures same { IsTrue result ↔ (self ≡ other) }
+    {
+        self == other
     }
 
     /// The name that is written so, if there is one. Letters count as they are: `data` is no name.

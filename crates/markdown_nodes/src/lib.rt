@@ -3,8 +3,12 @@
 #![tactic(auto)]
 
 pub mod event;
+pub mod infer;
 pub mod laws;
 pub mod mdast;
 pub mod message;
 pub mod role;
+#[cfg(test)]
+mod testing;
+pub mod text;
 pub mod unist;

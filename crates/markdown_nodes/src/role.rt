@@ -2,6 +2,9 @@
 
 ghost use Rattle.std.specs.Prelude.{◌≡◌};
 ghost use Rattle.markdown_nodes.specs.Names.{role_of};
+ghost use Rattle.markdown_nodes.specs.Forest.{is_delimiter_row, is_delimiter_cell_value};
+ghost use Rattle.markdown_nodes.specs.Spread.{is_blank_line, is_space_or_tab, is_item_prefix, is_quote_prefix, is_delimiter_marker};
+ghost use Rattle.markdown_nodes.specs.Walks.{holds_nothing, is_list_item, is_block_quote};
 
 use crate::event::Name;
 
@@ -290,5 +293,81 @@ impl Name {
             | Name::StrongText
             | Name::ThematicBreakSequence => Role::Plain(Plain::Other),
         }
+    }
+}
+
+impl Role {
+    /// Whether a span of this role may have no span in it.
+    pub(crate) fn holds_nothing(self) -> bool
+        ensures { result ≡ holds_nothing self }
+    {
+        matches!(
+            self,
+            Role::Acting(Acting::Content(Content::LineEnding))
+                | Role::Plain(Plain::BlankLineEnding | Plain::SpaceOrTab)
+        )
+    }
+
+    /// Whether it is the ending of a blank line.
+    pub(crate) fn is_blank_line(self) -> bool
+        ensures { result ≡ is_blank_line self }
+    {
+        matches!(self, Role::Plain(Plain::BlankLineEnding))
+    }
+
+    /// Whether it is white space in a line.
+    pub(crate) fn is_space_or_tab(self) -> bool
+        ensures { result ≡ is_space_or_tab self }
+    {
+        matches!(self, Role::Plain(Plain::SpaceOrTab))
+    }
+
+    /// Whether it is what stands before the content of a list item.
+    pub(crate) fn is_item_prefix(self) -> bool
+        ensures { result ≡ is_item_prefix self }
+    {
+        matches!(self, Role::Plain(Plain::ListItemPrefix))
+    }
+
+    /// Whether it is what stands before the content of a block quote.
+    pub(crate) fn is_quote_prefix(self) -> bool
+        ensures { result ≡ is_quote_prefix self }
+    {
+        matches!(self, Role::Plain(Plain::BlockQuotePrefix))
+    }
+
+    /// Whether it is the row under the head of a table.
+    pub(crate) fn is_delimiter_row(self) -> bool
+        ensures { result ≡ is_delimiter_row self }
+    {
+        matches!(self, Role::Plain(Plain::DelimiterRow))
+    }
+
+    /// Whether it says how a column is aligned.
+    pub(crate) fn is_delimiter_cell_value(self) -> bool
+        ensures { result ≡ is_delimiter_cell_value self }
+    {
+        matches!(self, Role::Plain(Plain::DelimiterCellValue))
+    }
+
+    /// Whether it is a colon that says how a column is aligned.
+    pub(crate) fn is_delimiter_marker(self) -> bool
+        ensures { result ≡ is_delimiter_marker self }
+    {
+        matches!(self, Role::Plain(Plain::DelimiterMarker))
+    }
+
+    /// Whether it is an item of a list.
+    pub(crate) fn is_list_item(self) -> bool
+        ensures { result ≡ is_list_item self }
+    {
+        matches!(self, Role::Acting(Acting::Content(Content::ListItem)))
+    }
+
+    /// Whether it is a block quote.
+    pub(crate) fn is_block_quote(self) -> bool
+        ensures { result ≡ is_block_quote self }
+    {
+        matches!(self, Role::Acting(Acting::Content(Content::BlockQuote)))
     }
 }

@@ -1,0 +1,11 @@
+use Rattle.std.proofs.Common.{ap, ◌∙◌}
+use Rattle.markdown_nodes.specs.Walks.{list_walk, no_ends}
+use Rattle.markdown_nodes.proofs.Loose.{behind_enter}
+use Rattle.markdown_nodes.proofs.Lists.{list-walked}
+use Rattle.markdown_nodes.proofs.infer.list_loose.Goals as goal
+
+pub returns : goal.returns
+returns c = λ n start end children at.
+    c.list_walk.ensures
+    ∙ ap (λ es. list_walk c.args.include_items es 0 no_ends) (behind_enter c.args.events.now c.args.index n start end children at)
+    ∙ list-walked c.args.include_items children n end at.0

@@ -1,0 +1,36 @@
+use super::span_begins;
+use crate::event::Name;
+use crate::testing::{enter, exit, span};
+use std::test::Fail;
+
+#[test]
+fn finds_the_exit(rt: HostRuntime) -> Result<(), Fail> {
+    let alloc = rt.alloc();
+    let data = span(alloc, Name::Data, &[])?;
+    let paragraph = span(alloc, Name::Paragraph, &[&data])?;
+    let quote = span(alloc, Name::BlockQuote, &[])?;
+    let quotes = span(alloc, Name::BlockQuote, &[&quote])?;
+    let holding = span(alloc, Name::LineEnding, &[&data])?;
+    let crossed = [
+        enter(Name::Paragraph),
+        enter(Name::Data),
+        exit(Name::Paragraph),
+        exit(Name::Data),
+    ];
+    let cases = [
+        (paragraph.as_slice(), 0, Some(3)),
+        (paragraph.as_slice(), 1, Some(2)),
+        (paragraph.as_slice(), 2, None),
+        (paragraph.as_slice(), 4, None),
+        (quotes.as_slice(), 0, Some(3)),
+        (quotes.as_slice(), 1, Some(2)),
+        (crossed.as_slice(), 0, None),
+        (crossed.as_slice(), 1, None),
+        (holding.as_slice(), 0, None),
+        (holding.as_slice(), 1, Some(2)),
+    ];
+    for (events, index, expected) in cases {
+        assert_eq!(rt; span_begins(alloc, events, index)?, expected, "at {index}");
+    }
+    Ok(())
+}
