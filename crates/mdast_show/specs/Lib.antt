@@ -1,0 +1,3 @@
+pub mod Decoder
+pub mod Lines
+pub mod Run

@@ -1,0 +1,158 @@
+ghost use Rattle.std.specs.Prelude.{◌<◌};
+
+use crate::lines::events;
+use crate::run::run;
+use markdown_nodes::event::{Kind, Name};
+use std::io::{self, ErrorKind, Read, Write};
+use std::process::Abort;
+use std::test::Fail;
+
+/// The events of `Hi`, a paragraph with one data span.
+const HI: &[u8] = b"+Paragraph 1:1:0\n+Data 1:1:0\n-Data 1:3:2\n-Paragraph 1:3:2\n";
+
+/// A reader that gives a line feed at each read, so many times, and then its end.
+#[derive(Drop)]
+struct LineFeeds(u32);
+
+impl Read for LineFeeds {
+    fn read(&mut self, buf: &mut [u8]) -> io::Result<usize> {
+        if buf.is_empty() || self.0 == 0 {
+            return Ok(0);
+        }
+        self.0 -= 1;
+        buf[0] = b'\n';
+        Ok(1)
+    }
+}
+
+/// A reader that gives a line that cannot be read, and then fails.
+#[derive(Drop)]
+struct Failing(bool);
+
+impl Read for Failing {
+    fn read(&mut self, buf: &mut [u8]) -> io::Result<usize> {
+        if self.0 || buf.len() < 2 {
+            return Err(io::Error::from(ErrorKind::BrokenPipe));
+        }
+        self.0 = true;
+        buf[0] = b'x';
+        buf[1] = b'\n';
+        Ok(2)
+    }
+}
+
+/// A reader that is interrupted before each read of a line that cannot be read.
+#[derive(Drop)]
+struct Interrupted(u8);
+
+impl Read for Interrupted {
+    fn read(&mut self, buf: &mut [u8]) -> io::Result<usize> {
+        if self.0 == 4 || buf.is_empty() {
+            return Ok(0);
+        }
+        self.0 = self.0.saturating_add(1);
+        if self.0 % 2 == 1 {
+            return Err(io::Error::from(ErrorKind::Interrupted));
+        }
+        buf[0] = b'x';
+        Ok(1)
+    }
+}
+
+/// A writer that takes nothing.
+#[derive(Drop)]
+struct Closed;
+
+impl Write for Closed {
+    fn write(&mut self, _buf: &[u8]) -> io::Result<usize> {
+        Err(io::Error::from(ErrorKind::BrokenPipe))
+    }
+
+    fn flush(&mut self) -> io::Result<()> {
+        Ok(())
+    }
+}
+
+/// Runs the program over the document `Hi`, and compares what it does.
+fn expect<R: Abort + AllocGlobal, I: Read>(rt: &R, input: &mut I, line: &str, status: u8) {
+    let mut output = Vec::new(rt.alloc());
+    let found = run(rt.alloc(), b"Hi", input, &mut output);
+    assert_eq!(rt; str::from_utf8(&output), Ok(line));
+    assert_eq!(rt; found, status);
+}
+
+#[test]
+fn prints_a_tree(rt: HostRuntime) {
+    let tree = "Root { children: [Paragraph { children: [Text { value: \"Hi\", position: Some(1:1-1:3 (0-2)) }], position: Some(1:1-1:3 (0-2)) }], position: Some(1:1-1:3 (0-2)) }\n";
+    let mut input = HI;
+    expect(&rt, &mut input, tree, 0);
+}
+
+#[test]
+fn prints_a_refusal(rt: HostRuntime) {
+    let refusal = "1:3 (2): an exit does not match the open span, or a span is left open (events-unbalanced)\n";
+    let mut input = b"+Paragraph 1:1:0\n+Data 1:1:0\n-Paragraph 1:3:2\n-Paragraph 1:3:2\n".as_slice();
+    expect(&rt, &mut input, refusal, 1);
+}
+
+#[test]
+fn numbers_a_line_that_cannot_be_read(rt: HostRuntime) -> Result<(), Fail> {
+    for (text, number) in [
+        (b"+Nope 1:1:0\n+Paragraph 1:1:0\n".as_slice(), 1),
+        (b"Data 1:1:0\n".as_slice(), 1),
+        (b"+Data 1:1\n".as_slice(), 1),
+        (b"\n+Data 1:1:0:\n".as_slice(), 2),
+        (b"+Data 1:1:0\n+Data  1:1:0".as_slice(), 2),
+        (b"\n\n+Data 1:1:18446744073709551616\n".as_slice(), 3),
+        (b"+D\xFFta 1:1:0\n".as_slice(), 1),
+        (b"+Data 1:1:0\r\n".as_slice(), 1),
+        (b"+Data 1:1:0\n\n+Data 1:1:0\nx\ny\n".as_slice(), 4),
+    ] {
+        let mut input = text;
+        let line = format!(in rt.alloc(); "mdast_show: event line {number} cannot be read\n")?;
+        expect(&rt, &mut input, line.as_str(), 2);
+    }
+    Ok(())
+}
+
+#[test]
+fn reads_virtual_spaces(rt: HostRuntime) -> Result<(), Fail> {
+    let read = events(rt.alloc(), b"+Data 1:1:0:0\n\n-Data 1:3:2:7\n+Link 2:03:4")?;
+    assert_eq!(rt; read.len(), 3);
+    for (event, kind, name, vs) in [
+        (read[0], Kind::Enter, Name::Data, 0),
+        (read[1], Kind::Exit, Name::Data, 7),
+        (read[2], Kind::Enter, Name::Link, 0),
+    ] {
+        assert!(rt; event.kind == kind);
+        assert!(rt; event.name == name);
+        assert_eq!(rt; event.point.vs, vs);
+    }
+    assert_eq!(rt; read[2].point.line, 2);
+    assert_eq!(rt; read[2].point.column, 3);
+    assert_eq!(rt; read[2].point.index, 4);
+    Ok(())
+}
+
+#[test]
+fn reads_its_input_whole_first(rt: HostRuntime) {
+    let failed = "mdast_show: cannot read the events\n";
+    expect(&rt, &mut Failing(false), failed, 2);
+    expect(&rt, &mut LineFeeds(u32::MAX), failed, 2);
+    let unread = "mdast_show: event line 1 cannot be read\n";
+    expect(&rt, &mut Interrupted(0), unread, 2);
+}
+
+#[test]
+fn reads_up_to_its_bound(rt: HostRuntime) {
+    let empty = "Root { children: [], position: Some(1:1-1:1 (0-0)) }\n";
+    expect(&rt, &mut LineFeeds(1_048_575), empty, 0);
+    let failed = "mdast_show: cannot read the events\n";
+    expect(&rt, &mut LineFeeds(1_048_576), failed, 2);
+}
+
+#[test]
+fn fails_where_nothing_can_be_written(rt: HostRuntime) {
+    let mut input = HI;
+    assert_eq!(rt; run(rt.alloc(), b"Hi", &mut input, &mut Closed), 2);
+}
