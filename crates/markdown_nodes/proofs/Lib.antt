@@ -5,3 +5,4 @@ pub mod Views
 pub mod Reading
 pub mod Copying
 pub mod Comparing
+pub mod StructsEqual
