@@ -12,3 +12,4 @@ pub mod Aligns
 pub mod Cuts
 pub mod LineEndings
 pub mod Collapsing
+pub mod StructsEqual

@@ -38,10 +38,10 @@ option_decides test decides = deciding (option_eq test) (option_true test decide
 texts_decide : (x y : Option (List ℕ)) → Decides (option_eq bytes_eq x y) (x ≡ y)
 texts_decide = option_decides bytes_eq bytes_decides
 
-starts_decide : (x y : Option ℕ) → Decides (option_eq nat_eq x y) (x ≡ y)
+pub starts_decide : (x y : Option ℕ) → Decides (option_eq nat_eq x y) (x ≡ y)
 starts_decide = option_decides nat_eq Decides-eqb
 
-checks_decide : (x y : Option Bool) → Decides (option_eq beq x y) (x ≡ y)
+pub checks_decide : (x y : Option Bool) → Decides (option_eq beq x y) (x ≡ y)
 checks_decide = option_decides beq booleans_Decides
 
 -- the kind of a number
@@ -73,20 +73,20 @@ reference_at-number reference.Full = refl
 reference_kind_decides : (x y : ReferenceKind) → Decides (same_reference_kind x y) (x ≡ y)
 reference_kind_decides x y = (λ e. sym (reference_at-number x) ∙ ap reference_at (eqb-true _ _ e) ∙ reference_at-number y, λ e. eq-eqb _ _ (ap reference_number e))
 
-and_true : (a b : Bool) → (a && b) ≡ true → (a ≡ true) × (b ≡ true)
+pub and_true : (a b : Bool) → (a && b) ≡ true → (a ≡ true) × (b ≡ true)
 and_true true true e = (refl, refl)
 and_true true false e = absurd (true≢false (sym e))
 and_true false true e = absurd (true≢false (sym e))
 and_true false false e = absurd (true≢false (sym e))
 
-true_and : (a b : Bool) → a ≡ true → b ≡ true → (a && b) ≡ true
+pub true_and : (a b : Bool) → a ≡ true → b ≡ true → (a && b) ≡ true
 true_and true true p q = refl
 true_and true false p q = q
 true_and false true p q = p
 true_and false false p q = p
 
 -- from one fact to another and back
-like : {P Q : Type 0} (r : Bool) → (P → Q) → (Q → P) → Decides r P → Decides r Q
+pub like : {P Q : Type 0} (r : Bool) → (P → Q) → (Q → P) → Decides r P → Decides r Q
 like r to back d = (λ e. to (d.0 e), λ q. d.1 (back q))
 
 point_is : (line line' column column' offset offset' : ℕ) → line ≡ line' → column ≡ column' → offset ≡ offset' → let x : Point = record { line = line; column = column; offset = offset } in let y : Point = record { line = line'; column = column'; offset = offset' } in x ≡ y
@@ -105,7 +105,7 @@ position_is start start' end end' p q =
 position_decides : (x y : Position) → Decides (same_position x y) (x ≡ y)
 position_decides x y = like _ (λ p. position_is _ _ _ _ p.0 p.1) (λ e. (ap (λ (z : Position). z.start) e, ap (λ (z : Position). z.end) e)) (Decides-and _ _ (point_decides x.start y.start) (point_decides x.end y.end))
 
-places_decide : (x y : Option Position) → Decides (option_eq same_position x y) (x ≡ y)
+pub places_decide : (x y : Option Position) → Decides (option_eq same_position x y) (x ≡ y)
 places_decide = option_decides same_position position_decides
 
 same_label-true : (x y : Label) → same_label x y ≡ true → x ≡ y
