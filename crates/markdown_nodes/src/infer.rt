@@ -286,12 +286,13 @@ fn row_align(alloc: Global, events: &[Event]) -> Result<Vec<AlignKind>, AllocErr
         let Some((event, after)) = rest.split_first() else {
             return Ok(kinds);
         };
+        let role = event.name.role();
         first = first_after(before, first, event.name);
         if event.kind == Kind::Exit {
-            if event.name.role().is_delimiter_row() {
+            if role.is_delimiter_row() {
                 return Ok(kinds);
             }
-            if event.name.role().is_delimiter_cell_value() {
+            if role.is_delimiter_cell_value() {
                 kinds.push(align_kind_of(first, before.role().is_delimiter_marker()))?;
             }
         }
