@@ -77,6 +77,32 @@ views_begun old rest mid new last n t was kept is made none =
 -- what is not the variant is no text
 pub no_text : (n : Node) → ((t : Text) → n ≡ nodes.Text t → ⊥) → is_text (view n).label ≡ false
 unfolding view
-no_text (nodes.Root' _ row p) h = refl
-no_text (nodes.Paragraph' _ row p) h = refl
-no_text (nodes.Text t) h = absurd (h t refl)
+no_text (nodes.Root' _ c p) h = refl
+no_text (nodes.Blockquote' _ c p) h = refl
+no_text (nodes.FootnoteDefinition' _ c p identifier l) h = refl
+no_text (nodes.List' _ c p ordered start spread) h = refl
+no_text (nodes.Toml x) h = refl
+no_text (nodes.Yaml x) h = refl
+no_text (nodes.Break x) h = refl
+no_text (nodes.InlineCode x) h = refl
+no_text (nodes.InlineMath x) h = refl
+no_text (nodes.Delete' _ c p) h = refl
+no_text (nodes.Emphasis' _ c p) h = refl
+no_text (nodes.FootnoteReference x) h = refl
+no_text (nodes.Html x) h = refl
+no_text (nodes.Image x) h = refl
+no_text (nodes.ImageReference x) h = refl
+no_text (nodes.Link' _ c p url title) h = refl
+no_text (nodes.LinkReference' _ c p reference_kind identifier l) h = refl
+no_text (nodes.Strong' _ c p) h = refl
+no_text (nodes.Text x) h = absurd (h x refl)
+no_text (nodes.Code x) h = refl
+no_text (nodes.Math x) h = refl
+no_text (nodes.Heading' _ c p depth) h = refl
+no_text (nodes.Table' _ c p align) h = refl
+no_text (nodes.ThematicBreak x) h = refl
+no_text (nodes.TableRow' _ c p) h = refl
+no_text (nodes.TableCell' _ c p) h = refl
+no_text (nodes.ListItem' _ c p spread checked) h = refl
+no_text (nodes.Definition x) h = refl
+no_text (nodes.Paragraph' _ c p) h = refl
