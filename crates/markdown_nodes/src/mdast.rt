@@ -11,6 +11,8 @@ ghost use Rattle.markdown_nodes.specs.View.{view};
 mod comparing;
 mod copying;
 mod reading;
+#[cfg(test)]
+mod tests;
 
 use crate::unist::Position;
 use std::alloc::{AllocError, Global};
