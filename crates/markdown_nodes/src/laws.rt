@@ -9,8 +9,8 @@ ghost use Rattle.markdown_nodes.specs.declared.mdast.Node.TheVariants as nodes;
 use crate::mdast::{
     Blockquote, Break, Code, Definition, Delete, Emphasis, FootnoteDefinition, FootnoteReference,
     Heading, Html, Image, ImageReference, InlineCode, InlineMath, Link, LinkReference, List,
-    ListItem, Math, Paragraph, Root, Strong, Table, TableCell, TableRow, Text, ThematicBreak, Toml,
-    Yaml,
+    ListItem, Math, Node, Paragraph, Root, Strong, Table, TableCell, TableRow, Text, ThematicBreak,
+    Toml, Yaml,
 };
 
 /// A list of events spells at most one forest.
@@ -23,6 +23,12 @@ pub fn one_forest()
 #[tactic(auto, using(crate::proofs::Joining::join_assoc))]
 pub fn seam()
     ensures { (a b c : Trees) → join (join a b) c ≡ join a (join b c) }
+{}
+
+/// Two nodes are equal exactly where they are of one kind and all their fields are equal,
+/// positions included.
+pub fn nodes_equal()
+    ensures { (a b : _) → IsTrue (⟦<Node as PartialEq>⟧.eq a b) ↔ (view a ≡ view b) }
 {}
 
 /// Two structs of one kind are equal exactly where their nodes are the same: where all their fields

@@ -157,6 +157,7 @@ impl Node {
     /// The nodes in a parent, to be changed, and `None` for a node that is no parent.
     ///
     /// What is written through it becomes the node's children, and changes nothing else.
+    /// `children.push(node)?` puts a node at their end.
     pub fn children_mut(&mut self) -> Option<&mut Vec<Node>>
         ensures* writes_back { sem 𝓛 (LendsIf the_row list_row self.entry result (with_children self.old) self.old) }
         ensures value { option_map (λ c. c.now) result ≡ children_of self.old }
@@ -195,6 +196,8 @@ impl Node {
     }
 
     /// Where the node stands, and `None` for one that stands in no document.
+    ///
+    /// The root of the document `a` has a position that is printed as `1:1-1:2 (0-1)`.
     pub fn position(&self) -> Option<&Position>
         ensures { option_map (λ p. p.now) result ≡ position_of self.now }
     {
