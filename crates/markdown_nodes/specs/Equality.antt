@@ -1,5 +1,5 @@
 -- The test whether two trees are equal.
-use Rattle.std.specs.Prelude.{ℕ, Bool, true, false, ◌&&◌, bytes_eq, nat_eq}
+use Rattle.std.specs.Prelude.{◌≡◌, ◌↔◌, IsTrue, ℕ, Bool, true, false, ◌&&◌, bytes_eq, nat_eq}
 use Rattle.std.specs.Option.{option_eq}
 use lib.Pointwise.{pointwise}
 use mathlib.Core.Bool.{beq}
@@ -82,3 +82,7 @@ same_trees _ _ = false
 -- whether two trees are the same
 unfoldable pub same_tree : Tree → Tree → Bool
 same_tree first second = same_label first.label second.label && (same_trees first.children second.children && option_eq same_position first.position second.position)
+
+-- a test of two values tells whether they are the same tree
+abbrev pub Tells : {X : Type 0} → (X → X → Bool) → (X → Tree) → Type 0
+Tells {X} test tree = (a b : X) → IsTrue (test a b) ↔ (tree a ≡ tree b)

@@ -24,6 +24,7 @@ option_true test decides None (Some y) e = absurd (true≢false (sym e))
 option_true test decides (Some x) None e = absurd (true≢false (sym e))
 option_true test decides (Some x) (Some y) e = ap Some ((decides x y).0 e)
 
+-- a value that may be there passes the test with itself
 option_refl : {X : Type 0} (test : X → X → Bool) → ((x y : X) → Decides (test x y) (x ≡ y)) → (o : Option X) → option_eq test o o ≡ true
 option_refl test decides None = refl
 option_refl test decides (Some x) = (decides x x).1 refl
@@ -32,19 +33,23 @@ option_refl test decides (Some x) = (decides x x).1 refl
 deciding : {X : Type 0} (test : X → X → Bool) → ((x y : X) → test x y ≡ true → x ≡ y) → ((x : X) → test x x ≡ true) → (x y : X) → Decides (test x y) (x ≡ y)
 deciding test true_is passes x y = (true_is x y, λ e. ap (λ z. test x z) (sym e) ∙ passes x)
 
+-- the two together
 option_decides : {X : Type 0} (test : X → X → Bool) → ((x y : X) → Decides (test x y) (x ≡ y)) → (o p : Option X) → Decides (option_eq test o p) (o ≡ p)
 option_decides test decides = deciding (option_eq test) (option_true test decides) (option_refl test decides)
 
+-- the test of a text that may be there
 texts_decide : (x y : Option (List ℕ)) → Decides (option_eq bytes_eq x y) (x ≡ y)
 texts_decide = option_decides bytes_eq bytes_decides
 
+-- the test of a number that may be there
 pub starts_decide : (x y : Option ℕ) → Decides (option_eq nat_eq x y) (x ≡ y)
 starts_decide = option_decides nat_eq Decides-eqb
 
+-- the test of a mark that may be there
 pub checks_decide : (x y : Option Bool) → Decides (option_eq beq x y) (x ≡ y)
 checks_decide = option_decides beq booleans_Decides
 
--- the kind of a number
+-- the way to align that has a number
 align_at : ℕ → AlignKind
 align_at n = elim n [ zero ↦ align.Left | suc m ↦ elim m [ zero ↦ align.Right | suc k ↦ elim k [ zero ↦ align.Center | suc j ↦ align.None ] ] ]
 
@@ -55,12 +60,15 @@ align_at-number align.Right = refl
 align_at-number align.Center = refl
 align_at-number align.None = refl
 
+-- the test of a column
 align_kind_decides : (x y : AlignKind) → Decides (same_align_kind x y) (x ≡ y)
 align_kind_decides x y = (λ e. sym (align_at-number x) ∙ ap align_at (eqb-true _ _ e) ∙ align_at-number y, λ e. eq-eqb _ _ (ap align_number e))
 
+-- the test of all columns
 aligns_decide : (xs ys : List AlignKind) → Decides (pointwise same_align_kind xs ys) (xs ≡ ys)
 aligns_decide = pointwise_decides align_kind_decides
 
+-- the way to write a reference that has a number
 reference_at : ℕ → ReferenceKind
 reference_at n = elim n [ zero ↦ reference.Shortcut | suc m ↦ elim m [ zero ↦ reference.Collapsed | suc k ↦ reference.Full ] ]
 
@@ -70,15 +78,18 @@ reference_at-number reference.Shortcut = refl
 reference_at-number reference.Collapsed = refl
 reference_at-number reference.Full = refl
 
+-- the test of the way that a reference was written
 reference_kind_decides : (x y : ReferenceKind) → Decides (same_reference_kind x y) (x ≡ y)
 reference_kind_decides x y = (λ e. sym (reference_at-number x) ∙ ap reference_at (eqb-true _ _ e) ∙ reference_at-number y, λ e. eq-eqb _ _ (ap reference_number e))
 
+-- both parts of a test that passes pass
 pub and_true : (a b : Bool) → (a && b) ≡ true → (a ≡ true) × (b ≡ true)
 and_true true true e = (refl, refl)
 and_true true false e = absurd (true≢false (sym e))
 and_true false true e = absurd (true≢false (sym e))
 and_true false false e = absurd (true≢false (sym e))
 
+-- a test passes whose parts pass
 pub true_and : (a b : Bool) → a ≡ true → b ≡ true → (a && b) ≡ true
 true_and true true p q = refl
 true_and true false p q = q
@@ -89,25 +100,31 @@ true_and false false p q = p
 pub like : {P Q : Type 0} (r : Bool) → (P → Q) → (Q → P) → Decides r P → Decides r Q
 like r to back d = (λ e. to (d.0 e), λ q. d.1 (back q))
 
+-- places with the same parts are the same
 point_is : (line line' column column' offset offset' : ℕ) → line ≡ line' → column ≡ column' → offset ≡ offset' → let x : Point = record { line = line; column = column; offset = offset } in let y : Point = record { line = line'; column = column'; offset = offset' } in x ≡ y
 point_is line line' column column' offset offset' p q r =
     let made : ℕ → ℕ → ℕ → Point = λ l c o. record { line = l; column = c; offset = o } in
     ap (λ z. made z column offset) p ∙ ap (λ z. made line' z offset) q ∙ ap (made line' column') r
 
+-- the test of a place
 point_decides : (x y : Point) → Decides (same_point x y) (x ≡ y)
 point_decides x y = like _ (λ p. point_is _ _ _ _ _ _ p.0 p.1.0 p.1.1) (λ e. (ap (λ (z : Point). z.line) e, (ap (λ (z : Point). z.column) e, ap (λ (z : Point). z.offset) e))) (Decides-and _ _ (Decides-eqb x.line y.line) (Decides-and _ _ (Decides-eqb x.column y.column) (Decides-eqb x.offset y.offset)))
 
+-- positions with the same ends are the same
 position_is : (start start' end end' : Point) → start ≡ start' → end ≡ end' → let x : Position = record { start = start; end = end } in let y : Position = record { start = start'; end = end' } in x ≡ y
 position_is start start' end end' p q =
     let made : Point → Point → Position = λ s e. record { start = s; end = e } in
     ap (λ z. made z end) p ∙ ap (made start') q
 
+-- the test of a position
 position_decides : (x y : Position) → Decides (same_position x y) (x ≡ y)
 position_decides x y = like _ (λ p. position_is _ _ _ _ p.0 p.1) (λ e. (ap (λ (z : Position). z.start) e, ap (λ (z : Position). z.end) e)) (Decides-and _ _ (point_decides x.start y.start) (point_decides x.end y.end))
 
+-- the test of a position that may be there
 pub places_decide : (x y : Option Position) → Decides (option_eq same_position x y) (x ≡ y)
 places_decide = option_decides same_position position_decides
 
+-- labels that pass the test are equal
 same_label-true : (x y : Label) → same_label x y ≡ true → x ≡ y
 unfolding same_label
 same_label-true root root e = refl
@@ -141,6 +158,7 @@ same_label-true (footnote_definition identifier label) (footnote_definition iden
 same_label-true (definition url title identifier label) (definition url' title' identifier' label') e = let p : (url ≡ url') × ((title ≡ title') × ((identifier ≡ identifier') × (label ≡ label'))) = (Decides-and _ _ (bytes_decides url url') (Decides-and _ _ (texts_decide title title') (Decides-and _ _ (bytes_decides identifier identifier') (texts_decide label label')))).0 e in ap (λ z. definition z title identifier label) p.0 ∙ ap (λ z. definition url' z identifier label) p.1.0 ∙ ap (λ z. definition url' title' z label) p.1.1.0 ∙ ap (λ z. definition url' title' identifier' z) p.1.1.1
 same_label-true _ _ e = absurd (true≢false (sym e))
 
+-- a label passes the test with itself
 same_label-refl : (x : Label) → same_label x x ≡ true
 unfolding same_label
 same_label-refl root = refl
@@ -173,9 +191,11 @@ same_label-refl (footnote_reference identifier label) = (Decides-and _ _ (bytes_
 same_label-refl (footnote_definition identifier label) = (Decides-and _ _ (bytes_decides identifier identifier) (texts_decide label label)).1 (refl, refl)
 same_label-refl (definition url title identifier label) = (Decides-and _ _ (bytes_decides url url) (Decides-and _ _ (texts_decide title title) (Decides-and _ _ (bytes_decides identifier identifier) (texts_decide label label)))).1 (refl, (refl, (refl, refl)))
 
+-- the test of a label
 pub label_decides : (x y : Label) → Decides (same_label x y) (x ≡ y)
 label_decides = deciding same_label same_label-true same_label-refl
 
+-- lists of nodes that pass the test are equal
 same_trees-true : (x y : Trees) → same_trees x y ≡ true → x ≡ y
 unfolding same_trees
 same_trees-true nothing nothing e = refl
@@ -191,19 +211,23 @@ same_trees-true (node label children position rest) (node label' children' posit
     let behind : rest ≡ rest' = same_trees-true rest rest' last.1 in
     ap (λ z. node z children position rest) same ∙ ap (λ z. node label' z position rest) below ∙ ap (λ z. node label' children' z rest) place ∙ ap (node label' children' position') behind
 
+-- a list of nodes passes the test with itself
 same_trees-refl : (x : Trees) → same_trees x x ≡ true
 unfolding same_trees
 same_trees-refl nothing = refl
 same_trees-refl (node label children position rest) = true_and _ _ (true_and _ _ (same_label-refl label) (same_trees-refl children)) (true_and _ _ ((places_decide position position).1 refl) (same_trees-refl rest))
 
+-- the test of a list of nodes
 trees_decide : (x y : Trees) → Decides (same_trees x y) (x ≡ y)
 trees_decide = deciding same_trees same_trees-true same_trees-refl
 
+-- trees with the same parts are the same
 pub tree_is : (label label' : Label) (children children' : Trees) (position position' : Option Position) → label ≡ label' → children ≡ children' → position ≡ position' → let x : Tree = record { label = label; children = children; position = position } in let y : Tree = record { label = label'; children = children'; position = position' } in x ≡ y
 tree_is label label' children children' position position' p q r =
     let made : Label → Trees → Option Position → Tree = λ l c o. record { label = l; children = c; position = o } in
     ap (λ z. made z children position) p ∙ ap (λ z. made label' z position) q ∙ ap (made label' children') r
 
+-- the test of a tree
 pub tree_decides : (x y : Tree) → Decides (same_tree x y) (x ≡ y)
 unfolding same_tree
 tree_decides x y = like _ (λ p. tree_is _ _ _ _ _ _ p.0 p.1.0 p.1.1) (λ e. (ap (λ (z : Tree). z.label) e, (ap (λ (z : Tree). z.children) e, ap (λ (z : Tree). z.position) e))) (Decides-and _ _ (label_decides x.label y.label) (Decides-and _ _ (trees_decide x.children y.children) (places_decide x.position y.position)))

@@ -6,7 +6,7 @@ pub mod Forest
 pub mod Tree
 pub mod View
 pub mod Access
-pub mod Rows
+pub mod Lends
 pub mod Equality
 pub mod EqualityLaws
 pub mod Texts

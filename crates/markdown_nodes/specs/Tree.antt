@@ -26,11 +26,13 @@ pub data Trees : Type 0 where
   nothing : Trees
   node : (label : Label) (children : Trees) (position : Option Position) (rest : Trees) → Trees
 
+-- one node with all that is in it
 pub record Tree : Type 0 where
   pub label : Label
   pub children : Trees
   pub position : Option Position
 
+-- a node before others
 abbrev pub before : Tree → Trees → Trees
 before tree rest = node tree.label tree.children tree.position rest
 

@@ -3,14 +3,16 @@
 //! A `Node` is one of 29 kinds. Fifteen of them are parents and hold nodes; eight are literals and
 //! hold a value; six are neither. Each has a place in a document, or none where it was made by hand.
 
-ghost use Rattle.std.specs.Prelude.{◌≡◌, Some, IfOk, option_map, string_bytes};
-ghost use Rattle.markdown_nodes.specs.Access.{children_of, position_of, with_children, with_position};
+ghost use Rattle.std.specs.Prelude.{◌≡◌, IfOk, option_map, string_bytes};
+ghost use Rattle.markdown_nodes.specs.Access.{children_of, position_of, with_position};
 ghost use Rattle.markdown_nodes.specs.Tree.{only, plain_text};
 ghost use Rattle.markdown_nodes.specs.View.{view};
 
 mod comparing;
 mod copying;
 mod reading;
+#[cfg(test)]
+mod tests;
 
 use crate::unist::Position;
 use std::alloc::{AllocError, Global};
@@ -108,10 +110,8 @@ pub enum Node {
 }
 
 impl Node {
-    ghost use Rattle.std.specs.Borrow.{LendsIf, sem};
-    ghost use Rattle.markdown_nodes.specs.Rows.{list_row};
-    ghost use Rattle.markdown_nodes.specs.contracts.mdast.Node.{the_row};
-    ghost use Rattle.markdown_nodes.specs.contracts.unist.Position as position_type;
+    ghost use Rattle.std.specs.Borrow.{sem};
+    ghost use Rattle.markdown_nodes.specs.Lends.{LendsChildren, LendsPosition};
 
     /// The nodes in a parent, in order, and `None` for a node that is no parent.
     ///
@@ -155,8 +155,9 @@ impl Node {
     /// The nodes in a parent, to be changed, and `None` for a node that is no parent.
     ///
     /// What is written through it becomes the node's children, and changes nothing else.
+    /// `children.push(node)?` puts a node at their end.
     pub fn children_mut(&mut self) -> Option<&mut Vec<Node>>
-        ensures* writes_back { sem 𝓛 (LendsIf the_row list_row self.entry result (with_children self.old) self.old) }
+        ensures* writes_back { sem 𝓛 (LendsChildren self.entry result) }
         ensures value { option_map (λ c. c.now) result ≡ children_of self.old }
     {
         match self {
@@ -193,6 +194,8 @@ impl Node {
     }
 
     /// Where the node stands, and `None` for one that stands in no document.
+    ///
+    /// The root of the document `a` has a position that is printed as `1:1-1:2 (0-1)`.
     pub fn position(&self) -> Option<&Position>
         ensures { option_map (λ p. p.now) result ≡ position_of self.now }
     {
@@ -234,7 +237,7 @@ impl Node {
     /// What is written through it becomes the node's position, and changes nothing else. Give a
     /// position to a node that has none by `position_set`.
     pub fn position_mut(&mut self) -> Option<&mut Position>
-        ensures* writes_back { sem 𝓛 (LendsIf the_row position_type.the_row self.entry result (λ p. with_position self.old (Some p)) self.old) }
+        ensures* writes_back { sem 𝓛 (LendsPosition self.entry result) }
         ensures value { option_map (λ p. p.now) result ≡ position_of self.old }
     {
         match self {

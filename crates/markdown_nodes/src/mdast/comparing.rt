@@ -1,6 +1,6 @@
 //! The comparison of nodes: equal are those of one kind with equal fields, positions included.
 
-ghost use Rattle.std.specs.Prelude.{◌≡◌, ◌↔◌, IsTrue, option_copied};
+ghost use Rattle.std.specs.Prelude.{◌≡◌, ◌↔◌, IsTrue};
 ghost use Rattle.std.specs.Cmp.{on_equiv, partial_equiv_from_equiv};
 ghost use Rattle.markdown_nodes.specs.Access.{label_of, nodes_in, position_of};
 ghost use Rattle.markdown_nodes.specs.Equality.{same_tree};

@@ -1,0 +1,20 @@
+-- What a node lends, and what becomes of it once that is given back.
+use Rattle.std.specs.Prelude.{Option, Some, Vec}
+use Rattle.std.specs.Borrow.{Fml, LendsIf, MutBor}
+use Rattle.std.specs.declared.alloc.Global.{Global}
+use Rattle.std.specs.contracts.alloc.Global as global
+use Rattle.std.specs.contracts.vec.Vec as vec
+use Rattle.std.specs.contracts.impls.GlobalAllocator.TheImpl.{ghosts}
+use Rattle.markdown_nodes.specs.declared.mdast.Node.{Node}
+use Rattle.markdown_nodes.specs.declared.unist.Position.{Position}
+use Rattle.markdown_nodes.specs.contracts.mdast.Node as node_type
+use Rattle.markdown_nodes.specs.contracts.unist.Position as position_type
+use Rattle.markdown_nodes.specs.Access.{with_children, with_position}
+
+-- a parent ends with what was last written through the result as its children, and any other node as it was
+abbrev pub LendsChildren : MutBor Node → Option (MutBor (Vec Node Global)) → Fml
+LendsChildren node result = LendsIf node_type.the_row (vec.the_row node_type.the_row global.the_row ghosts) node result (with_children node.now) node.now
+
+-- a node with a position ends with what was last written through the result in its place, and any other node as it was
+abbrev pub LendsPosition : MutBor Node → Option (MutBor Position) → Fml
+LendsPosition node result = LendsIf node_type.the_row position_type.the_row node result (λ position. with_position node.now (Some position)) node.now
