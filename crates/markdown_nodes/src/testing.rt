@@ -21,12 +21,17 @@ fn at_start(kind: Kind, name: Name) -> Event {
     Event { kind, name, point }
 }
 
+/// The events of a span with nothing in it.
+pub fn leaf(name: Name) -> [Event; 2] {
+    [enter(name), exit(name)]
+}
+
 /// The events of a span with these in it.
-pub fn span(alloc: Global, name: Name, children: &[&Vec<Event>]) -> Result<Vec<Event>, AllocError> {
+pub fn span(alloc: Global, name: Name, children: &[&[Event]]) -> Result<Vec<Event>, AllocError> {
     let mut events = Vec::new(alloc);
     events.push(enter(name))?;
     for child in children {
-        events.extend_from_slice(child.as_slice())?;
+        events.extend_from_slice(child)?;
     }
     events.push(exit(name))?;
     Ok(events)

@@ -1,7 +1,7 @@
 use super::{gfm_table_align, list_item_loose, list_loose};
 use crate::event::{Event, Name, span_begins};
 use crate::mdast::AlignKind;
-use crate::testing::span;
+use crate::testing::{leaf, span};
 use std::alloc::{AllocError, Global};
 use std::test::Fail;
 
@@ -65,11 +65,11 @@ fn table_align(
 #[test]
 fn tells_loose_lists(rt: HostRuntime) -> Result<(), Fail> {
     let alloc = rt.alloc();
-    let prefix = span(alloc, Name::ListItemPrefix, &[])?;
-    let blank = span(alloc, Name::BlankLineEnding, &[])?;
-    let space = span(alloc, Name::SpaceOrTab, &[])?;
-    let paragraph = span(alloc, Name::Paragraph, &[])?;
-    let quote_prefix = span(alloc, Name::BlockQuotePrefix, &[])?;
+    let prefix = leaf(Name::ListItemPrefix);
+    let blank = leaf(Name::BlankLineEnding);
+    let space = leaf(Name::SpaceOrTab);
+    let paragraph = leaf(Name::Paragraph);
+    let quote_prefix = leaf(Name::BlockQuotePrefix);
     let quote = span(alloc, Name::BlockQuote, &[&quote_prefix])?;
     let item = span(alloc, Name::ListItem, &[&prefix])?;
     let spaced = span(alloc, Name::ListItem, &[&prefix, &space])?;
@@ -79,31 +79,16 @@ fn tells_loose_lists(rt: HostRuntime) -> Result<(), Fail> {
         Name::ListItem,
         &[&prefix, &paragraph, &blank, &paragraph],
     )?;
-    let cases = [
-        (
-            span(alloc, Name::ListUnordered, &[&item, &blank, &item])?,
-            false,
-            false,
-        ),
-        (
-            span(alloc, Name::ListUnordered, &[&spaced, &blank, &item])?,
-            false,
-            false,
-        ),
-        (
-            span(alloc, Name::ListOrdered, &[&item, &blank, &blank, &item])?,
-            false,
-            true,
-        ),
-        (
-            span(alloc, Name::ListOrdered, &[&quoted, &blank, &item])?,
-            false,
-            false,
-        ),
-        (span(alloc, Name::ListUnordered, &[&loose])?, false, false),
-        (span(alloc, Name::ListUnordered, &[&loose])?, true, true),
+    let cases: [(&[&[Event]], bool, bool); 6] = [
+        (&[&item, &blank, &item], false, false),
+        (&[&spaced, &blank, &item], false, false),
+        (&[&item, &blank, &blank, &item], false, true),
+        (&[&quoted, &blank, &item], false, false),
+        (&[&loose], false, false),
+        (&[&loose], true, true),
     ];
-    for (list, include_items, expected) in cases {
+    for (children, include_items, expected) in cases {
+        let list = span(alloc, Name::ListUnordered, children)?;
         let spread = list_spread(alloc, list.as_slice(), 0, include_items)?;
         assert_eq!(rt; spread, Some(expected));
     }
@@ -113,23 +98,18 @@ fn tells_loose_lists(rt: HostRuntime) -> Result<(), Fail> {
 #[test]
 fn tells_loose_items(rt: HostRuntime) -> Result<(), Fail> {
     let alloc = rt.alloc();
-    let prefix = span(alloc, Name::ListItemPrefix, &[])?;
-    let blank = span(alloc, Name::BlankLineEnding, &[])?;
-    let space = span(alloc, Name::SpaceOrTab, &[])?;
-    let paragraph = span(alloc, Name::Paragraph, &[])?;
-    let cases = [
-        (span(alloc, Name::ListItem, &[&prefix, &blank])?, false),
-        (
-            span(alloc, Name::ListItem, &[&prefix, &space, &blank])?,
-            false,
-        ),
-        (span(alloc, Name::ListItem, &[&blank])?, true),
-        (
-            span(alloc, Name::ListItem, &[&prefix, &paragraph, &blank])?,
-            true,
-        ),
+    let prefix = leaf(Name::ListItemPrefix);
+    let blank = leaf(Name::BlankLineEnding);
+    let space = leaf(Name::SpaceOrTab);
+    let paragraph = leaf(Name::Paragraph);
+    let cases: [(&[&[Event]], bool); 4] = [
+        (&[&prefix, &blank], false),
+        (&[&prefix, &space, &blank], false),
+        (&[&blank], true),
+        (&[&prefix, &paragraph, &blank], true),
     ];
-    for (item, expected) in cases {
+    for (children, expected) in cases {
+        let item = span(alloc, Name::ListItem, children)?;
         assert_eq!(rt; item_spread(alloc, item.as_slice(), 0)?, Some(expected));
     }
     Ok(())
@@ -138,44 +118,45 @@ fn tells_loose_items(rt: HostRuntime) -> Result<(), Fail> {
 #[test]
 fn reads_alignments(rt: HostRuntime) -> Result<(), Fail> {
     let alloc = rt.alloc();
-    let marker = span(alloc, Name::GfmTableDelimiterMarker, &[])?;
-    let filler = span(alloc, Name::GfmTableDelimiterFiller, &[])?;
+    let marker = leaf(Name::GfmTableDelimiterMarker);
+    let filler = leaf(Name::GfmTableDelimiterFiller);
     let value = Name::GfmTableDelimiterCellValue;
     let plain = span(alloc, value, &[&filler])?;
     let left = span(alloc, value, &[&marker, &filler])?;
     let right = span(alloc, value, &[&filler, &marker])?;
     let center = span(alloc, value, &[&marker, &filler, &marker])?;
     let lone = span(alloc, value, &[&marker])?;
-    let nothing = span(alloc, value, &[])?;
-    let row = Name::GfmTableDelimiterRow;
-    let whole = span(
-        alloc,
-        row,
-        &[&plain, &left, &right, &center, &lone, &nothing],
-    )?;
-    let centered = span(alloc, row, &[&lone])?;
-    let plains = span(alloc, row, &[&plain, &plain])?;
-    let mut followed = span(alloc, Name::GfmTable, &[])?;
-    followed.extend_from_slice(span(alloc, Name::GfmTable, &[&centered])?.as_slice())?;
-    let kinds = [
-        AlignKind::None,
-        AlignKind::Left,
-        AlignKind::Right,
-        AlignKind::Center,
-        AlignKind::Center,
-        AlignKind::None,
-    ];
-    let cases = [
-        (span(alloc, Name::GfmTable, &[&whole])?, kinds.as_slice()),
-        (followed, &[]),
+    let bare = leaf(value);
+    let rows: [(&[&[Event]], &[AlignKind]); 3] = [
         (
-            span(alloc, Name::GfmTable, &[&centered, &plains])?,
-            &[AlignKind::Center],
+            &[&plain, &left, &right],
+            &[AlignKind::None, AlignKind::Left, AlignKind::Right],
         ),
+        (
+            &[&center, &lone, &bare],
+            &[AlignKind::Center, AlignKind::Center, AlignKind::None],
+        ),
+        (&[&lone], &[AlignKind::Center]),
     ];
-    for (table, expected) in cases {
+    let second = span(alloc, Name::GfmTableDelimiterRow, &[&plain, &plain])?;
+    for (values, expected) in rows {
+        let row = span(alloc, Name::GfmTableDelimiterRow, values)?;
+        let table = span(alloc, Name::GfmTable, &[&row, &second])?;
         let found = table_align(alloc, table.as_slice(), 0)?;
         assert!(rt; matches!(&found, Some(found) if found.as_slice() == expected));
     }
+    Ok(())
+}
+
+#[test]
+fn stays_in_the_table(rt: HostRuntime) -> Result<(), Fail> {
+    let alloc = rt.alloc();
+    let value = leaf(Name::GfmTableDelimiterCellValue);
+    let row = span(alloc, Name::GfmTableDelimiterRow, &[&value])?;
+    let table = span(alloc, Name::GfmTable, &[&row])?;
+    let mut events = span(alloc, Name::GfmTable, &[])?;
+    events.extend_from_slice(table.as_slice())?;
+    let found = table_align(alloc, events.as_slice(), 0)?;
+    assert!(rt; matches!(&found, Some(found) if found.as_slice().is_empty()));
     Ok(())
 }

@@ -1,14 +1,14 @@
 use super::span_begins;
 use crate::event::Name;
-use crate::testing::{enter, exit, span};
+use crate::testing::{enter, exit, leaf, span};
 use std::test::Fail;
 
 #[test]
 fn finds_the_exit(rt: HostRuntime) -> Result<(), Fail> {
     let alloc = rt.alloc();
-    let data = span(alloc, Name::Data, &[])?;
+    let data = leaf(Name::Data);
     let paragraph = span(alloc, Name::Paragraph, &[&data])?;
-    let quote = span(alloc, Name::BlockQuote, &[])?;
+    let quote = leaf(Name::BlockQuote);
     let quotes = span(alloc, Name::BlockQuote, &[&quote])?;
     let holding = span(alloc, Name::LineEnding, &[&data])?;
     let crossed = [
