@@ -110,7 +110,7 @@ list_exited ends depth name =
       counts = ends.counts;
       prefix = child_exited ends.prefix (is_item_prefix (role_of name)) name;
       inner = child_exited ends.inner (is_item_prefix (role_of name) || (is_block_quote (role_of name) && ends.quote)) name;
-      quote = false
+      quote = false;
     })
     else (if depth == 2 then (record { bare = ends.bare; counts = ends.counts; prefix = ends.prefix; inner = ends.inner; quote = is_quote_prefix (role_of name) })
     else ends))

@@ -31,7 +31,7 @@ pub fn list_loose(events: &[Event], index: usize, include_items: bool) -> bool
     requires span { Begins events.now index }
     requires name { IsListAt events.now index }
     ensures { (children : Forest) → BeginsWith events.now index children →
-      result ≡ loose children include_items }
+        result ≡ loose children include_items }
 {
     list_walk(&events[index + 1..], include_items)
 }
@@ -49,7 +49,7 @@ pub fn list_item_loose(events: &[Event], index: usize) -> bool
     requires span { Begins events.now index }
     requires name { IsItemAt events.now index }
     ensures { (children : Forest) → BeginsWith events.now index children →
-      result ≡ loose_item children }
+        result ≡ loose_item children }
 {
     item_walk(&events[index + 1..])
 }
@@ -71,9 +71,9 @@ pub fn gfm_table_align(
     requires span { Begins events.now index }
     requires name { IsTableAt events.now index }
     ensures value { (children : Forest) → BeginsWith events.now index children →
-      IfOk result (λ kinds. kinds.items ≡ align children) }
+        IfOk result (λ kinds. kinds.items ≡ align children) }
     ensures memory { (children : Forest) → BeginsWith events.now index children →
-      align children ≡ [] → IsOk result }
+        align children ≡ [] → IsOk result }
 {
     table_align(alloc, &events[index + 1..])
 }
@@ -280,7 +280,7 @@ fn first_after(before: Name, first: bool, name: Name) -> bool
 /// How the columns are aligned, from the events of the delimiter row behind its enter.
 fn row_align(alloc: Global, events: &[Event]) -> Result<Vec<AlignKind>, AllocError>
     ensures value { IfOk result (λ kinds.
-      kinds.items ≡ cells_walk events.now names.GfmTableDelimiterRow false) }
+        kinds.items ≡ cells_walk events.now names.GfmTableDelimiterRow false) }
     ensures memory { cells_walk events.now names.GfmTableDelimiterRow false ≡ [] → IsOk result }
 {
     let mut kinds = Vec::new(alloc);

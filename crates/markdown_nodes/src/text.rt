@@ -167,7 +167,7 @@ fn is_all_spaces(value: &str) -> bool
 /// Adds a character, as a space where it ends a line and no CR did so just before.
 fn push_spaced(text: &mut String, after_return: bool, c: char) -> Result<(), AllocError>
     ensures { IfOk result (λ _.
-      string_bytes text.new ≡ string_bytes text.old ++ encode_utf8_all (spaced_part after_return c)) }
+        string_bytes text.new ≡ string_bytes text.old ++ encode_utf8_all (spaced_part after_return c)) }
 {
     if c == '\r' {
         return text.push(' ');
@@ -210,7 +210,7 @@ fn collapsed(alloc: Global, value: &str) -> Result<String, AllocError>
 fn push_collapsed(text: &mut String, before: Blanks, c: char) -> Result<Blanks, AllocError>
     ensures state { IfOk result (λ after. after ≡ blanks_after before c) }
     ensures bytes { IfOk result (λ _.
-      string_bytes text.new ≡ string_bytes text.old ++ encode_utf8_all (collapsed_part before c)) }
+        string_bytes text.new ≡ string_bytes text.old ++ encode_utf8_all (collapsed_part before c)) }
 {
     if is_blank(c) {
         return Ok(Blanks {

@@ -25,9 +25,9 @@ pub fn span_begins(
     index: usize,
 ) -> Result<Option<usize>, AllocError>
     ensures span { IfOk result (λ found. (last : ℕ) →
-      (found ≡ Some last) ↔ SpanAt events.now index last) }
+        (found ≡ Some last) ↔ SpanAt events.now index last) }
     ensures within { IfOk result (λ found. IfSome found (λ last.
-      (index ≤ last) × (last < length events.now))) }
+        (index ≤ last) × (last < length events.now))) }
 {
     if index >= events.len() {
         return Ok(None);

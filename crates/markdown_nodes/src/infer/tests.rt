@@ -1,7 +1,7 @@
 use super::{gfm_table_align, list_item_loose, list_loose};
 use crate::event::{Event, Name, span_begins};
 use crate::mdast::AlignKind;
-use crate::testing::{leaf, span};
+use crate::testing::spelled;
 use std::alloc::{AllocError, Global};
 use std::test::Fail;
 
@@ -65,31 +65,59 @@ fn table_align(
 #[test]
 fn tells_loose_lists(rt: HostRuntime) -> Result<(), Fail> {
     let alloc = rt.alloc();
-    let prefix = leaf(Name::ListItemPrefix);
-    let blank = leaf(Name::BlankLineEnding);
-    let space = leaf(Name::SpaceOrTab);
-    let paragraph = leaf(Name::Paragraph);
-    let quote_prefix = leaf(Name::BlockQuotePrefix);
-    let quote = span(alloc, Name::BlockQuote, &[&quote_prefix])?;
-    let item = span(alloc, Name::ListItem, &[&prefix])?;
-    let spaced = span(alloc, Name::ListItem, &[&prefix, &space])?;
-    let quoted = span(alloc, Name::ListItem, &[&prefix, &quote])?;
-    let loose = span(
-        alloc,
-        Name::ListItem,
-        &[&prefix, &paragraph, &blank, &paragraph],
-    )?;
-    let cases: [(&[&[Event]], bool, bool); 6] = [
-        (&[&item, &blank, &item], false, false),
-        (&[&spaced, &blank, &item], false, false),
-        (&[&item, &blank, &blank, &item], false, true),
-        (&[&quoted, &blank, &item], false, false),
-        (&[&loose], false, false),
-        (&[&loose], true, true),
+    let list = Name::ListUnordered;
+    let item = Name::ListItem;
+    let prefix = Name::ListItemPrefix;
+    let blank = Name::BlankLineEnding;
+    let space = Name::SpaceOrTab;
+    let quote = Name::BlockQuote;
+    let mark = Name::BlockQuotePrefix;
+    let text = Name::Paragraph;
+    let bare = [(0, list), (1, item), (2, prefix), (1, blank), (1, item)];
+    let spaced = [
+        (0, list),
+        (1, item),
+        (2, prefix),
+        (2, space),
+        (1, blank),
+        (1, item),
     ];
-    for (children, include_items, expected) in cases {
-        let list = span(alloc, Name::ListUnordered, children)?;
-        let spread = list_spread(alloc, list.as_slice(), 0, include_items)?;
+    let twice = [
+        (0, list),
+        (1, item),
+        (2, prefix),
+        (1, blank),
+        (1, blank),
+        (1, item),
+    ];
+    let quoted = [
+        (0, list),
+        (1, item),
+        (2, prefix),
+        (2, quote),
+        (3, mark),
+        (1, blank),
+        (1, item),
+    ];
+    let inside = [
+        (0, list),
+        (1, item),
+        (2, prefix),
+        (2, text),
+        (2, blank),
+        (2, text),
+    ];
+    let cases = [
+        (bare.as_slice(), false, false),
+        (spaced.as_slice(), false, false),
+        (twice.as_slice(), false, true),
+        (quoted.as_slice(), false, false),
+        (inside.as_slice(), false, false),
+        (inside.as_slice(), true, true),
+    ];
+    for (outline, include_items, expected) in cases {
+        let events = spelled(alloc, outline)?;
+        let spread = list_spread(alloc, events.as_slice(), 0, include_items)?;
         assert_eq!(rt; spread, Some(expected));
     }
     Ok(())
@@ -98,19 +126,24 @@ fn tells_loose_lists(rt: HostRuntime) -> Result<(), Fail> {
 #[test]
 fn tells_loose_items(rt: HostRuntime) -> Result<(), Fail> {
     let alloc = rt.alloc();
-    let prefix = leaf(Name::ListItemPrefix);
-    let blank = leaf(Name::BlankLineEnding);
-    let space = leaf(Name::SpaceOrTab);
-    let paragraph = leaf(Name::Paragraph);
-    let cases: [(&[&[Event]], bool); 4] = [
-        (&[&prefix, &blank], false),
-        (&[&prefix, &space, &blank], false),
-        (&[&blank], true),
-        (&[&prefix, &paragraph, &blank], true),
+    let item = Name::ListItem;
+    let prefix = Name::ListItemPrefix;
+    let blank = Name::BlankLineEnding;
+    let space = Name::SpaceOrTab;
+    let text = Name::Paragraph;
+    let bare = [(0, item), (1, prefix), (1, blank)];
+    let spaced = [(0, item), (1, prefix), (1, space), (1, blank)];
+    let alone = [(0, item), (1, blank)];
+    let behind = [(0, item), (1, prefix), (1, text), (1, blank)];
+    let cases = [
+        (bare.as_slice(), false),
+        (spaced.as_slice(), false),
+        (alone.as_slice(), true),
+        (behind.as_slice(), true),
     ];
-    for (children, expected) in cases {
-        let item = span(alloc, Name::ListItem, children)?;
-        assert_eq!(rt; item_spread(alloc, item.as_slice(), 0)?, Some(expected));
+    for (outline, expected) in cases {
+        let events = spelled(alloc, outline)?;
+        assert_eq!(rt; item_spread(alloc, events.as_slice(), 0)?, Some(expected));
     }
     Ok(())
 }
@@ -118,45 +151,33 @@ fn tells_loose_items(rt: HostRuntime) -> Result<(), Fail> {
 #[test]
 fn reads_alignments(rt: HostRuntime) -> Result<(), Fail> {
     let alloc = rt.alloc();
-    let marker = leaf(Name::GfmTableDelimiterMarker);
-    let filler = leaf(Name::GfmTableDelimiterFiller);
-    let value = Name::GfmTableDelimiterCellValue;
-    let plain = span(alloc, value, &[&filler])?;
-    let left = span(alloc, value, &[&marker, &filler])?;
-    let right = span(alloc, value, &[&filler, &marker])?;
-    let center = span(alloc, value, &[&marker, &filler, &marker])?;
-    let lone = span(alloc, value, &[&marker])?;
-    let bare = leaf(value);
-    let rows: [(&[&[Event]], &[AlignKind]); 3] = [
+    let table = (0, Name::GfmTable);
+    let row = (1, Name::GfmTableDelimiterRow);
+    let value = (2, Name::GfmTableDelimiterCellValue);
+    let colon = (3, Name::GfmTableDelimiterMarker);
+    let line = (3, Name::GfmTableDelimiterFiller);
+    let sides = [
+        table, row, value, line, value, colon, line, value, line, colon,
+    ];
+    let both = [table, row, value, colon, line, colon, value, colon, value];
+    let no_row = [table, table, row, value];
+    let two_rows = [table, row, value, colon, row, value, line, value, line];
+    let cases = [
         (
-            &[&plain, &left, &right],
-            &[AlignKind::None, AlignKind::Left, AlignKind::Right],
+            sides.as_slice(),
+            [AlignKind::None, AlignKind::Left, AlignKind::Right].as_slice(),
         ),
         (
-            &[&center, &lone, &bare],
+            both.as_slice(),
             &[AlignKind::Center, AlignKind::Center, AlignKind::None],
         ),
-        (&[&lone], &[AlignKind::Center]),
+        (no_row.as_slice(), &[]),
+        (two_rows.as_slice(), &[AlignKind::Center]),
     ];
-    let second = span(alloc, Name::GfmTableDelimiterRow, &[&plain, &plain])?;
-    for (values, expected) in rows {
-        let row = span(alloc, Name::GfmTableDelimiterRow, values)?;
-        let table = span(alloc, Name::GfmTable, &[&row, &second])?;
-        let found = table_align(alloc, table.as_slice(), 0)?;
-        assert!(rt; matches!(&found, Some(found) if found.as_slice() == expected));
+    for (outline, expected) in cases {
+        let events = spelled(alloc, outline)?;
+        let kinds = table_align(alloc, events.as_slice(), 0)?;
+        assert!(rt; matches!(&kinds, Some(kinds) if kinds.as_slice() == expected));
     }
-    Ok(())
-}
-
-#[test]
-fn stays_in_the_table(rt: HostRuntime) -> Result<(), Fail> {
-    let alloc = rt.alloc();
-    let value = leaf(Name::GfmTableDelimiterCellValue);
-    let row = span(alloc, Name::GfmTableDelimiterRow, &[&value])?;
-    let table = span(alloc, Name::GfmTable, &[&row])?;
-    let mut events = span(alloc, Name::GfmTable, &[])?;
-    events.extend_from_slice(table.as_slice())?;
-    let found = table_align(alloc, events.as_slice(), 0)?;
-    assert!(rt; matches!(&found, Some(found) if found.as_slice().is_empty()));
     Ok(())
 }
