@@ -1,5 +1,5 @@
 -- What the spelling of a forest does to the walks over a table and its delimiter row.
-use Rattle.std.proofs.Common.{◌≡◌, ℕ, suc, ◌+◌, ◌-◌, ◌==◌, List, [], ◌∷◌, ◌++◌, Bool, true, false, cond, ◌&&◌, ◌||◌, not, Option, Some, None, refl, sym, ap, ◌∙◌, append_assoc, arith, take, drop, length}
+use Rattle.std.proofs.Common.{◌≡◌, ℕ, ◌+◌, ◌-◌, ◌==◌, List, [], ◌∷◌, ◌++◌, Bool, true, false, cond, ◌&&◌, not, Option, Some, None, refl, sym, ap, ◌∙◌, append_assoc, arith, take, drop, length}
 use Rattle.std.specs.Option.{option_or, option_map}
 use Rattle.std.specs.Prelude.{unwrap_or}
 use Rattle.std.proofs.lemmas.Bool.{ne_eqb}
@@ -10,9 +10,7 @@ use Rattle.markdown_nodes.specs.declared.event.Point.{Point}
 use Rattle.markdown_nodes.specs.declared.event.Event.{Event}
 use Rattle.markdown_nodes.specs.declared.mdast.AlignKind.{AlignKind}
 use Rattle.markdown_nodes.specs.declared.role.Role.{Role}
-use Rattle.markdown_nodes.specs.declared.role.Role.TheVariants.{Plain as plain, Acting as acting}
-use Rattle.markdown_nodes.specs.declared.role.Acting.TheVariants.{Content as content}
-use Rattle.markdown_nodes.specs.declared.role.Content.TheVariants as contents
+use Rattle.markdown_nodes.specs.declared.role.Role.TheVariants.{Plain as plain}
 use Rattle.markdown_nodes.specs.declared.role.Plain.TheVariants as plains
 use Rattle.markdown_nodes.specs.Names.{role_of}
 use Rattle.markdown_nodes.specs.Forest.{Forest, empty, span, spell, enter, exit, lacks, may_hold, has_right_shape, is_delimiter_row, is_delimiter_cell_value}

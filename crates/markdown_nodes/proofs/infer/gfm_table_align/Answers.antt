@@ -1,6 +1,5 @@
-use Rattle.std.proofs.Common.{◌≡◌, ap, ◌∙◌, subst, IfOk, List}
+use Rattle.std.proofs.Common.{◌≡◌, ◌∙◌, subst, IfOk, List}
 use Rattle.markdown_nodes.specs.declared.mdast.AlignKind.{AlignKind}
-use Rattle.markdown_nodes.specs.Walks.{table_walk}
 use Rattle.markdown_nodes.proofs.Aligns.{align_at}
 use Rattle.markdown_nodes.proofs.infer.gfm_table_align.Goals as goal
 
