@@ -1,5 +1,5 @@
 -- What the spelling of a forest does to the walks over a table and its delimiter row.
-use Rattle.std.proofs.Common.{◌≡◌, ℕ, suc, ◌+◌, ◌-◌, ◌==◌, List, [], ◌∷◌, ◌++◌, Bool, true, false, cond, ◌&&◌, ◌||◌, not, Option, Some, None, refl, sym, ap, ◌∙◌, append_assoc, arith}
+use Rattle.std.proofs.Common.{◌≡◌, ℕ, ◌+◌, ◌-◌, ◌==◌, List, [], ◌∷◌, ◌++◌, Bool, true, false, cond, ◌&&◌, not, Option, Some, None, refl, sym, ap, ◌∙◌, append_assoc, arith, take, drop, length}
 use Rattle.std.specs.Option.{option_or, option_map}
 use Rattle.std.specs.Prelude.{unwrap_or}
 use Rattle.std.proofs.lemmas.Bool.{ne_eqb}
@@ -10,15 +10,14 @@ use Rattle.markdown_nodes.specs.declared.event.Point.{Point}
 use Rattle.markdown_nodes.specs.declared.event.Event.{Event}
 use Rattle.markdown_nodes.specs.declared.mdast.AlignKind.{AlignKind}
 use Rattle.markdown_nodes.specs.declared.role.Role.{Role}
-use Rattle.markdown_nodes.specs.declared.role.Role.TheVariants.{Plain as plain, Acting as acting}
-use Rattle.markdown_nodes.specs.declared.role.Acting.TheVariants.{Content as content}
-use Rattle.markdown_nodes.specs.declared.role.Content.TheVariants as contents
+use Rattle.markdown_nodes.specs.declared.role.Role.TheVariants.{Plain as plain}
 use Rattle.markdown_nodes.specs.declared.role.Plain.TheVariants as plains
 use Rattle.markdown_nodes.specs.Names.{role_of}
 use Rattle.markdown_nodes.specs.Forest.{Forest, empty, span, spell, enter, exit, lacks, may_hold, has_right_shape, is_delimiter_row, is_delimiter_cell_value}
 use Rattle.markdown_nodes.specs.Spread.{is_delimiter_marker, begins_with, from_behind, reversed_onto, first_row, align_kind_of, entries, align}
 use Rattle.markdown_nodes.specs.Walks.{cells_walk, first_after, table_walk}
-use Rattle.markdown_nodes.proofs.Loose.{regroup}
+use Rattle.markdown_nodes.proofs.Loose.{regroup, behind_enter}
+use Rattle.markdown_nodes.specs.Begins.{BeginsWith}
 use Rattle.markdown_nodes.proofs.Spans.{and_left, and_right, not_true, may_row, may_value}
 
 abbrev row_of : Name → Bool
@@ -243,5 +242,8 @@ chosen_none (Some c) = refl
 pub table_walked : (c : Forest) (n : Name) (p : Point) (more : List Event) → has_right_shape c ≡ true → table_walk (spell c ++ (exit n p ∷ more)) 0 ≡ align c
 table_walked c n p more s = table_forest c 0 (exit n p ∷ more) s ∙ chosen_none (first_row c)
 
-pub under : (n : Name) (a b : Point) (c : Forest) → has_right_shape (span n a b c empty) ≡ true → has_right_shape c ≡ true
-under n a b c h = shape_c n a b c empty h
+-- what `&events[index + 1..]` gives, where the span of a table begins at the index
+pub align_at : (events : List Event) (i : ℕ) (c : Forest) → BeginsWith events i c → table_walk (take (length events - (i + 1)) (drop (i + 1) events)) 0 ≡ align c
+align_at events i c begins =
+    let (n, a, b, spelled, shape) = begins in
+    ap (λ es. table_walk es 0) (behind_enter events i n a b c spelled) ∙ table_walked c n b spelled.0 (shape_c n a b c empty shape)

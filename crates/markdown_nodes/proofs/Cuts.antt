@@ -1,12 +1,12 @@
 -- What is cut off the ends of texts, and backslashes before pipes.
-use Rattle.std.proofs.Common.{◌≡◌, ◌≢◌, ℕ, suc, ◌+◌, ◌-◌, ◌<◌, ◌==◌, List, [], ◌∷◌, ◌++◌, Bool, true, false, cond, eqb, not, ◌&&◌, ◌||◌, Option, Some, None, MatchOption, length, get_or, take, drop, reverse, refl, sym, ap, ◌∙◌, arith, unwrap_or, append_assoc, length-append}
+use Rattle.std.proofs.Common.{◌≡◌, ◌≢◌, ℕ, suc, ◌-◌, ◌<◌, ◌==◌, List, [], ◌∷◌, ◌++◌, Bool, true, false, cond, eqb, not, ◌&&◌, ◌||◌, Option, Some, None, MatchOption, length, get_or, take, drop, reverse, refl, sym, ap, ◌∙◌, arith, unwrap_or, append_assoc, length-append}
 use Rattle.std.specs.Prelude.{nat_lt}
 use Rattle.std.specs.Option.{option_map, option_copied}
 use Rattle.std.specs.List.{list_all}
 use Rattle.std.specs.Borrow.{Bor}
 use Rattle.std.proofs.lemmas.Bool.Decides.{nat_tests}
 use Rattle.std.proofs.lemmas.List.{reverse-append, reverse-reverse, take_at}
-use Rattle.markdown_nodes.specs.Texts.{is_line_ending, is_space, starts_with_byte, without_line_ending_behind, without_last_line_ending, without_escapes, is_padded, without_padding}
+use Rattle.markdown_nodes.specs.Texts.{is_space, starts_with_byte, without_line_ending_behind, without_last_line_ending, without_escapes, is_padded, without_padding}
 use Rattle.markdown_nodes.specs.TextWalks.{after_first, before_last}
 
 -- ---- A character off an end

@@ -1,11 +1,11 @@
 -- What a loop over characters writes that turns line endings into spaces, in bytes.
-use Rattle.std.proofs.Common.{◌≡◌, ◌≢◌, ℕ, suc, ◌<◌, ◌==◌, Bool, true, false, cond, ◌&&◌, ◌||◌, List, [], ◌∷◌, ◌++◌, length, get_or, refl, sym, ap, subst, ◌∙◌, arith, encode_utf8_all}
+use Rattle.std.proofs.Common.{◌≡◌, ◌≢◌, ℕ, suc, ◌<◌, ◌==◌, Bool, true, false, cond, List, [], ◌∷◌, ◌++◌, length, get_or, refl, sym, ap, subst, ◌∙◌, arith, encode_utf8_all}
 use Rattle.std.proofs.lemmas.Bool.{ne_eqb, eqb-true, eqb-false}
 use Rattle.std.proofs.lemmas.List.{append-nil}
 use Rattle.std.proofs.lemmas.Str.{encode_ascii, inside_one, length-encode, len_utf8_bounds}
 use lib.Utf8.{encode}
-use Rattle.markdown_nodes.specs.Texts.{is_line_ending, starts_with_byte, spaces}
-use Rattle.markdown_nodes.specs.TextWalks.{spaced_part, space_walk}
+use Rattle.markdown_nodes.specs.Texts.{spaces}
+use Rattle.markdown_nodes.specs.TextWalks.{space_walk}
 
 abbrev without_line_feed : List ℕ → List ℕ
 without_line_feed [] = []

@@ -1,7 +1,6 @@
 -- What the spelling of a forest does to the walk over a list.
-use Rattle.std.proofs.Common.{◌≡◌, ℕ, suc, ◌+◌, ◌-◌, ◌==◌, List, [], ◌∷◌, ◌++◌, Bool, true, false, cond, ◌&&◌, ◌||◌, not, refl, sym, ap, ◌∙◌, append_assoc, arith, drop}
+use Rattle.std.proofs.Common.{◌≡◌, ℕ, suc, ◌==◌, List, ◌∷◌, ◌++◌, Bool, true, false, cond, ◌&&◌, ◌||◌, not, refl, sym, ap, ◌∙◌, arith}
 use Rattle.std.proofs.lemmas.Bool.{ne_eqb}
-use Rattle.markdown_nodes.specs.declared.event.Kind.TheVariants.{Enter, Exit}
 use Rattle.markdown_nodes.specs.declared.event.Name.{Name}
 use Rattle.markdown_nodes.specs.declared.event.Point.{Point}
 use Rattle.markdown_nodes.specs.declared.event.Event.{Event}
@@ -15,7 +14,7 @@ use Rattle.markdown_nodes.specs.declared.role.Plain.TheVariants as plains
 use Rattle.markdown_nodes.specs.Names.{role_of}
 use Rattle.markdown_nodes.specs.Forest.{Forest, empty, span, spell, enter, exit}
 use Rattle.markdown_nodes.specs.Spread.{is_blank_line, is_space_or_tab, is_item_prefix, is_quote_prefix, begins_with, skip_space, some_blank_line, loose_item, some_loose_item, loose, from_behind, reversed_onto, is_bare_end, ends_bare, follows_bare_item}
-use Rattle.markdown_nodes.specs.Walks.{child_exited, no_child, is_list_item, is_block_quote, no_ends, list_exited, list_walk}
+use Rattle.markdown_nodes.specs.Walks.{no_child, is_list_item, is_block_quote, no_ends, list_exited, list_walk}
 use Rattle.markdown_nodes.proofs.Loose.{regroup, up, down, not-zero, not-one, kept, kept-exited}
 
 not-two : (d : ℕ) → (suc (suc (suc d)) == 2) ≡ false

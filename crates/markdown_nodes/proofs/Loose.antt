@@ -4,20 +4,15 @@ use Rattle.std.proofs.lemmas.List.{take_rest}
 use Rattle.markdown_nodes.specs.Begins.{IsSpelledAt}
 use Prim.Native.Nat.{zero}
 use Rattle.std.proofs.lemmas.Bool.{ne_eqb}
-use Rattle.markdown_nodes.specs.declared.event.Kind.TheVariants.{Enter, Exit}
 use Rattle.markdown_nodes.specs.declared.event.Name.{Name}
 use Rattle.markdown_nodes.specs.declared.event.Point.{Point}
 use Rattle.markdown_nodes.specs.declared.event.Event.{Event}
 use Rattle.markdown_nodes.specs.declared.infer.Child.{Child}
 use Rattle.markdown_nodes.specs.declared.role.Role.{Role}
-use Rattle.markdown_nodes.specs.declared.role.Role.TheVariants.{Plain as plain, Acting as acting}
-use Rattle.markdown_nodes.specs.declared.role.Acting.TheVariants.{Content as content}
-use Rattle.markdown_nodes.specs.declared.role.Content.TheVariants as contents
-use Rattle.markdown_nodes.specs.declared.role.Plain.TheVariants as plains
 use Rattle.markdown_nodes.specs.Names.{role_of}
 use Rattle.markdown_nodes.specs.Forest.{Forest, empty, span, spell, enter, exit}
 use Rattle.markdown_nodes.specs.Spread.{is_blank_line, is_space_or_tab, is_item_prefix, begins_with, skip_space, some_blank_line, loose_item}
-use Rattle.markdown_nodes.specs.Walks.{item_walk, item_step, child_exited, no_child}
+use Rattle.markdown_nodes.specs.Walks.{item_walk, child_exited, no_child}
 
 pub regroup : (n : Name) (b : Point) (c r more : List Event) → (c ++ (exit n b ∷ r)) ++ more ≡ c ++ (exit n b ∷ (r ++ more))
 regroup n b c r more = append_assoc c (exit n b ∷ r) more

@@ -16,7 +16,7 @@ use Rattle.markdown_nodes.specs.declared.role.Content.TheVariants as contents
 use Rattle.markdown_nodes.specs.declared.role.Plain.TheVariants as plains
 use Rattle.markdown_nodes.specs.Names.{role_of}
 use Rattle.markdown_nodes.specs.Forest.{Forest, empty, span, spell, enter, exit, is_empty, lacks, may_hold, has_right_shape, is_delimiter_row, is_delimiter_cell_value}
-use Rattle.markdown_nodes.specs.Walks.{is_same_name, holds_nothing, run, move, exited, can_enter, some_row, some_cell, holds_nothing_on_top}
+use Rattle.markdown_nodes.specs.Walks.{is_same_name, holds_nothing, run, move, can_enter, some_row, some_cell, holds_nothing_on_top}
 use Rattle.markdown_nodes.proofs.Loose.{regroup}
 
 abbrev row_of : Name → Bool

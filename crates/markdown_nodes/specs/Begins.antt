@@ -23,10 +23,18 @@ SpanAt events index last =
 abbrev pub Begins : List Event → ℕ → Type 0
 Begins events index = (last : ℕ) × SpanAt events index last
 
+-- a span of the right shape begins there, and holds these
+abbrev pub BeginsWith : List Event → ℕ → Forest → Type 0
+BeginsWith events index children =
+    (name : Name) × (start : Point) × (end : Point)
+    × IsSpelledAt events index (span name start end children empty)
+    × IsTrue (has_right_shape (span name start end children empty))
+
 -- the event there has that name
 abbrev pub IsNameAt : List Event → ℕ → Name → Type 0
 IsNameAt events index name = option_map (λ (event : Event). event.name) (slice_get events index) ≡ Some name
 
+-- what the functions that tell looseness and alignment ask for
 abbrev pub IsItemAt : List Event → ℕ → Type 0
 IsItemAt events index = IsNameAt events index names.ListItem
 

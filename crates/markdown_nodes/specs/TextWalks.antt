@@ -1,9 +1,8 @@
 -- What the private functions of `text` give, for the proofs of its public ones.
-use Rattle.std.specs.Prelude.{ℕ, ◌==◌, Bool, true, false, List, [], ◌∷◌, ◌++◌, Option, Some, None, if◌then◌else◌, ◌||◌, nat_le, length, unwrap_or}
-use Rattle.std.specs.List.{list_all}
+use Rattle.std.specs.Prelude.{ℕ, ◌==◌, Bool, true, false, List, [], ◌∷◌, ◌++◌, Option, Some, None, if◌then◌else◌}
 use Rattle.std.specs.Option.{option_map}
 use Rattle.markdown_nodes.specs.declared.text.Blanks.{Blanks}
-use Rattle.markdown_nodes.specs.Texts.{is_blank, is_space}
+use Rattle.markdown_nodes.specs.Texts.{is_blank}
 
 -- the rest of a text that begins with this byte
 abbrev pub after_first : ℕ → List ℕ → Option (List ℕ)

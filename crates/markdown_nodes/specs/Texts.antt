@@ -3,12 +3,14 @@ use Rattle.std.specs.Prelude.{ℕ, ◌-◌, ◌==◌, Bool, true, false, not, �
 use Rattle.std.specs.List.{list_all}
 use Rattle.caseless.specs.Caseless.{default_case_fold}
 
+-- CR or LF
 abbrev pub is_line_ending : ℕ → Bool
 is_line_ending b = b == 13 || b == 10
 
 abbrev pub is_space : ℕ → Bool
 is_space b = b == 32
 
+-- whether the first byte is this one
 abbrev pub starts_with_byte : ℕ → List ℕ → Bool
 starts_with_byte c [] = false
 starts_with_byte c (b ∷ bs) = b == c
@@ -45,7 +47,7 @@ without_escapes (b ∷ bs) = if b == 92 && starts_with_byte 124 bs then without_
 abbrev pub is_padded : List ℕ → Bool
 is_padded bs = nat_lt 2 (length bs) && starts_with_byte 32 bs && starts_with_byte 32 (reverse bs) && not (list_all is_space bs)
 
--- without the first and the last byte of a padded text
+-- without the first and the last byte, if the text is padded
 abbrev pub without_padding : List ℕ → List ℕ
 without_padding bs = if is_padded bs then take (length bs - 2) (drop 1 bs) else bs
 
@@ -59,6 +61,7 @@ abbrev pub spaces : List ℕ → List ℕ
 spaces [] = []
 spaces (b ∷ bs) = if b == 13 && starts_with_byte 10 bs then spaces bs else (if is_line_ending b then 32 else b) ∷ spaces bs
 
+-- a tab, LF, CR or space
 abbrev pub is_blank : ℕ → Bool
 is_blank c = c == 9 || c == 10 || c == 13 || c == 32
 
@@ -72,6 +75,7 @@ abbrev pub without_trailing_blanks : List ℕ → List ℕ
 without_trailing_blanks [] = []
 without_trailing_blanks (c ∷ cs) = if is_blank c then (if starts_with_blank cs then without_trailing_blanks cs else 32 ∷ without_trailing_blanks cs) else c ∷ without_trailing_blanks cs
 
+-- without one space at the start
 abbrev pub without_first_space : List ℕ → List ℕ
 without_first_space [] = []
 without_first_space (c ∷ cs) = if is_space c then cs else c ∷ cs

@@ -4,61 +4,63 @@
 //! Each function asks for the events of a span of the right shape, which
 //! [`span_begins`](crate::event::span_begins) finds.
 
-ghost use Rattle.std.specs.Prelude.{◌≡◌, IsTrue, IsOk, IfOk, false, []};
-ghost use Rattle.markdown_nodes.specs.declared.event.Name.{Name};
+ghost use Rattle.std.specs.Prelude.{◌≡◌, IsOk, IfOk, false, []};
 ghost use Rattle.markdown_nodes.specs.declared.event.Name.TheVariants as names;
-ghost use Rattle.markdown_nodes.specs.declared.event.Point.{Point};
-ghost use Rattle.markdown_nodes.specs.Forest.{Forest, empty, span, has_right_shape};
+ghost use Rattle.markdown_nodes.specs.Forest.{Forest};
 ghost use Rattle.markdown_nodes.specs.Spread.{loose_item, loose, align, align_kind_of};
 ghost use Rattle.markdown_nodes.specs.Walks.{no_child, child_exited, item_walk, no_ends, counts_blank, list_entered, list_exited, list_walk, first_after, cells_walk, table_walk};
-ghost use Rattle.markdown_nodes.specs.Begins.{Begins, IsSpelledAt, IsItemAt, IsListAt, IsTableAt};
+ghost use Rattle.markdown_nodes.specs.Begins.{Begins, BeginsWith, IsItemAt, IsListAt, IsTableAt};
 
 use crate::event::{Event, Kind, Name};
 use crate::mdast::AlignKind;
 use std::alloc::{AllocError, Global};
 
-/// Whether the list that begins at this index is loose: whether a blank line stands between its
-/// items, and, where that is asked, whether one of its items is loose.
+/// Whether the list that begins at this index is loose.
 ///
-/// A blank line ending in the list itself counts, unless the sibling directly before it is an
-/// item without content at its end: one whose last child, one `SpaceOrTab` skipped, is its prefix
-/// or a block quote that ends with its own prefix. That a blank line makes a list loose is
-/// CommonMark's rule (mdast's `spread`, which looks at the blank lines between items alone); what
-/// does not count is ours, since the tokenizer puts the blank line behind an empty item there.
+/// It is, if a blank line ending that is its direct child counts: it does not where the sibling
+/// directly before it is an item without content at its end, that is, one whose last child, one
+/// `SpaceOrTab` skipped, is its prefix or a block quote that ends with its own prefix. With
+/// `include_items` a loose item makes it loose too, as [`list_item_loose`] says: CommonMark's
+/// loose lists are these, and mdast's `spread` of a list leaves the items out. Which blank lines
+/// do not count is a rule of markdown-rs, whose tokenizer puts them there. This cannot fail, and
+/// takes no memory.
 ///
-/// A list of an item, a blank line and an item is loose; with nothing but its prefix in the first
-/// item it is not.
+/// A list of an item with a paragraph, a blank line ending and another item is loose; it is not,
+/// if there is nothing but its prefix in the first item.
 pub fn list_loose(events: &[Event], index: usize, include_items: bool) -> bool
     requires span { Begins events.now index }
     requires name { IsListAt events.now index }
-    ensures { (n : Name) (start end : Point) (children : Forest) → IsSpelledAt events.now index (span n start end children empty) → result ≡ loose children include_items }
+    ensures { (children : Forest) → BeginsWith events.now index children →
+        result ≡ loose children include_items }
 {
     list_walk(&events[index + 1..], include_items)
 }
 
-/// Whether the list item that begins at this index is loose: whether a blank line stands between
-/// its direct children.
+/// Whether the list item that begins at this index is loose.
 ///
-/// A blank line ending in the item itself counts, unless the sibling before it, one `SpaceOrTab`
-/// skipped, is the item's prefix. This is mdast's `spread` of a list item; what does not count is
-/// ours, since an item may begin with a blank line (CommonMark).
+/// It is, if a blank line ending that is its direct child counts: it does not where the sibling
+/// before it, one `SpaceOrTab` skipped, is the item's prefix. This is mdast's `spread` of a list
+/// item; that the line of the prefix may be blank is CommonMark's. This cannot fail, and takes no
+/// memory.
 ///
-/// An item of a prefix, a paragraph and a blank line is loose, and one of a prefix and a blank
-/// line is not.
+/// An item of a prefix, a paragraph and a blank line ending is loose, and one of a prefix and a
+/// blank line ending is not.
 pub fn list_item_loose(events: &[Event], index: usize) -> bool
     requires span { Begins events.now index }
     requires name { IsItemAt events.now index }
-    ensures { (n : Name) (start end : Point) (children : Forest) → IsSpelledAt events.now index (span n start end children empty) → result ≡ loose_item children }
+    ensures { (children : Forest) → BeginsWith events.now index children →
+        result ≡ loose_item children }
 {
     item_walk(&events[index + 1..])
 }
 
 /// How the columns of the table that begins at this index are aligned.
 ///
-/// Each delimiter cell value of the table's first delimiter row, at any depth, gives one entry
-/// (GFM): with a colon as its first and as its last child `Center`, with one as its first alone
-/// `Left`, with one as its last alone `Right`, and otherwise `None`. A table without such a row
-/// gives none. The only error is that memory ran out, and a call that gives no entry takes none.
+/// Each delimiter cell value in the table's first delimiter row, at any depth, gives one entry, in
+/// order: `Center` where its first and its last child are colons, also a lone one, `Left` where its first alone is
+/// one, `Right` where its last alone is one, and otherwise `None` (GFM). A table without such a
+/// row has no entry. The only error is that memory ran out, and a table without entries takes
+/// none.
 ///
 /// A table with the delimiter row `| :-- | - |` gives `[AlignKind::Left, AlignKind::None]`.
 pub fn gfm_table_align(
@@ -68,8 +70,10 @@ pub fn gfm_table_align(
 ) -> Result<Vec<AlignKind>, AllocError>
     requires span { Begins events.now index }
     requires name { IsTableAt events.now index }
-    ensures value { (n : Name) (start end : Point) (children : Forest) → IsSpelledAt events.now index (span n start end children empty) → IsTrue (has_right_shape (span n start end children empty)) → IfOk result (λ kinds. kinds.items ≡ align children) }
-    ensures memory { (n : Name) (start end : Point) (children : Forest) → IsSpelledAt events.now index (span n start end children empty) → IsTrue (has_right_shape (span n start end children empty)) → align children ≡ [] → IsOk result }
+    ensures value { (children : Forest) → BeginsWith events.now index children →
+        IfOk result (λ kinds. kinds.items ≡ align children) }
+    ensures memory { (children : Forest) → BeginsWith events.now index children →
+        align children ≡ [] → IsOk result }
 {
     table_align(alloc, &events[index + 1..])
 }
@@ -275,7 +279,8 @@ fn first_after(before: Name, first: bool, name: Name) -> bool
 
 /// How the columns are aligned, from the events of the delimiter row behind its enter.
 fn row_align(alloc: Global, events: &[Event]) -> Result<Vec<AlignKind>, AllocError>
-    ensures value { IfOk result (λ kinds. kinds.items ≡ cells_walk events.now names.GfmTableDelimiterRow false) }
+    ensures value { IfOk result (λ kinds.
+        kinds.items ≡ cells_walk events.now names.GfmTableDelimiterRow false) }
     ensures memory { cells_walk events.now names.GfmTableDelimiterRow false ≡ [] → IsOk result }
 {
     let mut kinds = Vec::new(alloc);

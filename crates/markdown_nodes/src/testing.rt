@@ -3,6 +3,29 @@
 use crate::event::{Event, Kind, Name, Point};
 use std::alloc::{AllocError, Global};
 
+/// The events of spans in order, each with how many others it stands in.
+pub fn spelled(alloc: Global, outline: &[(usize, Name)]) -> Result<Vec<Event>, AllocError> {
+    let mut events = Vec::new(alloc);
+    let mut names = Vec::new(alloc);
+    for (depth, name) in outline {
+        leave(&mut events, &mut names, *depth)?;
+        events.push(enter(*name))?;
+        names.push(*name)?;
+    }
+    leave(&mut events, &mut names, 0)?;
+    Ok(events)
+}
+
+/// Ends the innermost of the open spans, until so many are left.
+fn leave(events: &mut Vec<Event>, names: &mut Vec<Name>, depth: usize) -> Result<(), AllocError> {
+    for _ in depth..names.len() {
+        if let Some(name) = names.pop() {
+            events.push(exit(name))?;
+        }
+    }
+    Ok(())
+}
+
 pub fn enter(name: Name) -> Event {
     at_start(Kind::Enter, name)
 }
@@ -19,15 +42,4 @@ fn at_start(kind: Kind, name: Name) -> Event {
         vs: 0,
     };
     Event { kind, name, point }
-}
-
-/// The events of a span with these in it.
-pub fn span(alloc: Global, name: Name, children: &[&Vec<Event>]) -> Result<Vec<Event>, AllocError> {
-    let mut events = Vec::new(alloc);
-    events.push(enter(name))?;
-    for child in children {
-        events.extend_from_slice(child.as_slice())?;
-    }
-    events.push(exit(name))?;
-    Ok(events)
 }

@@ -11,8 +11,9 @@ use std::alloc::{AllocError, Global};
 /// The value without one line ending at its start, where that is asked, and then without one at
 /// the end of what is left, where that is asked.
 ///
-/// A line ending is a LF, a CR or a CRLF (CommonMark). This is how code and HTML lose the line
-/// ending behind a fence or before one; the order is ours, so that a lone line ending goes once.
+/// Frontmatter, code and math lose the line endings beside their fences so. A line ending is a
+/// LF, a CR or a CRLF (CommonMark); the order is ours, so that a lone line ending goes once. This
+/// cannot fail, and takes no memory.
 ///
 /// `trim_eol("\na\n", true, true)` is `a`, and `trim_eol("\na\n", false, true)` keeps the first.
 pub fn trim_eol(value: &str, at_start: bool, at_end: bool) -> &str
@@ -30,13 +31,12 @@ pub fn trim_eol(value: &str, at_start: bool, at_end: bool) -> &str
     }
 }
 
-/// The value of inline code or math: in a table without the backslashes that stand for the table
-/// alone, and without the space that keeps it off its markers.
+/// The value of inline code or math, in a table or not.
 ///
-/// In a table each backslash directly before a pipe goes (GFM). Then one space goes off each end,
-/// if the text is longer than two bytes, begins and ends with a space, and is not all spaces
-/// (CommonMark). Line endings stay: [`line_endings_to_spaces`] turns them into spaces. The only
-/// error is that memory ran out.
+/// In a table each backslash directly before a pipe goes, since it is the table's (GFM). Then one
+/// space goes off each end, if the text is longer than two bytes, begins and ends with a space,
+/// and is not all spaces (CommonMark). Line endings stay: [`line_endings_to_spaces`] is for them.
+/// The only error is that memory ran out.
 ///
 /// `raw_text(alloc, " a ", false)?` is `a`, and `raw_text(alloc, "a\\|b", true)?` is `a|b`.
 pub fn raw_text(alloc: Global, value: &str, in_table: bool) -> Result<String, AllocError>
@@ -51,7 +51,9 @@ pub fn raw_text(alloc: Global, value: &str, in_table: bool) -> Result<String, Al
 
 /// The value with one space for each CRLF, LF and CR, as inline code has it (CommonMark).
 ///
-/// The only error is that memory ran out. `line_endings_to_spaces(alloc, "a\r\nb")?` is `a b`.
+/// The only error is that memory ran out.
+///
+/// `line_endings_to_spaces(alloc, "a\r\nb")?` is `a b`.
 pub fn line_endings_to_spaces(alloc: Global, value: &str) -> Result<String, AllocError>
     ensures { IfOk result (λ text. string_bytes text ≡ spaces value.now) }
 {
@@ -64,11 +66,11 @@ pub fn line_endings_to_spaces(alloc: Global, value: &str) -> Result<String, Allo
     Ok(text)
 }
 
-/// The identifier that a label spells, by which references find their definition.
+/// The identifier that a label spells, by which references and definitions match.
 ///
 /// Every run of tabs, LFs, CRs and spaces is one space, a space at either end goes, and the rest
-/// is folded by full case folding (CommonMark, "matches"; mdast's `identifier` is folded so by
-/// us). The only error is that memory ran out.
+/// is folded by full case folding (CommonMark, how labels match). The only error is that memory
+/// ran out.
 ///
 /// `normalize_identifier(alloc, "\na\t\tB\r")?` is `a b`, and of both `ẞ` and `ß` it is `ss`.
 pub fn normalize_identifier(alloc: Global, value: &str) -> Result<String, AllocError>
@@ -164,7 +166,8 @@ fn is_all_spaces(value: &str) -> bool
 
 /// Adds a character, as a space where it ends a line and no CR did so just before.
 fn push_spaced(text: &mut String, after_return: bool, c: char) -> Result<(), AllocError>
-    ensures { IfOk result (λ _. string_bytes text.new ≡ string_bytes text.old ++ encode_utf8_all (spaced_part after_return c)) }
+    ensures { IfOk result (λ _.
+        string_bytes text.new ≡ string_bytes text.old ++ encode_utf8_all (spaced_part after_return c)) }
 {
     if c == '\r' {
         return text.push(' ');
@@ -206,7 +209,8 @@ fn collapsed(alloc: Global, value: &str) -> Result<String, AllocError>
 /// before the next.
 fn push_collapsed(text: &mut String, before: Blanks, c: char) -> Result<Blanks, AllocError>
     ensures state { IfOk result (λ after. after ≡ blanks_after before c) }
-    ensures bytes { IfOk result (λ _. string_bytes text.new ≡ string_bytes text.old ++ encode_utf8_all (collapsed_part before c)) }
+    ensures bytes { IfOk result (λ _.
+        string_bytes text.new ≡ string_bytes text.old ++ encode_utf8_all (collapsed_part before c)) }
 {
     if is_blank(c) {
         return Ok(Blanks {

@@ -24,8 +24,10 @@ pub fn span_begins(
     events: &[Event],
     index: usize,
 ) -> Result<Option<usize>, AllocError>
-    ensures span { IfOk result (λ found. (last : ℕ) → (found ≡ Some last) ↔ SpanAt events.now index last) }
-    ensures within { IfOk result (λ found. IfSome found (λ last. (index ≤ last) × (last < length events.now))) }
+    ensures span { IfOk result (λ found. (last : ℕ) →
+        (found ≡ Some last) ↔ SpanAt events.now index last) }
+    ensures within { IfOk result (λ found. IfSome found (λ last.
+        (index ≤ last) × (last < length events.now))) }
 {
     if index >= events.len() {
         return Ok(None);

@@ -1,7 +1,7 @@
 use super::{gfm_table_align, list_item_loose, list_loose};
 use crate::event::{Event, Name, span_begins};
 use crate::mdast::AlignKind;
-use crate::testing::span;
+use crate::testing::spelled;
 use std::alloc::{AllocError, Global};
 use std::test::Fail;
 
@@ -65,46 +65,59 @@ fn table_align(
 #[test]
 fn tells_loose_lists(rt: HostRuntime) -> Result<(), Fail> {
     let alloc = rt.alloc();
-    let prefix = span(alloc, Name::ListItemPrefix, &[])?;
-    let blank = span(alloc, Name::BlankLineEnding, &[])?;
-    let space = span(alloc, Name::SpaceOrTab, &[])?;
-    let paragraph = span(alloc, Name::Paragraph, &[])?;
-    let quote_prefix = span(alloc, Name::BlockQuotePrefix, &[])?;
-    let quote = span(alloc, Name::BlockQuote, &[&quote_prefix])?;
-    let item = span(alloc, Name::ListItem, &[&prefix])?;
-    let spaced = span(alloc, Name::ListItem, &[&prefix, &space])?;
-    let quoted = span(alloc, Name::ListItem, &[&prefix, &quote])?;
-    let loose = span(
-        alloc,
-        Name::ListItem,
-        &[&prefix, &paragraph, &blank, &paragraph],
-    )?;
-    let cases = [
-        (
-            span(alloc, Name::ListUnordered, &[&item, &blank, &item])?,
-            false,
-            false,
-        ),
-        (
-            span(alloc, Name::ListUnordered, &[&spaced, &blank, &item])?,
-            false,
-            false,
-        ),
-        (
-            span(alloc, Name::ListOrdered, &[&item, &blank, &blank, &item])?,
-            false,
-            true,
-        ),
-        (
-            span(alloc, Name::ListOrdered, &[&quoted, &blank, &item])?,
-            false,
-            false,
-        ),
-        (span(alloc, Name::ListUnordered, &[&loose])?, false, false),
-        (span(alloc, Name::ListUnordered, &[&loose])?, true, true),
+    let list = Name::ListUnordered;
+    let item = Name::ListItem;
+    let prefix = Name::ListItemPrefix;
+    let blank = Name::BlankLineEnding;
+    let space = Name::SpaceOrTab;
+    let quote = Name::BlockQuote;
+    let mark = Name::BlockQuotePrefix;
+    let text = Name::Paragraph;
+    let bare = [(0, list), (1, item), (2, prefix), (1, blank), (1, item)];
+    let spaced = [
+        (0, list),
+        (1, item),
+        (2, prefix),
+        (2, space),
+        (1, blank),
+        (1, item),
     ];
-    for (list, include_items, expected) in cases {
-        let spread = list_spread(alloc, list.as_slice(), 0, include_items)?;
+    let twice = [
+        (0, list),
+        (1, item),
+        (2, prefix),
+        (1, blank),
+        (1, blank),
+        (1, item),
+    ];
+    let quoted = [
+        (0, list),
+        (1, item),
+        (2, prefix),
+        (2, quote),
+        (3, mark),
+        (1, blank),
+        (1, item),
+    ];
+    let inside = [
+        (0, list),
+        (1, item),
+        (2, prefix),
+        (2, text),
+        (2, blank),
+        (2, text),
+    ];
+    let cases = [
+        (bare.as_slice(), false, false),
+        (spaced.as_slice(), false, false),
+        (twice.as_slice(), false, true),
+        (quoted.as_slice(), false, false),
+        (inside.as_slice(), false, false),
+        (inside.as_slice(), true, true),
+    ];
+    for (outline, include_items, expected) in cases {
+        let events = spelled(alloc, outline)?;
+        let spread = list_spread(alloc, events.as_slice(), 0, include_items)?;
         assert_eq!(rt; spread, Some(expected));
     }
     Ok(())
@@ -113,24 +126,24 @@ fn tells_loose_lists(rt: HostRuntime) -> Result<(), Fail> {
 #[test]
 fn tells_loose_items(rt: HostRuntime) -> Result<(), Fail> {
     let alloc = rt.alloc();
-    let prefix = span(alloc, Name::ListItemPrefix, &[])?;
-    let blank = span(alloc, Name::BlankLineEnding, &[])?;
-    let space = span(alloc, Name::SpaceOrTab, &[])?;
-    let paragraph = span(alloc, Name::Paragraph, &[])?;
+    let item = Name::ListItem;
+    let prefix = Name::ListItemPrefix;
+    let blank = Name::BlankLineEnding;
+    let space = Name::SpaceOrTab;
+    let text = Name::Paragraph;
+    let bare = [(0, item), (1, prefix), (1, blank)];
+    let spaced = [(0, item), (1, prefix), (1, space), (1, blank)];
+    let alone = [(0, item), (1, blank)];
+    let behind = [(0, item), (1, prefix), (1, text), (1, blank)];
     let cases = [
-        (span(alloc, Name::ListItem, &[&prefix, &blank])?, false),
-        (
-            span(alloc, Name::ListItem, &[&prefix, &space, &blank])?,
-            false,
-        ),
-        (span(alloc, Name::ListItem, &[&blank])?, true),
-        (
-            span(alloc, Name::ListItem, &[&prefix, &paragraph, &blank])?,
-            true,
-        ),
+        (bare.as_slice(), false),
+        (spaced.as_slice(), false),
+        (alone.as_slice(), true),
+        (behind.as_slice(), true),
     ];
-    for (item, expected) in cases {
-        assert_eq!(rt; item_spread(alloc, item.as_slice(), 0)?, Some(expected));
+    for (outline, expected) in cases {
+        let events = spelled(alloc, outline)?;
+        assert_eq!(rt; item_spread(alloc, events.as_slice(), 0)?, Some(expected));
     }
     Ok(())
 }
@@ -138,44 +151,33 @@ fn tells_loose_items(rt: HostRuntime) -> Result<(), Fail> {
 #[test]
 fn reads_alignments(rt: HostRuntime) -> Result<(), Fail> {
     let alloc = rt.alloc();
-    let marker = span(alloc, Name::GfmTableDelimiterMarker, &[])?;
-    let filler = span(alloc, Name::GfmTableDelimiterFiller, &[])?;
-    let value = Name::GfmTableDelimiterCellValue;
-    let plain = span(alloc, value, &[&filler])?;
-    let left = span(alloc, value, &[&marker, &filler])?;
-    let right = span(alloc, value, &[&filler, &marker])?;
-    let center = span(alloc, value, &[&marker, &filler, &marker])?;
-    let lone = span(alloc, value, &[&marker])?;
-    let nothing = span(alloc, value, &[])?;
-    let row = Name::GfmTableDelimiterRow;
-    let whole = span(
-        alloc,
-        row,
-        &[&plain, &left, &right, &center, &lone, &nothing],
-    )?;
-    let centered = span(alloc, row, &[&lone])?;
-    let plains = span(alloc, row, &[&plain, &plain])?;
-    let mut followed = span(alloc, Name::GfmTable, &[])?;
-    followed.extend_from_slice(span(alloc, Name::GfmTable, &[&centered])?.as_slice())?;
-    let kinds = [
-        AlignKind::None,
-        AlignKind::Left,
-        AlignKind::Right,
-        AlignKind::Center,
-        AlignKind::Center,
-        AlignKind::None,
+    let table = (0, Name::GfmTable);
+    let row = (1, Name::GfmTableDelimiterRow);
+    let value = (2, Name::GfmTableDelimiterCellValue);
+    let colon = (3, Name::GfmTableDelimiterMarker);
+    let line = (3, Name::GfmTableDelimiterFiller);
+    let sides = [
+        table, row, value, line, value, colon, line, value, line, colon,
     ];
+    let both = [table, row, value, colon, line, colon, value, colon, value];
+    let no_row = [table, table, row, value];
+    let two_rows = [table, row, value, colon, row, value, line, value, line];
     let cases = [
-        (span(alloc, Name::GfmTable, &[&whole])?, kinds.as_slice()),
-        (followed, &[]),
         (
-            span(alloc, Name::GfmTable, &[&centered, &plains])?,
-            &[AlignKind::Center],
+            sides.as_slice(),
+            [AlignKind::None, AlignKind::Left, AlignKind::Right].as_slice(),
         ),
+        (
+            both.as_slice(),
+            &[AlignKind::Center, AlignKind::Center, AlignKind::None],
+        ),
+        (no_row.as_slice(), &[]),
+        (two_rows.as_slice(), &[AlignKind::Center]),
     ];
-    for (table, expected) in cases {
-        let found = table_align(alloc, table.as_slice(), 0)?;
-        assert!(rt; matches!(&found, Some(found) if found.as_slice() == expected));
+    for (outline, expected) in cases {
+        let events = spelled(alloc, outline)?;
+        let kinds = table_align(alloc, events.as_slice(), 0)?;
+        assert!(rt; matches!(&kinds, Some(kinds) if kinds.as_slice() == expected));
     }
     Ok(())
 }

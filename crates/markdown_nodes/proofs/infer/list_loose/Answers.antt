@@ -5,7 +5,8 @@ use Rattle.markdown_nodes.proofs.Lists.{list-walked}
 use Rattle.markdown_nodes.proofs.infer.list_loose.Goals as goal
 
 pub returns : goal.returns
-returns c = λ n start end children at.
+returns c = λ children begins.
+    let (name, start, end, spelled, shape) = begins in
     c.list_walk.ensures
-    ∙ ap (λ es. list_walk c.args.include_items es 0 no_ends) (behind_enter c.args.events.now c.args.index n start end children at)
-    ∙ list-walked c.args.include_items children n end at.0
+    ∙ ap (λ es. list_walk c.args.include_items es 0 no_ends) (behind_enter c.args.events.now c.args.index name start end children spelled)
+    ∙ list-walked c.args.include_items children name end spelled.0

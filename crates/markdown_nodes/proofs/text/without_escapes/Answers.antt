@@ -1,6 +1,5 @@
-use Rattle.std.proofs.Common.{◌≡◌, ◌++◌, ◌∷◌, [], Some, None, ap, sym, ◌∙◌, lit<, string_bytes, arith, rules}
+use Rattle.std.proofs.Common.{◌≡◌, ◌++◌, ◌∷◌, [], Some, None, ap, sym, ◌∙◌, lit<, string_bytes, rules}
 use Rattle.std.proofs.lemmas.Str.Pattern.{split_parts}
-use Rattle.markdown_nodes.specs.Texts.{without_escapes}
 use Rattle.markdown_nodes.proofs.Cuts.{turn, without_escapes_none}
 use Rattle.markdown_nodes.proofs.text.without_escapes.Goals as goal
 

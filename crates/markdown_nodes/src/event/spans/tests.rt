@@ -1,16 +1,14 @@
 use super::span_begins;
 use crate::event::Name;
-use crate::testing::{enter, exit, span};
+use crate::testing::{enter, exit, spelled};
 use std::test::Fail;
 
 #[test]
 fn finds_the_exit(rt: HostRuntime) -> Result<(), Fail> {
     let alloc = rt.alloc();
-    let data = span(alloc, Name::Data, &[])?;
-    let paragraph = span(alloc, Name::Paragraph, &[&data])?;
-    let quote = span(alloc, Name::BlockQuote, &[])?;
-    let quotes = span(alloc, Name::BlockQuote, &[&quote])?;
-    let holding = span(alloc, Name::LineEnding, &[&data])?;
+    let paragraph = spelled(alloc, &[(0, Name::Paragraph), (1, Name::Data)])?;
+    let quotes = spelled(alloc, &[(0, Name::BlockQuote), (1, Name::BlockQuote)])?;
+    let holding = spelled(alloc, &[(0, Name::LineEnding), (1, Name::Data)])?;
     let crossed = [
         enter(Name::Paragraph),
         enter(Name::Data),
