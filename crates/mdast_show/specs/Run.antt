@@ -2,6 +2,7 @@
 use Rattle.std.specs.Prelude.{◌≡◌, ℕ, List, [], ◌++◌, Option, Some, None, IfSome, IsSomeAnd, codes, ⊤}
 use Rattle.std.specs.Fmt.{decimal}
 use Rattle.std.specs.Io.KnownBytes.{IsAtEnd}
+use Rattle.markdown_nodes.specs.declared.event.Event.{Event}
 use Rattle.markdown_nodes.specs.declared.message.Message.{Message}
 use Rattle.markdown_nodes.specs.declared.message.Place.{Place}
 use Rattle.markdown_nodes.specs.declared.message.Place.TheVariants as places
@@ -17,6 +18,13 @@ use Rattle.mdast_show.specs.Lines.{lines, IsFirstUnread}
 -- the document, with what the program's decoder knows
 abbrev pub over : List ℕ → Source
 over doc = source doc decoded
+
+-- what an answer of the compiler says of events
+abbrev pub IsCompiled : Answer → List Event → List ℕ → Type 0
+IsCompiled (answers.Tree tree) events doc = IsMeaning tree events (over doc)
+IsCompiled (answers.Refused message) events doc = Refuses message events (over doc)
+IsCompiled (answers.UnreadLine number) events doc = ⊥
+IsCompiled answers.UnreadEvents events doc = ⊥
 
 -- what an answer says of an input with these known bytes, of which these are left
 abbrev pub IsAnswer : Answer → Option (List ℕ) → Option (List ℕ) → List ℕ → Type 0

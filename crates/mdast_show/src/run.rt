@@ -7,17 +7,21 @@ ghost use Rattle.markdown_nodes.specs.declared.message.Message.{Message};
 ghost use Rattle.markdown_tree.specs.Correct.{IsMeaning, Refuses};
 ghost use Rattle.mdast_show.specs.Lines.{lines};
 ghost use Rattle.mdast_show.specs.Run;
-ghost use Rattle.mdast_show.specs.Run.{IsAnswer, IsLine, Prints, status_of, over};
+ghost use Rattle.mdast_show.specs.Run.{IsAnswer, IsCompiled, IsLine, Prints, status_of, over};
 
 use crate::decoder::Decoder;
 use crate::input::{ReadError, read_all};
 use crate::lines::{LinesError, events};
+use markdown_nodes::event::Event;
 use markdown_nodes::mdast::Node;
 use markdown_nodes::message::{Fault, Message, Place};
 use markdown_nodes::unist::Point;
 use markdown_tree::to_mdast::compile;
 use std::alloc::{AllocError, Global};
 use std::io::{Read, Write};
+
+/// What is printed where memory runs out, which takes none.
+const OUT_OF_MEMORY: &str = "mdast_show: out of memory\n";
 
 /// What a run comes to, if memory does not run out.
 #[derive(Debug, Drop)]
@@ -82,11 +86,14 @@ pub fn run<I: Read, O: Write>(alloc: Global, doc: &[u8], input: &mut I, output: 
     ensures memory { result ≡ 3 → Appends (O.contents output.old) (O.contents output.new) (codes "mdast_show: out of memory\n") }
 {
     let Ok(answer) = answer_to(alloc, doc, input) else {
-        return say(output, "mdast_show: out of memory\n", 3);
+        return say(output, OUT_OF_MEMORY, 3);
     };
-    match answer.line(alloc) {
-        Ok(line) => say(output, line.as_str(), answer.status()),
-        Err(_) => say(output, "mdast_show: out of memory\n", 3),
+    let status = answer.status();
+    let line = answer.line(alloc);
+    drop(answer);
+    match line {
+        Ok(line) => say(output, line.as_str(), status),
+        Err(_) => say(output, OUT_OF_MEMORY, 3),
     }
 }
 
@@ -115,7 +122,14 @@ fn answer_to<I: Read>(alloc: Global, doc: &[u8], input: &mut I) -> Result<Answer
         Err(LinesError::Unread(number)) => return Ok(Answer::UnreadLine(number)),
         Err(LinesError::Memory(error)) => return Err(error),
     };
-    match compile(alloc, &events, doc, &Decoder) {
+    compiled(alloc, &events, doc)
+}
+
+/// What the compiler says of the events.
+fn compiled(alloc: Global, events: &[Event], doc: &[u8]) -> Result<Answer, AllocError>
+    ensures { IfOk result (λ answer. IsCompiled answer events.now doc.now) }
+{
+    match compile(alloc, events, doc, &Decoder) {
         Ok(tree) => Ok(Answer::Tree(tree)),
         Err(Fault::Message(message)) => Ok(Answer::Refused(message)),
         Err(Fault::Memory(error)) => Err(error),

@@ -83,15 +83,18 @@ fn expect<R: Abort + AllocGlobal, I: Read>(rt: &R, input: &mut I, line: &str, st
 
 #[test]
 fn prints_a_tree(rt: HostRuntime) {
-    let tree = "Root { children: [Paragraph { children: [Text { value: \"Hi\", position: Some(1:1-1:3 (0-2)) }], position: Some(1:1-1:3 (0-2)) }], position: Some(1:1-1:3 (0-2)) }\n";
+    let tree =
+        "Root { children: [Paragraph { children: [Text { value: \"Hi\", position: Some(1:1-1:3 (0-2)) }], position: Some(1:1-1:3 (0-2)) }], position: Some(1:1-1:3 (0-2)) }\n";
     let mut input = HI;
     expect(&rt, &mut input, tree, 0);
 }
 
 #[test]
 fn prints_a_refusal(rt: HostRuntime) {
-    let refusal = "1:3 (2): an exit does not match the open span, or a span is left open (events-unbalanced)\n";
-    let mut input = b"+Paragraph 1:1:0\n+Data 1:1:0\n-Paragraph 1:3:2\n-Paragraph 1:3:2\n".as_slice();
+    let refusal =
+        "1:3 (2): an exit does not match the open span, or a span is left open (events-unbalanced)\n";
+    let mut input =
+        b"+Paragraph 1:1:0\n+Data 1:1:0\n-Paragraph 1:3:2\n-Paragraph 1:3:2\n".as_slice();
     expect(&rt, &mut input, refusal, 1);
 }
 
