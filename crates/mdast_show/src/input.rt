@@ -1,7 +1,8 @@
 //! Reading an input whole.
 
-ghost use Rattle.std.specs.Prelude.{◌≡◌, IfOk, OnOk, IfSome};
+ghost use Rattle.std.specs.Prelude.{◌≡◌, IfOk, OnOk, IfSome, alloc_error};
 ghost use Rattle.std.specs.Io.KnownBytes.{IsAtEnd};
+ghost use Rattle.mdast_show.specs.declared.input.ReadError.TheVariants.{Memory};
 
 use std::alloc::{AllocError, Global};
 use std::io::{ErrorKind, Read};
@@ -19,6 +20,8 @@ pub enum ReadError {
 }
 
 impl From<AllocError> for ReadError {
+    ghost from_gives = { λ _ error. error ≡ Memory alloc_error };
+
     fn from(error: AllocError) -> ReadError {
         ReadError::Memory(error)
     }

@@ -1,6 +1,7 @@
 //! Event lines.
 
-ghost use Rattle.std.specs.Prelude.{◌≡◌, ◌≢◌, ℕ, ◌<◌, length, Some, None, IfOk, IfErr, IfSome, MatchOption, EachIndex, slice_index, option_copied};
+ghost use Rattle.std.specs.Prelude.{◌≡◌, ◌≢◌, ℕ, ◌<◌, length, Some, None, IfOk, IfErr, IfSome, MatchOption, EachIndex, slice_index, option_copied, alloc_error};
+ghost use Rattle.mdast_show.specs.declared.lines.LinesError.TheVariants.{Memory};
 ghost use Rattle.mdast_show.specs.Lines.{before, after, number_of, spaces_of, point_of, kind_of, head_of, event_of, lines, IsErrorOf};
 
 use markdown_nodes::event::{Event, Kind, Name, Point};
@@ -16,9 +17,6 @@ pub enum LinesError {
 }
 
 impl<T: Drop> From<AllocFailed<T>> for LinesError {
-    ghost use Rattle.std.specs.Prelude.{alloc_error};
-    ghost use Rattle.mdast_show.specs.declared.lines.LinesError.TheVariants.{Memory};
-
     ghost from_gives = { λ _ error. error ≡ Memory alloc_error };
 
     fn from(error: AllocFailed<T>) -> LinesError {

@@ -1,7 +1,7 @@
-use Rattle.std.proofs.Common.{◌≡◌, ◌≢◌, ℕ, ◌+◌, ◌-◌, ◌<◌, ◌≤◌, List, Some, None, ◌++◌, ◌∷◌, [], Option, length, sym, ◌∙◌, ap, arith, refl, rules}
+use Rattle.std.proofs.Common.{◌≡◌, ℕ, ◌<◌, List, Some, None, ◌++◌, ◌∷◌, [], Option, length, sym, ◌∙◌, ap, arith, refl}
 use Rattle.std.proofs.lemmas.Bool.Decides.{nat_tests}
-use Rattle.mdast_show.specs.Lines.{before, after}
-use Rattle.mdast_show.proofs.LinesLemmas.{Reads, more_pieces, first_line, reads_start, reads_empty, reads_event, reads_none, reads_all}
+use Rattle.mdast_show.specs.Lines.{after}
+use Rattle.mdast_show.proofs.LinesLemmas.{Reads, more_pieces, first_line, reads_empty, reads_event, reads_none, reads_all}
 use Rattle.mdast_show.proofs.lines.events.Goals as goal
 use Rattle.mdast_show.proofs.lines.events.Goals.{then-not-is_empty+in-Some+in_ok-push-in-Some, else-not-is_empty}
 
