@@ -1,4 +1,4 @@
--- What the nodes of the program are, and nodes at the end of a list.
+-- What the nodes of the program are as trees: kind by kind, by their parts, and once a part is another.
 use Rattle.std.proofs.Common.{◌≡◌, Option, Some, Vec, Global, refl, sym, ap, ◌∙◌}
 use Rattle.std.specs.Prelude.{option_map, string_bytes}
 use denote.Hole.Carrier
