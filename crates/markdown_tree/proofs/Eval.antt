@@ -10,8 +10,8 @@ use Rattle.markdown_nodes.specs.Names.{role_of}
 use Rattle.markdown_nodes.specs.Tree.{Trees}
 use Rattle.markdown_tree.specs.declared.builder.Around.{Around}
 use Rattle.markdown_tree.specs.declared.refusal.Refusal.TheVariants.{Held}
-use Rattle.markdown_tree.specs.Grammar.{holder_of}
-use Rattle.markdown_tree.specs.Items.{Items, none, item, items, place, ◌then◌}
+use Rattle.markdown_tree.specs.Carried.{holder_of}
+use Rattle.markdown_tree.specs.Items.{Items, none, item, items, place_items, ◌then◌}
 use Rattle.markdown_tree.specs.Machine.{Rejection, checked, Holds, fresh, closed, enter_checks, exit_checks, may_begin, under, leave, ◌>>=◌}
 use Rattle.markdown_tree.specs.Source.{Source}
 use Rattle.markdown_tree.proofs.Walk.{ok, when, passes, ok-checked, walk}
@@ -71,7 +71,7 @@ when-and false b c o = refl
 
 pub walk-then : (s : Source) (xs ys : Items) (top : Holds) → walk s top (xs then ys) ≡ option_and_then (λ (t : Holds). walk s t ys) (walk s top xs)
 walk-then s none ys top = refl
-walk-then s (item what a b inner rest) ys top =
+walk-then s (item what a b c inner rest) ys top =
     let e : Bool = passes (enter_checks top what) in
     let x : Bool = passes (exit_checks s what a b) in
     let out : Holds → Holds = λ own. closed s top what a b own.nodes in
@@ -87,10 +87,10 @@ walk-then s (item what a b inner rest) ys top =
 abbrev Walks : Source → Around → Forest → Type 0
 Walks s around f = (top : Holds) → ok (eval s around f top) ≡ when (shaped around f) (walk s top (items f))
 
-by-role : (s : Source) (role : Role) (b in_shape out_shape : Bool) (a e : Point) (xs ys : Items) (inside after : Holds → Result Holds Rejection) (top : Holds)
+by-role : (s : Source) (role : Role) (b in_shape out_shape : Bool) (a e : Point) (c : Forest) (xs ys : Items) (inside after : Holds → Result Holds Rejection) (top : Holds)
     → ((t : Holds) → ok (inside t) ≡ when in_shape (walk s t xs)) → ((t : Holds) → ok (after t) ≡ when out_shape (walk s t ys))
-    → ok (checked ((b, Held) ∷ []) a (eval_as s role a e inside after top)) ≡ when (b && (in_shape && out_shape)) (walk s top (place role a e xs ys))
-by-role s (plain k) b in_shape out_shape a e xs ys inside after top hi ha =
+    → ok (checked ((b, Held) ∷ []) a (eval_as s role a e inside after top)) ≡ when (b && (in_shape && out_shape)) (walk s top (place_items role a e c xs ys))
+by-role s (plain k) b in_shape out_shape a e c xs ys inside after top hi ha =
     ok-checked ((b, Held) ∷ []) a (inside top >>= after)
     ∙ ap (when (b && true))
     (ok-bind (inside top) after
@@ -101,7 +101,7 @@ by-role s (plain k) b in_shape out_shape a e xs ys inside after top hi ha =
     ∙ then-when out_shape (walk s top xs) (λ (t : Holds). walk s t ys)
     ∙ ap (when out_shape) (sym (walk-then s xs ys top))))
     ∙ when-and b in_shape out_shape (walk s top (xs then ys))
-by-role s (acting what) b in_shape out_shape a e xs ys inside after top hi ha =
+by-role s (acting what) b in_shape out_shape a e c xs ys inside after top hi ha =
     let x : Bool = passes (exit_checks s what a e) in
     let own : Holds = fresh (holder_of what) in
     let out : Holds → Holds = λ t. closed s top what a e t.nodes in
@@ -130,5 +130,5 @@ by-role s (acting what) b in_shape out_shape a e xs ys inside after top hi ha =
 pub eval-walk : (s : Source) (around : Around) (f : Forest) → Walks s around f
 eval-walk s around empty top = refl
 eval-walk s around (span n a b c r) top =
-    by-role s (role_of n) (may_begin around (role_of n)) (shaped (under around (role_of n)) c) (shaped around r) a b (items c) (items r)
+    by-role s (role_of n) (may_begin around (role_of n)) (shaped (under around (role_of n)) c) (shaped around r) a b c (items c) (items r)
     (λ t. eval s (under around (role_of n)) c t) (λ t. eval s around r t) top (λ t. eval-walk s (under around (role_of n)) c t) (λ t. eval-walk s around r t)

@@ -15,13 +15,15 @@ use Rattle.markdown_nodes.specs.View.{views}
 use Rattle.markdown_nodes.proofs.Views.{view-Root}
 use Rattle.markdown_tree.specs.declared.builder.Holder.TheVariants.{Root}
 use Rattle.markdown_tree.specs.declared.refusal.Refusal.TheVariants.{Unbalanced}
-use Rattle.markdown_tree.specs.Accepted.{Accepted, accepted}
+use Rattle.markdown_tree.specs.Carried.{IsAcceptedSoFar, accepted, fits}
 use Rattle.markdown_tree.specs.Correct.{IsMeaning, IsRefused, extent_between, extent_of}
-use Rattle.markdown_tree.specs.Grammar.{fits}
 use Rattle.markdown_tree.specs.Items.{items}
 use Rattle.markdown_tree.specs.Machine.{Rejection, Holds, fresh, in_the_open, State, opening, run, ◌>>=◌}
 use Rattle.markdown_tree.specs.Meaning.{extent, last_end}
 use Rattle.markdown_tree.specs.Nodes.{nodes as nodes_of_items}
+use Rattle.markdown_tree.specs.Parts.{itself}
+use Rattle.markdown_tree.specs.Place.{root_place}
+use Rattle.markdown_tree.proofs.CarriedNames.{carried-accepted, accepted-carried, carried-nodes}
 use Rattle.markdown_tree.specs.Source.{Source}
 use Rattle.markdown_tree.proofs.Eval.{eval, eval-walk}
 use Rattle.markdown_tree.proofs.Runs.{over, at, spelled, bind_ok, ok_is, done}
@@ -56,8 +58,8 @@ when-inv : {A : Type 0} (b : Bool) (x y : A) → when b (Some x) ≡ Some y → 
 when-inv true x y e = (refl, some_is x y e)
 when-inv false x y e = absurd cc
 
-is-accepted : (s : Source) (f : Forest) → Accepted s f → accepted s f ≡ true
-is-accepted s f a = and-both (has_right_shape f) (fits s Root (items f)) a.shape a.items_fit
+is-accepted : (s : Source) (f : Forest) → IsAcceptedSoFar s f → accepted s f ≡ true
+is-accepted s f a = and-both (has_right_shape f) (fits s Root (items f)) a.accepted.shape (accepted-carried s (items f) a.carried_names a.accepted.all_fit)
 
 -- the run over the spelling of a forest, and nothing else
 pub over-all : (s : Source) (f : Forest) → run s (spell f) opening ≡ (eval s in_the_open f start >>= λ t. done (at [] in_the_open t))
@@ -65,7 +67,7 @@ unfolding run
 over-all s f = ap (λ (es : List Event). run s es opening) (sym (append-nil (spell f))) ∙ over s f [] [] in_the_open start
 
 -- an accepted forest runs to its nodes
-accepted-runs : (s : Source) (f : Forest) → Accepted s f → run s (spell f) opening ≡ Ok (at [] in_the_open (behind s start (items f)))
+accepted-runs : (s : Source) (f : Forest) → IsAcceptedSoFar s f → run s (spell f) opening ≡ Ok (at [] in_the_open (behind s start (items f)))
 accepted-runs s f a =
     over-all s f
     ∙ ap (λ (r : Result Holds Rejection). r >>= λ t. done (at [] in_the_open t))
@@ -76,8 +78,8 @@ accepted-runs s f a =
 pub record Ran (s : Source) (es : List Event) (st : State) : Type 0 where
   pub forest : Forest
   pub is_spelled : spell forest ≡ es
-  pub accepted : Accepted s forest
-  pub gives : st.top.nodes ≡ nodes_of_items s (items forest)
+  pub accepted : IsAcceptedSoFar s forest
+  pub gives : st.top.nodes ≡ nodes_of_items s itself root_place (items forest)
 
 pub ran : (s : Source) (es : List Event) (st : State) → run s es opening ≡ Ok st → st.frames ≡ [] → Ran s es st
 ran s es st h none_open =
@@ -87,11 +89,12 @@ ran s es st h none_open =
     let e = bind_ok (eval s in_the_open f start) (λ t. done (at [] in_the_open t)) st whole in
     let w = when-inv (accepted s f) (behind s start (items f)) e.0 (sym (eval-is s f) ∙ ap ok e.1) in
     let st_is : at [] in_the_open (behind s start (items f)) ≡ st = ap (at [] in_the_open) w.1 ∙ ok_is (at [] in_the_open e.0) st e.2 in
+    let so_far : IsAcceptedSoFar s f = carried-accepted s f (and-left (has_right_shape f) (fits s Root (items f)) w.0) (and-right (has_right_shape f) (fits s Root (items f)) w.0) in
     record {
       forest = f;
       is_spelled = sym p.1;
-      accepted = record { shape = and-left (has_right_shape f) (fits s Root (items f)) w.0; items_fit = and-right (has_right_shape f) (fits s Root (items f)) w.0 };
-      gives = ap (λ (x : State). x.top.nodes) (sym st_is);
+      accepted = so_far;
+      gives = ap (λ (x : State). x.top.nodes) (sym st_is) ∙ carried-nodes s (items f) so_far.carried_names;
     }
 
 -- ---- From the first event to the last
@@ -136,7 +139,7 @@ tree_is s es st r h none_open children position =
       accepted = a.accepted;
       is_meaning = view-Root r
           ∙ ap (λ (ts : Trees). tree ts r.position) (children ∙ a.gives)
-          ∙ ap (tree (nodes_of_items s (items a.forest))) (position ∙ ap (λ (x : List Event). Some (extent_of x)) (sym a.is_spelled) ∙ ap (λ (p : Position). Some p) (extent-is a.forest));
+          ∙ ap (tree (nodes_of_items s itself root_place (items a.forest))) (position ∙ ap (λ (x : List Event). Some (extent_of x)) (sym a.is_spelled) ∙ ap (λ (p : Position). Some p) (extent-is a.forest));
     }
 
 -- ---- A run that is refused

@@ -15,7 +15,7 @@ use Rattle.markdown_nodes.specs.Names.{role_of}
 use Rattle.markdown_tree.specs.declared.builder.Around.{Around}
 use Rattle.markdown_tree.specs.declared.refusal.Refusal.{Refusal}
 use Rattle.markdown_tree.specs.declared.refusal.Refusal.TheVariants.{Unbalanced, Held}
-use Rattle.markdown_tree.specs.Grammar.{holder_of}
+use Rattle.markdown_tree.specs.Carried.{holder_of}
 use Rattle.markdown_tree.specs.Machine.{Rejection, checked, Holds, fresh, enter_checks, may_begin, under, Open, State, opened, enter_as, enter_step, leave, leave_to, same_name, shut, exit_from, exit_step, step, step_by, run, ◌>>=◌}
 use Rattle.markdown_tree.specs.Source.{Source}
 use Rattle.markdown_tree.proofs.Eval.{eval, eval_as}

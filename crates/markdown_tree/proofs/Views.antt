@@ -11,7 +11,7 @@ use Rattle.markdown_nodes.specs.View.{view, views}
 use Rattle.markdown_nodes.proofs.Views.{view-Text}
 use Rattle.markdown_tree.specs.declared.builder.Frame.{Frame}
 use Rattle.markdown_tree.specs.Machine.{open_of, is_text, longer}
-use Rattle.markdown_tree.specs.Nodes.{text_tree}
+use Rattle.markdown_tree.specs.Carried.{text_tree}
 
 -- the stack after a push
 pub stack_push : (fs : List Frame) (f : Frame) → reverse (map open_of (fs ++ f ∷ [])) ≡ open_of f ∷ reverse (map open_of fs)

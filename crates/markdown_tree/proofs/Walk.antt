@@ -5,10 +5,9 @@ use Rattle.markdown_nodes.specs.declared.event.Point.{Point}
 use Rattle.markdown_nodes.specs.Tree.{Trees, join}
 use Rattle.markdown_nodes.proofs.Joining.{join_assoc, join-nothing}
 use Rattle.markdown_tree.specs.declared.refusal.Refusal.{Refusal}
-use Rattle.markdown_tree.specs.Grammar.{holder_of, takes, is_read, fits}
+use Rattle.markdown_tree.specs.Carried.{holder_of, is_carried_in, is_read, fits, nodes, node_of}
 use Rattle.markdown_tree.specs.Items.{Items, none, item}
 use Rattle.markdown_tree.specs.Machine.{Rejection, checked, Holds, fresh, closed, enter_checks, exit_checks}
-use Rattle.markdown_tree.specs.Nodes.{nodes, node_of}
 use Rattle.markdown_tree.specs.Source.{Source}
 
 -- what was given, without why nothing was
@@ -35,7 +34,7 @@ ok-checked (c ∷ cs) p r = one-check c.0 (passes cs) r (checked cs p r) (record
 -- the steps over items, without what is refused by
 abbrev pub walk : Source → Holds → Items → Option Holds
 walk s top none = Some top
-walk s top (item what a b inner rest) =
+walk s top (item what a b c inner rest) =
     when (passes (enter_checks top what))
     (option_and_then (λ (own : Holds). when (passes (exit_checks s what a b)) (walk s (closed s top what a b own.nodes) rest)) (walk s (fresh (holder_of what)) inner))
 
@@ -52,11 +51,11 @@ one-step true true true r w f own out h k = ap (option_and_then f) h ∙ k
 
 pub walk-is : (s : Source) (top : Holds) (xs : Items) → walk s top xs ≡ when (fits s top.holder xs) (Some (behind s top xs))
 walk-is s top none = ap (λ (ts : Trees). Some (record { holder = top.holder; nodes = ts })) (sym (join-nothing top.nodes))
-walk-is s top (item what a b inner rest) =
+walk-is s top (item what a b c inner rest) =
     let own : Holds = behind s (fresh (holder_of what)) inner in
     let node : Trees = node_of s what a b (nodes s inner) in
-    one-step (takes top.holder what) (fits s (holder_of what) inner) (is_read s what a b) (fits s top.holder rest)
-    (walk s (fresh (holder_of what)) inner) (λ (o : Holds). when (passes (exit_checks s what a b)) (walk s (closed s top what a b o.nodes) rest)) own (behind s top (item what a b inner rest))
+    one-step (is_carried_in top.holder what) (fits s (holder_of what) inner) (is_read s what a b) (fits s top.holder rest)
+    (walk s (fresh (holder_of what)) inner) (λ (o : Holds). when (passes (exit_checks s what a b)) (walk s (closed s top what a b o.nodes) rest)) own (behind s top (item what a b c inner rest))
     (walk-is s (fresh (holder_of what)) inner)
     (ap (when (is_read s what a b && true))
     (walk-is s (closed s top what a b (nodes s inner)) rest

@@ -12,16 +12,16 @@ use Rattle.markdown_nodes.specs.Slices.{between}
 use Rattle.markdown_nodes.specs.View.{view}
 use Rattle.markdown_tree.specs.declared.refusal.Refusal.{Refusal}
 use Rattle.markdown_tree.specs.declared.refusal.Refusal.TheVariants.{Unbalanced}
-use Rattle.markdown_tree.specs.Accepted.{Accepted}
+use Rattle.markdown_tree.specs.Carried.{IsAcceptedSoFar}
 use Rattle.markdown_tree.specs.Meaning.{meaning, nowhere}
 use Rattle.markdown_tree.specs.Refusals.{Says}
 use Rattle.markdown_tree.specs.Source.{Source}
 
--- the tree is the meaning of an accepted forest that the events spell
+-- the tree is the meaning of an accepted forest that the events spell. So far its names are those that are carried
 pub record IsMeaning (tree : Node) (events : List Event) (s : Source) : Type 0 where
   pub forest : Forest
   pub spelled : spell forest ≡ events
-  pub accepted : Accepted s forest
+  pub accepted : IsAcceptedSoFar s forest
   pub is_meaning : view tree ≡ meaning s forest
 
 -- the point is an event's, and no list that begins with the events up to it is accepted
@@ -31,7 +31,7 @@ pub record StopsAt (point : Point) (events : List Event) (s : Source) : Type 0 w
   pub back : List Event
   pub parts : events ≡ front ++ (event ∷ back)
   pub named : point ≡ event.point
-  pub none_accepted : (forest : Forest) (others : List Event) → spell forest ≡ front ++ (event ∷ others) → ¬ (Accepted s forest)
+  pub none_accepted : (forest : Forest) (others : List Event) → spell forest ≡ front ++ (event ∷ others) → ¬ (IsAcceptedSoFar s forest)
 
 -- spans are left open, and the point is the last event's
 pub record LeftOpen (refusal : Refusal) (point : Point) (events : List Event) : Type 0 where
@@ -43,7 +43,7 @@ pub record LeftOpen (refusal : Refusal) (point : Point) (events : List Event) : 
 
 -- no accepted forest spells the events, and none at all where they are said to be unbalanced
 pub record IsRefused (refusal : Refusal) (point : Point) (events : List Event) (s : Source) : Type 0 where
-  pub none_accepted : (forest : Forest) → spell forest ≡ events → ¬ (Accepted s forest)
+  pub none_accepted : (forest : Forest) → spell forest ≡ events → ¬ (IsAcceptedSoFar s forest)
   pub unbalanced : refusal ≡ Unbalanced → (forest : Forest) → spell forest ≢ events
   pub place : StopsAt point events s ⊎ LeftOpen refusal point events
 
@@ -65,5 +65,6 @@ extent_between None last = nowhere
 extent_between (Some first) None = nowhere
 extent_between (Some first) (Some last) = between first.point last.point
 
+-- the place of the root: from the first event to the last
 abbrev pub extent_of : List Event → Position
 extent_of events = extent_between (slice_get events 0) (slice_get events (length events - 1))

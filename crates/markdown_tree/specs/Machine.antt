@@ -33,8 +33,7 @@ use Rattle.markdown_tree.specs.declared.refusal.Refusal.{Refusal}
 use Rattle.markdown_tree.specs.declared.refusal.Refusal.TheVariants.{Unbalanced, Misplaced, Held, InvalidSlice}
 use Rattle.markdown_tree.specs.declared.refusal.Stop.{Stop}
 use Rattle.markdown_tree.specs.declared.refusal.Stop.TheVariants as stops
-use Rattle.markdown_tree.specs.Grammar.{holder_of, takes, is_read}
-use Rattle.markdown_tree.specs.Nodes.{node_of}
+use Rattle.markdown_tree.specs.Carried.{holder_of, is_carried_in, is_read, node_of}
 use Rattle.markdown_tree.specs.Refusals.{Says}
 use Rattle.markdown_tree.specs.Source.{Source}
 
@@ -155,7 +154,7 @@ longer value here part there = record { label = text (value ++ part); children =
 -- ---- The steps
 
 abbrev pub enter_checks : Holds → Acting → List (Bool × Refusal)
-enter_checks top what = (takes top.holder what, Misplaced) ∷ []
+enter_checks top what = (is_carried_in top.holder what, Misplaced) ∷ []
 
 abbrev pub exit_checks : Source → Acting → Point → Point → List (Bool × Refusal)
 exit_checks s what start end = (is_read s what start end, InvalidSlice) ∷ []

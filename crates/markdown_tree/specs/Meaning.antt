@@ -1,31 +1,30 @@
 -- The tree that a forest means.
 use Rattle.std.specs.Prelude.{Some}
-use Rattle.markdown_nodes.specs.declared.event.Point.{Point}
-use Rattle.markdown_nodes.specs.declared.unist.Point.{Point as Place}
-use Rattle.markdown_nodes.specs.declared.unist.Position.{Position}
 use Rattle.markdown_nodes.specs.Forest.{Forest, empty, span}
 use Rattle.markdown_nodes.specs.Slices.{between}
 use Rattle.markdown_nodes.specs.Tree.{Tree, root}
+use Rattle.markdown_nodes.specs.declared.event.Point.{Point}
+use Rattle.markdown_nodes.specs.declared.unist.Position.{Position}
 use Rattle.markdown_tree.specs.Items.{items}
 use Rattle.markdown_tree.specs.Nodes.{nodes}
+use Rattle.markdown_tree.specs.Parts.{itself}
+use Rattle.markdown_tree.specs.Place.{root_place}
 use Rattle.markdown_tree.specs.Source.{Source}
 
 -- the first place of a document
-abbrev pub origin : Place
-origin = record { line = 1; column = 1; offset = 0 }
-
 abbrev pub nowhere : Position
-nowhere = record { start = origin; end = origin }
+nowhere = record { start = record { line = 1; column = 1; offset = 0 }; end = record { line = 1; column = 1; offset = 0 } }
 
--- where the last span ends, behind a span that ends there
+-- where the last span ends, if there is one after that end
 abbrev pub last_end : Point → Forest → Point
 last_end end empty = end
 last_end _ (span _ _ end _ rest) = last_end end rest
 
--- from the first event to the last
+-- from the first event to the last, or the document's first place where there is none
 abbrev pub extent : Forest → Position
 extent empty = nowhere
 extent (span _ start end _ rest) = between start (last_end end rest)
 
+-- a Root over the nodes of the items, from the first event to the last
 abbrev pub meaning : Source → Forest → Tree
-meaning s forest = record { label = root; children = nodes s (items forest); position = Some (extent forest) }
+meaning s forest = record { label = root; children = nodes s itself root_place (items forest); position = Some (extent forest) }

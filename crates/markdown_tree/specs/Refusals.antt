@@ -11,12 +11,14 @@ use Rattle.markdown_tree.specs.declared.refusal.Refusal.TheVariants.{Unbalanced,
 use Rattle.markdown_tree.specs.declared.refusal.Stop.{Stop}
 use Rattle.markdown_tree.specs.declared.refusal.Stop.TheVariants as stops
 
+-- the rule that a refusal names
 abbrev pub rule_of : Refusal → List ℕ
 rule_of Unbalanced = codes "events-unbalanced"
 rule_of Misplaced = codes "name-misplaced"
 rule_of Held = codes "span-held"
 rule_of InvalidSlice = codes "slice-invalid"
 
+-- the reason that a refusal gives
 abbrev pub reason_of : Refusal → List ℕ
 reason_of Unbalanced = codes "an exit does not match the open span, or a span is left open"
 reason_of Misplaced = codes "this name cannot stand here"

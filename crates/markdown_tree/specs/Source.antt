@@ -6,5 +6,6 @@ pub record Source : Type 0 where
   pub bytes : List ℕ
   pub text : List ℕ → ℕ → Option (List ℕ)
 
+-- a document, and what a decoder says of references
 abbrev pub source : List ℕ → (List ℕ → ℕ → Option (List ℕ)) → Source
 source bytes text = record { bytes = bytes; text = text }

@@ -7,5 +7,6 @@ abbrev pub steps_of : Option Event → ℕ
 steps_of None = 0
 steps_of (Some event) = 1
 
+-- the list that is read
 abbrev pub events_in : List Event → ℕ
 events_in events = length events

@@ -4,10 +4,10 @@ ghost use Rattle.std.specs.Prelude.{◌≡◌, false, Some, OnOk, IfOk, IfSome, 
 ghost use Rattle.markdown_nodes.specs.Forest;
 ghost use Rattle.markdown_nodes.specs.Tree.{from_to};
 ghost use Rattle.markdown_nodes.specs.View.{view, views};
-ghost use Rattle.markdown_tree.specs.Grammar;
+ghost use Rattle.markdown_tree.specs.Carried;
 ghost use Rattle.markdown_tree.specs.Machine;
 ghost use Rattle.markdown_tree.specs.Machine.{Gives, acting_of, holds_of, state_of, fresh, joined, is_text, longer, opening, enter_step, exit_step, leave};
-ghost use Rattle.markdown_tree.specs.Nodes.{text_tree, paragraph_tree};
+ghost use Rattle.markdown_tree.specs.Carried.{text_tree, paragraph_tree};
 ghost use Rattle.markdown_tree.specs.Source.{source};
 
 use crate::references::References;
@@ -43,7 +43,7 @@ pub enum Item {
 impl Item {
     /// The row of the grammar that the item has.
     fn holder(self) -> Holder
-        ensures { result ≡ Grammar.holder_of (acting_of self) }
+        ensures { result ≡ Carried.holder_of (acting_of self) }
     {
         match self {
             Item::Data => Holder::Leaf,
@@ -56,7 +56,7 @@ impl Holder {
     /// The item that an acting span is, if the holder takes it.
     fn item(self, what: Acting) -> Option<Item>
         ensures same { IfSome result (λ item. acting_of item ≡ what) }
-        ensures taken { is_some result ≡ Grammar.takes self what }
+        ensures taken { is_some result ≡ Carried.is_carried_in self what }
     {
         match (self, what) {
             (Holder::Root | Holder::Paragraph, Acting::Content(Content::Data)) => Some(Item::Data),

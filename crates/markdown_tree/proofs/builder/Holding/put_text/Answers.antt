@@ -1,7 +1,7 @@
 use Rattle.std.proofs.Common.{[], ◌∷◌, ◌++◌, ap, ◌∙◌}
 use Rattle.markdown_nodes.specs.declared.mdast.Node.{Node}
 use Rattle.markdown_nodes.specs.Tree.{Trees}
-use Rattle.markdown_tree.specs.Nodes.{text_tree}
+use Rattle.markdown_tree.specs.Carried.{text_tree}
 use Rattle.markdown_tree.proofs.Views.{views_longer, views_begun, no_text}
 use Rattle.markdown_tree.proofs.builder.Holding.put_text.Goals as goal
 
