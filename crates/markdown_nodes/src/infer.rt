@@ -334,6 +334,3 @@ fn table_align(alloc: Global, events: &[Event]) -> Result<Vec<AlignKind>, AllocE
         rest = after;
     }
 }
-
-#[cfg(test)]
-mod tests;

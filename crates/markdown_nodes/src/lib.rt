@@ -8,7 +8,5 @@ pub mod laws;
 pub mod mdast;
 pub mod message;
 pub mod role;
-#[cfg(test)]
-mod testing;
 pub mod text;
 pub mod unist;

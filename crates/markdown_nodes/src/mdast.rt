@@ -11,8 +11,6 @@ ghost use Rattle.markdown_nodes.specs.View.{view};
 mod comparing;
 mod copying;
 mod reading;
-#[cfg(test)]
-mod tests;
 
 use crate::unist::Position;
 use std::alloc::{AllocError, Global};

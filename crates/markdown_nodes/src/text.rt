@@ -233,6 +233,3 @@ fn is_blank(c: char) -> bool
 {
     matches!(c, '\t' | '\n' | '\r' | ' ')
 }
-
-#[cfg(test)]
-mod tests;

@@ -126,6 +126,3 @@ fn holds_value(names: &[Name]) -> bool
     }
     false
 }
-
-#[cfg(test)]
-mod tests;

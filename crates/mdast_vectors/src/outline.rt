@@ -1,6 +1,6 @@
-//! Events for tests, where it does not matter at which point they stand.
+//! Events of spans, where it does not matter at which point they stand.
 
-use crate::event::{Event, Kind, Name, Point};
+use markdown_nodes::event::{Event, Kind, Name, Point};
 use std::alloc::{AllocError, Global};
 
 /// The events of spans in order, each with how many others it stands in.

@@ -1,4 +1,4 @@
-use Rattle.markdown_nodes.proofs.infer.tests.list_spread.Goals as goal
+use Rattle.mdast_vectors.proofs.spread.list_spread.Goals as goal
 
 pub list_loose-requires-clause-span : goal.list_loose-requires-clause-span
 list_loose-requires-clause-span c = (c.in-Some.field-0, (c.in_ok-span_begins.ensures.span c.in-Some.field-0).0 c.in-Some.is)

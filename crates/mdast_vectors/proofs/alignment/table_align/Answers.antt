@@ -1,4 +1,4 @@
-use Rattle.markdown_nodes.proofs.infer.tests.table_align.Goals as goal
+use Rattle.mdast_vectors.proofs.alignment.table_align.Goals as goal
 
 pub gfm_table_align-requires-clause-span : goal.gfm_table_align-requires-clause-span
 gfm_table_align-requires-clause-span c = (c.in-Some.field-0, (c.in_ok-span_begins.ensures.span c.in-Some.field-0).0 c.in-Some.is)

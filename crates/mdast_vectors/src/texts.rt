@@ -1,0 +1,71 @@
+//! What the calls on texts give.
+
+use markdown_nodes::text::{line_endings_to_spaces, normalize_identifier, raw_text, trim_eol};
+use std::test::Fail;
+
+#[test]
+fn one_line_ending_goes(rt: HostRuntime) {
+    for (value, at_start, at_end, want) in [
+        ("\na\n", true, true, "a"),
+        ("\r\n", true, true, ""),
+        ("\na\n", false, true, "\na"),
+    ] {
+        assert_eq!(rt; trim_eol(value, at_start, at_end), want);
+    }
+}
+
+#[test]
+fn padding_goes_once(rt: HostRuntime) -> Result<(), Fail> {
+    for (value, want) in [
+        (" a ", "a"),
+        ("   ", "   "),
+        (" a", " a"),
+        ("  ", "  "),
+        ("  a ", " a"),
+    ] {
+        assert_eq!(rt; raw_text(rt.alloc(), value, false)?.as_str(), want);
+    }
+    Ok(())
+}
+
+#[test]
+fn pipes_are_escaped_in_tables(rt: HostRuntime) -> Result<(), Fail> {
+    for (value, want) in [("a\\|b", "a|b"), ("a\\\\|b", "a\\|b"), (" \\| ", "|")] {
+        assert_eq!(rt; raw_text(rt.alloc(), value, true)?.as_str(), want);
+    }
+    Ok(())
+}
+
+#[test]
+fn line_endings_become_spaces(rt: HostRuntime) -> Result<(), Fail> {
+    for (value, want) in [("a\r\n\rb", "a  b"), ("\r\n", " "), ("", "")] {
+        assert_eq!(rt; line_endings_to_spaces(rt.alloc(), value)?.as_str(), want);
+    }
+    Ok(())
+}
+
+// Inline code: its line endings become spaces before its padding goes.
+#[test]
+fn inline_code_is_one_line(rt: HostRuntime) -> Result<(), Fail> {
+    for (value, want) in [
+        ("\na\n", "a"),
+        ("a\nb", "a b"),
+        ("\n\n", "  "),
+        ("\r\n", " "),
+    ] {
+        let spaced = line_endings_to_spaces(rt.alloc(), value)?;
+        assert_eq!(rt;
+            raw_text(rt.alloc(), spaced.as_str(), false)?.as_str(),
+            want
+        );
+    }
+    Ok(())
+}
+
+#[test]
+fn identifiers_are_normal(rt: HostRuntime) -> Result<(), Fail> {
+    for (value, want) in [("\na\t\tB\r", "a b"), (" \n", ""), ("ẞ", "ss"), ("ß", "ss")] {
+        assert_eq!(rt; normalize_identifier(rt.alloc(), value)?.as_str(), want);
+    }
+    Ok(())
+}
