@@ -1,4 +1,6 @@
 -- For the names that are carried so far, the whole grammar and the whole meaning come to little.
+use Rattle.markdown_tree.proofs.Booleans.{all-three, and-left, and-right, and-both, and-true}
+use Rattle.markdown_tree.proofs.Conditions.{conditions-hold}
 use Rattle.std.proofs.Common.{◌≡◌, Bool, true, false, not, ◌&&◌, refl, sym, ◌∙◌, ap}
 use Rattle.std.specs.Prelude.{is_some}
 use Rattle.markdown_nodes.specs.declared.role.Acting.TheVariants.{Content as content}
@@ -10,6 +12,7 @@ use Rattle.markdown_tree.specs.declared.builder.Holder.{Holder}
 use Rattle.markdown_tree.specs.declared.builder.Holder.TheVariants.{Root, Paragraph, Leaf}
 use Rattle.markdown_tree.specs.Accepted.{ends_with_break, fits as fits_whole}
 use Rattle.markdown_tree.specs.Carried.{carried, is_carried_in, holder_of, fits, nodes, node_of, paragraph_tree, text_tree, IsAcceptedSoFar}
+use Rattle.markdown_tree.specs.Grammar.{takes}
 use Rattle.markdown_tree.specs.Holders.{any_content}
 use Rattle.markdown_tree.specs.Items.{Items, none, item, items, kinds}
 use Rattle.markdown_tree.specs.Kinds.{is_content}
@@ -18,18 +21,6 @@ use Rattle.markdown_tree.specs.Parts.{itself}
 use Rattle.markdown_tree.specs.Place.{Place, place_inside, root_place}
 use Rattle.markdown_tree.specs.Rules.{keeps, only as only_such}
 use Rattle.markdown_tree.specs.Source.{Source}
-
-and-left : (a b : Bool) → (a && b) ≡ true → a ≡ true
-and-left true b h = refl
-and-left false b h = h
-
-and-right : (a b : Bool) → (a && b) ≡ true → b ≡ true
-and-right true b h = h
-and-right false b h = let z : ⊥ = cc in absurd z
-
-and-both : (a b : Bool) → a ≡ true → b ≡ true → (a && b) ≡ true
-and-both true b h k = k
-and-both false b h k = h
 
 never : (b : Bool) → false ≡ true → b ≡ true
 never b h = let z : ⊥ = cc in absurd z
@@ -117,19 +108,14 @@ carried-nodes s (item what a b d inner rest) k = let z : ⊥ = cc in absurd z
 pub accepted-carried : (s : Source) (xs : Items) → carried Root xs ≡ true → fits_whole s any_content root_place false xs ≡ true → fits s Root xs ≡ true
 accepted-carried s xs k h = root-fits s xs k ∙ h
 
-and-true : (b : Bool) → (b && true) ≡ b
-and-true true = refl
-and-true false = refl
-
 pub carried-accepted : (s : Source) (f : Forest) → has_right_shape f ≡ true → fits s Root (items f) ≡ true → IsAcceptedSoFar s f
 carried-accepted s f shape h =
     let k = fits-carried s Root (items f) h in
+    let outermost : takes any_content (kinds (items f)) ≡ true = and-true (keeps (only_such is_content) (kinds (items f))) ∙ root-content (items f) k in
+    let fit : fits_whole s any_content root_place false (items f) ≡ true = sym (root-fits s (items f) k) ∙ h in
+    let unbroken : not (ends_with_break (items f)) ≡ true = ap not (root-unbroken (items f) k) in
     record {
-      accepted = record {
-        shape = shape;
-        outermost = and-true (keeps (only_such is_content) (kinds (items f))) ∙ root-content (items f) k;
-        all_fit = sym (root-fits s (items f) k) ∙ h;
-        no_break_last = ap not (root-unbroken (items f) k);
-      };
+      accepted = conditions-hold s f (and-both (has_right_shape f && takes any_content (kinds (items f)) && fits_whole s any_content root_place false (items f)) (not (ends_with_break (items f)))
+          (all-three (has_right_shape f) (takes any_content (kinds (items f))) (fits_whole s any_content root_place false (items f)) shape outermost fit) unbroken);
       carried_names = k;
     }

@@ -5,6 +5,8 @@ pub mod Loop
 pub mod Walk
 pub mod Eval
 pub mod Shape
+pub mod Booleans
+pub mod Conditions
 pub mod CarriedNames
 pub mod Runs
 pub mod Stops

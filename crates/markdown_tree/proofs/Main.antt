@@ -27,7 +27,9 @@ use Rattle.markdown_tree.proofs.CarriedNames.{carried-accepted, accepted-carried
 use Rattle.markdown_tree.specs.Source.{Source}
 use Rattle.markdown_tree.proofs.Eval.{eval, eval-walk}
 use Rattle.markdown_tree.proofs.Runs.{over, at, spelled, bind_ok, ok_is, done}
-use Rattle.markdown_tree.proofs.Shape.{shaped-is, and-left, and-right, and-both}
+use Rattle.markdown_tree.proofs.Booleans.{and-left, and-right, and-both}
+use Rattle.markdown_tree.proofs.Conditions.{all-fit}
+use Rattle.markdown_tree.proofs.Shape.{shaped-is}
 use Rattle.markdown_tree.proofs.Stops.{stopped, never_unbalanced, err_clash}
 use Rattle.markdown_tree.proofs.Walk.{ok, when, walk, walk-is, behind}
 
@@ -59,7 +61,7 @@ when-inv true x y e = (refl, some_is x y e)
 when-inv false x y e = absurd cc
 
 is-accepted : (s : Source) (f : Forest) → IsAcceptedSoFar s f → accepted s f ≡ true
-is-accepted s f a = and-both (has_right_shape f) (fits s Root (items f)) a.accepted.shape (accepted-carried s (items f) a.carried_names a.accepted.all_fit)
+is-accepted s f a = and-both (has_right_shape f) (fits s Root (items f)) a.accepted.shape (accepted-carried s (items f) a.carried_names (all-fit s f a.accepted))
 
 -- the run over the spelling of a forest, and nothing else
 pub over-all : (s : Source) (f : Forest) → run s (spell f) opening ≡ (eval s in_the_open f start >>= λ t. done (at [] in_the_open t))

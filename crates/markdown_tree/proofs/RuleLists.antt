@@ -1,4 +1,5 @@
 -- A list of items keeps a rule as its front does and its last item lets it.
+use Rattle.markdown_tree.proofs.Booleans.{and-left, and-true}
 use Rattle.std.proofs.Common.{◌≡◌, Bool, true, false, not, ◌&&◌, ◌||◌, List, [], ◌∷◌, ◌++◌, refl, sym, ◌∙◌, ap}
 use Rattle.std.proofs.Common.{append_assoc}
 use Rattle.std.proofs.lemmas.List.{append-nil}
@@ -10,10 +11,6 @@ use Rattle.markdown_tree.specs.Rules.{Rule, any_item, keeps, never, once, only, 
 pub and-assoc : (a b c : Bool) → ((a && b) && c) ≡ (a && (b && c))
 and-assoc true b c = refl
 and-assoc false b c = refl
-
-pub and-true : (b : Bool) → (b && true) ≡ b
-and-true true = refl
-and-true false = refl
 
 all-append : (p : Acting → Bool) (xs ys : List Acting) → list_all p (xs ++ ys) ≡ (list_all p xs && list_all p ys)
 all-append p [] ys = refl
@@ -47,10 +44,6 @@ behind-bools true true true true false = refl
 behind-bools true true true false e = refl
 behind-bools true true false true e = refl
 behind-bools true true false false e = refl
-
-and-left : (a b : Bool) → (a && b) ≡ true → a ≡ true
-and-left true b h = refl
-and-left false b h = h
 
 or-and-true : (a b : Bool) → (a || (b && true)) ≡ (a || b)
 or-and-true true b = refl

@@ -1,4 +1,5 @@
 -- The right shape, by what is around and by what is inside.
+use Rattle.markdown_tree.proofs.Booleans.{and-left, and-right, and-both}
 use Rattle.std.proofs.Common.{◌≡◌, Bool, true, false, not, ◌&&◌, ◌||◌, refl, sym}
 use Rattle.markdown_nodes.specs.declared.role.Role.{Role}
 use Rattle.markdown_nodes.specs.declared.role.Role.TheVariants.{Plain as plain, Acting as acting}
@@ -10,18 +11,6 @@ use Rattle.markdown_nodes.specs.Names.{role_of}
 use Rattle.markdown_tree.specs.declared.builder.Around.{Around}
 use Rattle.markdown_tree.specs.Machine.{holds_nothing, may_begin, under, in_the_open}
 use Rattle.markdown_tree.proofs.Eval.{shaped}
-
-pub and-left : (a b : Bool) → (a && b) ≡ true → a ≡ true
-and-left true b h = refl
-and-left false b h = h
-
-pub and-right : (a b : Bool) → (a && b) ≡ true → b ≡ true
-and-right true b h = h
-and-right false b h = let z : ⊥ = cc in absurd z
-
-pub and-both : (a b : Bool) → a ≡ true → b ≡ true → (a && b) ≡ true
-and-both true b h k = k
-and-both false b h k = h
 
 or-left : (a b : Bool) → a ≡ true → (a || b) ≡ true
 or-left true b h = refl
