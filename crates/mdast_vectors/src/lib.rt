@@ -1,11 +1,11 @@
 //! The home of rows: worked examples of the whole layer, each a test with the values that it must
 //! give.
 //!
-//! What stands here is for readers of the layer, and for what no contract says: that calls succeed,
-//! how nodes are printed, how deep they go, and that the contracts mean what they were meant to.
-//! The expected values come from the description of the layer, from the tests of markdown-rs and
-//! from CommonMark, and never from a run of this repository. `scripts/refuse-memory-in-rows` runs
-//! the same tests with each allocation refused in turn.
+//! They show what no contract says: that calls succeed, how nodes are printed, how deep they go, and
+//! that the contracts mean what they were meant to. Their values were worked by hand from the rules
+//! of mdast, CommonMark and GFM, or are those of the tests of markdown-rs; none comes from a run of
+//! this repository. `scripts/refuse-memory-in-rows` runs the tests with each allocation refused in
+//! turn.
 #![tactic(auto)]
 
 #[cfg(test)]
