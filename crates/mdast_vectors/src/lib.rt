@@ -11,6 +11,8 @@
 #[cfg(test)]
 mod alignment;
 #[cfg(test)]
+mod names;
+#[cfg(test)]
 mod nodes;
 #[cfg(test)]
 mod outline;

@@ -1,0 +1,51 @@
+//! Rows of names and of points.
+
+use markdown_nodes::event::{Name, Point};
+use markdown_nodes::unist;
+use std::test::Fail;
+
+#[test]
+fn names_are_written_as_they_are_called(rt: HostRuntime) {
+    for (name, text) in [
+        (Name::Data, "Data"),
+        (Name::BlockQuote, "BlockQuote"),
+        (Name::LineEnding, "LineEnding"),
+        (
+            Name::GfmTaskListItemValueChecked,
+            "GfmTaskListItemValueChecked",
+        ),
+    ] {
+        assert_eq!(rt; name.text(), text);
+        assert!(rt; Name::find(text) == Some(name));
+        assert!(rt; Name::find_bytes(text.as_bytes()) == Some(name));
+        assert!(rt; name.is(name));
+    }
+}
+
+#[test]
+fn other_words_are_no_names(rt: HostRuntime) {
+    for text in ["Nope", "data", "Data ", ""] {
+        assert!(rt; Name::find(text).is_none());
+    }
+    assert!(rt; Name::find_bytes(b"D\xFFta").is_none());
+    assert!(rt; !Name::HtmlFlow.is(Name::HtmlText));
+}
+
+#[test]
+fn points_lose_their_virtual_spaces(rt: HostRuntime) -> Result<(), Fail> {
+    let point = Point {
+        line: 1,
+        column: 3,
+        index: 2,
+        vs: 1,
+    };
+    assert!(rt; point.to_unist() == unist::Point::new(1, 3, 2));
+    let place = point.to_unist();
+    assert_eq!(rt; format!(in rt.alloc(); "{place:?}")?.as_str(), "1:3 (2)");
+    let position = unist::Position::new(1, 1, 0, 1, 3, 2);
+    assert_eq!(rt;
+        format!(in rt.alloc(); "{position:?}")?.as_str(),
+        "1:1-1:3 (0-2)"
+    );
+    Ok(())
+}
