@@ -297,8 +297,11 @@ impl Name {
 }
 
 impl Role {
-    /// Whether a span of this role may have no span in it.
-    pub(crate) fn holds_nothing(self) -> bool
+    /// Whether a span of this role may have no span in it: a line ending, the ending of a blank
+    /// line, and white space in a line (ours: micromark has none in them).
+    ///
+    /// `Name::LineEnding.role().holds_nothing()` is true.
+    pub fn holds_nothing(self) -> bool
         ensures { result ≡ holds_nothing self }
     {
         matches!(
@@ -336,15 +339,19 @@ impl Role {
         matches!(self, Role::Plain(Plain::BlockQuotePrefix))
     }
 
-    /// Whether it is the row under the head of a table.
-    pub(crate) fn is_delimiter_row(self) -> bool
+    /// Whether it is the row under the head of a table (GFM).
+    ///
+    /// `Name::GfmTableDelimiterRow.role().is_delimiter_row()` is true.
+    pub fn is_delimiter_row(self) -> bool
         ensures { result ≡ is_delimiter_row self }
     {
         matches!(self, Role::Plain(Plain::DelimiterRow))
     }
 
-    /// Whether it says how a column is aligned.
-    pub(crate) fn is_delimiter_cell_value(self) -> bool
+    /// Whether it says how a column is aligned (GFM).
+    ///
+    /// `Name::GfmTableDelimiterCellValue.role().is_delimiter_cell_value()` is true.
+    pub fn is_delimiter_cell_value(self) -> bool
         ensures { result ≡ is_delimiter_cell_value self }
     {
         matches!(self, Role::Plain(Plain::DelimiterCellValue))

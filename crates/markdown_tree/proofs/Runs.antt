@@ -16,14 +16,15 @@ use Rattle.markdown_tree.specs.declared.builder.Around.{Around}
 use Rattle.markdown_tree.specs.declared.refusal.Refusal.{Refusal}
 use Rattle.markdown_tree.specs.declared.refusal.Refusal.TheVariants.{Unbalanced, Held}
 use Rattle.markdown_tree.specs.Carried.{holder_of}
-use Rattle.markdown_tree.specs.Machine.{Rejection, checked, Holds, fresh, enter_checks, may_begin, under, Open, State, opened, enter_as, enter_step, leave, leave_to, same_name, shut, exit_from, exit_step, step, step_by, run, ◌>>=◌}
+use Rattle.markdown_nodes.specs.Walks.{is_same_name}
+use Rattle.markdown_tree.specs.Machine.{Rejection, checked, Holds, fresh, enter_checks, may_begin, under, Open, State, opened, enter_as, enter_step, leave, leave_to, shut, exit_from, exit_step, step, step_by, run, ◌>>=◌}
 use Rattle.markdown_tree.specs.Source.{Source}
 use Rattle.markdown_tree.proofs.Eval.{eval, eval_as}
 
-pub same_name_is : (m n : Name) → same_name m n ≡ true → m ≡ n
+pub same_name_is : (m n : Name) → is_same_name m n ≡ true → m ≡ n
 same_name_is m n h = same_true the_type tt m n h
 
-pub same_name_refl : (n : Name) → same_name n n ≡ true
+pub same_name_refl : (n : Name) → is_same_name n n ≡ true
 same_name_refl n = true_same the_type n n refl
 
 pub bind_same : {A B : Type 0} (r : Result A Rejection) (f g : A → Result B Rejection) → ((x : A) → f x ≡ g x) → (r >>= f) ≡ (r >>= g)
@@ -159,7 +160,7 @@ exit_shut : (s : Source) (n : Name) (p : Point) (fs : List Open) (top : Holds) (
 unfolding Shut
 exit_shut s n p [] top z es h closing = absurd cc
 exit_shut s n p (f ∷ fs) top z es h closing =
-    let g = one_ok (same_name f.name n) (leave_to s f.start p top f.outer >>= λ t. kept (shut f fs t)) z (record { refusal = Unbalanced; point = p }) h in
+    let g = one_ok (is_same_name f.name n) (leave_to s f.start p top f.outer >>= λ t. kept (shut f fs t)) z (record { refusal = Unbalanced; point = p }) h in
     let b = bind_ok (leave_to s f.start p top f.outer) (λ t. kept (shut f fs t)) z g.1 in
     let out : z.frames ≡ fs = ap (λ (x : State). x.frames) (sym (ok_is (shut f fs b.0) z b.2)) in
     (empty, p, es, ap (λ (m : Name). exit m p ∷ es) (sym (same_name_is f.name n g.0)), subst (λ (x : List Open). Shut x es) out closing)

@@ -9,7 +9,8 @@ use Rattle.markdown_nodes.specs.declared.role.Plain.TheVariants as plains
 use Rattle.markdown_nodes.specs.Forest.{Forest, empty, span, is_empty, lacks, may_hold, has_right_shape, is_delimiter_row, is_delimiter_cell_value}
 use Rattle.markdown_nodes.specs.Names.{role_of}
 use Rattle.markdown_tree.specs.declared.builder.Around.{Around}
-use Rattle.markdown_tree.specs.Machine.{holds_nothing, may_begin, under, in_the_open}
+use Rattle.markdown_nodes.specs.Walks.{holds_nothing}
+use Rattle.markdown_tree.specs.Machine.{may_begin, under, in_the_open}
 use Rattle.markdown_tree.proofs.Eval.{shaped}
 
 or-left : (a b : Bool) → a ≡ true → (a || b) ≡ true

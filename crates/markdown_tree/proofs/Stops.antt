@@ -16,7 +16,8 @@ use Rattle.markdown_tree.specs.declared.builder.Holder.TheVariants.{Root}
 use Rattle.markdown_tree.specs.declared.refusal.Refusal.{Refusal}
 use Rattle.markdown_tree.specs.declared.refusal.Refusal.TheVariants.{Unbalanced, Held}
 use Rattle.markdown_tree.specs.Carried.{holder_of}
-use Rattle.markdown_tree.specs.Machine.{Rejection, checked, refused, Holds, fresh, closed, enter_checks, exit_checks, in_the_open, may_begin, under, Open, State, opened, enter_as, enter_step, leave, leave_to, same_name, shut, exit_from, exit_step, step, step_by, run, ◌>>=◌}
+use Rattle.markdown_nodes.specs.Walks.{is_same_name}
+use Rattle.markdown_tree.specs.Machine.{Rejection, checked, refused, Holds, fresh, closed, enter_checks, exit_checks, in_the_open, may_begin, under, Open, State, opened, enter_as, enter_step, leave, leave_to, shut, exit_from, exit_step, step, step_by, run, ◌>>=◌}
 use Rattle.markdown_tree.specs.Source.{Source}
 use Rattle.markdown_tree.proofs.Eval.{eval, eval_as}
 use Rattle.markdown_tree.proofs.Runs.{at, done}
@@ -57,7 +58,7 @@ leave_to_point s a p own (Some x) m h = checked_point (exit_checks s x.0 a p) p 
 exit_from_point : (s : Source) (n : Name) (p : Point) (fs : List Open) (top : Holds) (m : Rejection) → exit_from s n p fs top ≡ Err m → m.point ≡ p
 exit_from_point s n p [] top m h = ap (λ (k : Rejection). k.point) (sym (err_is {A = State} (record { refusal = Unbalanced; point = p }) m h))
 exit_from_point s n p (f ∷ fs) top m h =
-    checked_point ((same_name f.name n, Unbalanced) ∷ []) p (leave_to s f.start p top f.outer >>= λ t. done (shut f fs t)) m
+    checked_point ((is_same_name f.name n, Unbalanced) ∷ []) p (leave_to s f.start p top f.outer >>= λ t. done (shut f fs t)) m
     (bind_point (leave_to s f.start p top f.outer) (λ t. shut f fs t) m p (leave_to_point s f.start p top f.outer m)) h
 
 step_point : (k : Kind) (s : Source) (n : Name) (p : Point) (st : State) (m : Rejection) → step_by k s n p st ≡ Err m → m.point ≡ p

@@ -1,7 +1,5 @@
 -- The steps of `compile`, on values: what a holder keeps, what an enter opens, and what comes up at an exit.
 use Rattle.std.specs.Prelude.{◌≡◌, ℕ, Bool, true, false, not, ◌&&◌, ◌||◌, List, [], ◌∷◌, ◌++◌, Option, Some, None, option_map, Result, Ok, Err, map, reverse, cond}
-use denote.Enum.Bare.{sameb}
-use Rattle.markdown_nodes.specs.contracts.event.Name.{the_type}
 use Rattle.markdown_nodes.specs.declared.event.Event.{Event}
 use Rattle.markdown_nodes.specs.declared.event.Kind.{Kind}
 use Rattle.markdown_nodes.specs.declared.event.Kind.TheVariants.{Enter, Exit}
@@ -12,10 +10,10 @@ use Rattle.markdown_nodes.specs.declared.message.Fault.TheVariants as faults
 use Rattle.markdown_nodes.specs.declared.role.Acting.{Acting}
 use Rattle.markdown_nodes.specs.declared.role.Acting.TheVariants.{Content as content}
 use Rattle.markdown_nodes.specs.declared.role.Content.TheVariants as contents
-use Rattle.markdown_nodes.specs.declared.role.Plain.TheVariants as plains
 use Rattle.markdown_nodes.specs.declared.role.Role.{Role}
 use Rattle.markdown_nodes.specs.declared.role.Role.TheVariants.{Plain as plain, Acting as acting}
 use Rattle.markdown_nodes.specs.declared.unist.Position.{Position}
+use Rattle.markdown_nodes.specs.Walks.{holds_nothing, is_same_name}
 use Rattle.markdown_nodes.specs.Forest.{is_delimiter_row, is_delimiter_cell_value}
 use Rattle.markdown_nodes.specs.Names.{role_of}
 use Rattle.markdown_nodes.specs.Tree.{Trees, Tree, Label, nothing, only, join, from_to, text}
@@ -126,12 +124,6 @@ Completes view (Err fault) expected = Fails fault expected
 
 -- ---- Right shape, by what is around
 
-abbrev pub holds_nothing : Role → Bool
-holds_nothing (acting (content contents.LineEnding)) = true
-holds_nothing (plain plains.BlankLineEnding) = true
-holds_nothing (plain plains.SpaceOrTab) = true
-holds_nothing _ = false
-
 abbrev pub may_begin : Around → Role → Bool
 may_begin a role = (not a.held && not (a.in_row && is_delimiter_row role)) && not (a.in_value && is_delimiter_cell_value role)
 
@@ -186,15 +178,12 @@ abbrev pub leave_to : Source → Point → Point → Holds → Option (Acting ×
 leave_to s start end own None = Ok own
 leave_to s start end own (Some outer) = leave s outer.0 start end own.nodes outer.1
 
-abbrev pub same_name : Name → Name → Bool
-same_name first second = sameb the_type first second
-
 abbrev pub shut : Open → List Open → Holds → State
 shut f fs top = record { frames = fs; around = f.around; top = top }
 
 abbrev pub exit_from : Source → Name → Point → List Open → Holds → Result State Rejection
 exit_from s name point [] top = refused Unbalanced point
-exit_from s name point (f ∷ fs) top = checked ((same_name f.name name, Unbalanced) ∷ []) point (leave_to s f.start point top f.outer >>= λ t. Ok (shut f fs t))
+exit_from s name point (f ∷ fs) top = checked ((is_same_name f.name name, Unbalanced) ∷ []) point (leave_to s f.start point top f.outer >>= λ t. Ok (shut f fs t))
 
 unfoldable pub exit_step : Source → Name → Point → State → Result State Rejection
 exit_step s name point st = exit_from s name point st.frames st.top

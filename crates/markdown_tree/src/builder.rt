@@ -1,7 +1,6 @@
 //! The open spans of a list of events, and the nodes made in them so far.
 
 ghost use Rattle.std.specs.Prelude.{◌≡◌, false, Some, OnOk, IfOk, IfSome, is_some, string_bytes};
-ghost use Rattle.markdown_nodes.specs.Forest;
 ghost use Rattle.markdown_nodes.specs.Tree.{from_to};
 ghost use Rattle.markdown_nodes.specs.View.{view, views};
 ghost use Rattle.markdown_tree.specs.Carried;
@@ -15,7 +14,7 @@ use crate::refusal::{Refusal, Stop};
 use crate::slice::{position_of, text_of};
 use markdown_nodes::event::{Event, Kind, Name, Point};
 use markdown_nodes::mdast::{Node, Paragraph, Text};
-use markdown_nodes::role::{Acting, Content, Plain, Role};
+use markdown_nodes::role::{Acting, Content, Role};
 use markdown_nodes::unist::Position;
 use std::alloc::{AllocError, Global};
 use std::mem;
@@ -82,8 +81,8 @@ impl Around {
     fn allows(self, role: Role) -> bool
         ensures { result ≡ Machine.may_begin self role }
     {
-        let second_row = self.in_row && is_delimiter_row(role);
-        let second_value = self.in_value && is_delimiter_cell_value(role);
+        let second_row = self.in_row && role.is_delimiter_row();
+        let second_value = self.in_value && role.is_delimiter_cell_value();
         !self.held && !second_row && !second_value
     }
 
@@ -92,34 +91,11 @@ impl Around {
         ensures { result ≡ Machine.under self role }
     {
         Around {
-            held: holds_nothing(role),
-            in_row: self.in_row || is_delimiter_row(role),
-            in_value: self.in_value || is_delimiter_cell_value(role),
+            held: role.holds_nothing(),
+            in_row: self.in_row || role.is_delimiter_row(),
+            in_value: self.in_value || role.is_delimiter_cell_value(),
         }
     }
-}
-
-/// Whether a span of the role holds nothing at all.
-fn holds_nothing(role: Role) -> bool
-    ensures { result ≡ Machine.holds_nothing role }
-{
-    matches!(
-        role,
-        Role::Plain(Plain::BlankLineEnding | Plain::SpaceOrTab)
-            | Role::Acting(Acting::Content(Content::LineEnding))
-    )
-}
-
-fn is_delimiter_row(role: Role) -> bool
-    ensures { result ≡ Forest.is_delimiter_row role }
-{
-    matches!(role, Role::Plain(Plain::DelimiterRow))
-}
-
-fn is_delimiter_cell_value(role: Role) -> bool
-    ensures { result ≡ Forest.is_delimiter_cell_value role }
-{
-    matches!(role, Role::Plain(Plain::DelimiterCellValue))
 }
 
 /// A holder, and the nodes of its items so far.
@@ -353,7 +329,7 @@ impl Builder {
             around,
             outer,
         } = frame;
-        if !is_same(opened, name) {
+        if !opened.is(name) {
             return Err(Stop::Refused(Refusal::Unbalanced));
         }
         if let Some(Outer { item, holding }) = outer {
@@ -364,10 +340,4 @@ impl Builder {
         self.around = around;
         Ok(())
     }
-}
-
-fn is_same(first: Name, second: Name) -> bool
-    ensures { result ≡ Machine.same_name first second }
-{
-    first == second
 }

@@ -32,6 +32,23 @@ fn other_words_are_no_names(rt: HostRuntime) {
 }
 
 #[test]
+fn roles_say_what_right_shape_asks(rt: HostRuntime) {
+    for (name, nothing, row, value) in [
+        (Name::LineEnding, true, false, false),
+        (Name::BlankLineEnding, true, false, false),
+        (Name::SpaceOrTab, true, false, false),
+        (Name::GfmTableDelimiterRow, false, true, false),
+        (Name::GfmTableDelimiterCellValue, false, false, true),
+        (Name::Paragraph, false, false, false),
+    ] {
+        let role = name.role();
+        assert_eq!(rt; role.holds_nothing(), nothing);
+        assert_eq!(rt; role.is_delimiter_row(), row);
+        assert_eq!(rt; role.is_delimiter_cell_value(), value);
+    }
+}
+
+#[test]
 fn points_lose_their_virtual_spaces(rt: HostRuntime) -> Result<(), Fail> {
     let point = Point {
         line: 1,
