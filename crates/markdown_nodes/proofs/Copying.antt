@@ -1,6 +1,6 @@
 -- A parent built anew from the parts of another.
 use Rattle.std.proofs.Common.{◌≡◌, ℕ, List, [], ◌∷◌, ◌++◌, ◌<◌, ◌+◌, length, take, get_or, add-one, Option, option_map, string_bytes, String, Vec, Global, refl, sym, ap, ◌∙◌}
-use Rattle.markdown_nodes.specs.declared.mdast.AlignKind.{AlignKind}
+use Rattle.markdown_events.specs.declared.infer.AlignKind.{AlignKind}
 use Rattle.markdown_nodes.specs.declared.mdast.Node.{Node}
 use Rattle.markdown_nodes.specs.declared.mdast.Node.TheVariants as nodes
 use Rattle.markdown_nodes.specs.declared.mdast.Root.{Root}

@@ -1,15 +1,6 @@
-pub mod Spellings
-pub mod Unique
 pub mod Joining
 pub mod Views
 pub mod Reading
 pub mod Copying
 pub mod Comparing
-pub mod Loose
-pub mod Lists
-pub mod Spans
-pub mod Aligns
-pub mod Cuts
-pub mod LineEndings
-pub mod Collapsing
 pub mod StructsEqual

@@ -37,7 +37,7 @@ use Rattle.markdown_nodes.specs.declared.mdast.Definition.{Definition}
 use Rattle.markdown_nodes.specs.declared.mdast.Paragraph.{Paragraph}
 use Rattle.markdown_nodes.specs.Tree.{Trees, nothing, before, root, paragraph, blockquote, emphasis, strong, delete, table_row, table_cell, thematic_break, «break», text, html, inline_code, inline_math, yaml, toml, heading, list, list_item, table, code, math, link, image, link_reference, image_reference, footnote_reference, footnote_definition, definition}
 use Rattle.markdown_nodes.specs.View.{view, row_view, views}
-use Rattle.markdown_nodes.specs.declared.unist.Position.{Position}
+use Rattle.markdown_events.specs.declared.unist.Position.{Position}
 use Rattle.markdown_nodes.specs.Access.{nodes_in, with_position, children_of, label_of, position_of, tree_of, with_children}
 
 -- the nodes that a `Vec` holds, as trees

@@ -5,7 +5,7 @@ use Rattle.markdown_nodes.specs.declared.mdast.Node.{Node}
 use Rattle.markdown_nodes.specs.declared.mdast.Node.TheOpen.{Node-F}
 use Rattle.markdown_nodes.specs.declared.mdast.Node.TheVariants as nodes
 use Rattle.markdown_nodes.specs.declared.mdast.Node.TheViews.{out-Node}
-use Rattle.markdown_nodes.specs.declared.unist.Position.{Position}
+use Rattle.markdown_events.specs.declared.unist.Position.{Position}
 use Rattle.markdown_nodes.specs.Tree.{Label, Tree, root, paragraph, blockquote, emphasis, strong, delete, table_row, table_cell, thematic_break, «break», text, html, inline_code, inline_math, yaml, toml, heading, list, list_item, table, code, math, link, image, link_reference, image_reference, footnote_reference, footnote_definition, definition}
 use Rattle.markdown_nodes.specs.View.{views}
 

@@ -3,12 +3,12 @@ use Rattle.std.specs.Prelude.{◌≡◌, ◌↔◌, IsTrue, ℕ, Bool, true, fal
 use Rattle.std.specs.Option.{option_eq}
 use lib.Pointwise.{pointwise}
 use mathlib.Core.Bool.{beq}
-use Rattle.markdown_nodes.specs.declared.mdast.AlignKind.{AlignKind}
-use Rattle.markdown_nodes.specs.declared.mdast.AlignKind.TheVariants as align
+use Rattle.markdown_events.specs.declared.infer.AlignKind.{AlignKind}
+use Rattle.markdown_events.specs.declared.infer.AlignKind.TheVariants as align
 use Rattle.markdown_nodes.specs.declared.mdast.ReferenceKind.{ReferenceKind}
 use Rattle.markdown_nodes.specs.declared.mdast.ReferenceKind.TheVariants as reference
-use Rattle.markdown_nodes.specs.declared.unist.Point.{Point}
-use Rattle.markdown_nodes.specs.declared.unist.Position.{Position}
+use Rattle.markdown_events.specs.declared.unist.Point.{Point}
+use Rattle.markdown_events.specs.declared.unist.Position.{Position}
 use Rattle.markdown_nodes.specs.Tree.{Label, Tree, Trees, node, nothing, root, paragraph, blockquote, emphasis, strong, delete, table_row, table_cell, thematic_break, «break», text, html, inline_code, inline_math, yaml, toml, heading, list, list_item, table, code, math, link, image, link_reference, image_reference, footnote_reference, footnote_definition, definition}
 
 -- a number for each way to align

@@ -8,12 +8,12 @@ use Rattle.std.specs.Cmp.Lexicographic.{bytes_decides, pointwise, pointwise_deci
 use Rattle.std.proofs.lemmas.Bool.Decides.{Decides-and, Decides-eqb}
 use Rattle.std.specs.Prelude.{bytes_eq, nat_eq}
 use mathlib.Core.Bool.{beq}
-use Rattle.markdown_nodes.specs.declared.mdast.AlignKind.{AlignKind}
-use Rattle.markdown_nodes.specs.declared.mdast.AlignKind.TheVariants as align
+use Rattle.markdown_events.specs.declared.infer.AlignKind.{AlignKind}
+use Rattle.markdown_events.specs.declared.infer.AlignKind.TheVariants as align
 use Rattle.markdown_nodes.specs.declared.mdast.ReferenceKind.{ReferenceKind}
 use Rattle.markdown_nodes.specs.declared.mdast.ReferenceKind.TheVariants as reference
-use Rattle.markdown_nodes.specs.declared.unist.Point.{Point}
-use Rattle.markdown_nodes.specs.declared.unist.Position.{Position}
+use Rattle.markdown_events.specs.declared.unist.Point.{Point}
+use Rattle.markdown_events.specs.declared.unist.Position.{Position}
 use Rattle.markdown_nodes.specs.Tree.{Label, Tree, Trees, node, nothing, root, paragraph, blockquote, emphasis, strong, delete, table_row, table_cell, thematic_break, «break», text, html, inline_code, inline_math, yaml, toml, heading, list, list_item, table, code, math, link, image, link_reference, image_reference, footnote_reference, footnote_definition, definition}
 use Rattle.markdown_nodes.specs.Equality.{align_number, reference_number, same_align_kind, same_label, same_point, same_position, same_reference_kind, same_tree, same_trees}
 

@@ -1,16 +1,6 @@
-pub mod Names
-pub mod Spelling
-pub mod Places
-pub mod Slices
-pub mod Forest
 pub mod Tree
 pub mod View
 pub mod Access
 pub mod Lends
 pub mod Equality
 pub mod EqualityLaws
-pub mod Texts
-pub mod TextWalks
-pub mod Spread
-pub mod Begins
-pub mod Walks

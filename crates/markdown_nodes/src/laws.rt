@@ -2,7 +2,6 @@
 
 ghost use Rattle.std.specs.Prelude.{◌≡◌};
 ghost use Rattle.markdown_nodes.specs.Equality.{Tells};
-ghost use Rattle.markdown_nodes.specs.Forest.{Forest, spell};
 ghost use Rattle.markdown_nodes.specs.Tree.{Trees, join};
 ghost use Rattle.markdown_nodes.specs.View.{view};
 ghost use Rattle.markdown_nodes.specs.declared.mdast.Node.TheVariants as nodes;
@@ -13,12 +12,7 @@ use crate::mdast::{
     ListItem, Math, Node, Paragraph, Root, Strong, Table, TableCell, TableRow, Text, ThematicBreak,
     Toml, Yaml,
 };
-
-/// A list of events spells at most one forest.
-#[tactic(auto, using(crate::proofs::Unique::one_forest))]
-pub fn one_forest()
-    ensures { (first second : Forest) → spell first ≡ spell second → first ≡ second }
-{}
+pub use markdown_events::laws::one_forest;
 
 /// Lists of nodes may be joined from either side: texts at the seams become one in any order.
 #[tactic(auto, using(crate::proofs::Joining::join_assoc))]

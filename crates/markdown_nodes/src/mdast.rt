@@ -13,6 +13,7 @@ mod copying;
 mod reading;
 
 use crate::unist::Position;
+pub use markdown_events::infer::AlignKind;
 use std::alloc::{AllocError, Global};
 use std::fmt;
 
@@ -25,19 +26,6 @@ pub enum ReferenceKind {
     Collapsed,
     /// `[a][b]`
     Full,
-}
-
-/// How a column of a table is aligned (GFM, tables).
-#[derive(Clone, Copy, PartialEq, Eq, Debug)]
-pub enum AlignKind {
-    /// `| :-- |`
-    Left,
-    /// `| --: |`
-    Right,
-    /// `| :-: |`
-    Center,
-    /// `| --- |`
-    None,
 }
 
 /// A node of the tree. Debug prints it as its struct.

@@ -4,10 +4,10 @@ use Rattle.std.specs.Prelude.{slice_get, vec_len}
 use Rattle.std.specs.Global.{Vec}
 use Rattle.std.proofs.lemmas.Bool.{eqb-true}
 use Rattle.std.proofs.lemmas.List.{nil_from_length, length-reverse, length-map}
-use Rattle.markdown_nodes.specs.declared.event.Event.{Event}
-use Rattle.markdown_nodes.specs.declared.event.Point.{Point}
-use Rattle.markdown_nodes.specs.declared.message.Fault.{Fault}
-use Rattle.markdown_nodes.specs.declared.message.Fault.TheVariants as faults
+use Rattle.markdown_events.specs.declared.event.Event.{Event}
+use Rattle.markdown_events.specs.declared.event.Point.{Point}
+use Rattle.markdown_events.specs.declared.message.Fault.{Fault}
+use Rattle.markdown_events.specs.declared.message.Fault.TheVariants as faults
 use Rattle.markdown_tree.specs.declared.builder.Frame.{Frame}
 use Rattle.markdown_tree.specs.declared.refusal.Refusal.TheVariants.{Unbalanced}
 use Rattle.markdown_tree.specs.declared.refusal.Stop.TheVariants as stops

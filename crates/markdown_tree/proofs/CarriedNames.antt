@@ -3,10 +3,10 @@ use Rattle.markdown_tree.proofs.Booleans.{all-three, and-left, and-right, and-bo
 use Rattle.markdown_tree.proofs.Conditions.{conditions-hold}
 use Rattle.std.proofs.Common.{◌≡◌, Bool, true, false, not, ◌&&◌, refl, sym, ◌∙◌, ap}
 use Rattle.std.specs.Prelude.{is_some}
-use Rattle.markdown_nodes.specs.declared.role.Acting.TheVariants.{Content as content}
-use Rattle.markdown_nodes.specs.declared.role.Content.TheVariants as contents
-use Rattle.markdown_nodes.specs.Forest.{Forest, has_right_shape}
-use Rattle.markdown_nodes.specs.Slices.{slice, between}
+use Rattle.markdown_events.specs.declared.role.Acting.TheVariants.{Content as content}
+use Rattle.markdown_events.specs.declared.role.Content.TheVariants as contents
+use Rattle.markdown_events.specs.Forest.{Forest, has_right_shape}
+use Rattle.markdown_events.specs.Slices.{slice, between}
 use Rattle.markdown_nodes.specs.Tree.{Trees, join, only}
 use Rattle.markdown_tree.specs.declared.builder.Holder.{Holder}
 use Rattle.markdown_tree.specs.declared.builder.Holder.TheVariants.{Root, Paragraph, Leaf}

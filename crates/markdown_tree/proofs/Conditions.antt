@@ -1,7 +1,7 @@
 -- The conditions of acceptance, each for itself, and the one walk that asks for all of them.
 use Rattle.std.proofs.Common.{◌≡◌, Bool, true, false, ◌&&◌, not, refl}
 use Rattle.std.specs.Prelude.{is_some}
-use Rattle.markdown_nodes.specs.Forest.{Forest, has_right_shape}
+use Rattle.markdown_events.specs.Forest.{Forest, has_right_shape}
 use Rattle.markdown_tree.proofs.Booleans.{and-left, and-right, and-both, first-of, second-of, third-of, all-three}
 use Rattle.markdown_tree.specs.Accepted.{Accepted, Occurrence, accepted, all_pass, ends_a_break, ends_with_break, fits, has_its_byte, has_its_parts, has_its_value, holds_no_open_break, is_no_inner_table, known, may_begin, may_end, takes_its_items}
 use Rattle.markdown_tree.specs.Gives.{mark}

@@ -1,12 +1,12 @@
 -- The steps over a whole forest, by recursion on it: where it has the right shape, they are those over its items.
 use Rattle.std.proofs.Common.{◌≡◌, Bool, true, false, ◌&&◌, [], ◌∷◌, Option, Some, None, Result, Ok, Err, refl, sym, ◌∙◌, ap}
 use Rattle.std.specs.Option.{option_and_then}
-use Rattle.markdown_nodes.specs.declared.event.Point.{Point}
-use Rattle.markdown_nodes.specs.declared.role.Acting.{Acting}
-use Rattle.markdown_nodes.specs.declared.role.Role.{Role}
-use Rattle.markdown_nodes.specs.declared.role.Role.TheVariants.{Plain as plain, Acting as acting}
-use Rattle.markdown_nodes.specs.Forest.{Forest, empty, span}
-use Rattle.markdown_nodes.specs.Names.{role_of}
+use Rattle.markdown_events.specs.declared.event.Point.{Point}
+use Rattle.markdown_events.specs.declared.role.Acting.{Acting}
+use Rattle.markdown_events.specs.declared.role.Role.{Role}
+use Rattle.markdown_events.specs.declared.role.Role.TheVariants.{Plain as plain, Acting as acting}
+use Rattle.markdown_events.specs.Forest.{Forest, empty, span}
+use Rattle.markdown_events.specs.Names.{role_of}
 use Rattle.markdown_nodes.specs.Tree.{Trees}
 use Rattle.markdown_tree.specs.declared.builder.Around.{Around}
 use Rattle.markdown_tree.specs.declared.refusal.Refusal.TheVariants.{Held}

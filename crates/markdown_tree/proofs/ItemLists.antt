@@ -4,15 +4,15 @@ use Rattle.std.proofs.Common.{cond}
 use Rattle.std.specs.Prelude.{is_some}
 use Rattle.std.specs.Option.{option_or}
 use Rattle.markdown_nodes.proofs.Joining.{join_assoc}
-use Rattle.markdown_nodes.specs.Forest.{Forest, empty, enter, exit, span, spell}
-use Rattle.markdown_nodes.specs.Names.{role_of}
-use Rattle.markdown_nodes.specs.Spread.{shown_of}
+use Rattle.markdown_events.specs.Forest.{Forest, empty, enter, exit, span, spell}
+use Rattle.markdown_events.specs.Names.{role_of}
+use Rattle.markdown_events.specs.Spread.{shown_of}
 use Rattle.markdown_nodes.specs.Tree.{join, nothing}
-use Rattle.markdown_nodes.specs.declared.event.Event.{Event}
-use Rattle.markdown_nodes.specs.declared.event.Point.{Point}
-use Rattle.markdown_nodes.specs.declared.role.Part.{Part}
-use Rattle.markdown_nodes.specs.declared.role.Role.{Role}
-use Rattle.markdown_nodes.specs.declared.role.Role.TheVariants.{Plain as plain, Acting as acting}
+use Rattle.markdown_events.specs.declared.event.Event.{Event}
+use Rattle.markdown_events.specs.declared.event.Point.{Point}
+use Rattle.markdown_events.specs.declared.role.Part.{Part}
+use Rattle.markdown_events.specs.declared.role.Role.{Role}
+use Rattle.markdown_events.specs.declared.role.Role.TheVariants.{Plain as plain, Acting as acting}
 use Rattle.markdown_tree.specs.Accepted.{ends_with_break}
 use Rattle.markdown_tree.specs.Items.{Items, item, items, kinds, none, place_items, same_part, ◌then◌}
 use Rattle.markdown_tree.specs.Media.{node_at}
@@ -21,8 +21,8 @@ use Rattle.markdown_tree.specs.Parts.{Path, Stretch, first_part, inner_of, into,
 use Rattle.markdown_tree.specs.Place.{Place, line_ending_is_text_behind, place_behind, place_inside}
 use Rattle.markdown_tree.specs.Source.{Source}
 use Rattle.markdown_nodes.specs.Tree as tree
-use Rattle.markdown_nodes.specs.declared.role.Content.TheVariants as contents
-use Rattle.markdown_nodes.specs.declared.role.Acting.TheVariants.{Content as content, Part as part}
+use Rattle.markdown_events.specs.declared.role.Content.TheVariants as contents
+use Rattle.markdown_events.specs.declared.role.Acting.TheVariants.{Content as content, Part as part}
 
 pub then-assoc : (xs ys zs : Items) → (xs then ys) then zs ≡ xs then (ys then zs)
 then-assoc none ys zs = refl

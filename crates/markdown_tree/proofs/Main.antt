@@ -2,14 +2,14 @@
 use Rattle.std.proofs.Common.{◌≡◌, ◌≢◌, inl, inr, ℕ, ◌-◌, Bool, true, false, ◌&&◌, List, [], ◌∷◌, ◌++◌, length, Option, Some, Result, Ok, Err, arith, refl, sym, ap, ◌∙◌}
 use Rattle.std.specs.Prelude.{slice_get}
 use Rattle.std.proofs.lemmas.List.{append-nil}
-use Rattle.markdown_nodes.specs.declared.event.Event.{Event}
-use Rattle.markdown_nodes.specs.declared.event.Name.{Name}
-use Rattle.markdown_nodes.specs.declared.event.Point.{Point}
+use Rattle.markdown_events.specs.declared.event.Event.{Event}
+use Rattle.markdown_events.specs.declared.event.Name.{Name}
+use Rattle.markdown_events.specs.declared.event.Point.{Point}
 use Rattle.markdown_nodes.specs.declared.mdast.Node.TheVariants as nodes
 use Rattle.markdown_nodes.specs.declared.mdast.Root.{Root as RootNode}
-use Rattle.markdown_nodes.specs.declared.unist.Position.{Position}
-use Rattle.markdown_nodes.specs.Forest.{Forest, empty, span, spell, enter, exit, has_right_shape}
-use Rattle.markdown_nodes.specs.Slices.{between}
+use Rattle.markdown_events.specs.declared.unist.Position.{Position}
+use Rattle.markdown_events.specs.Forest.{Forest, empty, span, spell, enter, exit, has_right_shape}
+use Rattle.markdown_events.specs.Slices.{between}
 use Rattle.markdown_nodes.specs.Tree.{Tree, Trees, root}
 use Rattle.markdown_nodes.specs.View.{views}
 use Rattle.markdown_nodes.proofs.Views.{view-Root}

@@ -1,13 +1,13 @@
 -- In a meaning no Text follows a Text among siblings.
 use Rattle.std.proofs.Common.{◌≡◌, ℕ, Bool, true, false, ◌&&◌, List, [], ◌∷◌, Option, None, Some, refl, cond, ◌∙◌}
 use Rattle.std.specs.Prelude.{⊤, option_map}
-use Rattle.markdown_nodes.specs.Forest.{Forest}
-use Rattle.markdown_nodes.specs.Spread.{shown_of}
+use Rattle.markdown_events.specs.Forest.{Forest}
+use Rattle.markdown_events.specs.Spread.{shown_of}
 use Rattle.markdown_nodes.specs.Tree.{Label, Trees, join, node, nothing, only, paragraph, seam, text}
-use Rattle.markdown_nodes.specs.declared.event.Point.{Point}
-use Rattle.markdown_nodes.specs.declared.role.Acting.{Acting}
-use Rattle.markdown_nodes.specs.declared.unist.Point.{Point as UnistPoint}
-use Rattle.markdown_nodes.specs.declared.unist.Position.{Position}
+use Rattle.markdown_events.specs.declared.event.Point.{Point}
+use Rattle.markdown_events.specs.declared.role.Acting.{Acting}
+use Rattle.markdown_events.specs.declared.unist.Point.{Point as UnistPoint}
+use Rattle.markdown_events.specs.declared.unist.Position.{Position}
 use Rattle.markdown_tree.specs.Gives.{mark, text_read}
 use Rattle.markdown_tree.specs.Media.{autolink}
 use Rattle.markdown_tree.specs.Items.{Items, item, items, none, same_part}
@@ -19,9 +19,9 @@ use Rattle.markdown_tree.specs.Place.{Place, place_behind, place_inside, root_pl
 use Rattle.markdown_tree.specs.Source.{Source}
 use Rattle.markdown_tree.specs.Tasks.{after_blank, task, task_if, trimmed_text}
 use Rattle.markdown_nodes.specs.Tree as tree
-use Rattle.markdown_nodes.specs.declared.role.Content.TheVariants as contents
-use Rattle.markdown_nodes.specs.declared.role.Part.TheVariants as parts
-use Rattle.markdown_nodes.specs.declared.role.Acting.TheVariants.{Content as content, Part as part}
+use Rattle.markdown_events.specs.declared.role.Content.TheVariants as contents
+use Rattle.markdown_events.specs.declared.role.Part.TheVariants as parts
+use Rattle.markdown_events.specs.declared.role.Acting.TheVariants.{Content as content, Part as part}
 
 abbrev pub is_text : Label → Bool
 is_text (text v) = true

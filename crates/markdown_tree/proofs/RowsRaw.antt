@@ -3,10 +3,10 @@ use Rattle.std.proofs.Common.{◌≡◌, true, false, [], ◌∷◌, None, Some,
 use Rattle.std.specs.Str.{is_utf8, chars}
 use lib.Utf8.{encode}
 use Rattle.caseless.proofs.Computing.{caseless}
-use Rattle.markdown_nodes.specs.declared.event.Name.TheVariants as n
-use Rattle.markdown_nodes.specs.Forest.{Forest, empty, span}
-use Rattle.markdown_nodes.specs.Slices.{slice}
-use Rattle.markdown_nodes.specs.Texts.{fold}
+use Rattle.markdown_events.specs.declared.event.Name.TheVariants as n
+use Rattle.markdown_events.specs.Forest.{Forest, empty, span}
+use Rattle.markdown_events.specs.Slices.{slice}
+use Rattle.markdown_events.specs.Texts.{fold}
 use Rattle.markdown_nodes.specs.Tree.{node, nothing, only}
 use Rattle.markdown_nodes.specs.Tree as t
 use Rattle.markdown_tree.specs.Accepted.{accepted}

@@ -1,22 +1,22 @@
 -- Runs over the spelling of a forest.
 use Rattle.std.proofs.Common.{◌≡◌, Bool, true, false, cond, List, [], ◌∷◌, ◌++◌, Option, Some, None, Result, Ok, Err, refl, sym, ap, subst, ◌∙◌, append_assoc}
 use denote.Enum.Bare.{same_true, true_same}
-use Rattle.markdown_nodes.specs.contracts.event.Name.{the_type}
-use Rattle.markdown_nodes.specs.declared.event.Event.{Event}
-use Rattle.markdown_nodes.specs.declared.event.Kind.{Kind}
-use Rattle.markdown_nodes.specs.declared.event.Kind.TheVariants.{Enter, Exit}
-use Rattle.markdown_nodes.specs.declared.event.Name.{Name}
-use Rattle.markdown_nodes.specs.declared.event.Point.{Point}
-use Rattle.markdown_nodes.specs.declared.role.Acting.{Acting}
-use Rattle.markdown_nodes.specs.declared.role.Role.{Role}
-use Rattle.markdown_nodes.specs.declared.role.Role.TheVariants.{Plain as plain, Acting as acting}
-use Rattle.markdown_nodes.specs.Forest.{Forest, empty, span, spell, enter, exit}
-use Rattle.markdown_nodes.specs.Names.{role_of}
+use Rattle.markdown_events.specs.contracts.event.Name.{the_type}
+use Rattle.markdown_events.specs.declared.event.Event.{Event}
+use Rattle.markdown_events.specs.declared.event.Kind.{Kind}
+use Rattle.markdown_events.specs.declared.event.Kind.TheVariants.{Enter, Exit}
+use Rattle.markdown_events.specs.declared.event.Name.{Name}
+use Rattle.markdown_events.specs.declared.event.Point.{Point}
+use Rattle.markdown_events.specs.declared.role.Acting.{Acting}
+use Rattle.markdown_events.specs.declared.role.Role.{Role}
+use Rattle.markdown_events.specs.declared.role.Role.TheVariants.{Plain as plain, Acting as acting}
+use Rattle.markdown_events.specs.Forest.{Forest, empty, span, spell, enter, exit}
+use Rattle.markdown_events.specs.Names.{role_of}
 use Rattle.markdown_tree.specs.declared.builder.Around.{Around}
 use Rattle.markdown_tree.specs.declared.refusal.Refusal.{Refusal}
 use Rattle.markdown_tree.specs.declared.refusal.Refusal.TheVariants.{Unbalanced, Held}
 use Rattle.markdown_tree.specs.Carried.{holder_of}
-use Rattle.markdown_nodes.specs.Walks.{is_same_name}
+use Rattle.markdown_events.specs.Walks.{is_same_name}
 use Rattle.markdown_tree.specs.Machine.{Rejection, checked, Holds, fresh, enter_checks, may_begin, under, Open, State, opened, enter_as, enter_step, leave, leave_to, shut, exit_from, exit_step, step, step_by, run, ◌>>=◌}
 use Rattle.markdown_tree.specs.Source.{Source}
 use Rattle.markdown_tree.proofs.Eval.{eval, eval_as}

@@ -1,15 +1,15 @@
 -- The right shape, by what is around and by what is inside.
 use Rattle.markdown_tree.proofs.Booleans.{and-left, and-right, and-both}
 use Rattle.std.proofs.Common.{◌≡◌, Bool, true, false, not, ◌&&◌, ◌||◌, refl, sym}
-use Rattle.markdown_nodes.specs.declared.role.Role.{Role}
-use Rattle.markdown_nodes.specs.declared.role.Role.TheVariants.{Plain as plain, Acting as acting}
-use Rattle.markdown_nodes.specs.declared.role.Acting.TheVariants.{Content as content}
-use Rattle.markdown_nodes.specs.declared.role.Content.TheVariants as contents
-use Rattle.markdown_nodes.specs.declared.role.Plain.TheVariants as plains
-use Rattle.markdown_nodes.specs.Forest.{Forest, empty, span, is_empty, lacks, may_hold, has_right_shape, is_delimiter_row, is_delimiter_cell_value}
-use Rattle.markdown_nodes.specs.Names.{role_of}
+use Rattle.markdown_events.specs.declared.role.Role.{Role}
+use Rattle.markdown_events.specs.declared.role.Role.TheVariants.{Plain as plain, Acting as acting}
+use Rattle.markdown_events.specs.declared.role.Acting.TheVariants.{Content as content}
+use Rattle.markdown_events.specs.declared.role.Content.TheVariants as contents
+use Rattle.markdown_events.specs.declared.role.Plain.TheVariants as plains
+use Rattle.markdown_events.specs.Forest.{Forest, empty, span, is_empty, lacks, may_hold, has_right_shape, is_delimiter_row, is_delimiter_cell_value}
+use Rattle.markdown_events.specs.Names.{role_of}
 use Rattle.markdown_tree.specs.declared.builder.Around.{Around}
-use Rattle.markdown_nodes.specs.Walks.{holds_nothing}
+use Rattle.markdown_events.specs.Walks.{holds_nothing}
 use Rattle.markdown_tree.specs.Machine.{may_begin, under, in_the_open}
 use Rattle.markdown_tree.proofs.Eval.{shaped}
 

@@ -6,7 +6,7 @@ use Rattle.std.specs.Borrow.{Bor}
 use Rattle.std.specs.Str.{is_utf8}
 use Rattle.std.proofs.lemmas.Bool.{le-leb}
 use Rattle.std.proofs.lemmas.Str.{IsUtf8-from_is_utf8, is_utf8-from_IsUtf8}
-use Rattle.markdown_nodes.specs.Slices.{text_between}
+use Rattle.markdown_events.specs.Slices.{text_between}
 
 by_test : (b : Bool) (P : Type 0) (x : List ℕ) → (b ≡ true → P) → ¬ P → cond b (Some x) None ≡ None
 by_test true P x holds fails = absurd (fails (holds refl))

@@ -4,19 +4,19 @@ use Rattle.std.proofs.Common.{◌≡◌, ◌≤◌, ◌<◌, ℕ, ◌-◌, ◌^�
 use Rattle.std.proofs.Common.{subst}
 use Rattle.std.specs.Prelude.{⊤}
 use lib.Chars.{codes}
-use Rattle.markdown_nodes.specs.Forest.{Forest, empty, span, spell}
-use Rattle.markdown_nodes.specs.Names.{role_of}
-use Rattle.markdown_nodes.specs.Spread.{loose_item, shown_of}
+use Rattle.markdown_events.specs.Forest.{Forest, empty, span, spell}
+use Rattle.markdown_events.specs.Names.{role_of}
+use Rattle.markdown_events.specs.Spread.{loose_item, shown_of}
 use Rattle.markdown_nodes.specs.Tree.{Label, Trees, join, list_item, node, nothing, only, paragraph, seam, text}
-use Rattle.markdown_nodes.specs.declared.event.Event.{Event}
-use Rattle.markdown_nodes.specs.declared.event.Kind.TheVariants.{Enter, Exit}
-use Rattle.markdown_nodes.specs.declared.event.Name.{Name}
-use Rattle.markdown_nodes.specs.declared.event.Point.{Point}
-use Rattle.markdown_nodes.specs.declared.role.Acting.{Acting}
-use Rattle.markdown_nodes.specs.declared.role.Part.{Part}
-use Rattle.markdown_nodes.specs.declared.role.Role.{Role}
-use Rattle.markdown_nodes.specs.declared.unist.Point.{Point as UnistPoint}
-use Rattle.markdown_nodes.specs.declared.unist.Position.{Position}
+use Rattle.markdown_events.specs.declared.event.Event.{Event}
+use Rattle.markdown_events.specs.declared.event.Kind.TheVariants.{Enter, Exit}
+use Rattle.markdown_events.specs.declared.event.Name.{Name}
+use Rattle.markdown_events.specs.declared.event.Point.{Point}
+use Rattle.markdown_events.specs.declared.role.Acting.{Acting}
+use Rattle.markdown_events.specs.declared.role.Part.{Part}
+use Rattle.markdown_events.specs.declared.role.Role.{Role}
+use Rattle.markdown_events.specs.declared.unist.Point.{Point as UnistPoint}
+use Rattle.markdown_events.specs.declared.unist.Position.{Position}
 use Rattle.markdown_tree.proofs.ItemLists.{regroup}
 use Rattle.markdown_tree.specs.Gives.{mark, text_read}
 use Rattle.markdown_tree.specs.Media.{autolink}
@@ -30,10 +30,10 @@ use Rattle.markdown_tree.specs.Place.{Place, place_behind, place_inside, root_pl
 use Rattle.markdown_tree.specs.Source.{Source}
 use Rattle.markdown_tree.specs.Tasks.{after_blank, capped_sum, task, task_if, trimmed_text}
 use Rattle.markdown_nodes.specs.Tree as tree
-use Rattle.markdown_nodes.specs.declared.role.Content.TheVariants as contents
-use Rattle.markdown_nodes.specs.declared.role.Part.TheVariants as parts
-use Rattle.markdown_nodes.specs.declared.role.Role.TheVariants.{Plain as plain, Acting as acting}
-use Rattle.markdown_nodes.specs.declared.role.Acting.TheVariants.{Content as content, Part as part}
+use Rattle.markdown_events.specs.declared.role.Content.TheVariants as contents
+use Rattle.markdown_events.specs.declared.role.Part.TheVariants as parts
+use Rattle.markdown_events.specs.declared.role.Role.TheVariants.{Plain as plain, Acting as acting}
+use Rattle.markdown_events.specs.declared.role.Acting.TheVariants.{Content as content, Part as part}
 
 -- ---- Lists of nodes
 

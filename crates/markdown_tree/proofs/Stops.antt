@@ -1,22 +1,22 @@
 -- Where a run stops, and that what is spelled is never unbalanced.
 use Rattle.std.proofs.Common.{◌≡◌, ◌≢◌, Bool, true, false, not, ◌&&◌, cond, List, [], ◌∷◌, ◌++◌, Option, Some, None, Result, Ok, Err, refl, sym, ap, ◌∙◌}
-use Rattle.markdown_nodes.specs.declared.event.Event.{Event}
-use Rattle.markdown_nodes.specs.declared.event.Kind.{Kind}
-use Rattle.markdown_nodes.specs.declared.event.Kind.TheVariants.{Enter, Exit}
-use Rattle.markdown_nodes.specs.declared.event.Name.{Name}
-use Rattle.markdown_nodes.specs.declared.event.Point.{Point}
-use Rattle.markdown_nodes.specs.declared.role.Acting.{Acting}
-use Rattle.markdown_nodes.specs.declared.role.Role.{Role}
-use Rattle.markdown_nodes.specs.declared.role.Role.TheVariants.{Plain as plain, Acting as acting}
-use Rattle.markdown_nodes.specs.Forest.{Forest, empty, span}
-use Rattle.markdown_nodes.specs.Names.{role_of}
+use Rattle.markdown_events.specs.declared.event.Event.{Event}
+use Rattle.markdown_events.specs.declared.event.Kind.{Kind}
+use Rattle.markdown_events.specs.declared.event.Kind.TheVariants.{Enter, Exit}
+use Rattle.markdown_events.specs.declared.event.Name.{Name}
+use Rattle.markdown_events.specs.declared.event.Point.{Point}
+use Rattle.markdown_events.specs.declared.role.Acting.{Acting}
+use Rattle.markdown_events.specs.declared.role.Role.{Role}
+use Rattle.markdown_events.specs.declared.role.Role.TheVariants.{Plain as plain, Acting as acting}
+use Rattle.markdown_events.specs.Forest.{Forest, empty, span}
+use Rattle.markdown_events.specs.Names.{role_of}
 use Rattle.markdown_nodes.specs.Tree.{Trees}
 use Rattle.markdown_tree.specs.declared.builder.Around.{Around}
 use Rattle.markdown_tree.specs.declared.builder.Holder.TheVariants.{Root}
 use Rattle.markdown_tree.specs.declared.refusal.Refusal.{Refusal}
 use Rattle.markdown_tree.specs.declared.refusal.Refusal.TheVariants.{Unbalanced, Held}
 use Rattle.markdown_tree.specs.Carried.{holder_of}
-use Rattle.markdown_nodes.specs.Walks.{is_same_name}
+use Rattle.markdown_events.specs.Walks.{is_same_name}
 use Rattle.markdown_tree.specs.Machine.{Rejection, checked, refused, Holds, fresh, closed, enter_checks, exit_checks, in_the_open, may_begin, under, Open, State, opened, enter_as, enter_step, leave, leave_to, shut, exit_from, exit_step, step, step_by, run, ◌>>=◌}
 use Rattle.markdown_tree.specs.Source.{Source}
 use Rattle.markdown_tree.proofs.Eval.{eval, eval_as}

@@ -1,7 +1,7 @@
 -- The steps over items alone: they are taken exactly where the items fit, and give the nodes of the items.
 use Rattle.std.proofs.Common.{◌≡◌, Bool, true, false, ◌&&◌, cond, List, [], ◌∷◌, Option, Some, None, Result, Ok, Err, refl, sym, ◌∙◌, ap}
 use Rattle.std.specs.Option.{option_and_then}
-use Rattle.markdown_nodes.specs.declared.event.Point.{Point}
+use Rattle.markdown_events.specs.declared.event.Point.{Point}
 use Rattle.markdown_nodes.specs.Tree.{Trees, join}
 use Rattle.markdown_nodes.proofs.Joining.{join_assoc, join-nothing}
 use Rattle.markdown_tree.specs.declared.refusal.Refusal.{Refusal}

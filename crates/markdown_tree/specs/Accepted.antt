@@ -1,8 +1,8 @@
 -- The forests that the grammar accepts.
 use Rattle.std.specs.Prelude.{Bool, IsTrue, false, is_some, not, true, ◌&&◌, ◌||◌}
-use Rattle.markdown_nodes.specs.Forest.{Forest, has_right_shape}
-use Rattle.markdown_nodes.specs.declared.event.Point.{Point}
-use Rattle.markdown_nodes.specs.declared.role.Acting.{Acting}
+use Rattle.markdown_events.specs.Forest.{Forest, has_right_shape}
+use Rattle.markdown_events.specs.declared.event.Point.{Point}
+use Rattle.markdown_events.specs.declared.role.Acting.{Acting}
 use Rattle.markdown_tree.specs.Gives.{mark}
 use Rattle.markdown_tree.specs.Grammar.{is_complete, takes}
 use Rattle.markdown_tree.specs.Holders.{Holder, any_content, holder_behind, holder_of}
@@ -14,8 +14,8 @@ use Rattle.markdown_tree.specs.Place.{Place, place_behind, place_inside, root_pl
 use Rattle.markdown_tree.specs.Ranges.{byte_at}
 use Rattle.markdown_tree.specs.Reads.{is_read}
 use Rattle.markdown_tree.specs.Source.{Source}
-use Rattle.markdown_nodes.specs.declared.role.Content.TheVariants as contents
-use Rattle.markdown_nodes.specs.declared.role.Acting.TheVariants.{Content as content}
+use Rattle.markdown_events.specs.declared.role.Content.TheVariants as contents
+use Rattle.markdown_events.specs.declared.role.Acting.TheVariants.{Content as content}
 
 -- the last item is a break
 abbrev pub ends_with_break : Items → Bool

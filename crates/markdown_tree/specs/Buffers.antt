@@ -1,24 +1,24 @@
 -- Buffers, and what is counted in them: nodes of forests, and events of lists.
 use Rattle.std.specs.Prelude.{Bool, List, None, Option, Some, [], false, if◌then◌else◌, true, unwrap_or, ℕ, ◌+◌, ◌∷◌}
-use Rattle.markdown_nodes.specs.Forest.{Forest}
-use Rattle.markdown_nodes.specs.Names.{role_of}
+use Rattle.markdown_events.specs.Forest.{Forest}
+use Rattle.markdown_events.specs.Names.{role_of}
 use Rattle.markdown_nodes.specs.Tree.{Trees, node, nothing}
-use Rattle.markdown_nodes.specs.Walks.{is_same_name}
-use Rattle.markdown_nodes.specs.declared.event.Event.{Event}
-use Rattle.markdown_nodes.specs.declared.event.Kind.{Kind}
-use Rattle.markdown_nodes.specs.declared.event.Name.{Name}
-use Rattle.markdown_nodes.specs.declared.role.Acting.{Acting}
-use Rattle.markdown_nodes.specs.declared.role.Role.{Role}
+use Rattle.markdown_events.specs.Walks.{is_same_name}
+use Rattle.markdown_events.specs.declared.event.Event.{Event}
+use Rattle.markdown_events.specs.declared.event.Kind.{Kind}
+use Rattle.markdown_events.specs.declared.event.Name.{Name}
+use Rattle.markdown_events.specs.declared.role.Acting.{Acting}
+use Rattle.markdown_events.specs.declared.role.Role.{Role}
 use Rattle.markdown_tree.specs.Items.{Items, item, items, none, ◌then◌}
 use Rattle.markdown_tree.specs.Nodes.{nodes}
 use Rattle.markdown_tree.specs.Parts.{itself}
 use Rattle.markdown_tree.specs.Place.{Place, place_behind, place_inside, root_place}
 use Rattle.markdown_tree.specs.Source.{Source}
-use Rattle.markdown_nodes.specs.declared.role.Content.TheVariants as contents
-use Rattle.markdown_nodes.specs.declared.role.Part.TheVariants as parts
-use Rattle.markdown_nodes.specs.declared.role.Role.TheVariants.{Plain as plain, Acting as acting}
-use Rattle.markdown_nodes.specs.declared.role.Acting.TheVariants.{Content as content, Part as part}
-use Rattle.markdown_nodes.specs.declared.event.Kind.TheVariants.{Enter, Exit}
+use Rattle.markdown_events.specs.declared.role.Content.TheVariants as contents
+use Rattle.markdown_events.specs.declared.role.Part.TheVariants as parts
+use Rattle.markdown_events.specs.declared.role.Role.TheVariants.{Plain as plain, Acting as acting}
+use Rattle.markdown_events.specs.declared.role.Acting.TheVariants.{Content as content, Part as part}
+use Rattle.markdown_events.specs.declared.event.Kind.TheVariants.{Enter, Exit}
 
 -- a span whose nodes are collected for a text
 abbrev pub is_buffer : Acting → Bool

@@ -1,12 +1,12 @@
 -- The names that the compiler carries so far, and what the grammar and the meaning come to for them.
 use Rattle.std.specs.Prelude.{Bool, true, false, ◌&&◌, ℕ, List, [], Some, unwrap_or, is_some, IsTrue}
-use Rattle.markdown_nodes.specs.declared.event.Point.{Point}
-use Rattle.markdown_nodes.specs.declared.role.Acting.{Acting}
-use Rattle.markdown_nodes.specs.declared.role.Acting.TheVariants.{Content as content}
-use Rattle.markdown_nodes.specs.declared.role.Content.TheVariants as contents
-use Rattle.markdown_nodes.specs.declared.unist.Position.{Position}
-use Rattle.markdown_nodes.specs.Forest.{Forest, has_right_shape}
-use Rattle.markdown_nodes.specs.Slices.{slice, between}
+use Rattle.markdown_events.specs.declared.event.Point.{Point}
+use Rattle.markdown_events.specs.declared.role.Acting.{Acting}
+use Rattle.markdown_events.specs.declared.role.Acting.TheVariants.{Content as content}
+use Rattle.markdown_events.specs.declared.role.Content.TheVariants as contents
+use Rattle.markdown_events.specs.declared.unist.Position.{Position}
+use Rattle.markdown_events.specs.Forest.{Forest, has_right_shape}
+use Rattle.markdown_events.specs.Slices.{slice, between}
 use Rattle.markdown_nodes.specs.Tree.{Trees, Tree, nothing, only, join, text, paragraph}
 use Rattle.markdown_tree.specs.declared.builder.Holder.{Holder}
 use Rattle.markdown_tree.specs.declared.builder.Holder.TheVariants.{Root, Paragraph, Leaf}

@@ -1,14 +1,14 @@
 -- What `compile` answers.
 use Rattle.std.specs.Prelude.{◌≡◌, ◌≢◌, ◌⊎◌, ◌-◌, List, [], ◌∷◌, ◌++◌, length, Option, Some, None, slice_get}
-use Rattle.markdown_nodes.specs.declared.event.Event.{Event}
-use Rattle.markdown_nodes.specs.declared.event.Point.{Point}
+use Rattle.markdown_events.specs.declared.event.Event.{Event}
+use Rattle.markdown_events.specs.declared.event.Point.{Point}
 use Rattle.markdown_nodes.specs.declared.mdast.Node.{Node}
-use Rattle.markdown_nodes.specs.declared.message.Fault.{Fault}
-use Rattle.markdown_nodes.specs.declared.message.Fault.TheVariants as faults
-use Rattle.markdown_nodes.specs.declared.message.Message.{Message}
-use Rattle.markdown_nodes.specs.declared.unist.Position.{Position}
-use Rattle.markdown_nodes.specs.Forest.{Forest, spell}
-use Rattle.markdown_nodes.specs.Slices.{between}
+use Rattle.markdown_events.specs.declared.message.Fault.{Fault}
+use Rattle.markdown_events.specs.declared.message.Fault.TheVariants as faults
+use Rattle.markdown_events.specs.declared.message.Message.{Message}
+use Rattle.markdown_events.specs.declared.unist.Position.{Position}
+use Rattle.markdown_events.specs.Forest.{Forest, spell}
+use Rattle.markdown_events.specs.Slices.{between}
 use Rattle.markdown_nodes.specs.View.{view}
 use Rattle.markdown_tree.specs.declared.refusal.Refusal.{Refusal}
 use Rattle.markdown_tree.specs.declared.refusal.Refusal.TheVariants.{Unbalanced}

@@ -1,6 +1,6 @@
 -- What contracts see of a reader that counts.
 use Rattle.std.specs.Prelude.{ℕ, List}
-use Rattle.markdown_nodes.specs.declared.event.Event.{Event}
+use Rattle.markdown_events.specs.declared.event.Event.{Event}
 
 -- the events, and the steps taken over them
 pub record Counted : Type 0 where

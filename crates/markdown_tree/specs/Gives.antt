@@ -1,15 +1,15 @@
 -- What items give to their holder besides nodes and parts: the marker of a reference, the mark of a task, the number of a list.
 use Rattle.std.specs.Prelude.{Bool, List, None, Option, Some, [], false, true, unwrap_or, ℕ}
 use Rattle.std.specs.Option.{option_or}
-use Rattle.markdown_nodes.specs.Slices.{slice}
-use Rattle.markdown_nodes.specs.declared.event.Point.{Point}
-use Rattle.markdown_nodes.specs.declared.role.Acting.{Acting}
+use Rattle.markdown_events.specs.Slices.{slice}
+use Rattle.markdown_events.specs.declared.event.Point.{Point}
+use Rattle.markdown_events.specs.declared.role.Acting.{Acting}
 use Rattle.markdown_tree.specs.Items.{Items, item, none}
 use Rattle.markdown_tree.specs.Numbers.{number}
 use Rattle.markdown_tree.specs.Source.{Source}
-use Rattle.markdown_nodes.specs.declared.role.Content.TheVariants as contents
-use Rattle.markdown_nodes.specs.declared.role.Part.TheVariants as parts
-use Rattle.markdown_nodes.specs.declared.role.Acting.TheVariants.{Content as content, Part as part}
+use Rattle.markdown_events.specs.declared.role.Content.TheVariants as contents
+use Rattle.markdown_events.specs.declared.role.Part.TheVariants as parts
+use Rattle.markdown_events.specs.declared.role.Acting.TheVariants.{Content as content, Part as part}
 
 -- the slice of a span, empty where there is none
 abbrev pub text_read : Source → Point → Point → List ℕ

@@ -1,13 +1,13 @@
 -- The written grammar: the rows of the holders, and what must stand in them.
 use Rattle.std.specs.Prelude.{Bool, List, [], is_some, true, ◌∷◌}
 use Rattle.std.specs.List.{list_all}
-use Rattle.markdown_nodes.specs.declared.role.Acting.{Acting}
-use Rattle.markdown_nodes.specs.declared.role.Part.{Part}
+use Rattle.markdown_events.specs.declared.role.Acting.{Acting}
+use Rattle.markdown_events.specs.declared.role.Part.{Part}
 use Rattle.markdown_tree.specs.Holders.{Holder, autolink, character_reference, code_fence, code_fenced, definition, footnote_call, footnote_definition, heading_atx, heading_setext, leaf, list_ordered, marked_paragraph, math_fence, math_flow, media, numbered_item, reference, resource, task_paragraph}
 use Rattle.markdown_tree.specs.Kinds.{is_content, is_line_ending, is_one_of, is_part, no_item, ◌or◌}
 use Rattle.markdown_tree.specs.Parts.{Inner, path_to}
 use Rattle.markdown_tree.specs.Rules.{Rule, keeps, never, once, only, only_before, only_behind}
-use Rattle.markdown_nodes.specs.declared.role.Part.TheVariants as parts
+use Rattle.markdown_events.specs.declared.role.Part.TheVariants as parts
 
 -- the three markers that a character reference may have
 abbrev pub markers : List Part

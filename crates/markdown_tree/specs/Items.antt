@@ -1,14 +1,14 @@
 -- The items of a holder: the acting spans in it, where each plain span gives way to the items in it.
 use Rattle.std.specs.Prelude.{Bool, List, [], ◌∷◌}
-use Rattle.markdown_nodes.specs.Forest.{Forest, empty, span}
-use Rattle.markdown_nodes.specs.Names.{role_of}
-use Rattle.markdown_nodes.specs.declared.event.Point.{Point}
-use Rattle.markdown_nodes.specs.declared.role.Acting.{Acting}
-use Rattle.markdown_nodes.specs.declared.role.Part.{Part}
-use Rattle.markdown_nodes.specs.declared.role.Role.{Role}
-use Rattle.markdown_nodes.specs.declared.role.Role.TheVariants.{Plain as plain, Acting as acting}
+use Rattle.markdown_events.specs.Forest.{Forest, empty, span}
+use Rattle.markdown_events.specs.Names.{role_of}
+use Rattle.markdown_events.specs.declared.event.Point.{Point}
+use Rattle.markdown_events.specs.declared.role.Acting.{Acting}
+use Rattle.markdown_events.specs.declared.role.Part.{Part}
+use Rattle.markdown_events.specs.declared.role.Role.{Role}
+use Rattle.markdown_events.specs.declared.role.Role.TheVariants.{Plain as plain, Acting as acting}
 use denote.Enum.Bare.{sameb}
-use Rattle.markdown_nodes.specs.contracts.role.Part.{the_type}
+use Rattle.markdown_events.specs.contracts.role.Part.{the_type}
 
 -- a list of acting spans: the first one, its ends, its children as they stand, and its items; and the items behind it
 pub data Items : Type 0 where

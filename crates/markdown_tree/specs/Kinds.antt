@@ -1,10 +1,10 @@
 -- Words for what an item is.
 use Rattle.std.specs.Prelude.{Bool, List, [], false, true, ◌||◌, ◌∷◌}
-use Rattle.markdown_nodes.specs.declared.role.Acting.{Acting}
-use Rattle.markdown_nodes.specs.declared.role.Part.{Part}
+use Rattle.markdown_events.specs.declared.role.Acting.{Acting}
+use Rattle.markdown_events.specs.declared.role.Part.{Part}
 use Rattle.markdown_tree.specs.Items.{same_part}
-use Rattle.markdown_nodes.specs.declared.role.Content.TheVariants as contents
-use Rattle.markdown_nodes.specs.declared.role.Acting.TheVariants.{Content as content, Part as part}
+use Rattle.markdown_events.specs.declared.role.Content.TheVariants as contents
+use Rattle.markdown_events.specs.declared.role.Acting.TheVariants.{Content as content, Part as part}
 
 abbrev pub is_content : Acting → Bool
 is_content (content _) = true

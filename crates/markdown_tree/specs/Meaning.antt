@@ -1,10 +1,10 @@
 -- The tree that a forest means.
 use Rattle.std.specs.Prelude.{Some}
-use Rattle.markdown_nodes.specs.Forest.{Forest, empty, span}
-use Rattle.markdown_nodes.specs.Slices.{between}
+use Rattle.markdown_events.specs.Forest.{Forest, empty, span}
+use Rattle.markdown_events.specs.Slices.{between}
 use Rattle.markdown_nodes.specs.Tree.{Tree, root}
-use Rattle.markdown_nodes.specs.declared.event.Point.{Point}
-use Rattle.markdown_nodes.specs.declared.unist.Position.{Position}
+use Rattle.markdown_events.specs.declared.event.Point.{Point}
+use Rattle.markdown_events.specs.declared.unist.Position.{Position}
 use Rattle.markdown_tree.specs.Items.{items}
 use Rattle.markdown_tree.specs.Nodes.{nodes}
 use Rattle.markdown_tree.specs.Parts.{itself}

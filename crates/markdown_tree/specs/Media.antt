@@ -1,13 +1,13 @@
 -- Links, images and references to them.
 use Rattle.std.specs.Prelude.{List, None, Option, Some, [], codes, option_map, ℕ, ◌++◌}
 use Rattle.std.specs.Option.{option_or}
-use Rattle.markdown_nodes.specs.Slices.{between}
+use Rattle.markdown_events.specs.Slices.{between}
 use Rattle.markdown_nodes.specs.Tree.{Label, Trees, node, nothing}
-use Rattle.markdown_nodes.specs.declared.event.Point.{Point}
+use Rattle.markdown_events.specs.declared.event.Point.{Point}
 use Rattle.markdown_nodes.specs.declared.mdast.ReferenceKind.{ReferenceKind}
 use Rattle.markdown_tree.specs.Gives.{value}
 use Rattle.markdown_tree.specs.Parts.{Inner, Kept, address, identifier_of, path_through, path_to, text_of, words_of}
-use Rattle.markdown_nodes.specs.declared.role.Part.TheVariants as parts
+use Rattle.markdown_events.specs.declared.role.Part.TheVariants as parts
 use Rattle.markdown_nodes.specs.declared.mdast.ReferenceKind.TheVariants as reference_kind
 use Rattle.markdown_nodes.specs.Tree as tree
 

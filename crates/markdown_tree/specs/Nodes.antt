@@ -1,11 +1,11 @@
 -- The nodes that items give.
 use Rattle.std.specs.Prelude.{Bool, List, None, Option, Some, [], codes, false, if◌then◌else◌, true, unwrap_or, ℕ}
 use Rattle.std.specs.Option.{option_and_then}
-use Rattle.markdown_nodes.specs.Spread.{Shown, shown_of}
-use Rattle.markdown_nodes.specs.Texts.{raw, spaces, trim}
+use Rattle.markdown_events.specs.Spread.{Shown, shown_of}
+use Rattle.markdown_events.specs.Texts.{raw, spaces, trim}
 use Rattle.markdown_nodes.specs.Tree.{Label, Trees, join, nothing, plain_text}
-use Rattle.markdown_nodes.specs.declared.event.Point.{Point}
-use Rattle.markdown_nodes.specs.declared.role.Acting.{Acting}
+use Rattle.markdown_events.specs.declared.event.Point.{Point}
+use Rattle.markdown_events.specs.declared.role.Acting.{Acting}
 use Rattle.markdown_tree.specs.Gives.{text_read, value}
 use Rattle.markdown_tree.specs.Items.{Items, item, none, same_part, ◌then◌}
 use Rattle.markdown_tree.specs.Media.{autolink, image_label, link_label, linked, media_of, node_at}
@@ -13,10 +13,10 @@ use Rattle.markdown_tree.specs.Parts.{Inner, Path, count_of, identifier_of, inne
 use Rattle.markdown_tree.specs.Place.{Place, place_behind, place_inside}
 use Rattle.markdown_tree.specs.Source.{Source}
 use Rattle.markdown_tree.specs.Tasks.{task_if}
-use Rattle.markdown_nodes.specs.declared.role.Content.TheVariants as contents
-use Rattle.markdown_nodes.specs.declared.role.Part.TheVariants as parts
+use Rattle.markdown_events.specs.declared.role.Content.TheVariants as contents
+use Rattle.markdown_events.specs.declared.role.Part.TheVariants as parts
 use Rattle.markdown_nodes.specs.Tree as tree
-use Rattle.markdown_nodes.specs.declared.role.Acting.TheVariants.{Content as content, Part as part}
+use Rattle.markdown_events.specs.declared.role.Acting.TheVariants.{Content as content, Part as part}
 
 -- a Toml or a Yaml
 abbrev pub frontmatter : Bool → List ℕ → Label

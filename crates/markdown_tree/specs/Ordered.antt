@@ -1,8 +1,8 @@
 -- Trees whose nodes nest and stand in order, by offsets.
 use Rattle.std.specs.Prelude.{Bool, IsFalse, List, None, Some, [], false, true, ℕ, ⊤, ◌∷◌, ◌≤◌}
 use Rattle.markdown_nodes.specs.Tree.{Label, Trees, list_item, node, nothing, paragraph}
-use Rattle.markdown_nodes.specs.declared.event.Event.{Event}
-use Rattle.markdown_nodes.specs.declared.unist.Position.{Position}
+use Rattle.markdown_events.specs.declared.event.Event.{Event}
+use Rattle.markdown_events.specs.declared.unist.Position.{Position}
 
 -- the indexes of the events do not fall, from a number to another
 abbrev pub RisesTo : ℕ → List Event → ℕ → Type 0

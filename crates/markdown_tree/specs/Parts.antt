@@ -1,16 +1,16 @@
 -- The parts of a holder, and what is kept of them.
 use Rattle.std.specs.Prelude.{Bool, List, None, Option, Some, [], false, if◌then◌else◌, option_map, unwrap_or, ℕ, ◌==◌}
 use Rattle.std.specs.Option.{option_and_then}
-use Rattle.markdown_nodes.specs.Texts.{fold}
+use Rattle.markdown_events.specs.Texts.{fold}
 use Rattle.markdown_nodes.specs.Tree.{Trees, plain_label, plain_text}
-use Rattle.markdown_nodes.specs.declared.event.Point.{Point}
-use Rattle.markdown_nodes.specs.declared.role.Part.{Part}
+use Rattle.markdown_events.specs.declared.event.Point.{Point}
+use Rattle.markdown_events.specs.declared.role.Part.{Part}
 use Rattle.markdown_tree.specs.Gives.{last_marker, mark, text_read, value}
 use Rattle.markdown_tree.specs.Items.{Items, item, none, same_part, ◌then◌}
 use Rattle.markdown_tree.specs.Ranges.{byte_at, length_between}
 use Rattle.markdown_tree.specs.Source.{Source}
-use Rattle.markdown_nodes.specs.declared.role.Part.TheVariants as parts
-use Rattle.markdown_nodes.specs.declared.role.Acting.TheVariants.{Content as content, Part as part}
+use Rattle.markdown_events.specs.declared.role.Part.TheVariants as parts
+use Rattle.markdown_events.specs.declared.role.Acting.TheVariants.{Content as content, Part as part}
 
 -- a span's ends and its items
 pub record Stretch : Type 0 where

@@ -1,10 +1,10 @@
 -- Where items stand, as far as their nodes ask.
 use Rattle.std.specs.Prelude.{Bool, false, true, ◌||◌}
-use Rattle.markdown_nodes.specs.declared.role.Acting.{Acting}
+use Rattle.markdown_events.specs.declared.role.Acting.{Acting}
 use Rattle.markdown_tree.specs.Kinds.{is_table}
-use Rattle.markdown_nodes.specs.declared.role.Content.TheVariants as contents
-use Rattle.markdown_nodes.specs.declared.role.Part.TheVariants as parts
-use Rattle.markdown_nodes.specs.declared.role.Acting.TheVariants.{Content as content, Part as part}
+use Rattle.markdown_events.specs.declared.role.Content.TheVariants as contents
+use Rattle.markdown_events.specs.declared.role.Part.TheVariants as parts
+use Rattle.markdown_events.specs.declared.role.Acting.TheVariants.{Content as content, Part as part}
 
 -- what a node asks of where it stands
 pub record Place : Type 0 where

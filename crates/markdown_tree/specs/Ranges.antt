@@ -1,7 +1,7 @@
 -- Bytes of the document that are no text: how many stand between two points, and the one at a point.
 use Rattle.std.specs.Prelude.{List, None, Option, Some, if◌then◌else◌, length, nat_le, slice_get, ℕ, ◌&&◌, ◌-◌}
-use Rattle.markdown_nodes.specs.Slices.{edge}
-use Rattle.markdown_nodes.specs.declared.event.Point.{Point}
+use Rattle.markdown_events.specs.Slices.{edge}
+use Rattle.markdown_events.specs.declared.event.Point.{Point}
 
 -- how many bytes stand from one point to another, if these are in order and in the document
 abbrev pub length_between : List ℕ → Point → Point → Option ℕ

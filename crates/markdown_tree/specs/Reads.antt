@@ -1,17 +1,17 @@
 -- Which values are read, and that they can be.
 use Rattle.std.specs.Prelude.{Bool, is_some, not, true, ◌||◌}
-use Rattle.markdown_nodes.specs.Slices.{slice}
-use Rattle.markdown_nodes.specs.declared.event.Point.{Point}
-use Rattle.markdown_nodes.specs.declared.role.Acting.{Acting}
+use Rattle.markdown_events.specs.Slices.{slice}
+use Rattle.markdown_events.specs.declared.event.Point.{Point}
+use Rattle.markdown_events.specs.declared.role.Acting.{Acting}
 use Rattle.markdown_tree.specs.Holders.{Holder, heading_atx}
 use Rattle.markdown_tree.specs.Nodes.{decoded}
 use Rattle.markdown_tree.specs.Numbers.{is_depth, is_item_number}
 use Rattle.markdown_tree.specs.Parts.{Inner}
 use Rattle.markdown_tree.specs.Ranges.{byte_at, length_between}
 use Rattle.markdown_tree.specs.Source.{Source}
-use Rattle.markdown_nodes.specs.declared.role.Content.TheVariants as contents
-use Rattle.markdown_nodes.specs.declared.role.Part.TheVariants as parts
-use Rattle.markdown_nodes.specs.declared.role.Acting.TheVariants.{Content as content, Part as part}
+use Rattle.markdown_events.specs.declared.role.Content.TheVariants as contents
+use Rattle.markdown_events.specs.declared.role.Part.TheVariants as parts
+use Rattle.markdown_events.specs.declared.role.Acting.TheVariants.{Content as content, Part as part}
 
 -- a span's own value, where one is read, can be; `text` says whether a line ending is text where the span stands
 abbrev pub is_read : Source → Holder → Bool → Acting → Point → Point → Inner → Bool

@@ -1,11 +1,11 @@
 -- What a refusal says.
 use Rattle.std.specs.Prelude.{◌≡◌, ℕ, List, codes, Some}
-use Rattle.markdown_nodes.specs.declared.event.Point.{Point}
-use Rattle.markdown_nodes.specs.declared.message.Fault.{Fault}
-use Rattle.markdown_nodes.specs.declared.message.Fault.TheVariants as faults
-use Rattle.markdown_nodes.specs.declared.message.Message.{Message}
-use Rattle.markdown_nodes.specs.declared.message.Place.TheVariants as places
-use Rattle.markdown_nodes.specs.Slices.{to_unist}
+use Rattle.markdown_events.specs.declared.event.Point.{Point}
+use Rattle.markdown_events.specs.declared.message.Fault.{Fault}
+use Rattle.markdown_events.specs.declared.message.Fault.TheVariants as faults
+use Rattle.markdown_events.specs.declared.message.Message.{Message}
+use Rattle.markdown_events.specs.declared.message.Place.TheVariants as places
+use Rattle.markdown_events.specs.Slices.{to_unist}
 use Rattle.markdown_tree.specs.declared.refusal.Refusal.{Refusal}
 use Rattle.markdown_tree.specs.declared.refusal.Refusal.TheVariants.{Unbalanced, Misplaced, Held, InvalidSlice}
 use Rattle.markdown_tree.specs.declared.refusal.Stop.{Stop}

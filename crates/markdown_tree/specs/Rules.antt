@@ -1,8 +1,8 @@
 -- Rules for the items of a holder, as data. A rule is about the whole list of them, and each front of a list that keeps a rule keeps it too.
 use Rattle.std.specs.Prelude.{Bool, List, [], not, true, ◌&&◌, ◌||◌, ◌∷◌}
 use Rattle.std.specs.List.{list_all, list_any}
-use Rattle.markdown_nodes.specs.declared.role.Acting.{Acting}
-use Rattle.markdown_nodes.specs.declared.role.Part.{Part}
+use Rattle.markdown_events.specs.declared.role.Acting.{Acting}
+use Rattle.markdown_events.specs.declared.role.Part.{Part}
 use Rattle.markdown_tree.specs.Kinds.{is_one_of}
 
 -- at least one item is such

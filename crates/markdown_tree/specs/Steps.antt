@@ -1,6 +1,6 @@
 -- The steps of a compilation.
 use Rattle.std.specs.Prelude.{ℕ, List, length, Option, Some, None}
-use Rattle.markdown_nodes.specs.declared.event.Event.{Event}
+use Rattle.markdown_events.specs.declared.event.Event.{Event}
 
 -- a read of an event is one step, and a read past the list is none
 abbrev pub steps_of : Option Event → ℕ

@@ -1,7 +1,7 @@
 //! What a span says in the document: its text, and its position.
 
 ghost use Rattle.std.specs.Prelude.{◌≡◌, ◌^◌, ◌<◌, SomeIff, option_copied};
-ghost use Rattle.markdown_nodes.specs.Slices.{edge, slice, between};
+ghost use Rattle.markdown_events.specs.Slices.{edge, slice, between};
 
 use markdown_nodes::event::Point;
 use markdown_nodes::unist::Position;
@@ -18,7 +18,7 @@ fn edge_of(point: Point) -> Option<usize>
 }
 
 /// The text of a span, if its ends are in order and in the document, and what is between is UTF-8.
-#[tactic(auto, unfolding(markdown_nodes::specs::Slices::slice))]
+#[tactic(auto, unfolding(markdown_events::specs::Slices::slice))]
 pub fn text_of<'a>(bytes: &'a [u8], start: Point, end: Point) -> Option<&'a str>
     ensures { option_copied result ≡ slice bytes.now start end }
 {

@@ -8,7 +8,7 @@ use Rattle.std.specs.Str.Parse.{digits_value, digits_value_after, AllDigits}
 use Rattle.std.proofs.lemmas.Bool.{ltb-true}
 use Rattle.std.proofs.lemmas.Bool.Decides.{nat_tests}
 use Rattle.std.proofs.lemmas.Str.Parse.{IsNumeralModel, numerals_by_value}
-use Rattle.markdown_nodes.specs.declared.event.Event.{Event}
+use Rattle.markdown_events.specs.declared.event.Event.{Event}
 use Rattle.mdast_show.specs.Lines.{before, after, pieces, number_of, events_of, event_of, lines, first_unread, unread_line, IsFirstUnread}
 
 -- a text without the byte is all before it

@@ -2,12 +2,12 @@
 use Rattle.std.specs.Prelude.{◌≡◌, ℕ, List, [], ◌++◌, Option, Some, None, IfSome, IsSomeAnd, codes, ⊤}
 use Rattle.std.specs.Fmt.{decimal}
 use Rattle.std.specs.Io.KnownBytes.{IsAtEnd}
-use Rattle.markdown_nodes.specs.declared.event.Event.{Event}
-use Rattle.markdown_nodes.specs.declared.message.Message.{Message}
-use Rattle.markdown_nodes.specs.declared.message.Place.{Place}
-use Rattle.markdown_nodes.specs.declared.message.Place.TheVariants as places
-use Rattle.markdown_nodes.specs.declared.unist.Point.{Point}
-use Rattle.markdown_nodes.specs.Places.{point_text}
+use Rattle.markdown_events.specs.declared.event.Event.{Event}
+use Rattle.markdown_events.specs.declared.message.Message.{Message}
+use Rattle.markdown_events.specs.declared.message.Place.{Place}
+use Rattle.markdown_events.specs.declared.message.Place.TheVariants as places
+use Rattle.markdown_events.specs.declared.unist.Point.{Point}
+use Rattle.markdown_events.specs.Places.{point_text}
 use Rattle.markdown_tree.specs.Correct.{IsMeaning, Refuses}
 use Rattle.markdown_tree.specs.Source.{Source, source}
 use Rattle.mdast_show.specs.declared.run.Answer.{Answer}

@@ -3,7 +3,7 @@
 ghost use Rattle.std.specs.Prelude.{◌≡◌, ◌≢◌, ◌⊎◌, ◌≤◌, List, ℕ, codes, IfOk, IfSome, IsSomeAnd, string_bytes};
 ghost use Rattle.std.specs.Io.KnownBytes.{IsAtEnd, Appends};
 ghost use Rattle.markdown_nodes.specs.declared.mdast.Node.{Node};
-ghost use Rattle.markdown_nodes.specs.declared.message.Message.{Message};
+ghost use Rattle.markdown_events.specs.declared.message.Message.{Message};
 ghost use Rattle.markdown_tree.specs.Correct.{IsMeaning, Refuses};
 ghost use Rattle.mdast_show.specs.Lines.{lines};
 ghost use Rattle.mdast_show.specs.Run;

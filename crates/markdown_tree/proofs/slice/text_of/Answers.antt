@@ -1,6 +1,6 @@
 use Rattle.std.proofs.Common.{ap, ◌∙◌}
 use Rattle.std.specs.Prelude.{option_copied}
-use Rattle.markdown_nodes.specs.Slices.{slice}
+use Rattle.markdown_events.specs.Slices.{slice}
 use Rattle.markdown_tree.proofs.SliceReads.{read_is}
 use Rattle.markdown_tree.proofs.slice.text_of.Goals as goal
 

@@ -1,6 +1,6 @@
 use Rattle.std.proofs.Common.{ap, sym, refl, ◌∙◌, Some}
 use Rattle.std.proofs.lemmas.Result.{err_from_is_err_and}
-use Rattle.markdown_nodes.specs.declared.unist.Position.{Position}
+use Rattle.markdown_events.specs.declared.unist.Position.{Position}
 use Rattle.markdown_tree.specs.Correct.{extent_of}
 use Rattle.markdown_tree.specs.Machine.{state_of}
 use Rattle.markdown_tree.specs.Source.{source}

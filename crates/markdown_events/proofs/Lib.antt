@@ -1,0 +1,9 @@
+pub mod Spellings
+pub mod Unique
+pub mod Loose
+pub mod Lists
+pub mod Spans
+pub mod Aligns
+pub mod Cuts
+pub mod LineEndings
+pub mod Collapsing

@@ -1,0 +1,58 @@
+-- Forests of spans, how they are spelled in events, and their right shape.
+use Rattle.std.specs.Prelude.{Bool, true, false, ◌&&◌, not, List, [], ◌∷◌, ◌++◌}
+use Rattle.markdown_events.specs.declared.event.Event.{Event}
+use Rattle.markdown_events.specs.declared.event.Kind.TheVariants.{Enter, Exit}
+use Rattle.markdown_events.specs.declared.event.Name.{Name}
+use Rattle.markdown_events.specs.declared.event.Point.{Point}
+use Rattle.markdown_events.specs.declared.role.Role.{Role}
+use Rattle.markdown_events.specs.declared.role.Role.TheVariants.{Plain as plain, Acting as acting}
+use Rattle.markdown_events.specs.declared.role.Acting.TheVariants.{Content as content}
+use Rattle.markdown_events.specs.declared.role.Content.TheVariants as contents
+use Rattle.markdown_events.specs.declared.role.Plain.TheVariants as plains
+use Rattle.markdown_events.specs.Names.{role_of}
+
+-- a list of spans: the first one's name and ends, the spans in it, and the spans behind it
+pub data Forest : Type 0 where
+  empty : Forest
+  span : (name : Name) (start end : Point) (children rest : Forest) → Forest
+
+abbrev pub enter : Name → Point → Event
+enter name point = record { kind = Enter; name = name; point = point }
+
+abbrev pub exit : Name → Point → Event
+exit name point = record { kind = Exit; name = name; point = point }
+
+-- for each span its enter, what is in it, and its exit
+abbrev pub spell : Forest → List Event
+spell empty = []
+spell (span name start end children rest) = enter name start ∷ (spell children ++ (exit name end ∷ spell rest))
+
+abbrev pub is_empty : Forest → Bool
+is_empty empty = true
+is_empty (span _ _ _ _ _) = false
+
+-- no span of the forest, at any depth, has such a role
+abbrev pub lacks : (Role → Bool) → Forest → Bool
+lacks test empty = true
+lacks test (span name _ _ children rest) = not (test (role_of name)) && lacks test children && lacks test rest
+
+abbrev pub is_delimiter_row : Role → Bool
+is_delimiter_row (plain plains.DelimiterRow) = true
+is_delimiter_row _ = false
+
+abbrev pub is_delimiter_cell_value : Role → Bool
+is_delimiter_cell_value (plain plains.DelimiterCellValue) = true
+is_delimiter_cell_value _ = false
+
+-- line endings, blank line endings and spaces hold nothing; delimiter rows, and delimiter cell values, do not nest
+abbrev pub may_hold : Role → Forest → Bool
+may_hold (acting (content contents.LineEnding)) children = is_empty children
+may_hold (plain plains.BlankLineEnding) children = is_empty children
+may_hold (plain plains.SpaceOrTab) children = is_empty children
+may_hold (plain plains.DelimiterRow) children = lacks is_delimiter_row children
+may_hold (plain plains.DelimiterCellValue) children = lacks is_delimiter_cell_value children
+may_hold _ children = true
+
+abbrev pub has_right_shape : Forest → Bool
+has_right_shape empty = true
+has_right_shape (span name _ _ children rest) = may_hold (role_of name) children && has_right_shape children && has_right_shape rest

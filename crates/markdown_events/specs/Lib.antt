@@ -1,0 +1,10 @@
+pub mod Names
+pub mod Spelling
+pub mod Places
+pub mod Slices
+pub mod Forest
+pub mod Texts
+pub mod TextWalks
+pub mod Spread
+pub mod Begins
+pub mod Walks

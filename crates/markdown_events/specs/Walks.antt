@@ -1,0 +1,149 @@
+-- What the private functions of `event` and `infer` give on events, for the proofs of the public ones.
+use Rattle.std.specs.Prelude.{ℕ, ◌+◌, ◌-◌, ◌==◌, List, [], ◌∷◌, Bool, true, false, Option, Some, None, if◌then◌else◌, ◌&&◌, ◌||◌, not}
+use Rattle.markdown_events.specs.declared.event.Kind.{Kind}
+use Rattle.markdown_events.specs.declared.event.Kind.TheVariants.{Enter, Exit}
+use Rattle.markdown_events.specs.declared.event.Name.{Name}
+use Rattle.markdown_events.specs.declared.event.Name.TheVariants as variants
+use denote.Enum.Bare.{sameb}
+use Rattle.markdown_events.specs.contracts.event.Name.{the_type}
+use Rattle.markdown_events.specs.declared.event.Event.{Event}
+use Rattle.markdown_events.specs.declared.infer.Child.{Child}
+use Rattle.markdown_events.specs.declared.infer.Ends.{Ends}
+use Rattle.markdown_events.specs.declared.role.Role.{Role}
+use Rattle.markdown_events.specs.declared.role.Role.TheVariants.{Plain as plain, Acting as acting}
+use Rattle.markdown_events.specs.declared.role.Acting.TheVariants.{Content as content}
+use Rattle.markdown_events.specs.declared.role.Content.TheVariants as contents
+use Rattle.markdown_events.specs.declared.role.Plain.TheVariants as plains
+use Rattle.markdown_events.specs.Names.{role_of}
+use Rattle.markdown_events.specs.Forest.{is_delimiter_row, is_delimiter_cell_value}
+use Rattle.markdown_events.specs.Spread.{is_blank_line, is_space_or_tab, is_item_prefix, is_quote_prefix, is_delimiter_marker, align_kind_of}
+use Rattle.markdown_events.specs.declared.infer.AlignKind.{AlignKind}
+
+-- whether two names are one
+abbrev pub is_same_name : Name → Name → Bool
+is_same_name = sameb the_type
+
+-- the roles that may hold nothing
+abbrev pub holds_nothing : Role → Bool
+holds_nothing (acting (content contents.LineEnding)) = true
+holds_nothing (plain plains.BlankLineEnding) = true
+holds_nothing (plain plains.SpaceOrTab) = true
+holds_nothing _ = false
+
+abbrev pub is_list_item : Role → Bool
+is_list_item (acting (content contents.ListItem)) = true
+is_list_item _ = false
+
+abbrev pub is_block_quote : Role → Bool
+is_block_quote (acting (content contents.BlockQuote)) = true
+is_block_quote _ = false
+
+-- ---- Open spans, by their names, the innermost first
+
+abbrev pub holds_nothing_on_top : List Name → Bool
+holds_nothing_on_top [] = false
+holds_nothing_on_top (inner ∷ names) = holds_nothing (role_of inner)
+
+abbrev pub some_row : List Name → Bool
+some_row [] = false
+some_row (inner ∷ names) = some_row names || is_delimiter_row (role_of inner)
+
+abbrev pub some_cell : List Name → Bool
+some_cell [] = false
+some_cell (inner ∷ names) = some_cell names || is_delimiter_cell_value (role_of inner)
+
+-- whether a span of that name can begin in them
+abbrev pub can_enter : List Name → Name → Bool
+can_enter names name = not (holds_nothing_on_top names) && (not (some_row names && is_delimiter_row (role_of name)) && not (some_cell names && is_delimiter_cell_value (role_of name)))
+
+-- behind an exit: done, where none is open any more
+abbrev pub exited : List Name → ℕ → (List Name → ℕ → Option ℕ) → Option ℕ
+exited [] passed next = Some passed
+exited (inner ∷ names) passed next = next (inner ∷ names) (passed + 1)
+
+abbrev pub move : Kind → Name → List Name → ℕ → (List Name → ℕ → Option ℕ) → Option ℕ
+move Enter name names passed next = if can_enter names name then next (name ∷ names) (passed + 1) else None
+move Exit name [] passed next = None
+move Exit name (inner ∷ names) passed next = if is_same_name inner name then exited names passed next else None
+
+-- which event ends the last open span, where so many stand before these
+abbrev pub run : List Event → List Name → ℕ → Option ℕ
+run [] names passed = None
+run (event ∷ events) names passed = move event.kind event.name names passed (run events)
+
+-- ---- Blank lines in an item
+
+abbrev pub no_child : Child
+no_child = record { direct = false; skipped = false }
+
+abbrev pub child_exited : Child → Bool → Name → Child
+child_exited before is_it name = record { direct = is_it; skipped = (if is_space_or_tab (role_of name) then before.direct else is_it) }
+
+abbrev pub item_step : Kind → Name → ℕ → Child → (ℕ → Child → Bool) → Bool
+item_step Enter name depth last next = if (depth == 0) && (is_blank_line (role_of name) && not last.skipped) then true else next (depth + 1) last
+item_step Exit name depth last next = if depth == 0 then false else (if depth == 1 then next 0 (child_exited last (is_item_prefix (role_of name)) name) else next (depth - 1) last)
+
+-- whether a blank line counts among the events of an item behind its enter
+abbrev pub item_walk : List Event → ℕ → Child → Bool
+item_walk [] depth last = false
+item_walk (event ∷ events) depth last = item_step event.kind event.name depth last (item_walk events)
+
+-- ---- Blank lines in a list
+
+abbrev pub no_ends : Ends
+no_ends = record { bare = false; counts = false; prefix = no_child; inner = no_child; quote = false }
+
+-- whether a blank line that stands so deep in the list makes it loose
+abbrev pub counts_blank : Ends → ℕ → Bool
+counts_blank ends depth = if depth == 0 then not ends.bare else ((depth == 1) && (ends.counts && not ends.prefix.skipped))
+
+abbrev pub list_entered : Ends → ℕ → Bool → Name → Ends
+list_entered ends depth include_items name =
+    if depth == 0 then (record { bare = ends.bare; counts = include_items && is_list_item (role_of name); prefix = ends.prefix; inner = ends.inner; quote = ends.quote })
+    else ends
+
+abbrev pub list_exited : Ends → ℕ → Name → Ends
+list_exited ends depth name =
+    if depth == 0 then (record { bare = is_list_item (role_of name) && ends.inner.skipped; counts = false; prefix = no_child; inner = no_child; quote = false })
+    else (if depth == 1 then (record {
+      bare = ends.bare;
+      counts = ends.counts;
+      prefix = child_exited ends.prefix (is_item_prefix (role_of name)) name;
+      inner = child_exited ends.inner (is_item_prefix (role_of name) || (is_block_quote (role_of name) && ends.quote)) name;
+      quote = false;
+    })
+    else (if depth == 2 then (record { bare = ends.bare; counts = ends.counts; prefix = ends.prefix; inner = ends.inner; quote = is_quote_prefix (role_of name) })
+    else ends))
+
+abbrev pub list_step : Bool → Kind → Name → ℕ → Ends → (ℕ → Ends → Bool) → Bool
+list_step include_items Enter name depth ends next = if counts_blank ends depth && is_blank_line (role_of name) then true else next (depth + 1) (list_entered ends depth include_items name)
+list_step include_items Exit name depth ends next = if depth == 0 then false else next (depth - 1) (list_exited ends (depth - 1) name)
+
+-- whether a blank line counts among the events of a list behind its enter, or where that is asked an item is loose
+abbrev pub list_walk : Bool → List Event → ℕ → Ends → Bool
+list_walk include_items [] depth ends = false
+list_walk include_items (event ∷ events) depth ends = list_step include_items event.kind event.name depth ends (list_walk include_items events)
+
+-- ---- Delimiter rows
+
+abbrev pub first_after : Name → Bool → Name → Bool
+first_after before first name = if is_delimiter_cell_value (role_of before) then is_delimiter_marker (role_of name) else first
+
+abbrev pub cells_step : Kind → Name → Name → Bool → (Name → Bool → List AlignKind) → List AlignKind
+cells_step Enter name before first next = next name first
+cells_step Exit name before first next =
+    if is_delimiter_row (role_of name) then [] else (if is_delimiter_cell_value (role_of name) then (align_kind_of first (is_delimiter_marker (role_of before)) ∷ next name first) else next name first)
+
+-- the kinds of the cell values up to the row's exit, by the name of the event before and whether the last value began with a marker
+abbrev pub cells_walk : List Event → Name → Bool → List AlignKind
+cells_walk [] before first = []
+cells_walk (event ∷ events) before first = cells_step event.kind event.name before (first_after before first event.name) (cells_walk events)
+
+abbrev pub table_step : Kind → Name → ℕ → List Event → (ℕ → List AlignKind) → List AlignKind
+table_step Enter name depth events next = if is_delimiter_row (role_of name) then cells_walk events variants.GfmTableDelimiterRow false else next (depth + 1)
+table_step Exit name depth events next = if depth == 0 then [] else next (depth - 1)
+
+-- the kinds of the first delimiter row's cell values, up to the exit of the table
+abbrev pub table_walk : List Event → ℕ → List AlignKind
+table_walk [] depth = []
+table_walk (event ∷ events) depth = table_step event.kind event.name depth events (table_walk events)

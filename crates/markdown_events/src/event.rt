@@ -1,0 +1,606 @@
+//! Events: the flat list in which a tokenizer says what a document is made of.
+
+ghost use Rattle.std.specs.Prelude.{◌≡◌, ◌↔◌, IsTrue, Some, map};
+ghost use Rattle.markdown_events.specs.Spelling.{spelling, first_spelled, name_of_length, name_of};
+ghost use Rattle.markdown_events.specs.Slices.{to_unist};
+ghost use Rattle.markdown_events.specs.Walks.{is_same_name};
+ghost use Rattle.markdown_events.specs.declared.event.Name.{Name};
+
+use crate::unist;
+
+mod spans;
+
+pub use spans::span_begins;
+
+/// Whether an event is where a span begins or where it ends.
+#[derive(Clone, Copy, PartialEq, Eq, Debug)]
+pub enum Kind {
+    /// A span begins here.
+    Enter,
+    /// A span ends here.
+    Exit,
+}
+
+/// What a span is, in the terms of micromark and of the tokenizer of the crate `markdown`.
+///
+/// [`Name::role`] says what a name is to the tree, and [`Name::text`] how it is written.
+#[derive(Clone, Copy, PartialEq, Eq, Debug)]
+pub enum Name {
+    // Data: a part of a text.
+    Data,
+    CharacterEscapeValue,
+    CodeFlowChunk,
+    CodeTextData,
+    FrontmatterChunk,
+    HtmlFlowData,
+    HtmlTextData,
+    MathFlowChunk,
+    MathTextData,
+    // The value of an autolink.
+    AutolinkEmail,
+    AutolinkProtocol,
+    // A character reference and its parts.
+    CharacterReference,
+    CharacterReferenceMarker,
+    CharacterReferenceMarkerNumeric,
+    CharacterReferenceMarkerHexadecimal,
+    CharacterReferenceValue,
+    // Parts whose nodes give a text or a label.
+    CodeFencedFenceInfo,
+    CodeFencedFenceMeta,
+    DefinitionDestinationString,
+    DefinitionLabelString,
+    DefinitionTitleString,
+    GfmFootnoteDefinitionLabelString,
+    LabelText,
+    MathFlowFenceMeta,
+    ReferenceString,
+    ResourceDestinationString,
+    ResourceTitleString,
+    // Spans that give a node.
+    Autolink,
+    BlockQuote,
+    CodeFenced,
+    CodeIndented,
+    CodeText,
+    Definition,
+    Emphasis,
+    Frontmatter,
+    GfmAutolinkLiteralEmail,
+    GfmAutolinkLiteralMailto,
+    GfmAutolinkLiteralProtocol,
+    GfmAutolinkLiteralWww,
+    GfmAutolinkLiteralXmpp,
+    GfmFootnoteCall,
+    GfmFootnoteDefinition,
+    GfmStrikethrough,
+    GfmTable,
+    GfmTableRow,
+    GfmTableCell,
+    HeadingAtx,
+    HeadingSetext,
+    HtmlFlow,
+    HtmlText,
+    Image,
+    Link,
+    ListItem,
+    ListOrdered,
+    ListUnordered,
+    MathFlow,
+    MathText,
+    Paragraph,
+    Strong,
+    ThematicBreak,
+    // Breaks, and the line ending.
+    HardBreakEscape,
+    HardBreakTrailing,
+    LineEnding,
+    // Other parts.
+    CodeFencedFence,
+    MathFlowFence,
+    GfmTaskListItemValueChecked,
+    GfmTaskListItemValueUnchecked,
+    HeadingAtxSequence,
+    HeadingSetextText,
+    HeadingSetextUnderlineSequence,
+    ListItemValue,
+    Reference,
+    Resource,
+    // Plain names that right shape, spread and alignment look at.
+    BlankLineEnding,
+    SpaceOrTab,
+    ListItemPrefix,
+    BlockQuotePrefix,
+    GfmTableDelimiterRow,
+    GfmTableDelimiterCellValue,
+    GfmTableDelimiterMarker,
+    // Plain names that nothing looks at.
+    AttentionSequence,
+    AutolinkMarker,
+    BlockQuoteMarker,
+    ByteOrderMark,
+    CharacterEscape,
+    CharacterEscapeMarker,
+    CharacterReferenceMarkerSemi,
+    CodeFencedFenceSequence,
+    CodeTextSequence,
+    Content,
+    DefinitionDestination,
+    DefinitionDestinationLiteral,
+    DefinitionDestinationLiteralMarker,
+    DefinitionDestinationRaw,
+    DefinitionLabel,
+    DefinitionLabelMarker,
+    DefinitionMarker,
+    DefinitionTitle,
+    DefinitionTitleMarker,
+    EmphasisSequence,
+    EmphasisText,
+    FrontmatterFence,
+    FrontmatterSequence,
+    GfmFootnoteCallLabel,
+    GfmFootnoteCallMarker,
+    GfmFootnoteDefinitionLabel,
+    GfmFootnoteDefinitionLabelMarker,
+    GfmFootnoteDefinitionMarker,
+    GfmFootnoteDefinitionPrefix,
+    GfmStrikethroughSequence,
+    GfmStrikethroughText,
+    GfmTableBody,
+    GfmTableCellDivider,
+    GfmTableCellText,
+    GfmTableDelimiterCell,
+    GfmTableDelimiterFiller,
+    GfmTableHead,
+    GfmTaskListItemCheck,
+    GfmTaskListItemMarker,
+    HeadingAtxText,
+    HeadingSetextUnderline,
+    Label,
+    LabelEnd,
+    LabelImage,
+    LabelImageMarker,
+    LabelLink,
+    LabelMarker,
+    ListItemMarker,
+    MathFlowFenceSequence,
+    MathTextSequence,
+    ReferenceMarker,
+    ResourceDestination,
+    ResourceDestinationLiteral,
+    ResourceDestinationLiteralMarker,
+    ResourceDestinationRaw,
+    ResourceMarker,
+    ResourceTitle,
+    ResourceTitleMarker,
+    StrongSequence,
+    StrongText,
+    ThematicBreakSequence,
+}
+
+/// The names by the length of their spelling, which is the index.
+static NAMES_BY_LENGTH: [&[Name]; 36] = [
+    &[],
+    &[],
+    &[],
+    &[],
+    &[Name::Data, Name::Link],
+    &[Name::Image, Name::Label],
+    &[Name::Strong],
+    &[Name::Content],
+    &[
+        Name::Autolink,
+        Name::CodeText,
+        Name::Emphasis,
+        Name::GfmTable,
+        Name::HtmlFlow,
+        Name::HtmlText,
+        Name::ListItem,
+        Name::MathFlow,
+        Name::MathText,
+        Name::Resource,
+        Name::LabelEnd,
+    ],
+    &[
+        Name::LabelText,
+        Name::Paragraph,
+        Name::Reference,
+        Name::LabelLink,
+    ],
+    &[
+        Name::BlockQuote,
+        Name::CodeFenced,
+        Name::Definition,
+        Name::HeadingAtx,
+        Name::LineEnding,
+        Name::SpaceOrTab,
+        Name::LabelImage,
+        Name::StrongText,
+    ],
+    &[
+        Name::Frontmatter,
+        Name::GfmTableRow,
+        Name::ListOrdered,
+        Name::LabelMarker,
+    ],
+    &[
+        Name::CodeTextData,
+        Name::HtmlFlowData,
+        Name::HtmlTextData,
+        Name::MathTextData,
+        Name::CodeIndented,
+        Name::GfmTableCell,
+        Name::EmphasisText,
+        Name::GfmTableBody,
+        Name::GfmTableHead,
+    ],
+    &[
+        Name::CodeFlowChunk,
+        Name::MathFlowChunk,
+        Name::AutolinkEmail,
+        Name::HeadingSetext,
+        Name::ListUnordered,
+        Name::ThematicBreak,
+        Name::MathFlowFence,
+        Name::ListItemValue,
+        Name::ByteOrderMark,
+        Name::ResourceTitle,
+    ],
+    &[
+        Name::ListItemPrefix,
+        Name::AutolinkMarker,
+        Name::HeadingAtxText,
+        Name::ListItemMarker,
+        Name::ResourceMarker,
+        Name::StrongSequence,
+    ],
+    &[
+        Name::ReferenceString,
+        Name::GfmFootnoteCall,
+        Name::HardBreakEscape,
+        Name::CodeFencedFence,
+        Name::BlankLineEnding,
+        Name::CharacterEscape,
+        Name::DefinitionLabel,
+        Name::DefinitionTitle,
+        Name::ReferenceMarker,
+    ],
+    &[
+        Name::FrontmatterChunk,
+        Name::AutolinkProtocol,
+        Name::GfmStrikethrough,
+        Name::BlockQuotePrefix,
+        Name::BlockQuoteMarker,
+        Name::CodeTextSequence,
+        Name::DefinitionMarker,
+        Name::EmphasisSequence,
+        Name::FrontmatterFence,
+        Name::GfmTableCellText,
+        Name::LabelImageMarker,
+        Name::MathTextSequence,
+    ],
+    &[
+        Name::MathFlowFenceMeta,
+        Name::HardBreakTrailing,
+        Name::HeadingSetextText,
+        Name::AttentionSequence,
+    ],
+    &[Name::CharacterReference, Name::HeadingAtxSequence],
+    &[
+        Name::CodeFencedFenceInfo,
+        Name::CodeFencedFenceMeta,
+        Name::ResourceTitleString,
+        Name::FrontmatterSequence,
+        Name::GfmTableCellDivider,
+        Name::ResourceDestination,
+        Name::ResourceTitleMarker,
+    ],
+    &[
+        Name::CharacterEscapeValue,
+        Name::GfmTableDelimiterRow,
+        Name::GfmFootnoteCallLabel,
+        Name::GfmStrikethroughText,
+        Name::GfmTaskListItemCheck,
+    ],
+    &[
+        Name::DefinitionLabelString,
+        Name::DefinitionTitleString,
+        Name::GfmAutolinkLiteralWww,
+        Name::GfmFootnoteDefinition,
+        Name::CharacterEscapeMarker,
+        Name::DefinitionDestination,
+        Name::DefinitionLabelMarker,
+        Name::DefinitionTitleMarker,
+        Name::GfmFootnoteCallMarker,
+        Name::GfmTableDelimiterCell,
+        Name::GfmTaskListItemMarker,
+        Name::MathFlowFenceSequence,
+        Name::ThematicBreakSequence,
+    ],
+    &[
+        Name::GfmAutolinkLiteralXmpp,
+        Name::HeadingSetextUnderline,
+        Name::ResourceDestinationRaw,
+    ],
+    &[
+        Name::CharacterReferenceValue,
+        Name::GfmAutolinkLiteralEmail,
+        Name::GfmTableDelimiterMarker,
+        Name::CodeFencedFenceSequence,
+        Name::GfmTableDelimiterFiller,
+    ],
+    &[
+        Name::CharacterReferenceMarker,
+        Name::GfmAutolinkLiteralMailto,
+        Name::DefinitionDestinationRaw,
+        Name::GfmStrikethroughSequence,
+    ],
+    &[Name::ResourceDestinationString],
+    &[
+        Name::GfmAutolinkLiteralProtocol,
+        Name::GfmTableDelimiterCellValue,
+        Name::GfmFootnoteDefinitionLabel,
+        Name::ResourceDestinationLiteral,
+    ],
+    &[
+        Name::DefinitionDestinationString,
+        Name::GfmTaskListItemValueChecked,
+        Name::GfmFootnoteDefinitionMarker,
+        Name::GfmFootnoteDefinitionPrefix,
+    ],
+    &[
+        Name::CharacterReferenceMarkerSemi,
+        Name::DefinitionDestinationLiteral,
+    ],
+    &[Name::GfmTaskListItemValueUnchecked],
+    &[Name::HeadingSetextUnderlineSequence],
+    &[Name::CharacterReferenceMarkerNumeric],
+    &[
+        Name::GfmFootnoteDefinitionLabelString,
+        Name::GfmFootnoteDefinitionLabelMarker,
+        Name::ResourceDestinationLiteralMarker,
+    ],
+    &[],
+    &[Name::DefinitionDestinationLiteralMarker],
+    &[Name::CharacterReferenceMarkerHexadecimal],
+];
+
+impl Name {
+    /// How the name is written in an event line.
+    ///
+    /// `Name::BlockQuote.text()` is `BlockQuote`.
+    pub fn text(self) -> &'static str
+        ensures { result.now ≡ spelling self }
+    {
+        match self {
+            Name::Data => "Data",
+            Name::CharacterEscapeValue => "CharacterEscapeValue",
+            Name::CodeFlowChunk => "CodeFlowChunk",
+            Name::CodeTextData => "CodeTextData",
+            Name::FrontmatterChunk => "FrontmatterChunk",
+            Name::HtmlFlowData => "HtmlFlowData",
+            Name::HtmlTextData => "HtmlTextData",
+            Name::MathFlowChunk => "MathFlowChunk",
+            Name::MathTextData => "MathTextData",
+            Name::AutolinkEmail => "AutolinkEmail",
+            Name::AutolinkProtocol => "AutolinkProtocol",
+            Name::CharacterReference => "CharacterReference",
+            Name::CharacterReferenceMarker => "CharacterReferenceMarker",
+            Name::CharacterReferenceMarkerNumeric => "CharacterReferenceMarkerNumeric",
+            Name::CharacterReferenceMarkerHexadecimal => "CharacterReferenceMarkerHexadecimal",
+            Name::CharacterReferenceValue => "CharacterReferenceValue",
+            Name::CodeFencedFenceInfo => "CodeFencedFenceInfo",
+            Name::CodeFencedFenceMeta => "CodeFencedFenceMeta",
+            Name::DefinitionDestinationString => "DefinitionDestinationString",
+            Name::DefinitionLabelString => "DefinitionLabelString",
+            Name::DefinitionTitleString => "DefinitionTitleString",
+            Name::GfmFootnoteDefinitionLabelString => "GfmFootnoteDefinitionLabelString",
+            Name::LabelText => "LabelText",
+            Name::MathFlowFenceMeta => "MathFlowFenceMeta",
+            Name::ReferenceString => "ReferenceString",
+            Name::ResourceDestinationString => "ResourceDestinationString",
+            Name::ResourceTitleString => "ResourceTitleString",
+            Name::Autolink => "Autolink",
+            Name::BlockQuote => "BlockQuote",
+            Name::CodeFenced => "CodeFenced",
+            Name::CodeIndented => "CodeIndented",
+            Name::CodeText => "CodeText",
+            Name::Definition => "Definition",
+            Name::Emphasis => "Emphasis",
+            Name::Frontmatter => "Frontmatter",
+            Name::GfmAutolinkLiteralEmail => "GfmAutolinkLiteralEmail",
+            Name::GfmAutolinkLiteralMailto => "GfmAutolinkLiteralMailto",
+            Name::GfmAutolinkLiteralProtocol => "GfmAutolinkLiteralProtocol",
+            Name::GfmAutolinkLiteralWww => "GfmAutolinkLiteralWww",
+            Name::GfmAutolinkLiteralXmpp => "GfmAutolinkLiteralXmpp",
+            Name::GfmFootnoteCall => "GfmFootnoteCall",
+            Name::GfmFootnoteDefinition => "GfmFootnoteDefinition",
+            Name::GfmStrikethrough => "GfmStrikethrough",
+            Name::GfmTable => "GfmTable",
+            Name::GfmTableRow => "GfmTableRow",
+            Name::GfmTableCell => "GfmTableCell",
+            Name::HeadingAtx => "HeadingAtx",
+            Name::HeadingSetext => "HeadingSetext",
+            Name::HtmlFlow => "HtmlFlow",
+            Name::HtmlText => "HtmlText",
+            Name::Image => "Image",
+            Name::Link => "Link",
+            Name::ListItem => "ListItem",
+            Name::ListOrdered => "ListOrdered",
+            Name::ListUnordered => "ListUnordered",
+            Name::MathFlow => "MathFlow",
+            Name::MathText => "MathText",
+            Name::Paragraph => "Paragraph",
+            Name::Strong => "Strong",
+            Name::ThematicBreak => "ThematicBreak",
+            Name::HardBreakEscape => "HardBreakEscape",
+            Name::HardBreakTrailing => "HardBreakTrailing",
+            Name::LineEnding => "LineEnding",
+            Name::CodeFencedFence => "CodeFencedFence",
+            Name::MathFlowFence => "MathFlowFence",
+            Name::GfmTaskListItemValueChecked => "GfmTaskListItemValueChecked",
+            Name::GfmTaskListItemValueUnchecked => "GfmTaskListItemValueUnchecked",
+            Name::HeadingAtxSequence => "HeadingAtxSequence",
+            Name::HeadingSetextText => "HeadingSetextText",
+            Name::HeadingSetextUnderlineSequence => "HeadingSetextUnderlineSequence",
+            Name::ListItemValue => "ListItemValue",
+            Name::Reference => "Reference",
+            Name::Resource => "Resource",
+            Name::BlankLineEnding => "BlankLineEnding",
+            Name::SpaceOrTab => "SpaceOrTab",
+            Name::ListItemPrefix => "ListItemPrefix",
+            Name::BlockQuotePrefix => "BlockQuotePrefix",
+            Name::GfmTableDelimiterRow => "GfmTableDelimiterRow",
+            Name::GfmTableDelimiterCellValue => "GfmTableDelimiterCellValue",
+            Name::GfmTableDelimiterMarker => "GfmTableDelimiterMarker",
+            Name::AttentionSequence => "AttentionSequence",
+            Name::AutolinkMarker => "AutolinkMarker",
+            Name::BlockQuoteMarker => "BlockQuoteMarker",
+            Name::ByteOrderMark => "ByteOrderMark",
+            Name::CharacterEscape => "CharacterEscape",
+            Name::CharacterEscapeMarker => "CharacterEscapeMarker",
+            Name::CharacterReferenceMarkerSemi => "CharacterReferenceMarkerSemi",
+            Name::CodeFencedFenceSequence => "CodeFencedFenceSequence",
+            Name::CodeTextSequence => "CodeTextSequence",
+            Name::Content => "Content",
+            Name::DefinitionDestination => "DefinitionDestination",
+            Name::DefinitionDestinationLiteral => "DefinitionDestinationLiteral",
+            Name::DefinitionDestinationLiteralMarker => "DefinitionDestinationLiteralMarker",
+            Name::DefinitionDestinationRaw => "DefinitionDestinationRaw",
+            Name::DefinitionLabel => "DefinitionLabel",
+            Name::DefinitionLabelMarker => "DefinitionLabelMarker",
+            Name::DefinitionMarker => "DefinitionMarker",
+            Name::DefinitionTitle => "DefinitionTitle",
+            Name::DefinitionTitleMarker => "DefinitionTitleMarker",
+            Name::EmphasisSequence => "EmphasisSequence",
+            Name::EmphasisText => "EmphasisText",
+            Name::FrontmatterFence => "FrontmatterFence",
+            Name::FrontmatterSequence => "FrontmatterSequence",
+            Name::GfmFootnoteCallLabel => "GfmFootnoteCallLabel",
+            Name::GfmFootnoteCallMarker => "GfmFootnoteCallMarker",
+            Name::GfmFootnoteDefinitionLabel => "GfmFootnoteDefinitionLabel",
+            Name::GfmFootnoteDefinitionLabelMarker => "GfmFootnoteDefinitionLabelMarker",
+            Name::GfmFootnoteDefinitionMarker => "GfmFootnoteDefinitionMarker",
+            Name::GfmFootnoteDefinitionPrefix => "GfmFootnoteDefinitionPrefix",
+            Name::GfmStrikethroughSequence => "GfmStrikethroughSequence",
+            Name::GfmStrikethroughText => "GfmStrikethroughText",
+            Name::GfmTableBody => "GfmTableBody",
+            Name::GfmTableCellDivider => "GfmTableCellDivider",
+            Name::GfmTableCellText => "GfmTableCellText",
+            Name::GfmTableDelimiterCell => "GfmTableDelimiterCell",
+            Name::GfmTableDelimiterFiller => "GfmTableDelimiterFiller",
+            Name::GfmTableHead => "GfmTableHead",
+            Name::GfmTaskListItemCheck => "GfmTaskListItemCheck",
+            Name::GfmTaskListItemMarker => "GfmTaskListItemMarker",
+            Name::HeadingAtxText => "HeadingAtxText",
+            Name::HeadingSetextUnderline => "HeadingSetextUnderline",
+            Name::Label => "Label",
+            Name::LabelEnd => "LabelEnd",
+            Name::LabelImage => "LabelImage",
+            Name::LabelImageMarker => "LabelImageMarker",
+            Name::LabelLink => "LabelLink",
+            Name::LabelMarker => "LabelMarker",
+            Name::ListItemMarker => "ListItemMarker",
+            Name::MathFlowFenceSequence => "MathFlowFenceSequence",
+            Name::MathTextSequence => "MathTextSequence",
+            Name::ReferenceMarker => "ReferenceMarker",
+            Name::ResourceDestination => "ResourceDestination",
+            Name::ResourceDestinationLiteral => "ResourceDestinationLiteral",
+            Name::ResourceDestinationLiteralMarker => "ResourceDestinationLiteralMarker",
+            Name::ResourceDestinationRaw => "ResourceDestinationRaw",
+            Name::ResourceMarker => "ResourceMarker",
+            Name::ResourceTitle => "ResourceTitle",
+            Name::ResourceTitleMarker => "ResourceTitleMarker",
+            Name::StrongSequence => "StrongSequence",
+            Name::StrongText => "StrongText",
+            Name::ThematicBreakSequence => "ThematicBreakSequence",
+        }
+    }
+
+    /// Whether it is the same name.
+    ///
+    /// `Name::Data.is(Name::Data)` is true, and `Name::HtmlFlow.is(Name::HtmlText)` is false.
+    pub fn is(self, other: Name) -> bool
+        ensures value { result ≡ is_same_name self other }
+        ensures same { IsTrue result ↔ (self ≡ other) }
+    {
+        self == other
+    }
+
+    /// The name that is written so, if there is one. Letters count as they are: `data` is no name.
+    ///
+    /// `Name::find("Data")` is `Some(Name::Data)`, and `Name::find("Nope")` is `None`.
+    pub fn find(text: &str) -> Option<Name>
+        ensures value { result ≡ name_of text.now }
+        ensures exact { (name : Name) → (result ≡ Some name) ↔ (spelling name ≡ text.now) }
+    {
+        Name::find_bytes(text.as_bytes())
+    }
+
+    /// The same for bytes, which need not be UTF-8.
+    ///
+    /// `Name::find_bytes(b"Data")` is `Some(Name::Data)`.
+    pub fn find_bytes(text: &[u8]) -> Option<Name>
+        ensures value { result ≡ name_of text.now }
+        ensures exact { (name : Name) → (result ≡ Some name) ↔ (spelling name ≡ text.now) }
+    {
+        find_in_rows(&NAMES_BY_LENGTH, text)
+    }
+}
+
+/// The name of that spelling in the row of its length.
+fn find_in_rows(rows: &[&[Name]], text: &[u8]) -> Option<Name>
+    ensures { result ≡ name_of_length (map (λ row. row.now) rows.now) text.now }
+{
+    match rows.get(text.len()) {
+        Some(row) => find_in_row(row, text),
+        None => None,
+    }
+}
+
+/// The first name of a row that is spelled so.
+fn find_in_row(names: &[Name], text: &[u8]) -> Option<Name>
+    ensures { result ≡ first_spelled names.now text.now }
+{
+    for name in names {
+        if name.text().as_bytes() == text {
+            return Some(*name);
+        }
+    }
+    None
+}
+
+/// A place between two characters of a document, as the tokenizer has it.
+#[derive(Clone, Copy, PartialEq, Eq, Debug)]
+pub struct Point {
+    /// The line, counted from 1.
+    pub line: usize,
+    /// The column, counted from 1.
+    pub column: usize,
+    /// The byte of the document, counted from 0.
+    pub index: usize,
+    /// How many spaces of the tab at the index stand before the place.
+    pub vs: usize,
+}
+
+impl Point {
+    /// The place in the tree: the index is the offset, and virtual spaces are dropped.
+    ///
+    /// `Point { line: 1, column: 3, index: 2, vs: 1 }.to_unist()` is `unist::Point::new(1, 3, 2)`.
+    pub fn to_unist(&self) -> unist::Point
+        ensures { result ≡ to_unist self.now }
+    {
+        unist::Point::new(self.line, self.column, self.index)
+    }
+}
+
+/// Where a span begins or ends.
+#[derive(Clone, Copy, PartialEq, Eq, Debug)]
+pub struct Event {
+    /// Whether the span begins or ends here.
+    pub kind: Kind,
+    /// What the span is.
+    pub name: Name,
+    /// Where it begins or ends.
+    pub point: Point,
+}

@@ -1,0 +1,10 @@
+//! Laws of the definitions, each the contract of a function that takes and gives nothing.
+
+ghost use Rattle.std.specs.Prelude.{◌≡◌};
+ghost use Rattle.markdown_events.specs.Forest.{Forest, spell};
+
+/// A list of events spells at most one forest.
+#[tactic(auto, using(crate::proofs::Unique::one_forest))]
+pub fn one_forest()
+    ensures { (first second : Forest) → spell first ≡ spell second → first ≡ second }
+{}

@@ -1,0 +1,380 @@
+//! What each name is to the tree. Nothing else looks at the names themselves but their spelling.
+
+ghost use Rattle.std.specs.Prelude.{◌≡◌};
+ghost use Rattle.markdown_events.specs.Names.{role_of};
+ghost use Rattle.markdown_events.specs.Forest.{is_delimiter_row, is_delimiter_cell_value};
+ghost use Rattle.markdown_events.specs.Spread.{is_blank_line, is_space_or_tab, is_item_prefix, is_quote_prefix, is_delimiter_marker};
+ghost use Rattle.markdown_events.specs.Walks.{holds_nothing, is_list_item, is_block_quote};
+
+use crate::event::Name;
+
+/// A plain name: it makes no node, and what it holds is its holder's.
+#[derive(Clone, Copy, PartialEq, Eq, Debug)]
+pub enum Plain {
+    BlankLineEnding,
+    SpaceOrTab,
+    ListItemPrefix,
+    BlockQuotePrefix,
+    /// The row under the head of a table.
+    DelimiterRow,
+    /// What says how a column is aligned.
+    DelimiterCellValue,
+    /// A colon in a delimiter cell value.
+    DelimiterMarker,
+    /// Any other, which nothing looks at.
+    Other,
+}
+
+/// A name that a holder of content takes, any number of times. Names that mean the same are one.
+#[derive(Clone, Copy, PartialEq, Eq, Debug)]
+pub enum Content {
+    /// A part of a text: its slice.
+    Data,
+    CharacterReference,
+    Autolink,
+    BlockQuote,
+    CodeFenced,
+    CodeIndented,
+    CodeText,
+    Definition,
+    Emphasis,
+    Frontmatter,
+    /// An address without its `mailto:`.
+    AutolinkLiteralEmail,
+    /// An address without its `http://`.
+    AutolinkLiteralWww,
+    /// An address with its scheme.
+    AutolinkLiteralWhole,
+    FootnoteCall,
+    FootnoteDefinition,
+    Strikethrough,
+    Table,
+    TableRow,
+    TableCell,
+    HeadingAtx,
+    HeadingSetext,
+    /// HTML, flow or text.
+    Html,
+    Image,
+    Link,
+    ListItem,
+    ListOrdered,
+    ListUnordered,
+    MathFlow,
+    MathText,
+    Paragraph,
+    Strong,
+    ThematicBreak,
+    /// A hard break, however it is written.
+    HardBreak,
+    LineEnding,
+}
+
+/// A name that only some holders take.
+#[derive(Clone, Copy, PartialEq, Eq, Debug)]
+pub enum Part {
+    AutolinkEmail,
+    AutolinkProtocol,
+    CharacterReferenceMarker,
+    CharacterReferenceMarkerNumeric,
+    CharacterReferenceMarkerHexadecimal,
+    CharacterReferenceValue,
+    CodeFencedFenceInfo,
+    CodeFencedFenceMeta,
+    DefinitionDestinationString,
+    DefinitionLabelString,
+    DefinitionTitleString,
+    FootnoteDefinitionLabelString,
+    LabelText,
+    MathFlowFenceMeta,
+    ReferenceString,
+    ResourceDestinationString,
+    ResourceTitleString,
+    CodeFencedFence,
+    MathFlowFence,
+    TaskMarkChecked,
+    TaskMarkUnchecked,
+    HeadingAtxSequence,
+    HeadingSetextText,
+    HeadingSetextUnderlineSequence,
+    ListItemValue,
+    Reference,
+    Resource,
+}
+
+/// A name that says something to the tree.
+#[derive(Clone, Copy, PartialEq, Eq, Debug)]
+pub enum Acting {
+    Content(Content),
+    Part(Part),
+}
+
+/// What a name is to the tree.
+#[derive(Clone, Copy, PartialEq, Eq, Debug)]
+pub enum Role {
+    Plain(Plain),
+    Acting(Acting),
+}
+
+impl Name {
+    /// What the name is to the tree.
+    ///
+    /// `Name::HtmlText.role()` is `Role::Acting(Acting::Content(Content::Html))`, as is that of
+    /// `Name::HtmlFlow`.
+    pub fn role(self) -> Role
+        ensures { result ≡ role_of self }
+    {
+        match self {
+            Name::Data
+            | Name::CharacterEscapeValue
+            | Name::CodeFlowChunk
+            | Name::CodeTextData
+            | Name::FrontmatterChunk
+            | Name::HtmlFlowData
+            | Name::HtmlTextData
+            | Name::MathFlowChunk
+            | Name::MathTextData => Role::Acting(Acting::Content(Content::Data)),
+            Name::CharacterReference => Role::Acting(Acting::Content(Content::CharacterReference)),
+            Name::Autolink => Role::Acting(Acting::Content(Content::Autolink)),
+            Name::BlockQuote => Role::Acting(Acting::Content(Content::BlockQuote)),
+            Name::CodeFenced => Role::Acting(Acting::Content(Content::CodeFenced)),
+            Name::CodeIndented => Role::Acting(Acting::Content(Content::CodeIndented)),
+            Name::CodeText => Role::Acting(Acting::Content(Content::CodeText)),
+            Name::Definition => Role::Acting(Acting::Content(Content::Definition)),
+            Name::Emphasis => Role::Acting(Acting::Content(Content::Emphasis)),
+            Name::Frontmatter => Role::Acting(Acting::Content(Content::Frontmatter)),
+            Name::GfmAutolinkLiteralEmail => Role::Acting(Acting::Content(
+                Content::AutolinkLiteralEmail,
+            )),
+            Name::GfmAutolinkLiteralWww => Role::Acting(Acting::Content(
+                Content::AutolinkLiteralWww,
+            )),
+            Name::GfmAutolinkLiteralMailto
+            | Name::GfmAutolinkLiteralProtocol
+            | Name::GfmAutolinkLiteralXmpp => Role::Acting(Acting::Content(
+                Content::AutolinkLiteralWhole,
+            )),
+            Name::GfmFootnoteCall => Role::Acting(Acting::Content(Content::FootnoteCall)),
+            Name::GfmFootnoteDefinition => Role::Acting(Acting::Content(
+                Content::FootnoteDefinition,
+            )),
+            Name::GfmStrikethrough => Role::Acting(Acting::Content(Content::Strikethrough)),
+            Name::GfmTable => Role::Acting(Acting::Content(Content::Table)),
+            Name::GfmTableRow => Role::Acting(Acting::Content(Content::TableRow)),
+            Name::GfmTableCell => Role::Acting(Acting::Content(Content::TableCell)),
+            Name::HeadingAtx => Role::Acting(Acting::Content(Content::HeadingAtx)),
+            Name::HeadingSetext => Role::Acting(Acting::Content(Content::HeadingSetext)),
+            Name::HtmlFlow | Name::HtmlText => Role::Acting(Acting::Content(Content::Html)),
+            Name::Image => Role::Acting(Acting::Content(Content::Image)),
+            Name::Link => Role::Acting(Acting::Content(Content::Link)),
+            Name::ListItem => Role::Acting(Acting::Content(Content::ListItem)),
+            Name::ListOrdered => Role::Acting(Acting::Content(Content::ListOrdered)),
+            Name::ListUnordered => Role::Acting(Acting::Content(Content::ListUnordered)),
+            Name::MathFlow => Role::Acting(Acting::Content(Content::MathFlow)),
+            Name::MathText => Role::Acting(Acting::Content(Content::MathText)),
+            Name::Paragraph => Role::Acting(Acting::Content(Content::Paragraph)),
+            Name::Strong => Role::Acting(Acting::Content(Content::Strong)),
+            Name::ThematicBreak => Role::Acting(Acting::Content(Content::ThematicBreak)),
+            Name::HardBreakEscape | Name::HardBreakTrailing => Role::Acting(Acting::Content(
+                Content::HardBreak,
+            )),
+            Name::LineEnding => Role::Acting(Acting::Content(Content::LineEnding)),
+            Name::AutolinkEmail => Role::Acting(Acting::Part(Part::AutolinkEmail)),
+            Name::AutolinkProtocol => Role::Acting(Acting::Part(Part::AutolinkProtocol)),
+            Name::CharacterReferenceMarker => Role::Acting(Acting::Part(
+                Part::CharacterReferenceMarker,
+            )),
+            Name::CharacterReferenceMarkerNumeric => Role::Acting(Acting::Part(
+                Part::CharacterReferenceMarkerNumeric,
+            )),
+            Name::CharacterReferenceMarkerHexadecimal => Role::Acting(Acting::Part(
+                Part::CharacterReferenceMarkerHexadecimal,
+            )),
+            Name::CharacterReferenceValue => Role::Acting(Acting::Part(
+                Part::CharacterReferenceValue,
+            )),
+            Name::CodeFencedFenceInfo => Role::Acting(Acting::Part(Part::CodeFencedFenceInfo)),
+            Name::CodeFencedFenceMeta => Role::Acting(Acting::Part(Part::CodeFencedFenceMeta)),
+            Name::DefinitionDestinationString => Role::Acting(Acting::Part(
+                Part::DefinitionDestinationString,
+            )),
+            Name::DefinitionLabelString => Role::Acting(Acting::Part(Part::DefinitionLabelString)),
+            Name::DefinitionTitleString => Role::Acting(Acting::Part(Part::DefinitionTitleString)),
+            Name::GfmFootnoteDefinitionLabelString => Role::Acting(Acting::Part(
+                Part::FootnoteDefinitionLabelString,
+            )),
+            Name::LabelText => Role::Acting(Acting::Part(Part::LabelText)),
+            Name::MathFlowFenceMeta => Role::Acting(Acting::Part(Part::MathFlowFenceMeta)),
+            Name::ReferenceString => Role::Acting(Acting::Part(Part::ReferenceString)),
+            Name::ResourceDestinationString => Role::Acting(Acting::Part(
+                Part::ResourceDestinationString,
+            )),
+            Name::ResourceTitleString => Role::Acting(Acting::Part(Part::ResourceTitleString)),
+            Name::CodeFencedFence => Role::Acting(Acting::Part(Part::CodeFencedFence)),
+            Name::MathFlowFence => Role::Acting(Acting::Part(Part::MathFlowFence)),
+            Name::GfmTaskListItemValueChecked => Role::Acting(Acting::Part(Part::TaskMarkChecked)),
+            Name::GfmTaskListItemValueUnchecked => Role::Acting(Acting::Part(
+                Part::TaskMarkUnchecked,
+            )),
+            Name::HeadingAtxSequence => Role::Acting(Acting::Part(Part::HeadingAtxSequence)),
+            Name::HeadingSetextText => Role::Acting(Acting::Part(Part::HeadingSetextText)),
+            Name::HeadingSetextUnderlineSequence => Role::Acting(Acting::Part(
+                Part::HeadingSetextUnderlineSequence,
+            )),
+            Name::ListItemValue => Role::Acting(Acting::Part(Part::ListItemValue)),
+            Name::Reference => Role::Acting(Acting::Part(Part::Reference)),
+            Name::Resource => Role::Acting(Acting::Part(Part::Resource)),
+            Name::BlankLineEnding => Role::Plain(Plain::BlankLineEnding),
+            Name::SpaceOrTab => Role::Plain(Plain::SpaceOrTab),
+            Name::ListItemPrefix => Role::Plain(Plain::ListItemPrefix),
+            Name::BlockQuotePrefix => Role::Plain(Plain::BlockQuotePrefix),
+            Name::GfmTableDelimiterRow => Role::Plain(Plain::DelimiterRow),
+            Name::GfmTableDelimiterCellValue => Role::Plain(Plain::DelimiterCellValue),
+            Name::GfmTableDelimiterMarker => Role::Plain(Plain::DelimiterMarker),
+            Name::AttentionSequence
+            | Name::AutolinkMarker
+            | Name::BlockQuoteMarker
+            | Name::ByteOrderMark
+            | Name::CharacterEscape
+            | Name::CharacterEscapeMarker
+            | Name::CharacterReferenceMarkerSemi
+            | Name::CodeFencedFenceSequence
+            | Name::CodeTextSequence
+            | Name::Content
+            | Name::DefinitionDestination
+            | Name::DefinitionDestinationLiteral
+            | Name::DefinitionDestinationLiteralMarker
+            | Name::DefinitionDestinationRaw
+            | Name::DefinitionLabel
+            | Name::DefinitionLabelMarker => Role::Plain(Plain::Other),
+            Name::DefinitionMarker
+            | Name::DefinitionTitle
+            | Name::DefinitionTitleMarker
+            | Name::EmphasisSequence
+            | Name::EmphasisText
+            | Name::FrontmatterFence
+            | Name::FrontmatterSequence
+            | Name::GfmFootnoteCallLabel
+            | Name::GfmFootnoteCallMarker
+            | Name::GfmFootnoteDefinitionLabel
+            | Name::GfmFootnoteDefinitionLabelMarker
+            | Name::GfmFootnoteDefinitionMarker
+            | Name::GfmFootnoteDefinitionPrefix
+            | Name::GfmStrikethroughSequence
+            | Name::GfmStrikethroughText
+            | Name::GfmTableBody => Role::Plain(Plain::Other),
+            Name::GfmTableCellDivider
+            | Name::GfmTableCellText
+            | Name::GfmTableDelimiterCell
+            | Name::GfmTableDelimiterFiller
+            | Name::GfmTableHead
+            | Name::GfmTaskListItemCheck
+            | Name::GfmTaskListItemMarker
+            | Name::HeadingAtxText
+            | Name::HeadingSetextUnderline
+            | Name::Label
+            | Name::LabelEnd
+            | Name::LabelImage
+            | Name::LabelImageMarker
+            | Name::LabelLink
+            | Name::LabelMarker
+            | Name::ListItemMarker => Role::Plain(Plain::Other),
+            Name::MathFlowFenceSequence
+            | Name::MathTextSequence
+            | Name::ReferenceMarker
+            | Name::ResourceDestination
+            | Name::ResourceDestinationLiteral
+            | Name::ResourceDestinationLiteralMarker
+            | Name::ResourceDestinationRaw
+            | Name::ResourceMarker
+            | Name::ResourceTitle
+            | Name::ResourceTitleMarker
+            | Name::StrongSequence
+            | Name::StrongText
+            | Name::ThematicBreakSequence => Role::Plain(Plain::Other),
+        }
+    }
+}
+
+impl Role {
+    /// Whether a span of this role may have no span in it: a line ending, the ending of a blank
+    /// line, and white space in a line (ours: micromark has none in them).
+    ///
+    /// `Name::LineEnding.role().holds_nothing()` is true.
+    pub fn holds_nothing(self) -> bool
+        ensures { result ≡ holds_nothing self }
+    {
+        matches!(
+            self,
+            Role::Acting(Acting::Content(Content::LineEnding))
+                | Role::Plain(Plain::BlankLineEnding | Plain::SpaceOrTab)
+        )
+    }
+
+    /// Whether it is the ending of a blank line.
+    pub(crate) fn is_blank_line(self) -> bool
+        ensures { result ≡ is_blank_line self }
+    {
+        matches!(self, Role::Plain(Plain::BlankLineEnding))
+    }
+
+    /// Whether it is white space in a line.
+    pub(crate) fn is_space_or_tab(self) -> bool
+        ensures { result ≡ is_space_or_tab self }
+    {
+        matches!(self, Role::Plain(Plain::SpaceOrTab))
+    }
+
+    /// Whether it is what stands before the content of a list item.
+    pub(crate) fn is_item_prefix(self) -> bool
+        ensures { result ≡ is_item_prefix self }
+    {
+        matches!(self, Role::Plain(Plain::ListItemPrefix))
+    }
+
+    /// Whether it is what stands before the content of a block quote.
+    pub(crate) fn is_quote_prefix(self) -> bool
+        ensures { result ≡ is_quote_prefix self }
+    {
+        matches!(self, Role::Plain(Plain::BlockQuotePrefix))
+    }
+
+    /// Whether it is the row under the head of a table (GFM).
+    ///
+    /// `Name::GfmTableDelimiterRow.role().is_delimiter_row()` is true.
+    pub fn is_delimiter_row(self) -> bool
+        ensures { result ≡ is_delimiter_row self }
+    {
+        matches!(self, Role::Plain(Plain::DelimiterRow))
+    }
+
+    /// Whether it says how a column is aligned (GFM).
+    ///
+    /// `Name::GfmTableDelimiterCellValue.role().is_delimiter_cell_value()` is true.
+    pub fn is_delimiter_cell_value(self) -> bool
+        ensures { result ≡ is_delimiter_cell_value self }
+    {
+        matches!(self, Role::Plain(Plain::DelimiterCellValue))
+    }
+
+    /// Whether it is a colon that says how a column is aligned.
+    pub(crate) fn is_delimiter_marker(self) -> bool
+        ensures { result ≡ is_delimiter_marker self }
+    {
+        matches!(self, Role::Plain(Plain::DelimiterMarker))
+    }
+
+    /// Whether it is an item of a list.
+    pub(crate) fn is_list_item(self) -> bool
+        ensures { result ≡ is_list_item self }
+    {
+        matches!(self, Role::Acting(Acting::Content(Content::ListItem)))
+    }
+
+    /// Whether it is a block quote.
+    pub(crate) fn is_block_quote(self) -> bool
+        ensures { result ≡ is_block_quote self }
+    {
+        matches!(self, Role::Acting(Acting::Content(Content::BlockQuote)))
+    }
+}
