@@ -4,3 +4,4 @@ pub mod Reading
 pub mod Copying
 pub mod Comparing
 pub mod StructsEqual
+pub mod Labels

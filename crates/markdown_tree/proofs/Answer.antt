@@ -16,7 +16,7 @@ use Rattle.markdown_tree.specs.Machine.{State, Fails, opening, open_of, run}
 use Rattle.markdown_tree.specs.Refusals.{IsFaultOf}
 use Rattle.markdown_tree.specs.Source.{Source}
 use Rattle.markdown_tree.proofs.Main.{run_refuses}
-use Rattle.markdown_tree.proofs.Runs.{ok_is}
+use Rattle.markdown_tree.proofs.Outcomes.{ok_is}
 
 pub fails_rightly : (f : Fault) (es : List Event) (s : Source) → Fails f (run s es opening) → FailsRightly f es s
 fails_rightly (faults.Memory e) es s h = tt

@@ -26,7 +26,7 @@ pub record Conditions (s : Source) (h : Holder) (p : Place) (waiting : Bool) (xs
 pub record AtItem (s : Source) (x : Occurrence) : Type 0 where
   pub begins : may_begin s x.place x.behind_break x.what x.start ≡ true
   pub taken : takes_its_items x ≡ true
-  pub ends : may_end s x.holder (x.place.line_endings && not x.behind_break) x.what x.start x.end (ends_with_break x.inner) (holder_of x.holder x.what) (known s x) ≡ true
+  pub ends : may_end s x.holder x.place x.behind_break x.what x.start x.end (ends_with_break x.inner) (holder_of x.holder x.what) (known s x) ≡ true
 
 -- and the same, test by test
 pub record Tests (s : Source) (x : Occurrence) : Type 0 where
@@ -70,7 +70,7 @@ walk-tells s h p w (item what a b d inner rest) k =
     let x : Occurrence = record { holder = h; place = p; behind_break = w; what = what; start = a; end = b; inner = inner } in
     let begins : Bool = may_begin s p w what a in
     let below : Bool = fits s (holder_of h what) (place_inside what p) false inner in
-    let ends : Bool = may_end s h (p.line_endings && not w) what a b (ends_with_break inner) (holder_of h what) (known s x) in
+    let ends : Bool = may_end s h p w what a b (ends_with_break inner) (holder_of h what) (known s x) in
     let behind : Bool = fits s (holder_behind h what (is_some (mark inner))) (place_behind what p) (is_hard_break what) rest in
     let here : (begins && (takes_its_items x && below) && ends) ≡ true = and-left (begins && (takes_its_items x && below) && ends) behind k in
     let inside : (takes_its_items x && below) ≡ true = second-of begins (takes_its_items x && below) ends here in
@@ -120,7 +120,7 @@ told-walk s h p w (item what a b d inner rest) c =
     record { rows = rows.behind; inside = inside.behind; breaks = breaks.behind; tables = tables.behind; parts = parts.behind; bytes = bytes.behind; values = values.behind } in
     let begins : Bool = may_begin s p w what a in
     let below : Bool = fits s (holder_of h what) (place_inside what p) false inner in
-    let ends : Bool = may_end s h (p.line_endings && not w) what a b (ends_with_break inner) (holder_of h what) (known s x) in
+    let ends : Bool = may_end s h p w what a b (ends_with_break inner) (holder_of h what) (known s x) in
     let behind : Bool = fits s (holder_behind h what (is_some (mark inner))) (place_behind what p) (is_hard_break what) rest in
     and-both (begins && (takes_its_items x && below) && ends) behind
     (all-three begins (takes_its_items x && below) ends at.begins (and-both (takes_its_items x) below at.taken (told-walk s (holder_of h what) (place_inside what p) false inner i)) at.ends)

@@ -1,5 +1,5 @@
 -- The steps over a whole forest, by recursion on it: where it has the right shape, they are those over its items.
-use Rattle.std.proofs.Common.{◌≡◌, Bool, true, false, ◌&&◌, [], ◌∷◌, Option, Some, None, Result, Ok, Err, refl, sym, ◌∙◌, ap}
+use Rattle.std.proofs.Common.{◌≡◌, Bool, true, ◌&&◌, [], ◌∷◌, Option, Some, Result, Ok, refl, sym, ◌∙◌, ap}
 use Rattle.std.specs.Option.{option_and_then}
 use Rattle.markdown_events.specs.declared.event.Point.{Point}
 use Rattle.markdown_events.specs.declared.role.Acting.{Acting}
@@ -12,9 +12,13 @@ use Rattle.markdown_tree.specs.declared.builder.Around.{Around}
 use Rattle.markdown_tree.specs.declared.refusal.Refusal.TheVariants.{Held}
 use Rattle.markdown_tree.specs.Carried.{holder_of}
 use Rattle.markdown_tree.specs.Items.{Items, none, item, items, place_items, ◌then◌}
-use Rattle.markdown_tree.specs.Machine.{Rejection, checked, Holds, fresh, closed, enter_checks, exit_checks, may_begin, under, leave, ◌>>=◌}
+use Rattle.markdown_tree.specs.Machine.{Holds, fresh, closed, enter_checks, exit_checks, leave}
+use Rattle.markdown_tree.specs.Around.{may_begin, under}
+use Rattle.markdown_tree.specs.Rejections.{Rejection, checked, ◌>>=◌, passes}
 use Rattle.markdown_tree.specs.Source.{Source}
-use Rattle.markdown_tree.proofs.Walk.{ok, when, passes, ok-checked, walk}
+use Rattle.markdown_tree.proofs.Shape.{shaped}
+use Rattle.markdown_tree.proofs.Walk.{walk}
+use Rattle.markdown_tree.proofs.Outcomes.{ok, when, ok-checked, ok-bind, then-same, then-then, then-when, when-and, when-swap, when-then}
 
 -- one span and those behind it, by its role
 abbrev pub eval_as : Source → Role → Point → Point → (Holds → Result Holds Rejection) → (Holds → Result Holds Rejection) → Holds → Result Holds Rejection
@@ -26,48 +30,9 @@ eval s around empty top = Ok top
 eval s around (span n a b c r) top =
     checked ((may_begin around (role_of n), Held) ∷ []) a (eval_as s (role_of n) a b (λ t. eval s (under around (role_of n)) c t) (λ t. eval s around r t) top)
 
--- the right shape, by what is around
-abbrev pub shaped : Around → Forest → Bool
-shaped around empty = true
-shaped around (span n a b c r) = may_begin around (role_of n) && (shaped (under around (role_of n)) c && shaped around r)
-
-pub ok-bind : {A B : Type 0} (r : Result A Rejection) (f : A → Result B Rejection) → ok (r >>= f) ≡ option_and_then (λ (x : A). ok (f x)) (ok r)
-ok-bind (Ok x) f = refl
-ok-bind (Err e) f = refl
-
 ok-leave : (s : Source) (what : Acting) (a b : Point) (inner : Trees) (top : Holds) → ok (leave s what a b inner top) ≡ when (passes (exit_checks s what a b)) (Some (closed s top what a b inner))
 unfolding leave
 ok-leave s what a b inner top = ok-checked (exit_checks s what a b) b (Ok (closed s top what a b inner))
-
-then-same : {A B : Type 0} (o : Option A) (f g : A → Option B) → ((x : A) → f x ≡ g x) → option_and_then f o ≡ option_and_then g o
-then-same None f g h = refl
-then-same (Some x) f g h = h x
-
-then-then : {A B C : Type 0} (o : Option A) (f : A → Option B) (g : B → Option C) → option_and_then g (option_and_then f o) ≡ option_and_then (λ (x : A). option_and_then g (f x)) o
-then-then None f g = refl
-then-then (Some x) f g = refl
-
-then-when : {A B : Type 0} (b : Bool) (o : Option A) (f : A → Option B) → option_and_then (λ (x : A). when b (f x)) o ≡ when b (option_and_then f o)
-then-when true o f = refl
-then-when false None f = refl
-then-when false (Some x) f = refl
-
-when-then : {A B : Type 0} (b : Bool) (o : Option A) (f : A → Option B) → option_and_then f (when b o) ≡ when b (option_and_then f o)
-when-then true o f = refl
-when-then false o f = refl
-
-when-none : {A : Type 0} (b : Bool) → when {A = A} b None ≡ None
-when-none true = refl
-when-none false = refl
-
-when-swap : {A : Type 0} (a b : Bool) (o : Option A) → when a (when b o) ≡ when b (when a o)
-when-swap true b o = refl
-when-swap false b o = sym (when-none b)
-
-when-and : {A : Type 0} (a b c : Bool) (o : Option A) → when (a && true) (when b (when c o)) ≡ when (a && (b && c)) o
-when-and true true c o = refl
-when-and true false c o = refl
-when-and false b c o = refl
 
 pub walk-then : (s : Source) (xs ys : Items) (top : Holds) → walk s top (xs then ys) ≡ option_and_then (λ (t : Holds). walk s t ys) (walk s top xs)
 walk-then s none ys top = refl

@@ -1,5 +1,5 @@
 -- Forests side by side, and lists of items one after the other.
-use Rattle.std.proofs.Common.{◌≡◌, Bool, true, false, List, ◌∷◌, ◌++◌, append_assoc, Option, Some, refl, sym, ◌∙◌, ap, append_assoc}
+use Rattle.std.proofs.Common.{◌≡◌, true, false, List, ◌∷◌, ◌++◌, append_assoc, Option, Some, refl, sym, ◌∙◌, ap, append_assoc}
 use Rattle.std.proofs.Common.{cond}
 use Rattle.std.specs.Prelude.{is_some}
 use Rattle.std.specs.Option.{option_or}
@@ -18,8 +18,9 @@ use Rattle.markdown_tree.specs.Items.{Items, item, items, kinds, none, place_ite
 use Rattle.markdown_tree.specs.Media.{node_at}
 use Rattle.markdown_tree.specs.Nodes.{node_of, nodes}
 use Rattle.markdown_tree.specs.Parts.{Path, Stretch, first_part, inner_of, into, itself}
-use Rattle.markdown_tree.specs.Place.{Place, line_ending_is_text_behind, place_behind, place_inside}
+use Rattle.markdown_tree.specs.Place.{Place, place_behind, place_inside}
 use Rattle.markdown_tree.specs.Source.{Source}
+use Rattle.markdown_tree.specs.Spots.{place_past}
 use Rattle.markdown_nodes.specs.Tree as tree
 use Rattle.markdown_events.specs.declared.role.Content.TheVariants as contents
 use Rattle.markdown_events.specs.declared.role.Acting.TheVariants.{Content as content, Part as part}
@@ -58,39 +59,32 @@ pub kinds-then : (xs ys : Items) → kinds (xs then ys) ≡ kinds xs ++ kinds ys
 kinds-then none ys = refl
 kinds-then (item what a b d i rest) ys = ap (λ kinds. what ∷ kinds) (kinds-then rest ys)
 
--- whether line endings are text behind a list of items
-abbrev pub line_ending_is_text_past : Items → Bool → Bool
-line_ending_is_text_past none before = before
-line_ending_is_text_past (item what _ _ _ _ rest) before = line_ending_is_text_past rest (line_ending_is_text_behind what before)
-
--- the place behind a list of items
-abbrev pub place_past : Items → Place → Place
-place_past xs p = record { line_endings = line_ending_is_text_past xs p.line_endings; in_table = p.in_table }
-
 pub nodes-then : (s : Source) (p : Place) (xs ys : Items) → ends_with_break xs ≡ false → nodes s itself p (xs then ys) ≡ join (nodes s itself p xs) (nodes s itself (place_past xs p) ys)
 nodes-then s p none ys h = refl
 nodes-then s p (item (content contents.HardBreak) a b d i none) ys h = let z : ⊥ = cc in absurd z
 nodes-then s p (item (content contents.HardBreak) a b d i (item (content contents.LineEnding) a' b' d' i' rest)) ys h =
     ap (λ t. join (node_at tree.«break» nothing a b') t) (nodes-then s p rest ys h) ∙ sym (join_assoc (node_at tree.«break» nothing a b') (nodes s itself p rest) (nodes s itself (place_past rest p) ys))
 nodes-then s p (item what a b d i rest) ys h =
-    ap (λ t. join (node_of s p what a b (shown_of d) (inner_of s i (λ which. nodes s which (place_inside what p) i))) t) (nodes-then s (place_behind what p) rest ys h)
-    ∙ sym (join_assoc (node_of s p what a b (shown_of d) (inner_of s i (λ which. nodes s which (place_inside what p) i))) (nodes s itself (place_behind what p) rest) (nodes s itself (place_past rest (place_behind what p)) ys))
+    ap (λ t. join (node_of s p what a b (shown_of d) (inner_of s (place_inside what p) i (λ which. nodes s which (place_inside what p) i))) t) (nodes-then s (place_behind what p) rest ys h)
+    ∙ sym (join_assoc (node_of s p what a b (shown_of d) (inner_of s (place_inside what p) i (λ which. nodes s which (place_inside what p) i))) (nodes s itself (place_behind what p) rest) (nodes s itself (place_past rest (place_behind what p)) ys))
 
-pub within-then : (s : Source) (q : Part) (way : Path) (p : Place) (xs ys : Items) → nodes s (into q way) p (xs then ys) ≡ cond (is_some (first_part q xs)) (nodes s (into q way) p xs) (nodes s (into q way) p ys)
-within-then s q way p none ys = refl
-within-then s q way p (item (part r) a b d i rest) ys =
+pub within-then : (s : Source) (q : Part) (way : Path) (p from : Place) (xs ys : Items) → nodes s (into q way) p (xs then ys) ≡ cond (is_some (first_part q from xs)) (nodes s (into q way) p xs) (nodes s (into q way) p ys)
+within-then s q way p from none ys = refl
+within-then s q way p from (item (part r) a b d i rest) ys =
     elim (same_part q r) as (λ t. elim t [ true ↦ nodes s way (place_inside (part r) p) i | false ↦ nodes s (into q way) p (rest then ys) ]
-    ≡ cond (is_some (cond {A = Option Stretch} t (Some (record { start = a; end = b; inner = i })) (first_part q rest))) (elim t [ true ↦ nodes s way (place_inside (part r) p) i | false ↦ nodes s (into q way) p rest ]) (nodes s (into q way) p ys)) [
+    ≡ cond (is_some (cond {A = Option Stretch} t (Some (record { start = a; end = b; place = from; inner = i })) (first_part q (place_behind (part r) from) rest)))
+    (elim t [ true ↦ nodes s way (place_inside (part r) p) i | false ↦ nodes s (into q way) p rest ]) (nodes s (into q way) p ys)) [
       | true ↦ refl
-      | false ↦ within-then s q way p rest ys
+      | false ↦ within-then s q way p (place_behind (part r) from) rest ys
     ]
-within-then s q way p (item (content c) a b d i rest) ys = within-then s q way p rest ys
+within-then s q way p from (item (content c) a b d i rest) ys = within-then s q way p (place_behind (content c) from) rest ys
 
-pub first_part-then : (q : Part) (xs ys : Items) → first_part q (xs then ys) ≡ option_or (first_part q xs) (first_part q ys)
-first_part-then q none ys = refl
-first_part-then q (item (part r) a b d i rest) ys =
-    elim (same_part q r) as (λ t. cond {A = Option Stretch} t (Some (record { start = a; end = b; inner = i })) (first_part q (rest then ys)) ≡ option_or (cond t (Some (record { start = a; end = b; inner = i })) (first_part q rest)) (first_part q ys)) [
+pub first_part-then : (q : Part) (p : Place) (xs ys : Items) → first_part q p (xs then ys) ≡ option_or (first_part q p xs) (first_part q (place_past xs p) ys)
+first_part-then q p none ys = refl
+first_part-then q p (item (part r) a b d i rest) ys =
+    elim (same_part q r) as (λ t. cond {A = Option Stretch} t (Some (record { start = a; end = b; place = p; inner = i })) (first_part q (place_behind (part r) p) (rest then ys))
+    ≡ option_or (cond t (Some (record { start = a; end = b; place = p; inner = i })) (first_part q (place_behind (part r) p) rest)) (first_part q (place_past rest (place_behind (part r) p)) ys)) [
       | true ↦ refl
-      | false ↦ first_part-then q rest ys
+      | false ↦ first_part-then q (place_behind (part r) p) rest ys
     ]
-first_part-then q (item (content c) a b d i rest) ys = first_part-then q rest ys
+first_part-then q p (item (content c) a b d i rest) ys = first_part-then q (place_behind (content c) p) rest ys

@@ -1,7 +1,22 @@
 mod GhostWalks
+pub mod Digits
+pub mod Readings
+pub mod Joins
+pub mod Trims
+pub mod TextCuts
 pub mod SliceReads
 pub mod Views
+pub mod Parents
+pub mod Keeping
+pub mod SpanEnds
+pub mod LeafEnds
+pub mod PartEnds
+pub mod Stopping
+pub mod Misfits
+pub mod Beginnings
 pub mod Loop
+pub mod Outcomes
+pub mod Extents
 pub mod Walk
 pub mod Eval
 pub mod Shape
@@ -13,9 +28,31 @@ pub mod Stops
 pub mod Main
 pub mod Answer
 mod ItemLists
+mod RuleLists
+mod BreakEnds
+mod Gathered
+mod Allowed
+mod ItemSteps
+mod SiblingMarks
+mod ColumnKinds
+mod TableSteps
+mod ForestSteps
+mod EventRuns
+mod WalkCounts
+mod NodeCounts
+pub mod Compiled
+pub mod HeldWalks
+pub mod InsideWalks
+pub mod Refused
+pub mod Unbalanced
+pub mod WellKept
+mod OpenSpans
+pub mod LastEvents
+pub mod Known
+pub mod Reasons
+pub mod Sayings
 mod Merged
 mod SpanLaw
-mod RuleLists
 mod Orderly
 mod RowsTexts
 mod RowsBreaks

@@ -9,7 +9,8 @@ use Rattle.markdown_events.specs.declared.message.Fault.TheVariants as faults
 use Rattle.markdown_events.specs.declared.event.Point.{Point}
 use Rattle.markdown_tree.specs.declared.refusal.Stop.{Stop}
 use Rattle.markdown_tree.specs.declared.refusal.Stop.TheVariants as stops
-use Rattle.markdown_tree.specs.Machine.{Rejection, State, Stops, Fails, opening, step, run, ◌>>=◌}
+use Rattle.markdown_tree.specs.Machine.{State, Stops, Fails, opening, step, run}
+use Rattle.markdown_tree.specs.Rejections.{Rejection, ◌>>=◌}
 use Rattle.markdown_tree.specs.Refusals.{IsFaultOf}
 use Rattle.markdown_tree.specs.Source.{Source}
 

@@ -1,46 +1,43 @@
 -- What the run over a list of events says of the list.
-use Rattle.std.proofs.Common.{◌≡◌, ◌≢◌, inl, inr, ℕ, ◌-◌, Bool, true, false, ◌&&◌, List, [], ◌∷◌, ◌++◌, length, Option, Some, Result, Ok, Err, arith, refl, sym, ap, ◌∙◌}
+use Rattle.std.proofs.Common.{◌≡◌, ◌≢◌, inl, inr, ◌-◌, true, List, [], ◌∷◌, ◌++◌, length, Option, Some, Result, Ok, Err, refl, sym, ap, ◌∙◌}
 use Rattle.std.specs.Prelude.{slice_get}
 use Rattle.std.proofs.lemmas.List.{append-nil}
 use Rattle.markdown_events.specs.declared.event.Event.{Event}
-use Rattle.markdown_events.specs.declared.event.Name.{Name}
-use Rattle.markdown_events.specs.declared.event.Point.{Point}
 use Rattle.markdown_nodes.specs.declared.mdast.Node.TheVariants as nodes
 use Rattle.markdown_nodes.specs.declared.mdast.Root.{Root as RootNode}
 use Rattle.markdown_events.specs.declared.unist.Position.{Position}
-use Rattle.markdown_events.specs.Forest.{Forest, empty, span, spell, enter, exit, has_right_shape}
-use Rattle.markdown_events.specs.Slices.{between}
+use Rattle.markdown_events.specs.Forest.{Forest, spell, has_right_shape}
 use Rattle.markdown_nodes.specs.Tree.{Tree, Trees, root}
 use Rattle.markdown_nodes.specs.View.{views}
 use Rattle.markdown_nodes.proofs.Views.{view-Root}
 use Rattle.markdown_tree.specs.declared.builder.Holder.TheVariants.{Root}
 use Rattle.markdown_tree.specs.declared.refusal.Refusal.TheVariants.{Unbalanced}
 use Rattle.markdown_tree.specs.Carried.{IsAcceptedSoFar, accepted, fits}
-use Rattle.markdown_tree.specs.Correct.{IsMeaning, IsRefused, extent_between, extent_of}
+use Rattle.markdown_tree.specs.Correct.{IsMeaning, IsRefused}
+use Rattle.markdown_tree.specs.Extents.{extent_of}
 use Rattle.markdown_tree.specs.Items.{items}
-use Rattle.markdown_tree.specs.Machine.{Rejection, Holds, fresh, in_the_open, State, opening, run, ◌>>=◌}
-use Rattle.markdown_tree.specs.Meaning.{extent, last_end}
+use Rattle.markdown_tree.specs.Machine.{Holds, fresh, State, opening, run}
+use Rattle.markdown_tree.specs.Around.{in_the_open}
+use Rattle.markdown_tree.specs.Rejections.{Rejection, ◌>>=◌}
 use Rattle.markdown_tree.specs.Nodes.{nodes as nodes_of_items}
 use Rattle.markdown_tree.specs.Parts.{itself}
 use Rattle.markdown_tree.specs.Place.{root_place}
 use Rattle.markdown_tree.proofs.CarriedNames.{carried-accepted, accepted-carried, carried-nodes}
 use Rattle.markdown_tree.specs.Source.{Source}
 use Rattle.markdown_tree.proofs.Eval.{eval, eval-walk}
-use Rattle.markdown_tree.proofs.Runs.{over, at, spelled, bind_ok, ok_is, done}
+use Rattle.markdown_tree.proofs.Extents.{extent-is, last_part}
+use Rattle.markdown_tree.proofs.Runs.{over, at, spelled}
+use Rattle.markdown_tree.proofs.Outcomes.{bind_ok, ok_is, done, err_clash, ok, when, ok-inv, when-inv, when-when}
 use Rattle.markdown_tree.proofs.Booleans.{and-left, and-right, and-both}
 use Rattle.markdown_tree.proofs.Conditions.{all-fit}
 use Rattle.markdown_tree.proofs.Shape.{shaped-is}
-use Rattle.markdown_tree.proofs.Stops.{stopped, never_unbalanced, err_clash}
-use Rattle.markdown_tree.proofs.Walk.{ok, when, walk, walk-is, behind}
+use Rattle.markdown_tree.proofs.Stops.{stopped, never_unbalanced}
+use Rattle.markdown_tree.proofs.Walk.{walk, walk-is, behind}
 
 -- ---- The evaluator and the grammar, in one equation
 
 abbrev pub start : Holds
 start = fresh Root
-
-when-when : {A : Type 0} (a b : Bool) (o : Option A) → when a (when b o) ≡ when (a && b) o
-when-when true b o = refl
-when-when false b o = refl
 
 pub eval-is : (s : Source) (f : Forest) → ok (eval s in_the_open f start) ≡ when (accepted s f) (Some (behind s start (items f)))
 eval-is s f =
@@ -48,17 +45,6 @@ eval-is s f =
     ∙ (λ t. when (shaped-is f t) (walk s start (items f)))
     ∙ ap (when (has_right_shape f)) (walk-is s start (items f))
     ∙ when-when (has_right_shape f) (fits s Root (items f)) (Some (behind s start (items f)))
-
-some_is : {A : Type 0} (x y : A) → ◌≡◌ {A = Option A} (Some x) (Some y) → x ≡ y
-some_is x y e = cc
-
-ok-inv : {A : Type 0} (r : Result A Rejection) (x : A) → ok r ≡ Some x → r ≡ Ok x
-ok-inv (Ok y) x e = ap done (some_is y x e)
-ok-inv (Err m) x e = absurd cc
-
-when-inv : {A : Type 0} (b : Bool) (x y : A) → when b (Some x) ≡ Some y → (b ≡ true) × (x ≡ y)
-when-inv true x y e = (refl, some_is x y e)
-when-inv false x y e = absurd cc
 
 is-accepted : (s : Source) (f : Forest) → IsAcceptedSoFar s f → accepted s f ≡ true
 is-accepted s f a = and-both (has_right_shape f) (fits s Root (items f)) a.accepted.shape (accepted-carried s (items f) a.carried_names (all-fit s f a.accepted))
@@ -99,37 +85,6 @@ ran s es st h none_open =
       gives = ap (λ (x : State). x.top.nodes) (sym st_is) ∙ carried-nodes s (items f) so_far.carried_names;
     }
 
--- ---- From the first event to the last
-
-last_or : Event → List Event → Event
-last_or e [] = e
-last_or e (d ∷ es) = last_or d es
-
-last_at : (e : Event) (es : List Event) → slice_get (e ∷ es) (length es) ≡ Some (last_or e es)
-unfolding last_or
-last_at e [] = refl
-last_at e (d ∷ es) = last_at d es
-
-last_after : (e d : Event) (es fs : List Event) → last_or e (es ++ (d ∷ fs)) ≡ last_or d fs
-unfolding last_or
-last_after e d [] fs = refl
-last_after e d (x ∷ es) fs = last_after x d es fs
-
-last_spelled : (n : Name) (p : Point) (f : Forest) → (last_or (exit n p) (spell f)).point ≡ last_end p f
-unfolding last_or
-last_spelled n p empty = refl
-last_spelled n p (span m a b c r) = ap (λ (x : Event). x.point) (last_after (enter m a) (exit m b) (spell c) (spell r)) ∙ last_spelled m b r
-
-pub extent-is : (f : Forest) → extent_of (spell f) ≡ extent f
-extent-is empty = refl
-extent-is (span n a b c r) =
-    let tail = spell c ++ (exit n b ∷ spell r) in
-    let first = enter n a in
-    let count : length (first ∷ tail) - 1 ≡ length tail = omega arith in
-    ap (λ (k : ℕ). extent_between (Some first) (slice_get (first ∷ tail) k)) count
-    ∙ ap (λ (o : Option Event). extent_between (Some first) o) (last_at first tail)
-    ∙ ap (between a) (ap (λ (x : Event). x.point) (last_after first (exit n b) (spell c) (spell r)) ∙ last_spelled n b r)
-
 -- the tree of a run that ended with no span open
 pub tree_is : (s : Source) (es : List Event) (st : State) (r : RootNode) → run s es opening ≡ Ok st → st.frames ≡ [] → views r.children.items ≡ st.top.nodes → r.position ≡ Some (extent_of es) → IsMeaning (nodes.Root r) es s
 tree_is s es st r h none_open children position =
@@ -166,15 +121,6 @@ run_refuses s es why h =
 ends_shut : (r : Result Holds Rejection) (st : State) → (r >>= λ t. done (at [] in_the_open t)) ≡ Ok st → st.frames ≡ []
 ends_shut (Ok t) st h = ap (λ (x : State). x.frames) (sym (ok_is (at [] in_the_open t) st h))
 ends_shut (Err k) st h = absurd cc
-
-last_part : (es : List Event) (e : Event) → slice_get es (length es - 1) ≡ Some e → (front : List Event) × (es ≡ front ++ (e ∷ []))
-last_part [] e h = absurd cc
-last_part (d ∷ []) e h = ([], ap (λ (x : Event). x ∷ []) (cc))
-last_part (d ∷ x ∷ es) e h =
-    let shorter : length (d ∷ x ∷ es) - 1 ≡ length (x ∷ es) = omega arith in
-    let same : length (x ∷ es) - 1 ≡ length es = omega arith in
-    let p = last_part (x ∷ es) e (ap (slice_get (x ∷ es)) same ∙ sym (ap (slice_get (d ∷ x ∷ es)) shorter) ∙ h) in
-    (d ∷ p.0, ap (λ (y : List Event). d ∷ y) p.1)
 
 -- a run that ends with spans open
 pub open_refuses : (s : Source) (es : List Event) (st : State) (last : Event) → run s es opening ≡ Ok st → st.frames ≢ [] → slice_get es (length es - 1) ≡ Some last → IsRefused Unbalanced last.point es s

@@ -9,10 +9,9 @@ use Rattle.markdown_events.specs.declared.role.Acting.{Acting}
 use Rattle.markdown_events.specs.declared.unist.Point.{Point as UnistPoint}
 use Rattle.markdown_events.specs.declared.unist.Position.{Position}
 use Rattle.markdown_tree.specs.Gives.{mark, text_read}
-use Rattle.markdown_tree.specs.Media.{autolink}
+use Rattle.markdown_tree.specs.Media.{autolink, link_label, media_of, node_at}
 use Rattle.markdown_tree.specs.Items.{Items, item, items, none, same_part}
 use Rattle.markdown_tree.specs.Meaning.{meaning}
-use Rattle.markdown_tree.specs.Media.{link_label, media_of, node_at}
 use Rattle.markdown_tree.specs.Nodes.{node_of, nodes}
 use Rattle.markdown_tree.specs.Parts.{Path, Stretch, address, inner_of, into, itself, path_to}
 use Rattle.markdown_tree.specs.Place.{Place, place_behind, place_inside, root_place}
@@ -87,38 +86,38 @@ if-merged : (t : Bool) (k : Trees) → Whole k → Whole (cond t k nothing)
 if-merged true k h = h
 if-merged false k h = record { ok = tt }
 
-node-merged : (s : Source) (p : Place) (what : Acting) (a b : Point) (d : Forest) (i : Items) (under : Path → Trees) → ((w : Path) → IsMerged (under w)) → Whole (node_of s p what a b (shown_of d) (inner_of s i under))
-node-merged s p (content contents.LineEnding) a b d i under k = if-merged p.line_endings _ (one-merged _ nothing a b tt)
-node-merged s p (content contents.Autolink) a b d i under k = autolink-merged s _ _ a b
-node-merged s p (content contents.AutolinkLiteralEmail) a b d i under k = record { ok = ((tt, refl, tt), refl, tt) }
-node-merged s p (content contents.AutolinkLiteralWww) a b d i under k = record { ok = ((tt, refl, tt), refl, tt) }
-node-merged s p (content contents.AutolinkLiteralWhole) a b d i under k = record { ok = ((tt, refl, tt), refl, tt) }
-node-merged s p (content contents.ListItem) a b d i under k = one-merged _ _ a b (task_if-merged (mark i) (under itself) (k itself))
-node-merged s p (content contents.Link) a b d i under k = one-merged (link_label (media_of (inner_of s i under))) (under (path_to parts.LabelText)) a b (k (path_to parts.LabelText))
-node-merged s p (content contents.BlockQuote) a b d i under k = one-merged _ _ a b (k itself)
-node-merged s p (content contents.Emphasis) a b d i under k = one-merged _ _ a b (k itself)
-node-merged s p (content contents.Strong) a b d i under k = one-merged _ _ a b (k itself)
-node-merged s p (content contents.Strikethrough) a b d i under k = one-merged _ _ a b (k itself)
-node-merged s p (content contents.Paragraph) a b d i under k = one-merged _ _ a b (k itself)
-node-merged s p (content contents.Table) a b d i under k = one-merged _ _ a b (k itself)
-node-merged s p (content contents.TableRow) a b d i under k = one-merged _ _ a b (k itself)
-node-merged s p (content contents.TableCell) a b d i under k = one-merged _ _ a b (k itself)
-node-merged s p (content contents.HeadingAtx) a b d i under k = one-merged _ _ a b (k itself)
-node-merged s p (content contents.HeadingSetext) a b d i under k = one-merged _ _ a b (k itself)
-node-merged s p (content contents.ListOrdered) a b d i under k = one-merged _ _ a b (k itself)
-node-merged s p (content contents.ListUnordered) a b d i under k = one-merged _ _ a b (k itself)
-node-merged s p (content contents.FootnoteDefinition) a b d i under k = one-merged _ _ a b (k itself)
-node-merged s p (content _) a b d i under k = one-merged _ nothing a b tt
-node-merged s p (part parts.HeadingSetextText) a b d i under k = record { ok = k itself }
-node-merged s p (part _) a b d i under k = record { ok = tt }
+node-merged : (s : Source) (p from : Place) (what : Acting) (a b : Point) (d : Forest) (i : Items) (under : Path → Trees) → ((w : Path) → IsMerged (under w)) → Whole (node_of s p what a b (shown_of d) (inner_of s from i under))
+node-merged s p from (content contents.LineEnding) a b d i under k = if-merged p.line_endings _ (one-merged _ nothing a b tt)
+node-merged s p from (content contents.Autolink) a b d i under k = autolink-merged s _ _ a b
+node-merged s p from (content contents.AutolinkLiteralEmail) a b d i under k = record { ok = ((tt, refl, tt), refl, tt) }
+node-merged s p from (content contents.AutolinkLiteralWww) a b d i under k = record { ok = ((tt, refl, tt), refl, tt) }
+node-merged s p from (content contents.AutolinkLiteralWhole) a b d i under k = record { ok = ((tt, refl, tt), refl, tt) }
+node-merged s p from (content contents.ListItem) a b d i under k = one-merged _ _ a b (task_if-merged (mark i) (under itself) (k itself))
+node-merged s p from (content contents.Link) a b d i under k = one-merged (link_label (media_of (inner_of s from i under))) (under (path_to parts.LabelText)) a b (k (path_to parts.LabelText))
+node-merged s p from (content contents.BlockQuote) a b d i under k = one-merged _ _ a b (k itself)
+node-merged s p from (content contents.Emphasis) a b d i under k = one-merged _ _ a b (k itself)
+node-merged s p from (content contents.Strong) a b d i under k = one-merged _ _ a b (k itself)
+node-merged s p from (content contents.Strikethrough) a b d i under k = one-merged _ _ a b (k itself)
+node-merged s p from (content contents.Paragraph) a b d i under k = one-merged _ _ a b (k itself)
+node-merged s p from (content contents.Table) a b d i under k = one-merged _ _ a b (k itself)
+node-merged s p from (content contents.TableRow) a b d i under k = one-merged _ _ a b (k itself)
+node-merged s p from (content contents.TableCell) a b d i under k = one-merged _ _ a b (k itself)
+node-merged s p from (content contents.HeadingAtx) a b d i under k = one-merged _ _ a b (k itself)
+node-merged s p from (content contents.HeadingSetext) a b d i under k = one-merged _ _ a b (k itself)
+node-merged s p from (content contents.ListOrdered) a b d i under k = one-merged _ _ a b (k itself)
+node-merged s p from (content contents.ListUnordered) a b d i under k = one-merged _ _ a b (k itself)
+node-merged s p from (content contents.FootnoteDefinition) a b d i under k = one-merged _ _ a b (k itself)
+node-merged s p from (content _) a b d i under k = one-merged _ nothing a b tt
+node-merged s p from (part parts.HeadingSetextText) a b d i under k = record { ok = k itself }
+node-merged s p from (part _) a b d i under k = record { ok = tt }
 
 pub nodes-merged : (s : Source) (w : Path) (p : Place) (xs : Items) → IsMerged (nodes s w p xs)
 nodes-merged s w p none = tt
 nodes-merged s itself p (item (content contents.HardBreak) a b d i (item (content contents.LineEnding) a' b' d' i' rest)) =
     join-merged (node_at tree.break nothing a b') (nodes s itself p rest) (tt, refl, tt) (nodes-merged s itself p rest)
 nodes-merged s itself p (item what a b d i rest) =
-    join-merged (node_of s p what a b (shown_of d) (inner_of s i (λ which. nodes s which (place_inside what p) i))) (nodes s itself (place_behind what p) rest)
-    (node-merged s p what a b d i (λ which. nodes s which (place_inside what p) i) (λ which. nodes-merged s which (place_inside what p) i)).ok
+    join-merged (node_of s p what a b (shown_of d) (inner_of s (place_inside what p) i (λ which. nodes s which (place_inside what p) i))) (nodes s itself (place_behind what p) rest)
+    (node-merged s p (place_inside what p) what a b d i (λ which. nodes s which (place_inside what p) i) (λ which. nodes-merged s which (place_inside what p) i)).ok
     (nodes-merged s itself (place_behind what p) rest)
 nodes-merged s (into q way) p (item (part r) a b d i rest) =
     elim (same_part q r) as (λ t. IsMerged (elim t [ true ↦ nodes s way (place_inside (part r) p) i | false ↦ nodes s (into q way) p rest ])) [

@@ -1,11 +1,16 @@
 -- Short words for the rows of rows/rows.txt.
 use Rattle.std.proofs.Common.{ℕ, ◌+◌, ◌*◌, ◌==◌, nat_lt, nat_le, ◌&&◌, ◌||◌, Bool, List, [], ◌∷◌, length, Option, None, Some, if◌then◌else◌}
-use Rattle.std.specs.Prelude.{codes}
+use Rattle.std.specs.Prelude.{Err, Ok, Result, codes}
 use Rattle.std.specs.Str.{bytes_eq}
 use Rattle.std.specs.Char.{encode_utf8, digit_value}
 use Rattle.std.specs.List.{fold as fold_list, list_all}
 use Rattle.markdown_events.specs.declared.event.Point.{Point}
 use Rattle.markdown_events.specs.declared.unist.Position.{Position}
+use Rattle.markdown_events.specs.Slices.{to_unist}
+use Rattle.markdown_nodes.specs.Tree.{Tree}
+use Rattle.markdown_events.specs.declared.unist.Point.{Point as UnistPoint}
+use Rattle.markdown_tree.specs.Refusals.{rule_of}
+use Rattle.markdown_tree.specs.Rejections.{Rejection}
 use Rattle.markdown_tree.specs.Source.{Source}
 
 abbrev pub at : ℕ → ℕ → ℕ → Point
@@ -52,3 +57,11 @@ over bytes = record { bytes = bytes; text = decoded }
 -- a decoder that gives one space for the empty value
 abbrev pub over_blank : List ℕ → Source
 over_blank bytes = record { bytes = bytes; text = λ value marker. if length value == 0 then Some (32 ∷ []) else None }
+
+-- the rule and the place of a refusal
+abbrev pub refusal_of : Result Tree Rejection → Option (List ℕ × UnistPoint)
+refusal_of (Ok tree) = None
+refusal_of (Err rejection) = Some (rule_of rejection.refusal, to_unist rejection.point)
+
+abbrev pub refusal : List ℕ → ℕ → ℕ → ℕ → Option (List ℕ × UnistPoint)
+refusal rule line column offset = Some (rule, record { line = line; column = column; offset = offset })

@@ -1,18 +1,20 @@
 -- Rows of rows/rows.txt, by computation. scripts/rows writes this file.
 use Rattle.std.proofs.Common.{◌≡◌, true, false, [], ◌∷◌, None, Some, refl}
+use Rattle.std.specs.Prelude.{codes}
 use Rattle.std.specs.Str.{is_utf8, chars}
 use lib.Utf8.{encode}
 use Rattle.caseless.proofs.Computing.{caseless}
 use Rattle.markdown_events.specs.declared.event.Name.TheVariants as n
 use Rattle.markdown_nodes.specs.declared.mdast.ReferenceKind.TheVariants as r
-use Rattle.markdown_events.specs.Forest.{Forest, empty, span}
+use Rattle.markdown_events.specs.Forest.{Forest, empty, span, spell}
 use Rattle.markdown_events.specs.Slices.{slice}
 use Rattle.markdown_events.specs.Texts.{fold}
 use Rattle.markdown_nodes.specs.Tree.{node, nothing, only}
 use Rattle.markdown_nodes.specs.Tree as t
 use Rattle.markdown_tree.specs.Accepted.{accepted}
+use Rattle.markdown_tree.specs.Compiler.{compiled, enter_step, exit_step, leave, run}
 use Rattle.markdown_tree.specs.Meaning.{meaning}
-use Rattle.markdown_tree.proofs.RowWords.{at, position, over}
+use Rattle.markdown_tree.proofs.RowWords.{at, position, over, refusal, refusal_of}
 
 abbrev an_image_in_a_label : Forest
 an_image_in_a_label = (span n.Image (at 1 1 0) (at 1 18 17) (span n.LabelText (at 1 3 2) (at 1 14 13) (span n.Data (at 1 3 2) (at 1 5 4) empty (span n.Image (at 1 5 4) (at 1 12 11) (span n.LabelText (at 1 7 6) (at 1 8 7) (span n.Data (at 1 7 6) (at 1 8 7) empty empty) (span n.Resource (at 1 9 8) (at 1 12 11) (span n.ResourceDestinationString (at 1 10 9) (at 1 11 10) (span n.Data (at 1 10 9) (at 1 11 10) empty empty) empty) empty)) (span n.Data (at 1 12 11) (at 1 14 13) empty empty))) (span n.Resource (at 1 15 14) (at 1 18 17) (span n.ResourceDestinationString (at 1 16 15) (at 1 17 16) (span n.Data (at 1 16 15) (at 1 17 16) empty empty) empty) empty)) empty)
@@ -98,12 +100,20 @@ a_reference_behind_a_resource-accepted : accepted (over (91 ∷ 93 ∷ [])) a_re
 unfolding is_utf8 chars encode slice fold caseless
 a_reference_behind_a_resource-accepted = refl
 
+a_reference_behind_a_resource-refused : refusal_of (compiled (over (91 ∷ 93 ∷ [])) (spell a_reference_behind_a_resource)) ≡ refusal (codes "name-misplaced") 1 2 1
+unfolding is_utf8 chars encode slice fold caseless run enter_step exit_step leave
+a_reference_behind_a_resource-refused = refl
+
 abbrev two_labels : Forest
 two_labels = (span n.Link (at 1 1 0) (at 1 3 2) (span n.LabelText (at 1 1 0) (at 1 2 1) empty (span n.LabelText (at 1 2 1) (at 1 3 2) empty empty)) empty)
 
 two_labels-accepted : accepted (over (91 ∷ 93 ∷ [])) two_labels ≡ false
 unfolding is_utf8 chars encode slice fold caseless
 two_labels-accepted = refl
+
+two_labels-refused : refusal_of (compiled (over (91 ∷ 93 ∷ [])) (spell two_labels)) ≡ refusal (codes "part-repeated") 1 2 1
+unfolding is_utf8 chars encode slice fold caseless run enter_step exit_step leave
+two_labels-refused = refl
 
 abbrev an_autolink : Forest
 an_autolink = (span n.Autolink (at 1 1 0) (at 1 6 5) (span n.AutolinkProtocol (at 1 2 1) (at 1 5 4) empty empty) empty)

@@ -1,18 +1,20 @@
 -- Rows of rows/rows.txt, by computation. scripts/rows writes this file.
 use Rattle.std.proofs.Common.{◌≡◌, true, false, [], ◌∷◌, None, Some, refl}
+use Rattle.std.specs.Prelude.{codes}
 use Rattle.std.specs.Str.{is_utf8, chars}
 use lib.Utf8.{encode}
 use Rattle.caseless.proofs.Computing.{caseless}
 use Rattle.markdown_events.specs.declared.event.Name.TheVariants as n
-use Rattle.markdown_events.specs.Forest.{Forest, empty, span}
+use Rattle.markdown_events.specs.Forest.{Forest, empty, span, spell}
 use Rattle.markdown_events.specs.Slices.{slice}
 use Rattle.markdown_events.specs.Texts.{fold}
 use Rattle.markdown_nodes.specs.Tree.{node, nothing, only}
 use Rattle.markdown_nodes.specs.Tree as t
 use Rattle.markdown_tree.specs.Accepted.{accepted}
+use Rattle.markdown_tree.specs.Compiler.{compiled, enter_step, exit_step, leave, run}
 use Rattle.markdown_tree.specs.Meaning.{meaning}
 use Rattle.markdown_tree.proofs.Orderly.{ordered}
-use Rattle.markdown_tree.proofs.RowWords.{at, position, over}
+use Rattle.markdown_tree.proofs.RowWords.{at, position, over, refusal, refusal_of}
 
 abbrev fenced_code_with_info_and_meta : Forest
 fenced_code_with_info_and_meta = (span n.CodeFenced (at 1 1 0) (at 3 4 13) (span n.CodeFencedFence (at 1 1 0) (at 1 8 7) (span n.CodeFencedFenceSequence (at 1 1 0) (at 1 4 3) empty (span n.CodeFencedFenceInfo (at 1 4 3) (at 1 6 5) (span n.Data (at 1 4 3) (at 1 6 5) empty empty) (span n.SpaceOrTab (at 1 6 5) (at 1 7 6) empty (span n.CodeFencedFenceMeta (at 1 7 6) (at 1 8 7) (span n.Data (at 1 7 6) (at 1 8 7) empty empty) empty)))) (span n.LineEnding (at 1 8 7) (at 2 1 8) empty (span n.CodeFlowChunk (at 2 1 8) (at 2 2 9) empty (span n.LineEnding (at 2 2 9) (at 3 1 10) empty (span n.CodeFencedFence (at 3 1 10) (at 3 4 13) empty empty))))) empty)
@@ -47,12 +49,20 @@ a_chunk_before_any_fence-accepted : accepted (over (126 ∷ 126 ∷ 126 ∷ 106 
 unfolding is_utf8 chars encode slice fold caseless
 a_chunk_before_any_fence-accepted = refl
 
+a_chunk_before_any_fence-refused : refusal_of (compiled (over (126 ∷ 126 ∷ 126 ∷ 106 ∷ 115 ∷ 32 ∷ 120 ∷ 10 ∷ 97 ∷ 10 ∷ 126 ∷ 126 ∷ 126 ∷ [])) (spell a_chunk_before_any_fence)) ≡ refusal (codes "name-misplaced") 2 1 8
+unfolding is_utf8 chars encode slice fold caseless run enter_step exit_step leave
+a_chunk_before_any_fence-refused = refl
+
 abbrev no_fence : Forest
 no_fence = (span n.CodeFenced (at 1 1 0) (at 3 4 13) (span n.LineEnding (at 1 8 7) (at 2 1 8) empty (span n.LineEnding (at 2 2 9) (at 3 1 10) empty empty)) empty)
 
 no_fence-accepted : accepted (over (126 ∷ 126 ∷ 126 ∷ 106 ∷ 115 ∷ 32 ∷ 120 ∷ 10 ∷ 97 ∷ 10 ∷ 126 ∷ 126 ∷ 126 ∷ [])) no_fence ≡ false
 unfolding is_utf8 chars encode slice fold caseless
 no_fence-accepted = refl
+
+no_fence-refused : refusal_of (compiled (over (126 ∷ 126 ∷ 126 ∷ 106 ∷ 115 ∷ 32 ∷ 120 ∷ 10 ∷ 97 ∷ 10 ∷ 126 ∷ 126 ∷ 126 ∷ [])) (spell no_fence)) ≡ refusal (codes "fence-missing") 3 4 13
+unfolding is_utf8 chars encode slice fold caseless run enter_step exit_step leave
+no_fence-refused = refl
 
 abbrev yaml : Forest
 yaml = (span n.Frontmatter (at 1 1 0) (at 3 4 12) (span n.FrontmatterFence (at 1 1 0) (at 1 4 3) empty (span n.LineEnding (at 1 4 3) (at 2 1 4) empty (span n.FrontmatterChunk (at 2 1 4) (at 2 5 8) empty (span n.LineEnding (at 2 5 8) (at 3 1 9) empty (span n.FrontmatterFence (at 3 1 9) (at 3 4 12) empty empty))))) empty)
@@ -82,6 +92,10 @@ frontmatter_without_its_byte = (span n.Frontmatter (at 1 1 0) (at 1 1 0) empty e
 frontmatter_without_its_byte-accepted : accepted (over ([])) frontmatter_without_its_byte ≡ false
 unfolding is_utf8 chars encode slice fold caseless
 frontmatter_without_its_byte-accepted = refl
+
+frontmatter_without_its_byte-refused : refusal_of (compiled (over ([])) (spell frontmatter_without_its_byte)) ≡ refusal (codes "slice-invalid") 1 1 0
+unfolding is_utf8 chars encode slice fold caseless run enter_step exit_step leave
+frontmatter_without_its_byte-refused = refl
 
 abbrev indented_code : Forest
 indented_code = (span n.CodeIndented (at 1 1 0) (at 2 1 6) (span n.SpaceOrTab (at 1 1 0) (at 1 5 4) empty (span n.CodeFlowChunk (at 1 5 4) (at 1 6 5) empty (span n.LineEnding (at 1 6 5) (at 2 1 6) empty empty))) empty)
@@ -145,12 +159,20 @@ a_fence_of_the_other_name-accepted : accepted (over (126 ∷ 126 ∷ 126 ∷ 126
 unfolding is_utf8 chars encode slice fold caseless
 a_fence_of_the_other_name-accepted = refl
 
+a_fence_of_the_other_name-refused : refusal_of (compiled (over (126 ∷ 126 ∷ 126 ∷ 126 ∷ 126 ∷ 126 ∷ 98 ∷ 97 ∷ [])) (spell a_fence_of_the_other_name)) ≡ refusal (codes "name-misplaced") 1 1 0
+unfolding is_utf8 chars encode slice fold caseless run enter_step exit_step leave
+a_fence_of_the_other_name-refused = refl
+
 abbrev an_info_in_a_later_fence : Forest
 an_info_in_a_later_fence = (span n.CodeFenced (at 1 1 0) (at 1 9 8) (span n.CodeFencedFence (at 1 1 0) (at 1 4 3) empty (span n.CodeFencedFence (at 1 4 3) (at 1 9 8) (span n.CodeFencedFenceInfo (at 1 7 6) (at 1 9 8) empty empty) empty)) empty)
 
 an_info_in_a_later_fence-accepted : accepted (over (126 ∷ 126 ∷ 126 ∷ 126 ∷ 126 ∷ 126 ∷ 98 ∷ 97 ∷ [])) an_info_in_a_later_fence ≡ false
 unfolding is_utf8 chars encode slice fold caseless
 an_info_in_a_later_fence-accepted = refl
+
+an_info_in_a_later_fence-refused : refusal_of (compiled (over (126 ∷ 126 ∷ 126 ∷ 126 ∷ 126 ∷ 126 ∷ 98 ∷ 97 ∷ [])) (spell an_info_in_a_later_fence)) ≡ refusal (codes "name-misplaced") 1 7 6
+unfolding is_utf8 chars encode slice fold caseless run enter_step exit_step leave
+an_info_in_a_later_fence-refused = refl
 
 abbrev a_pipe_in_code_in_a_table : Forest
 a_pipe_in_code_in_a_table = (span n.GfmTable (at 1 1 0) (at 1 7 6) (span n.GfmTableRow (at 1 1 0) (at 1 7 6) (span n.GfmTableCell (at 1 1 0) (at 1 7 6) (span n.CodeText (at 1 1 0) (at 1 7 6) (span n.CodeTextSequence (at 1 1 0) (at 1 2 1) empty (span n.CodeTextData (at 1 2 1) (at 1 6 5) empty (span n.CodeTextSequence (at 1 6 5) (at 1 7 6) empty empty))) empty) empty) empty) empty)

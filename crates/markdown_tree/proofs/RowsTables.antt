@@ -1,19 +1,21 @@
 -- Rows of rows/rows.txt, by computation. scripts/rows writes this file.
 use Rattle.std.proofs.Common.{◌≡◌, true, false, [], ◌∷◌, refl}
+use Rattle.std.specs.Prelude.{codes}
 use Rattle.std.specs.Str.{is_utf8, chars}
 use lib.Utf8.{encode}
 use Rattle.caseless.proofs.Computing.{caseless}
 use Rattle.markdown_events.specs.declared.event.Name.TheVariants as n
 use Rattle.markdown_events.specs.declared.infer.AlignKind.TheVariants as a
-use Rattle.markdown_events.specs.Forest.{Forest, empty, span}
+use Rattle.markdown_events.specs.Forest.{Forest, empty, span, spell}
 use Rattle.markdown_events.specs.Slices.{slice}
 use Rattle.markdown_events.specs.Texts.{fold}
 use Rattle.markdown_nodes.specs.Tree.{node, nothing, only}
 use Rattle.markdown_nodes.specs.Tree as t
 use Rattle.markdown_tree.specs.Accepted.{accepted}
+use Rattle.markdown_tree.specs.Compiler.{compiled, enter_step, exit_step, leave, run}
 use Rattle.markdown_tree.specs.Meaning.{meaning}
 use Rattle.markdown_tree.proofs.Orderly.{ordered}
-use Rattle.markdown_tree.proofs.RowWords.{at, position, over}
+use Rattle.markdown_tree.proofs.RowWords.{at, position, over, refusal, refusal_of}
 
 abbrev a_table : Forest
 a_table = (span n.GfmTable (at 1 1 0) (at 2 4 7) (span n.GfmTableRow (at 1 1 0) (at 1 4 3) (span n.GfmTableCell (at 1 1 0) (at 1 4 3) (span n.Data (at 1 2 1) (at 1 3 2) empty empty) empty) (span n.LineEnding (at 1 4 3) (at 2 1 4) empty (span n.GfmTableDelimiterRow (at 2 1 4) (at 2 4 7) (span n.GfmTableDelimiterCellValue (at 2 2 5) (at 2 3 6) (span n.GfmTableDelimiterFiller (at 2 2 5) (at 2 3 6) empty empty) empty) empty))) empty)
@@ -48,9 +50,17 @@ a_table_in_a_cell-accepted : accepted (over ([])) a_table_in_a_cell ≡ false
 unfolding is_utf8 chars encode slice fold caseless
 a_table_in_a_cell-accepted = refl
 
+a_table_in_a_cell-refused : refusal_of (compiled (over ([])) (spell a_table_in_a_cell)) ≡ refusal (codes "name-misplaced") 1 1 0
+unfolding is_utf8 chars encode slice fold caseless run enter_step exit_step leave
+a_table_in_a_cell-refused = refl
+
 abbrev a_table_in_a_label_in_a_cell : Forest
 a_table_in_a_label_in_a_cell = (span n.GfmTable (at 1 1 0) (at 1 1 0) (span n.GfmTableRow (at 1 1 0) (at 1 1 0) (span n.GfmTableCell (at 1 1 0) (at 1 1 0) (span n.Link (at 1 1 0) (at 1 1 0) (span n.LabelText (at 1 1 0) (at 1 1 0) (span n.GfmTable (at 1 1 0) (at 1 1 0) empty empty) empty) empty) empty) empty) empty)
 
 a_table_in_a_label_in_a_cell-accepted : accepted (over ([])) a_table_in_a_label_in_a_cell ≡ false
 unfolding is_utf8 chars encode slice fold caseless
 a_table_in_a_label_in_a_cell-accepted = refl
+
+a_table_in_a_label_in_a_cell-refused : refusal_of (compiled (over ([])) (spell a_table_in_a_label_in_a_cell)) ≡ refusal (codes "name-misplaced") 1 1 0
+unfolding is_utf8 chars encode slice fold caseless run enter_step exit_step leave
+a_table_in_a_label_in_a_cell-refused = refl

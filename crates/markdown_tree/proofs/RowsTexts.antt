@@ -1,18 +1,20 @@
 -- Rows of rows/rows.txt, by computation. scripts/rows writes this file.
 use Rattle.std.proofs.Common.{◌≡◌, true, false, [], ◌∷◌, refl}
+use Rattle.std.specs.Prelude.{codes}
 use Rattle.std.specs.Str.{is_utf8, chars}
 use lib.Utf8.{encode}
 use Rattle.caseless.proofs.Computing.{caseless}
 use Rattle.markdown_events.specs.declared.event.Name.TheVariants as n
-use Rattle.markdown_events.specs.Forest.{Forest, empty, span}
+use Rattle.markdown_events.specs.Forest.{Forest, empty, span, spell}
 use Rattle.markdown_events.specs.Slices.{slice}
 use Rattle.markdown_events.specs.Texts.{fold}
 use Rattle.markdown_nodes.specs.Tree.{node, nothing, only}
 use Rattle.markdown_nodes.specs.Tree as t
 use Rattle.markdown_tree.specs.Accepted.{accepted}
+use Rattle.markdown_tree.specs.Compiler.{compiled, enter_step, exit_step, leave, run}
 use Rattle.markdown_tree.specs.Meaning.{meaning}
 use Rattle.markdown_tree.proofs.Orderly.{ordered}
-use Rattle.markdown_tree.proofs.RowWords.{at, at_spaces, position, over}
+use Rattle.markdown_tree.proofs.RowWords.{at, at_spaces, position, over, refusal, refusal_of}
 
 abbrev no_events : Forest
 no_events = empty
@@ -142,6 +144,10 @@ a_character_cut_in_two = (span n.Paragraph (at 1 1 0) (at 1 3 2) (span n.Data (a
 a_character_cut_in_two-accepted : accepted (over (195 ∷ 169 ∷ [])) a_character_cut_in_two ≡ false
 unfolding is_utf8 chars encode slice fold caseless
 a_character_cut_in_two-accepted = refl
+
+a_character_cut_in_two-refused : refusal_of (compiled (over (195 ∷ 169 ∷ [])) (spell a_character_cut_in_two)) ≡ refusal (codes "slice-invalid") 1 2 1
+unfolding is_utf8 chars encode slice fold caseless run enter_step exit_step leave
+a_character_cut_in_two-refused = refl
 
 abbrev paragraphs_in_falling_order : Forest
 paragraphs_in_falling_order = (span n.Paragraph (at 1 2 1) (at 1 3 2) (span n.Data (at 1 2 1) (at 1 3 2) empty empty) (span n.Paragraph (at 1 1 0) (at 1 2 1) (span n.Data (at 1 1 0) (at 1 2 1) empty empty) empty))

@@ -1,7 +1,5 @@
 -- Runs over the spelling of a forest.
-use Rattle.std.proofs.Common.{◌≡◌, Bool, true, false, cond, List, [], ◌∷◌, ◌++◌, Option, Some, None, Result, Ok, Err, refl, sym, ap, subst, ◌∙◌, append_assoc}
-use denote.Enum.Bare.{same_true, true_same}
-use Rattle.markdown_events.specs.contracts.event.Name.{the_type}
+use Rattle.std.proofs.Common.{◌≡◌, List, [], ◌∷◌, ◌++◌, Option, Some, None, Result, Ok, refl, sym, ap, subst, ◌∙◌, append_assoc}
 use Rattle.markdown_events.specs.declared.event.Event.{Event}
 use Rattle.markdown_events.specs.declared.event.Kind.{Kind}
 use Rattle.markdown_events.specs.declared.event.Kind.TheVariants.{Enter, Exit}
@@ -13,35 +11,15 @@ use Rattle.markdown_events.specs.declared.role.Role.TheVariants.{Plain as plain,
 use Rattle.markdown_events.specs.Forest.{Forest, empty, span, spell, enter, exit}
 use Rattle.markdown_events.specs.Names.{role_of}
 use Rattle.markdown_tree.specs.declared.builder.Around.{Around}
-use Rattle.markdown_tree.specs.declared.refusal.Refusal.{Refusal}
 use Rattle.markdown_tree.specs.declared.refusal.Refusal.TheVariants.{Unbalanced, Held}
 use Rattle.markdown_tree.specs.Carried.{holder_of}
 use Rattle.markdown_events.specs.Walks.{is_same_name}
-use Rattle.markdown_tree.specs.Machine.{Rejection, checked, Holds, fresh, enter_checks, may_begin, under, Open, State, opened, enter_as, enter_step, leave, leave_to, shut, exit_from, exit_step, step, step_by, run, ◌>>=◌}
+use Rattle.markdown_tree.specs.Machine.{Holds, fresh, enter_checks, Open, State, opened, enter_as, enter_step, leave, leave_to, shut, exit_from, exit_step, step, step_by, run}
+use Rattle.markdown_tree.specs.Around.{may_begin, under}
+use Rattle.markdown_tree.specs.Rejections.{Rejection, checked, ◌>>=◌}
 use Rattle.markdown_tree.specs.Source.{Source}
 use Rattle.markdown_tree.proofs.Eval.{eval, eval_as}
-
-pub same_name_is : (m n : Name) → is_same_name m n ≡ true → m ≡ n
-same_name_is m n h = same_true the_type tt m n h
-
-pub same_name_refl : (n : Name) → is_same_name n n ≡ true
-same_name_refl n = true_same the_type n n refl
-
-pub bind_same : {A B : Type 0} (r : Result A Rejection) (f g : A → Result B Rejection) → ((x : A) → f x ≡ g x) → (r >>= f) ≡ (r >>= g)
-bind_same (Ok x) f g h = h x
-bind_same (Err d) f g h = refl
-
-pub bind_bind : {A B C : Type 0} (r : Result A Rejection) (f : A → Result B Rejection) (g : B → Result C Rejection) → ((r >>= f) >>= g) ≡ (r >>= λ x. f x >>= g)
-bind_bind (Ok x) f g = refl
-bind_bind (Err d) f g = refl
-
-one_bind : {A B : Type 0} (b : Bool) (x : Result A Rejection) (y : Result B Rejection) (e : Rejection) (f : A → Result B Rejection) → (x >>= f) ≡ y → (cond b x (Err e) >>= f) ≡ cond b y (Err e)
-one_bind true x y e f h = h
-one_bind false x y e f h = refl
-
-pub checked_bind : {A B : Type 0} (cs : List (Bool × Refusal)) (p : Point) (r : Result A Rejection) (f : A → Result B Rejection) → (checked cs p r >>= f) ≡ checked cs p (r >>= f)
-checked_bind [] p r f = refl
-checked_bind (c ∷ cs) p r f = one_bind c.0 (checked cs p r) (checked cs p (r >>= f)) (record { refusal = c.1; point = p }) f (checked_bind cs p r f)
+use Rattle.markdown_tree.proofs.Outcomes.{bind_bind, bind_ok, bind_same, checked_bind, checked_ok, ok_is, one_ok, same_name_is, same_name_refl}
 
 abbrev pub at : List Open → Around → Holds → State
 at fs around top = record { frames = fs; around = around; top = top }
@@ -123,24 +101,6 @@ wrapped o s (q ∷ os) es h =
       ap (λ (x : List Event). enter o.name s ∷ x) (h.3 ∙ ap (λ (x : List Event). spell h.0 ++ (exit o.name h.1 ∷ x)) g.3 ∙ sym (append_assoc (spell h.0) (exit o.name h.1 ∷ spell g.0) (exit q.name g.1 ∷ g.2))),
       g.4,
     )
-
-pub bind_ok : {A B : Type 0} (r : Result A Rejection) (f : A → Result B Rejection) (y : B) → (r >>= f) ≡ Ok y → (x : A) × (r ≡ Ok x) × (f x ≡ Ok y)
-bind_ok (Ok x) f y e = (x, refl, e)
-bind_ok (Err d) f y e = absurd cc
-
-abbrev pub done : {A : Type 0} → A → Result A Rejection
-done x = Ok x
-
-pub ok_is : {A : Type 0} (x y : A) → done x ≡ done y → x ≡ y
-ok_is x y e = cc
-
-one_ok : {A : Type 0} (b : Bool) (x : Result A Rejection) (y : A) (e : Rejection) → cond b x (Err e) ≡ Ok y → (b ≡ true) × (x ≡ Ok y)
-one_ok true x y e h = (refl, h)
-one_ok false x y e h = absurd cc
-
-pub checked_ok : {A : Type 0} (cs : List (Bool × Refusal)) (p : Point) (r : Result A Rejection) (y : A) → checked cs p r ≡ Ok y → r ≡ Ok y
-checked_ok [] p r y h = h
-checked_ok (c ∷ cs) p r y h = checked_ok cs p r y (one_ok c.0 (checked cs p r) y (record { refusal = c.1; point = p }) h).1
 
 entered_as : (role : Role) (n : Name) (p : Point) (a z : State) → enter_as role n p a ≡ Ok z → (o : Option (Acting × Holds)) × (z.frames ≡ the_open n p a.around o ∷ a.frames)
 entered_as (plain k) n p a z h = (None, ap (λ (x : State). x.frames) (sym (ok_is (opened n p a None a.top) z h)))

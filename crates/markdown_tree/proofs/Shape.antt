@@ -10,8 +10,12 @@ use Rattle.markdown_events.specs.Forest.{Forest, empty, span, is_empty, lacks, m
 use Rattle.markdown_events.specs.Names.{role_of}
 use Rattle.markdown_tree.specs.declared.builder.Around.{Around}
 use Rattle.markdown_events.specs.Walks.{holds_nothing}
-use Rattle.markdown_tree.specs.Machine.{may_begin, under, in_the_open}
-use Rattle.markdown_tree.proofs.Eval.{shaped}
+use Rattle.markdown_tree.specs.Around.{may_begin, under, in_the_open}
+
+-- the right shape, by what is around
+abbrev pub shaped : Around → Forest → Bool
+shaped around empty = true
+shaped around (span n a b c r) = may_begin around (role_of n) && (shaped (under around (role_of n)) c && shaped around r)
 
 or-left : (a b : Bool) → a ≡ true → (a || b) ≡ true
 or-left true b h = refl
@@ -131,6 +135,9 @@ shape-from a (span n p q c r) h =
     (not-and a.in_row (is_delimiter_row role) (λ k. and-left (not (is_delimiter_row role)) (lacks is_delimiter_row c) (row_parts k))))
     (not-and a.in_value (is_delimiter_cell_value role) (λ k. and-left (not (is_delimiter_cell_value role)) (lacks is_delimiter_cell_value c) (value_parts k))))
     (and-both (shaped u c) (shaped a r) (shape-from u c below) (shape-from a r beside))
+
+pub shaped-right : (a : Around) (f : Forest) → shaped a f ≡ true → has_right_shape f ≡ true
+shaped-right a f h = (shape-to a f h).right
 
 pub shaped-is : (f : Forest) → shaped in_the_open f ≡ has_right_shape f
 shaped-is f = same-bool (shaped in_the_open f) (has_right_shape f)

@@ -19,10 +19,9 @@ use Rattle.markdown_events.specs.declared.unist.Point.{Point as UnistPoint}
 use Rattle.markdown_events.specs.declared.unist.Position.{Position}
 use Rattle.markdown_tree.proofs.ItemLists.{regroup}
 use Rattle.markdown_tree.specs.Gives.{mark, text_read}
-use Rattle.markdown_tree.specs.Media.{autolink}
+use Rattle.markdown_tree.specs.Media.{autolink, Media, image_label, link_label, linked, media_of, node_at}
 use Rattle.markdown_tree.specs.Items.{Items, item, items, none, place_items, same_part, ◌then◌}
 use Rattle.markdown_tree.specs.Meaning.{last_end, meaning}
-use Rattle.markdown_tree.specs.Media.{Media, image_label, link_label, linked, media_of, node_at}
 use Rattle.markdown_tree.specs.Nodes.{frontmatter, node_of, nodes}
 use Rattle.markdown_tree.specs.Ordered.{InOrder, IsBefore, IsOrdered, RisesTo, Standing, elsewhere, first_child, first_in_paragraph, first_in_task}
 use Rattle.markdown_tree.specs.Parts.{Path, Stretch, address, first_part, inner_of, into, itself, path_to}
@@ -181,14 +180,14 @@ lies-cond : (lo hi : ℕ) (b : Bool) (x y : Option Stretch) → LiesIn lo hi x �
 lies-cond lo hi true x y h h' = h
 lies-cond lo hi false x y h h' = h'
 
-part-lies : (q : Part) (lo : ℕ) (xs : Items) (hi : ℕ) → Rises lo xs hi → LiesIn lo hi (first_part q xs)
-part-lies q lo none hi h = tt
-part-lies q lo (item (part r) a b d i rest) hi h =
+part-lies : (q : Part) (p : Place) (lo : ℕ) (xs : Items) (hi : ℕ) → Rises lo xs hi → LiesIn lo hi (first_part q p xs)
+part-lies q p lo none hi h = tt
+part-lies q p lo (item (part r) a b d i rest) hi h =
     let ab : a.index ≤ b.index = rises-le a.index i b.index h.1 in
     let bh : b.index ≤ hi = rises-le b.index rest hi h.2 in
-    lies-cond lo hi (same_part q r) _ _ (h.0, ab, bh) (lies-mono b.index lo hi (first_part q rest) (omega (arith, h.0)) (part-lies q b.index rest hi h.2))
-part-lies q lo (item (content c) a b d i rest) hi h =
-    lies-mono b.index lo hi (first_part q rest) (omega (arith, h.0, rises-le a.index i b.index h.1)) (part-lies q b.index rest hi h.2)
+    lies-cond lo hi (same_part q r) _ _ (h.0, ab, bh) (lies-mono b.index lo hi (first_part q (place_behind (part r) p) rest) (omega (arith, h.0)) (part-lies q (place_behind (part r) p) b.index rest hi h.2))
+part-lies q p lo (item (content c) a b d i rest) hi h =
+    lies-mono b.index lo hi (first_part q (place_behind (content c) p) rest) (omega (arith, h.0, rises-le a.index i b.index h.1)) (part-lies q (place_behind (content c) p) b.index rest hi h.2)
 
 -- `InOrder` with its trees in sight, so that they can be found
 record Fine (lo hi : ℕ) (t : Trees) : Type 0 where
@@ -233,31 +232,31 @@ media-image alt m a b le = elim m.resource as (λ o. Fine a.index b.index (node_
 ]
 
 -- The node of a span nests in it, where the nodes of its items do
-node-ordered : (s : Source) (p : Place) (what : Acting) (a b : Point) (d : Forest) (i : Items) (under : Path → Trees) → b.index < 2 ^ 64 → Rises a.index i b.index → ((w : Path) → InOrder elsewhere false a.index b.index (under w)) → Fine a.index b.index (node_of s p what a b (shown_of d) (inner_of s i under))
-node-ordered s p (content contents.Data) a b d i under small h k = one-ordered _ nothing a b (rises-le _ i _ h) tt
-node-ordered s p (content contents.CharacterReference) a b d i under small h k = one-ordered _ nothing a b (rises-le _ i _ h) tt
-node-ordered s p (content contents.LineEnding) a b d i under small h k = if-ordered p.line_endings a.index b.index _ (one-ordered (text (text_read s a b)) nothing a b (rises-le _ i _ h) tt)
-node-ordered s p (content contents.Autolink) a b d i under small h k = autolink-ordered s _ _ a b (rises-le _ i _ h) (part-lies parts.AutolinkEmail _ i _ h) (part-lies parts.AutolinkProtocol _ i _ h)
-node-ordered s p (content contents.AutolinkLiteralEmail) a b d i under small h k = linked-ordered (codes "mailto:") (text_read s a b) a b a b (omega arith) (rises-le _ i _ h) (omega arith)
-node-ordered s p (content contents.AutolinkLiteralWww) a b d i under small h k = linked-ordered (codes "http://") (text_read s a b) a b a b (omega arith) (rises-le _ i _ h) (omega arith)
-node-ordered s p (content contents.AutolinkLiteralWhole) a b d i under small h k = linked-ordered [] (text_read s a b) a b a b (omega arith) (rises-le _ i _ h) (omega arith)
-node-ordered s p (content contents.ListItem) a b d i under small h k = item-ordered (loose_item d) (mark i) (under itself) a b (rises-le _ i _ h) small (k itself)
-node-ordered s p (content contents.Frontmatter) a b d i under small h k = matter-ordered _ _ a b (rises-le _ i _ h)
-node-ordered s p (content contents.Link) a b d i under small h k = media-link (media_of (inner_of s i under)) _ a b (rises-le _ i _ h) (k (path_to parts.LabelText))
-node-ordered s p (content contents.Image) a b d i under small h k = media-image _ (media_of (inner_of s i under)) a b (rises-le _ i _ h)
-node-ordered s p (content contents.HardBreak) a b d i under small h k = one-ordered _ nothing a b (rises-le _ i _ h) tt
-node-ordered s p (content contents.ThematicBreak) a b d i under small h k = one-ordered _ nothing a b (rises-le _ i _ h) tt
-node-ordered s p (content contents.CodeFenced) a b d i under small h k = one-ordered _ nothing a b (rises-le _ i _ h) tt
-node-ordered s p (content contents.MathFlow) a b d i under small h k = one-ordered _ nothing a b (rises-le _ i _ h) tt
-node-ordered s p (content contents.CodeIndented) a b d i under small h k = one-ordered _ nothing a b (rises-le _ i _ h) tt
-node-ordered s p (content contents.CodeText) a b d i under small h k = one-ordered _ nothing a b (rises-le _ i _ h) tt
-node-ordered s p (content contents.MathText) a b d i under small h k = one-ordered _ nothing a b (rises-le _ i _ h) tt
-node-ordered s p (content contents.Html) a b d i under small h k = one-ordered _ nothing a b (rises-le _ i _ h) tt
-node-ordered s p (content contents.Definition) a b d i under small h k = one-ordered _ nothing a b (rises-le _ i _ h) tt
-node-ordered s p (content contents.FootnoteCall) a b d i under small h k = one-ordered _ nothing a b (rises-le _ i _ h) tt
-node-ordered s p (content _) a b d i under small h k = one-ordered _ (under itself) a b (rises-le _ i _ h) (k itself)
-node-ordered s p (part parts.HeadingSetextText) a b d i under small h k = record { ok = k itself }
-node-ordered s p (part _) a b d i under small h k = record { ok = tt }
+node-ordered : (s : Source) (p from : Place) (what : Acting) (a b : Point) (d : Forest) (i : Items) (under : Path → Trees) → b.index < 2 ^ 64 → Rises a.index i b.index → ((w : Path) → InOrder elsewhere false a.index b.index (under w)) → Fine a.index b.index (node_of s p what a b (shown_of d) (inner_of s from i under))
+node-ordered s p from (content contents.Data) a b d i under small h k = one-ordered _ nothing a b (rises-le _ i _ h) tt
+node-ordered s p from (content contents.CharacterReference) a b d i under small h k = one-ordered _ nothing a b (rises-le _ i _ h) tt
+node-ordered s p from (content contents.LineEnding) a b d i under small h k = if-ordered p.line_endings a.index b.index _ (one-ordered (text (text_read s a b)) nothing a b (rises-le _ i _ h) tt)
+node-ordered s p from (content contents.Autolink) a b d i under small h k = autolink-ordered s _ _ a b (rises-le _ i _ h) (part-lies parts.AutolinkEmail from _ i _ h) (part-lies parts.AutolinkProtocol from _ i _ h)
+node-ordered s p from (content contents.AutolinkLiteralEmail) a b d i under small h k = linked-ordered (codes "mailto:") (text_read s a b) a b a b (omega arith) (rises-le _ i _ h) (omega arith)
+node-ordered s p from (content contents.AutolinkLiteralWww) a b d i under small h k = linked-ordered (codes "http://") (text_read s a b) a b a b (omega arith) (rises-le _ i _ h) (omega arith)
+node-ordered s p from (content contents.AutolinkLiteralWhole) a b d i under small h k = linked-ordered [] (text_read s a b) a b a b (omega arith) (rises-le _ i _ h) (omega arith)
+node-ordered s p from (content contents.ListItem) a b d i under small h k = item-ordered (loose_item d) (mark i) (under itself) a b (rises-le _ i _ h) small (k itself)
+node-ordered s p from (content contents.Frontmatter) a b d i under small h k = matter-ordered _ _ a b (rises-le _ i _ h)
+node-ordered s p from (content contents.Link) a b d i under small h k = media-link (media_of (inner_of s from i under)) _ a b (rises-le _ i _ h) (k (path_to parts.LabelText))
+node-ordered s p from (content contents.Image) a b d i under small h k = media-image _ (media_of (inner_of s from i under)) a b (rises-le _ i _ h)
+node-ordered s p from (content contents.HardBreak) a b d i under small h k = one-ordered _ nothing a b (rises-le _ i _ h) tt
+node-ordered s p from (content contents.ThematicBreak) a b d i under small h k = one-ordered _ nothing a b (rises-le _ i _ h) tt
+node-ordered s p from (content contents.CodeFenced) a b d i under small h k = one-ordered _ nothing a b (rises-le _ i _ h) tt
+node-ordered s p from (content contents.MathFlow) a b d i under small h k = one-ordered _ nothing a b (rises-le _ i _ h) tt
+node-ordered s p from (content contents.CodeIndented) a b d i under small h k = one-ordered _ nothing a b (rises-le _ i _ h) tt
+node-ordered s p from (content contents.CodeText) a b d i under small h k = one-ordered _ nothing a b (rises-le _ i _ h) tt
+node-ordered s p from (content contents.MathText) a b d i under small h k = one-ordered _ nothing a b (rises-le _ i _ h) tt
+node-ordered s p from (content contents.Html) a b d i under small h k = one-ordered _ nothing a b (rises-le _ i _ h) tt
+node-ordered s p from (content contents.Definition) a b d i under small h k = one-ordered _ nothing a b (rises-le _ i _ h) tt
+node-ordered s p from (content contents.FootnoteCall) a b d i under small h k = one-ordered _ nothing a b (rises-le _ i _ h) tt
+node-ordered s p from (content _) a b d i under small h k = one-ordered _ (under itself) a b (rises-le _ i _ h) (k itself)
+node-ordered s p from (part parts.HeadingSetextText) a b d i under small h k = record { ok = k itself }
+node-ordered s p from (part _) a b d i under small h k = record { ok = tt }
 
 -- The nodes of items nest and stand in order
 pub nodes-ordered : (s : Source) (w : Path) (p : Place) (xs : Items) (lo hi : ℕ) → hi < 2 ^ 64 → Rises lo xs hi → InOrder elsewhere false lo hi (nodes s w p xs)
@@ -274,8 +273,8 @@ nodes-ordered s itself p (item what a b d i rest) lo hi small h =
     let ab : a.index ≤ b.index = rises-le a.index i b.index h.1 in
     let bh : b.index ≤ hi = rises-le b.index rest hi h.2 in
     let on_next_line : b.index < 2 ^ 64 = omega arith in
-    join-ordered lo b.index hi (node_of s p what a b (shown_of d) (inner_of s i (λ which. nodes s which (place_inside what p) i))) (nodes s itself (place_behind what p) rest) (omega (arith, h.0)) bh
-    (widen elsewhere a.index b.index lo b.index (node_of s p what a b (shown_of d) (inner_of s i (λ which. nodes s which (place_inside what p) i))) h.0 (omega arith) (node-ordered s p what a b d i (λ which. nodes s which (place_inside what p) i) on_next_line h.1 (λ which. nodes-ordered s which (place_inside what p) i a.index b.index on_next_line h.1)).ok)
+    join-ordered lo b.index hi (node_of s p what a b (shown_of d) (inner_of s (place_inside what p) i (λ which. nodes s which (place_inside what p) i))) (nodes s itself (place_behind what p) rest) (omega (arith, h.0)) bh
+    (widen elsewhere a.index b.index lo b.index (node_of s p what a b (shown_of d) (inner_of s (place_inside what p) i (λ which. nodes s which (place_inside what p) i))) h.0 (omega arith) (node-ordered s p (place_inside what p) what a b d i (λ which. nodes s which (place_inside what p) i) on_next_line h.1 (λ which. nodes-ordered s which (place_inside what p) i a.index b.index on_next_line h.1)).ok)
     (nodes-ordered s itself (place_behind what p) rest b.index hi small h.2)
 nodes-ordered s (into q way) p (item (part r) a b d i rest) lo hi small h =
     let ab : a.index ≤ b.index = rises-le a.index i b.index h.1 in

@@ -17,33 +17,15 @@ use Rattle.markdown_tree.specs.declared.refusal.Refusal.{Refusal}
 use Rattle.markdown_tree.specs.declared.refusal.Refusal.TheVariants.{Unbalanced, Held}
 use Rattle.markdown_tree.specs.Carried.{holder_of}
 use Rattle.markdown_events.specs.Walks.{is_same_name}
-use Rattle.markdown_tree.specs.Machine.{Rejection, checked, refused, Holds, fresh, closed, enter_checks, exit_checks, in_the_open, may_begin, under, Open, State, opened, enter_as, enter_step, leave, leave_to, shut, exit_from, exit_step, step, step_by, run, ◌>>=◌}
+use Rattle.markdown_tree.specs.Machine.{Holds, fresh, closed, enter_checks, exit_checks, Open, State, opened, enter_as, enter_step, leave, leave_to, shut, exit_from, exit_step, step, step_by, run}
+use Rattle.markdown_tree.specs.Around.{in_the_open, may_begin, under}
+use Rattle.markdown_tree.specs.Rejections.{Rejection, checked, ◌>>=◌}
 use Rattle.markdown_tree.specs.Source.{Source}
 use Rattle.markdown_tree.proofs.Eval.{eval, eval_as}
-use Rattle.markdown_tree.proofs.Runs.{at, done}
-
-pub err_clash : {A : Type 0} (r : Result A Rejection) (x : A) (why : Rejection) → r ≡ Ok x → r ≡ Err why → ⊥
-err_clash r x why a b = let e : done x ≡ Err why = sym a ∙ b in absurd cc
-
-pub err_is : {A : Type 0} (k m : Rejection) → ◌≡◌ {A = Result A Rejection} (Err k) (Err m) → k ≡ m
-err_is k m e = cc
+use Rattle.markdown_tree.proofs.Runs.{at}
+use Rattle.markdown_tree.proofs.Outcomes.{done, bind_point, checked_point, done_point, err_is}
 
 -- ---- A step that is refused names its own event
-
-one_point : {A : Type 0} (b : Bool) (x : Result A Rejection) (why : Refusal) (p : Point) (m : Rejection) → (x ≡ Err m → m.point ≡ p) → cond b x (refused why p) ≡ Err m → m.point ≡ p
-one_point true x why p m f h = f h
-one_point false x why p m f h = ap (λ (k : Rejection). k.point) (sym (err_is {A = _} (record { refusal = why; point = p }) m h))
-
-checked_point : {A : Type 0} (cs : List (Bool × Refusal)) (p : Point) (r : Result A Rejection) (m : Rejection) → (r ≡ Err m → m.point ≡ p) → checked cs p r ≡ Err m → m.point ≡ p
-checked_point [] p r m f h = f h
-checked_point (c ∷ cs) p r m f h = one_point c.0 (checked cs p r) c.1 p m (checked_point cs p r m f) h
-
-done_point : {A : Type 0} (x : A) (m : Rejection) (p : Point) → done x ≡ Err m → m.point ≡ p
-done_point x m p h = absurd cc
-
-bind_point : {A B : Type 0} (r : Result A Rejection) (f : A → B) (m : Rejection) (p : Point) → (r ≡ Err m → m.point ≡ p) → (r >>= λ x. done (f x)) ≡ Err m → m.point ≡ p
-bind_point (Ok x) f m p g h = absurd cc
-bind_point (Err k) f m p g h = g (ap (λ (j : Rejection). Err j) (err_is k m h))
 
 enter_as_point : (role : Role) (n : Name) (p : Point) (st : State) (m : Rejection) → enter_as role n p st ≡ Err m → m.point ≡ p
 enter_as_point (plain k) n p st m h = done_point (opened n p st None st.top) m p h

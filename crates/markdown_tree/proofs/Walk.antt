@@ -1,35 +1,14 @@
 -- The steps over items alone: they are taken exactly where the items fit, and give the nodes of the items.
-use Rattle.std.proofs.Common.{◌≡◌, Bool, true, false, ◌&&◌, cond, List, [], ◌∷◌, Option, Some, None, Result, Ok, Err, refl, sym, ◌∙◌, ap}
+use Rattle.std.proofs.Common.{◌≡◌, Bool, true, false, ◌&&◌, Option, Some, refl, sym, ◌∙◌, ap}
 use Rattle.std.specs.Option.{option_and_then}
-use Rattle.markdown_events.specs.declared.event.Point.{Point}
 use Rattle.markdown_nodes.specs.Tree.{Trees, join}
 use Rattle.markdown_nodes.proofs.Joining.{join_assoc, join-nothing}
-use Rattle.markdown_tree.specs.declared.refusal.Refusal.{Refusal}
 use Rattle.markdown_tree.specs.Carried.{holder_of, is_carried_in, is_read, fits, nodes, node_of}
 use Rattle.markdown_tree.specs.Items.{Items, none, item}
-use Rattle.markdown_tree.specs.Machine.{Rejection, checked, Holds, fresh, closed, enter_checks, exit_checks}
+use Rattle.markdown_tree.specs.Machine.{Holds, fresh, closed, enter_checks, exit_checks}
+use Rattle.markdown_tree.specs.Rejections.{passes}
 use Rattle.markdown_tree.specs.Source.{Source}
-
--- what was given, without why nothing was
-abbrev pub ok : {A : Type 0} → Result A Rejection → Option A
-ok (Ok x) = Some x
-ok (Err e) = None
-
-abbrev pub when : {A : Type 0} → Bool → Option A → Option A
-when true o = o
-when false o = None
-
-abbrev pub passes : List (Bool × Refusal) → Bool
-passes [] = true
-passes (c ∷ cs) = c.0 && passes cs
-
-one-check : {A : Type 0} (b q : Bool) (r x : Result A Rejection) (e : Rejection) → ok x ≡ when q (ok r) → ok (cond b x (Err e)) ≡ when (b && q) (ok r)
-one-check true q r x e h = h
-one-check false q r x e h = refl
-
-pub ok-checked : {A : Type 0} (cs : List (Bool × Refusal)) (p : Point) (r : Result A Rejection) → ok (checked cs p r) ≡ when (passes cs) (ok r)
-ok-checked [] p r = refl
-ok-checked (c ∷ cs) p r = one-check c.0 (passes cs) r (checked cs p r) (record { refusal = c.1; point = p }) (ok-checked cs p r)
+use Rattle.markdown_tree.proofs.Outcomes.{when}
 
 -- the steps over items, without what is refused by
 abbrev pub walk : Source → Holds → Items → Option Holds

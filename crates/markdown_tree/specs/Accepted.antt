@@ -47,7 +47,7 @@ each_item test forest = all_pass test any_content root_place false (items forest
 
 -- what is known of the items in it
 abbrev pub known : Source → Occurrence → Inner
-known s x = inner_of s x.inner (λ which. nodes s which (place_inside x.what x.place) x.inner)
+known s x = inner_of s (place_inside x.what x.place) x.inner (λ which. nodes s which (place_inside x.what x.place) x.inner)
 
 -- its row takes the items in it
 abbrev pub takes_its_items : Occurrence → Bool
@@ -75,7 +75,7 @@ has_its_byte s x = not (is_frontmatter x.what) || is_some (byte_at s.bytes x.sta
 
 -- the value that is read of it is there, and is right
 abbrev pub has_its_value : Source → Occurrence → Bool
-has_its_value s x = is_read s x.holder (x.place.line_endings && not x.behind_break) x.what x.start x.end (known s x)
+has_its_value s x = is_read s x.holder x.place x.behind_break x.what x.start x.end
 
 -- what the grammar asks of a forest over a document and a decoder
 pub record Accepted (s : Source) (forest : Forest) : Type 0 where
@@ -99,9 +99,9 @@ pub record Accepted (s : Source) (forest : Forest) : Type 0 where
 abbrev pub may_begin : Source → Place → Bool → Acting → Point → Bool
 may_begin s p waiting what start = (not waiting || is_line_ending what) && not (p.in_table && is_table what) && (not (is_frontmatter what) || is_some (byte_at s.bytes start))
 
--- no break waits at its end, what it wants stands in it, and its value can be read
-abbrev pub may_end : Source → Holder → Bool → Acting → Point → Point → Bool → Holder → Inner → Bool
-may_end s h text what start end waiting own i = not waiting && is_complete own i && is_read s h text what start end i
+-- no break is last in it, what it wants stands in it, and its value can be read
+abbrev pub may_end : Source → Holder → Place → Bool → Acting → Point → Point → Bool → Holder → Inner → Bool
+may_end s h p waiting what start end broken own i = not broken && is_complete own i && is_read s h p waiting what start end
 
 -- all items, at any depth, are what their holders take, and have what is asked
 abbrev pub fits : Source → Holder → Place → Bool → Items → Bool
@@ -109,7 +109,7 @@ fits s h p waiting none = true
 fits s h p waiting (item what start end _ inner rest) =
     (may_begin s p waiting what start
     && (takes (holder_of h what) (kinds inner) && fits s (holder_of h what) (place_inside what p) false inner)
-    && may_end s h (p.line_endings && not waiting) what start end (ends_with_break inner) (holder_of h what) (inner_of s inner (λ which. nodes s which (place_inside what p) inner)))
+    && may_end s h p waiting what start end (ends_with_break inner) (holder_of h what) (inner_of s (place_inside what p) inner (λ which. nodes s which (place_inside what p) inner)))
     && fits s (holder_behind h what (is_some (mark inner))) (place_behind what p) (is_hard_break what) rest
 
 -- the same as one test

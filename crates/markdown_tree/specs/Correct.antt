@@ -1,19 +1,17 @@
 -- What `compile` answers.
-use Rattle.std.specs.Prelude.{◌≡◌, ◌≢◌, ◌⊎◌, ◌-◌, List, [], ◌∷◌, ◌++◌, length, Option, Some, None, slice_get}
+use Rattle.std.specs.Prelude.{◌≡◌, ◌≢◌, ◌⊎◌, List, [], ◌∷◌, ◌++◌}
 use Rattle.markdown_events.specs.declared.event.Event.{Event}
 use Rattle.markdown_events.specs.declared.event.Point.{Point}
 use Rattle.markdown_nodes.specs.declared.mdast.Node.{Node}
 use Rattle.markdown_events.specs.declared.message.Fault.{Fault}
 use Rattle.markdown_events.specs.declared.message.Fault.TheVariants as faults
 use Rattle.markdown_events.specs.declared.message.Message.{Message}
-use Rattle.markdown_events.specs.declared.unist.Position.{Position}
 use Rattle.markdown_events.specs.Forest.{Forest, spell}
-use Rattle.markdown_events.specs.Slices.{between}
 use Rattle.markdown_nodes.specs.View.{view}
 use Rattle.markdown_tree.specs.declared.refusal.Refusal.{Refusal}
 use Rattle.markdown_tree.specs.declared.refusal.Refusal.TheVariants.{Unbalanced}
 use Rattle.markdown_tree.specs.Carried.{IsAcceptedSoFar}
-use Rattle.markdown_tree.specs.Meaning.{meaning, nowhere}
+use Rattle.markdown_tree.specs.Meaning.{meaning}
 use Rattle.markdown_tree.specs.Refusals.{Says}
 use Rattle.markdown_tree.specs.Source.{Source}
 
@@ -58,13 +56,3 @@ pub record Refuses (message : Message) (events : List Event) (s : Source) : Type
 abbrev pub FailsRightly : Fault → List Event → Source → Type 0
 FailsRightly (faults.Memory error) events s = Unit {0}
 FailsRightly (faults.Message message) events s = Refuses message events s
-
--- from the first event's point to the last one's
-abbrev pub extent_between : Option Event → Option Event → Position
-extent_between None last = nowhere
-extent_between (Some first) None = nowhere
-extent_between (Some first) (Some last) = between first.point last.point
-
--- the place of the root: from the first event to the last
-abbrev pub extent_of : List Event → Position
-extent_of events = extent_between (slice_get events 0) (slice_get events (length events - 1))

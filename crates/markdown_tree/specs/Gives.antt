@@ -1,4 +1,4 @@
--- What items give to their holder besides nodes and parts: the marker of a reference, the mark of a task, the number of a list.
+-- What items give to their holder besides nodes and parts: the mark of a task, and the number of a list.
 use Rattle.std.specs.Prelude.{Bool, List, None, Option, Some, [], false, true, unwrap_or, ℕ}
 use Rattle.std.specs.Option.{option_or}
 use Rattle.markdown_events.specs.Slices.{slice}
@@ -14,18 +14,6 @@ use Rattle.markdown_events.specs.declared.role.Acting.TheVariants.{Content as co
 -- the slice of a span, empty where there is none
 abbrev pub text_read : Source → Point → Point → List ℕ
 text_read s start end = unwrap_or (slice s.bytes start end) []
-
--- the byte that a marker stands for
-abbrev pub marker_of : Acting → Option ℕ
-marker_of (part parts.CharacterReferenceMarker) = Some 38
-marker_of (part parts.CharacterReferenceMarkerNumeric) = Some 35
-marker_of (part parts.CharacterReferenceMarkerHexadecimal) = Some 120
-marker_of _ = None
-
--- the byte of the last marker among the items
-abbrev pub last_marker : Items → Option ℕ
-last_marker none = None
-last_marker (item what _ _ _ _ rest) = option_or (last_marker rest) (marker_of what)
 
 -- the number that an item gives to its holder: an item value its own, and a ListItem that of its value
 abbrev pub value_given : Source → Acting → Point → Point → Option ℕ → Option ℕ

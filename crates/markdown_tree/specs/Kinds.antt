@@ -1,9 +1,10 @@
 -- Words for what an item is.
-use Rattle.std.specs.Prelude.{Bool, List, [], false, true, ◌||◌, ◌∷◌}
+use Rattle.std.specs.Prelude.{Bool, List, None, Option, Some, [], false, true, ℕ, ◌||◌, ◌∷◌}
 use Rattle.markdown_events.specs.declared.role.Acting.{Acting}
 use Rattle.markdown_events.specs.declared.role.Part.{Part}
 use Rattle.markdown_tree.specs.Items.{same_part}
 use Rattle.markdown_events.specs.declared.role.Content.TheVariants as contents
+use Rattle.markdown_events.specs.declared.role.Part.TheVariants as parts
 use Rattle.markdown_events.specs.declared.role.Acting.TheVariants.{Content as content, Part as part}
 
 abbrev pub is_content : Acting → Bool
@@ -40,3 +41,10 @@ no_item what = false
 abbrev pub is_one_of : List Part → Acting → Bool
 is_one_of [] what = false
 is_one_of (p ∷ ps) what = is_part p what || is_one_of ps what
+
+-- the byte that a marker of a character reference stands for
+abbrev pub marker_of : Acting → Option ℕ
+marker_of (part parts.CharacterReferenceMarker) = Some 38
+marker_of (part parts.CharacterReferenceMarkerNumeric) = Some 35
+marker_of (part parts.CharacterReferenceMarkerHexadecimal) = Some 120
+marker_of _ = None

@@ -1,5 +1,5 @@
 -- The steps of `compile`, on values: what a holder keeps, what an enter opens, and what comes up at an exit.
-use Rattle.std.specs.Prelude.{◌≡◌, ℕ, Bool, true, false, not, ◌&&◌, ◌||◌, List, [], ◌∷◌, ◌++◌, Option, Some, None, option_map, Result, Ok, Err, map, reverse, cond}
+use Rattle.std.specs.Prelude.{◌≡◌, ℕ, Bool, true, false, List, [], ◌∷◌, ◌++◌, Option, Some, None, option_map, Result, Ok, Err, map, reverse}
 use Rattle.markdown_events.specs.declared.event.Event.{Event}
 use Rattle.markdown_events.specs.declared.event.Kind.{Kind}
 use Rattle.markdown_events.specs.declared.event.Kind.TheVariants.{Enter, Exit}
@@ -13,8 +13,7 @@ use Rattle.markdown_events.specs.declared.role.Content.TheVariants as contents
 use Rattle.markdown_events.specs.declared.role.Role.{Role}
 use Rattle.markdown_events.specs.declared.role.Role.TheVariants.{Plain as plain, Acting as acting}
 use Rattle.markdown_events.specs.declared.unist.Position.{Position}
-use Rattle.markdown_events.specs.Walks.{holds_nothing, is_same_name}
-use Rattle.markdown_events.specs.Forest.{is_delimiter_row, is_delimiter_cell_value}
+use Rattle.markdown_events.specs.Walks.{is_same_name}
 use Rattle.markdown_events.specs.Names.{role_of}
 use Rattle.markdown_nodes.specs.Tree.{Trees, Tree, Label, nothing, only, join, from_to, text}
 use Rattle.markdown_nodes.specs.View.{views}
@@ -32,28 +31,10 @@ use Rattle.markdown_tree.specs.declared.refusal.Refusal.TheVariants.{Unbalanced,
 use Rattle.markdown_tree.specs.declared.refusal.Stop.{Stop}
 use Rattle.markdown_tree.specs.declared.refusal.Stop.TheVariants as stops
 use Rattle.markdown_tree.specs.Carried.{holder_of, is_carried_in, is_read, node_of}
+use Rattle.markdown_tree.specs.Around.{in_the_open, may_begin, under}
 use Rattle.markdown_tree.specs.Refusals.{Says}
+use Rattle.markdown_tree.specs.Rejections.{Rejection, checked, refused, ◌>>=◌}
 use Rattle.markdown_tree.specs.Source.{Source}
-
--- ---- What a step answers
-
--- why an event is refused, and its point
-pub record Rejection : Type 0 where
-  pub refusal : Refusal
-  pub point : Point
-
-infixl 10 ◌>>=◌
-abbrev pub ◌>>=◌ : {A B : Type 0} → Result A Rejection → (A → Result B Rejection) → Result B Rejection
-(Ok x) >>= f = f x
-(Err e) >>= f = Err e
-
-abbrev pub refused : {A : Type 0} → Refusal → Point → Result A Rejection
-refused why point = Err (record { refusal = why; point = point })
-
--- tests in their order, each with what it refuses by
-abbrev pub checked : {A : Type 0} → List (Bool × Refusal) → Point → Result A Rejection → Result A Rejection
-checked [] point result = result
-checked (test ∷ tests) point result = cond test.0 (checked tests point result) (refused test.1 point)
 
 -- ---- The state
 
@@ -77,9 +58,6 @@ pub record State : Type 0 where
 
 abbrev pub fresh : Holder → Holds
 fresh holder = record { holder = holder; nodes = nothing }
-
-abbrev pub in_the_open : Around
-in_the_open = record { held = false; in_row = false; in_value = false }
 
 -- before the first event
 abbrev pub opening : State
@@ -121,14 +99,6 @@ Fails (faults.Message message) expected = (why : Rejection) × (expected ≡ Err
 abbrev pub Completes : {X Y : Type 0} → (X → Y) → Result X Fault → Result Y Rejection → Type 0
 Completes view (Ok x) expected = expected ≡ Ok (view x)
 Completes view (Err fault) expected = Fails fault expected
-
--- ---- Right shape, by what is around
-
-abbrev pub may_begin : Around → Role → Bool
-may_begin a role = (not a.held && not (a.in_row && is_delimiter_row role)) && not (a.in_value && is_delimiter_cell_value role)
-
-abbrev pub under : Around → Role → Around
-under a role = record { held = holds_nothing role; in_row = a.in_row || is_delimiter_row role; in_value = a.in_value || is_delimiter_cell_value role }
 
 -- ---- Nodes at the end of a holder
 

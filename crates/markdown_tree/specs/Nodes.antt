@@ -1,6 +1,5 @@
 -- The nodes that items give.
-use Rattle.std.specs.Prelude.{Bool, List, None, Option, Some, [], codes, false, if◌then◌else◌, true, unwrap_or, ℕ}
-use Rattle.std.specs.Option.{option_and_then}
+use Rattle.std.specs.Prelude.{Bool, List, None, Some, [], codes, false, if◌then◌else◌, true, ℕ}
 use Rattle.markdown_events.specs.Spread.{Shown, shown_of}
 use Rattle.markdown_events.specs.Texts.{raw, spaces, trim}
 use Rattle.markdown_nodes.specs.Tree.{Label, Trees, join, nothing, plain_text}
@@ -23,14 +22,10 @@ abbrev pub frontmatter : Bool → List ℕ → Label
 frontmatter true value = tree.toml value
 frontmatter false value = tree.yaml value
 
--- what the decoder says of the value and the last marker
-abbrev pub decoded : Source → Inner → Option (List ℕ)
-decoded s i = option_and_then (λ value. option_and_then (λ marker. s.text value marker) i.marker) (words_of (i.part (path_to parts.CharacterReferenceValue)))
-
 -- the node of one span; a part gives none, but for the text of a heading, which gives its nodes
 abbrev pub node_of : Source → Place → Acting → Point → Point → Shown → Inner → Trees
 node_of s p (content contents.Data) a b _ i = node_at (tree.text (text_read s a b)) nothing a b
-node_of s p (content contents.CharacterReference) a b _ i = node_at (tree.text (unwrap_or (decoded s i) [])) nothing a b
+node_of s p (content contents.CharacterReference) a b _ i = node_at (tree.text (text_of (i.part (path_to parts.CharacterReferenceValue)))) nothing a b
 node_of s p (content contents.LineEnding) a b _ i = if p.line_endings then node_at (tree.text (text_read s a b)) nothing a b else nothing
 node_of s p (content contents.HardBreak) a b _ i = node_at tree.«break» nothing a b
 node_of s p (content contents.Autolink) a b _ i = autolink (i.part (path_to parts.AutolinkEmail)) (i.part (path_to parts.AutolinkProtocol)) a b
@@ -77,6 +72,6 @@ nodes s which p none = nothing
 nodes s itself p (item (content contents.HardBreak) start _ _ _ (item (content contents.LineEnding) _ end _ _ rest)) =
     join (node_at tree.«break» nothing start end) (nodes s itself p rest)
 nodes s itself p (item what start end children inner rest) =
-    join (node_of s p what start end (shown_of children) (inner_of s inner (λ which. nodes s which (place_inside what p) inner))) (nodes s itself (place_behind what p) rest)
+    join (node_of s p what start end (shown_of children) (inner_of s (place_inside what p) inner (λ which. nodes s which (place_inside what p) inner))) (nodes s itself (place_behind what p) rest)
 nodes s (into q way) p (item (part r) _ _ _ inner rest) = elim (same_part q r) [ true ↦ nodes s way (place_inside (part r) p) inner | false ↦ nodes s (into q way) p rest ]
 nodes s (into q way) p (item (content _) _ _ _ _ rest) = nodes s (into q way) p rest

@@ -5,24 +5,27 @@ use Rattle.markdown_events.specs.Texts.{fold}
 use Rattle.markdown_nodes.specs.Tree.{Trees, plain_label, plain_text}
 use Rattle.markdown_events.specs.declared.event.Point.{Point}
 use Rattle.markdown_events.specs.declared.role.Part.{Part}
-use Rattle.markdown_tree.specs.Gives.{last_marker, mark, text_read, value}
+use Rattle.markdown_tree.specs.Gives.{mark, text_read, value}
 use Rattle.markdown_tree.specs.Items.{Items, item, none, same_part, ◌then◌}
+use Rattle.markdown_tree.specs.Place.{Place, place_behind, place_inside}
 use Rattle.markdown_tree.specs.Ranges.{byte_at, length_between}
 use Rattle.markdown_tree.specs.Source.{Source}
 use Rattle.markdown_events.specs.declared.role.Part.TheVariants as parts
 use Rattle.markdown_events.specs.declared.role.Acting.TheVariants.{Content as content, Part as part}
 
--- a span's ends and its items
+-- a span: its ends, where it stands, and its items
 pub record Stretch : Type 0 where
   pub start : Point
   pub end : Point
+  pub place : Place
   pub inner : Items
 
--- the first part so named
-abbrev pub first_part : Part → Items → Option Stretch
-first_part p none = None
-first_part p (item (part q) start end _ inner rest) = if same_part p q then Some (record { start = start; end = end; inner = inner }) else first_part p rest
-first_part p (item (content _) _ _ _ _ rest) = first_part p rest
+-- the first part so named, of items that begin in that place
+abbrev pub first_part : Part → Place → Items → Option Stretch
+first_part q p none = None
+first_part q p (item (part r) start end _ inner rest) =
+    if same_part q r then Some (record { start = start; end = end; place = p; inner = inner }) else first_part q (place_behind (part r) p) rest
+first_part q p (item (content c) _ _ _ _ rest) = first_part q (place_behind (content c) p) rest
 
 -- which of the items: all of them, or those of the first part at the end of a path
 pub data Path : Type 0 where
@@ -37,10 +40,10 @@ abbrev pub path_through : Part → Part → Path
 path_through q p = into q (into p itself)
 
 -- the part at the end of a path, if it is there
-abbrev pub stretch_at : Path → Items → Option Stretch
-stretch_at itself inner = None
-stretch_at (into p itself) inner = first_part p inner
-stretch_at (into q (into p way)) inner = option_and_then (λ (x : Stretch). stretch_at (into p way) x.inner) (first_part q inner)
+abbrev pub stretch_at : Path → Place → Items → Option Stretch
+stretch_at itself p inner = None
+stretch_at (into q itself) p inner = first_part q p inner
+stretch_at (into q (into r way)) p inner = option_and_then (λ (x : Stretch). stretch_at (into r way) (place_inside (part q) x.place) x.inner) (first_part q p inner)
 
 -- a byte at a point, compared
 abbrev pub is_byte : Source → ℕ → Point → Bool
@@ -51,38 +54,42 @@ pub data Kept : Type 0 where
   stood : Kept
   -- a depth or a list's number
   count : ℕ → Kept
-  -- the text of its items, or its own slice
+  -- the text of its items, or what the decoder says of it
   words : List ℕ → Kept
   -- an identifier and a text
   named : List ℕ → List ℕ → Kept
   -- an address, and where it stands
   address : Point → Point → List ℕ → Kept
 
--- what a part between two points gives, by the nodes of its items
-abbrev pub kept_from : Source → Part → Point → Point → Trees → Kept
-kept_from s parts.AutolinkEmail a b ts = address a b (text_read s a b)
-kept_from s parts.AutolinkProtocol a b ts = address a b (text_read s a b)
-kept_from s parts.CharacterReferenceValue a b ts = words (text_read s a b)
-kept_from s parts.CodeFencedFenceInfo a b ts = words (plain_text ts)
-kept_from s parts.CodeFencedFenceMeta a b ts = words (plain_text ts)
-kept_from s parts.MathFlowFenceMeta a b ts = words (plain_text ts)
-kept_from s parts.DefinitionDestinationString a b ts = words (plain_text ts)
-kept_from s parts.DefinitionTitleString a b ts = words (plain_text ts)
-kept_from s parts.ResourceDestinationString a b ts = words (plain_text ts)
-kept_from s parts.ResourceTitleString a b ts = words (plain_text ts)
-kept_from s parts.DefinitionLabelString a b ts = named (fold (text_read s a b)) (plain_text ts)
-kept_from s parts.FootnoteDefinitionLabelString a b ts = named (fold (text_read s a b)) (plain_text ts)
-kept_from s parts.ReferenceString a b ts = named (fold (text_read s a b)) (plain_text ts)
-kept_from s parts.LabelText a b ts = named (fold (text_read s a b)) (plain_label ts)
-kept_from s parts.HeadingAtxSequence a b ts = count (unwrap_or (length_between s.bytes a b) 0)
-kept_from s parts.HeadingSetextUnderlineSequence a b ts = count (if is_byte s 45 a then 2 else 1)
-kept_from s _ a b ts = stood
+-- what the decoder says of a value and the last marker before it
+abbrev pub decoded : Source → Place → Point → Point → Option (List ℕ)
+decoded s p a b = option_and_then (λ marker. s.text (text_read s a b) marker) p.marker
+
+-- what a part between two points gives, by where it stands and the nodes of its items
+abbrev pub kept_from : Source → Place → Part → Point → Point → Trees → Kept
+kept_from s p parts.AutolinkEmail a b ts = address a b (text_read s a b)
+kept_from s p parts.AutolinkProtocol a b ts = address a b (text_read s a b)
+kept_from s p parts.CharacterReferenceValue a b ts = words (unwrap_or (decoded s p a b) [])
+kept_from s p parts.CodeFencedFenceInfo a b ts = words (plain_text ts)
+kept_from s p parts.CodeFencedFenceMeta a b ts = words (plain_text ts)
+kept_from s p parts.MathFlowFenceMeta a b ts = words (plain_text ts)
+kept_from s p parts.DefinitionDestinationString a b ts = words (plain_text ts)
+kept_from s p parts.DefinitionTitleString a b ts = words (plain_text ts)
+kept_from s p parts.ResourceDestinationString a b ts = words (plain_text ts)
+kept_from s p parts.ResourceTitleString a b ts = words (plain_text ts)
+kept_from s p parts.DefinitionLabelString a b ts = named (fold (text_read s a b)) (plain_text ts)
+kept_from s p parts.FootnoteDefinitionLabelString a b ts = named (fold (text_read s a b)) (plain_text ts)
+kept_from s p parts.ReferenceString a b ts = named (fold (text_read s a b)) (plain_text ts)
+kept_from s p parts.LabelText a b ts = named (fold (text_read s a b)) (plain_label ts)
+kept_from s p parts.HeadingAtxSequence a b ts = count (unwrap_or (length_between s.bytes a b) 0)
+kept_from s p parts.HeadingSetextUnderlineSequence a b ts = count (if is_byte s 45 a then 2 else 1)
+kept_from s p _ a b ts = stood
 
 -- the same of the part at the end of a path
-abbrev pub kept_at : Source → Path → Point → Point → Trees → Kept
-kept_at s itself a b ts = stood
-kept_at s (into p itself) a b ts = kept_from s p a b ts
-kept_at s (into q (into p way)) a b ts = kept_at s (into p way) a b ts
+abbrev pub kept_at : Source → Path → Stretch → Trees → Kept
+kept_at s itself x ts = stood
+kept_at s (into q itself) x ts = kept_from s x.place q x.start x.end ts
+kept_at s (into q (into r way)) x ts = kept_at s (into r way) x ts
 
 -- the text that a part gives, if it gives one
 abbrev pub words_of : Option Kept → Option (List ℕ)
@@ -110,17 +117,15 @@ pub record Inner : Type 0 where
   pub nodes : Trees
   pub label : Trees
   pub part : Path → Option Kept
-  pub marker : Option ℕ
   pub mark : Option Bool
   pub value : Option ℕ
 
--- the same of items, by the nodes that they give
-abbrev pub inner_of : Source → Items → (Path → Trees) → Inner
-inner_of s inner under = record {
+-- the same of items that begin in that place, by the nodes that they give
+abbrev pub inner_of : Source → Place → Items → (Path → Trees) → Inner
+inner_of s p inner under = record {
   nodes = under itself;
   label = under (path_to parts.LabelText);
-  part = λ way. option_map (λ (x : Stretch). kept_at s way x.start x.end (under way)) (stretch_at way inner);
-  marker = last_marker inner;
+  part = λ way. option_map (λ (x : Stretch). kept_at s way x (under way)) (stretch_at way p inner);
   mark = mark inner;
   value = value s inner;
 }

@@ -1,17 +1,20 @@
--- Where items stand, as far as their nodes ask.
-use Rattle.std.specs.Prelude.{Bool, false, true, ◌||◌}
+-- Where items stand, as far as their nodes and values ask.
+use Rattle.std.specs.Prelude.{Bool, None, Option, false, true, ℕ, ◌||◌}
+use Rattle.std.specs.Option.{option_or}
 use Rattle.markdown_events.specs.declared.role.Acting.{Acting}
-use Rattle.markdown_tree.specs.Kinds.{is_table}
+use Rattle.markdown_tree.specs.Kinds.{is_table, marker_of}
 use Rattle.markdown_events.specs.declared.role.Content.TheVariants as contents
 use Rattle.markdown_events.specs.declared.role.Part.TheVariants as parts
 use Rattle.markdown_events.specs.declared.role.Acting.TheVariants.{Content as content, Part as part}
 
--- what a node asks of where it stands
+-- what a node and a value ask of where they stand
 pub record Place : Type 0 where
   -- whether a line ending is text here
   pub line_endings : Bool
   -- whether a table is around, at any depth
   pub in_table : Bool
+  -- the byte of the last marker of a character reference before
+  pub marker : Option ℕ
 
 -- whether a line ending is text inside a span
 abbrev pub line_ending_is_text : Acting → Bool
@@ -45,12 +48,12 @@ line_ending_is_text_behind _ before = before
 
 -- the place inside a span
 abbrev pub place_inside : Acting → Place → Place
-place_inside what p = record { line_endings = line_ending_is_text what; in_table = p.in_table || is_table what }
+place_inside what p = record { line_endings = line_ending_is_text what; in_table = p.in_table || is_table what; marker = None }
 
 -- the place of what follows an item
 abbrev pub place_behind : Acting → Place → Place
-place_behind what p = record { line_endings = line_ending_is_text_behind what p.line_endings; in_table = p.in_table }
+place_behind what p = record { line_endings = line_ending_is_text_behind what p.line_endings; in_table = p.in_table; marker = option_or (marker_of what) p.marker }
 
 -- the place of the items of the root
 abbrev pub root_place : Place
-root_place = record { line_endings = false; in_table = false }
+root_place = record { line_endings = false; in_table = false; marker = None }

@@ -3,6 +3,7 @@
 ghost use Rattle.std.specs.Prelude.{◌≡◌, false, Some, OnOk, IfOk, IfSome, is_some, string_bytes};
 ghost use Rattle.markdown_nodes.specs.Tree.{from_to};
 ghost use Rattle.markdown_nodes.specs.View.{view, views};
+ghost use Rattle.markdown_tree.specs.Around.{may_begin, under};
 ghost use Rattle.markdown_tree.specs.Carried;
 ghost use Rattle.markdown_tree.specs.Machine;
 ghost use Rattle.markdown_tree.specs.Machine.{Gives, acting_of, holds_of, state_of, fresh, joined, is_text, longer, opening, enter_step, exit_step, leave};
@@ -78,8 +79,8 @@ pub struct Around {
 
 impl Around {
     /// Whether a span of the role may begin here.
-    fn allows(self, role: Role) -> bool
-        ensures { result ≡ Machine.may_begin self role }
+    pub fn allows(self, role: Role) -> bool
+        ensures { result ≡ may_begin self role }
     {
         let second_row = self.in_row && role.is_delimiter_row();
         let second_value = self.in_value && role.is_delimiter_cell_value();
@@ -87,8 +88,8 @@ impl Around {
     }
 
     /// What is around the spans in a span of the role.
-    fn inside(self, role: Role) -> Around
-        ensures { result ≡ Machine.under self role }
+    pub fn inside(self, role: Role) -> Around
+        ensures { result ≡ under self role }
     {
         Around {
             held: role.holds_nothing(),

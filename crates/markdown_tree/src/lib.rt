@@ -1,12 +1,29 @@
 //! From the events of a tokenizer to a syntax tree of mdast.
 #![tactic(auto)]
 
+mod buffer;
 mod builder;
+mod closing;
+mod columns;
+mod context;
 mod count;
+mod holder;
+mod holding;
+mod joining;
+mod leaves;
+mod marks;
+mod number;
+mod part_ends;
+mod parts;
+#[cfg(test)]
+mod pieces_tests;
+mod raw;
 mod references;
 mod refusal;
 mod slice;
 pub mod steps;
+mod task;
 #[cfg(test)]
 mod tests;
+mod texts;
 pub mod to_mdast;

@@ -15,10 +15,26 @@ pub enum Refusal {
     Unbalanced,
     /// The holder does not take the name.
     Misplaced,
+    /// A part stands again that may stand once.
+    Repeated,
     /// The right shape is broken.
     Held,
     /// A value is no text of the document.
     InvalidSlice,
+    /// A list value is no number, or too great.
+    InvalidListValue,
+    /// No item of an ordered list has a value.
+    MissingListValue,
+    /// The decoder has no text for a reference.
+    UnknownReference,
+    /// A reference without a value, or a value without a marker.
+    IncompleteReference,
+    /// A raw block without a fence.
+    MissingFence,
+    /// A heading without a sequence, or with one of another length.
+    HeadingDepth,
+    /// A break without its line ending.
+    UnfinishedBreak,
 }
 
 impl Refusal {
@@ -28,8 +44,16 @@ impl Refusal {
         match self {
             Refusal::Unbalanced => "events-unbalanced",
             Refusal::Misplaced => "name-misplaced",
+            Refusal::Repeated => "part-repeated",
             Refusal::Held => "span-held",
             Refusal::InvalidSlice => "slice-invalid",
+            Refusal::InvalidListValue => "list-value-invalid",
+            Refusal::MissingListValue => "list-value-missing",
+            Refusal::UnknownReference => "reference-unknown",
+            Refusal::IncompleteReference => "reference-incomplete",
+            Refusal::MissingFence => "fence-missing",
+            Refusal::HeadingDepth => "heading-depth",
+            Refusal::UnfinishedBreak => "break-unfinished",
         }
     }
 
@@ -39,8 +63,17 @@ impl Refusal {
         match self {
             Refusal::Unbalanced => "an exit does not match the open span, or a span is left open",
             Refusal::Misplaced => "this name cannot stand here",
+            Refusal::Repeated => "this part may stand only once",
             Refusal::Held => "a span stands inside one that cannot hold it",
             Refusal::InvalidSlice => "the span is not a text of the document",
+            Refusal::InvalidListValue => "a list value is not a number up to 4294967295",
+            Refusal::MissingListValue => "an ordered list has no value",
+            Refusal::UnknownReference => "the decoder does not know this reference",
+            Refusal::IncompleteReference =>
+                "a character reference has no marker before its value or no value",
+            Refusal::MissingFence => "a raw block has no fence",
+            Refusal::HeadingDepth => "a heading has no depth from 1 to 6",
+            Refusal::UnfinishedBreak => "a hard break is not followed by its line ending",
         }
     }
 }

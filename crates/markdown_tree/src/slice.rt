@@ -1,7 +1,9 @@
 //! What a span says in the document: its text, and its position.
 
-ghost use Rattle.std.specs.Prelude.{◌≡◌, ◌^◌, ◌<◌, SomeIff, option_copied};
+ghost use Rattle.std.specs.Prelude.{◌≡◌, ◌^◌, ◌<◌, Some, SomeIff, IfSome, is_some, option_copied};
 ghost use Rattle.markdown_events.specs.Slices.{edge, slice, between};
+ghost use Rattle.markdown_tree.specs.Numbers.{is_depth};
+ghost use Rattle.markdown_tree.specs.Ranges.{byte_at, length_between};
 
 use markdown_nodes::event::Point;
 use markdown_nodes::unist::Position;
@@ -28,6 +30,39 @@ pub fn text_of<'a>(bytes: &'a [u8], start: Point, end: Point) -> Option<&'a str>
         return None;
     }
     str::from_utf8(&bytes[from..to]).ok()
+}
+
+/// How many bytes a span has, if its ends are in order and in the document: the sequence of an ATX
+/// heading is one byte for each step of depth.
+pub fn length_between(bytes: &[u8], start: Point, end: Point) -> Option<usize>
+    ensures { result ≡ length_between bytes.now start end }
+{
+    let start = edge_of(start)?;
+    let end = edge_of(end)?;
+    if start > end || end > bytes.len() {
+        return None;
+    }
+    Some(end - start)
+}
+
+/// The depth of an ATX heading whose sequence has this many bytes: one to six (CommonMark).
+pub fn depth_of(length: usize) -> Option<u8>
+    ensures value { IfSome result (λ depth. depth ≡ length) }
+    ensures variant { is_some result ≡ is_depth (Some length) }
+{
+    match length {
+        1..=6 => u8::try_from(length).ok(),
+        _ => None,
+    }
+}
+
+/// The byte at the index of a point, virtual spaces or not, if it is in the document: the first of
+/// a fence of frontmatter says which language follows, and the first under a setext heading its
+/// depth.
+pub fn byte_at(bytes: &[u8], point: Point) -> Option<u8>
+    ensures { result ≡ byte_at bytes.now point }
+{
+    bytes.get(point.index).copied()
 }
 
 /// From the start of a span to its end.

@@ -1,7 +1,8 @@
 //! From events to a tree.
 
 ghost use Rattle.std.specs.Prelude.{◌≡◌, ◌≤◌, ◌+◌, ◌*◌, length, IfOk, IfErr};
-ghost use Rattle.markdown_tree.specs.Correct.{IsMeaning, FailsRightly, extent_of};
+ghost use Rattle.markdown_tree.specs.Correct.{IsMeaning, FailsRightly};
+ghost use Rattle.markdown_tree.specs.Extents.{extent_of};
 ghost use Rattle.markdown_tree.specs.Machine.{Completes, state_of, opening, run};
 ghost use Rattle.markdown_tree.specs.Source.{source};
 ghost use Rattle.markdown_tree.specs.Steps.{events_in};

@@ -1,13 +1,29 @@
 //! The comparison of nodes: equal are those of one kind with equal fields, positions included.
 
-ghost use Rattle.std.specs.Prelude.{◌≡◌, ◌↔◌, IsTrue};
+ghost use Rattle.std.specs.Prelude.{◌≡◌, ◌↔◌, IsTrue, option_map, string_bytes};
 ghost use Rattle.std.specs.Cmp.{on_equiv, partial_equiv_from_equiv};
 ghost use Rattle.markdown_nodes.specs.Access.{label_of, nodes_in, position_of};
 ghost use Rattle.markdown_nodes.specs.Equality.{same_tree};
+ghost use Rattle.markdown_nodes.specs.Tree.{
+  code,
+  definition,
+  footnote_definition,
+  footnote_reference,
+  image,
+  image_reference,
+  link,
+  link_reference,
+  list,
+  list_item,
+  math,
+};
 ghost use Rattle.markdown_nodes.specs.View.{view, views};
 ghost use Rattle.markdown_nodes.specs.EqualityLaws.{tree_equivalence};
 
-use crate::mdast::{AlignKind, Node};
+use crate::mdast::{
+    AlignKind, Code, Definition, FootnoteDefinition, FootnoteReference, Image, ImageReference,
+    Link, LinkReference, List, ListItem, Math, Node,
+};
 
 /// Two nodes are equal where they are of one kind and all their fields are, positions included.
 impl PartialEq for Node {
@@ -49,6 +65,86 @@ fn same_align(xs: &[AlignKind], ys: &[AlignKind]) -> bool
     true
 }
 
+/// Whether two definitions of footnotes have the same fields but for children and position.
+fn same_footnote_definition(x: &FootnoteDefinition, y: &FootnoteDefinition) -> bool
+    ensures { IsTrue result ↔ (footnote_definition (string_bytes x.now.identifier) (option_map string_bytes x.now.label) ≡ footnote_definition (string_bytes y.now.identifier) (option_map string_bytes y.now.label)) }
+{
+    x.identifier == y.identifier && x.label == y.label
+}
+
+/// Whether two lists have the same fields but for children and position.
+fn same_list(x: &List, y: &List) -> bool
+    ensures { IsTrue result ↔ (list x.now.ordered x.now.start x.now.spread ≡ list y.now.ordered y.now.start y.now.spread) }
+{
+    x.ordered == y.ordered && x.start == y.start && x.spread == y.spread
+}
+
+/// Whether two references to footnotes have the same fields but for position.
+fn same_footnote_reference(x: &FootnoteReference, y: &FootnoteReference) -> bool
+    ensures { IsTrue result ↔ (footnote_reference (string_bytes x.now.identifier) (option_map string_bytes x.now.label) ≡ footnote_reference (string_bytes y.now.identifier) (option_map string_bytes y.now.label)) }
+{
+    x.identifier == y.identifier && x.label == y.label
+}
+
+/// Whether two images have the same fields but for position.
+fn same_image(x: &Image, y: &Image) -> bool
+    ensures { IsTrue result ↔ (image (string_bytes x.now.alt) (string_bytes x.now.url) (option_map string_bytes x.now.title) ≡ image (string_bytes y.now.alt) (string_bytes y.now.url) (option_map string_bytes y.now.title)) }
+{
+    x.alt == y.alt && x.url == y.url && x.title == y.title
+}
+
+/// Whether two references to images have the same fields but for position.
+fn same_image_reference(x: &ImageReference, y: &ImageReference) -> bool
+    ensures { IsTrue result ↔ (image_reference (string_bytes x.now.alt) x.now.reference_kind (string_bytes x.now.identifier) (option_map string_bytes x.now.label) ≡ image_reference (string_bytes y.now.alt) y.now.reference_kind (string_bytes y.now.identifier) (option_map string_bytes y.now.label)) }
+{
+    x.alt == y.alt
+        && x.reference_kind == y.reference_kind
+        && x.identifier == y.identifier
+        && x.label == y.label
+}
+
+/// Whether two links have the same fields but for children and position.
+fn same_link(x: &Link, y: &Link) -> bool
+    ensures { IsTrue result ↔ (link (string_bytes x.now.url) (option_map string_bytes x.now.title) ≡ link (string_bytes y.now.url) (option_map string_bytes y.now.title)) }
+{
+    x.url == y.url && x.title == y.title
+}
+
+/// Whether two references to links have the same fields but for children and position.
+fn same_link_reference(x: &LinkReference, y: &LinkReference) -> bool
+    ensures { IsTrue result ↔ (link_reference x.now.reference_kind (string_bytes x.now.identifier) (option_map string_bytes x.now.label) ≡ link_reference y.now.reference_kind (string_bytes y.now.identifier) (option_map string_bytes y.now.label)) }
+{
+    x.reference_kind == y.reference_kind && x.identifier == y.identifier && x.label == y.label
+}
+
+/// Whether two blocks of code have the same fields but for position.
+fn same_code(x: &Code, y: &Code) -> bool
+    ensures { IsTrue result ↔ (code (string_bytes x.now.value) (option_map string_bytes x.now.lang) (option_map string_bytes x.now.meta) ≡ code (string_bytes y.now.value) (option_map string_bytes y.now.lang) (option_map string_bytes y.now.meta)) }
+{
+    x.value == y.value && x.lang == y.lang && x.meta == y.meta
+}
+
+/// Whether two blocks of mathematics have the same fields but for position.
+fn same_math(x: &Math, y: &Math) -> bool
+    ensures { IsTrue result ↔ (math (string_bytes x.now.value) (option_map string_bytes x.now.meta) ≡ math (string_bytes y.now.value) (option_map string_bytes y.now.meta)) }
+{
+    x.value == y.value && x.meta == y.meta
+}
+
+/// Whether two items have the same fields but for children and position.
+fn same_list_item(x: &ListItem, y: &ListItem) -> bool
+    ensures { IsTrue result ↔ (list_item x.now.spread x.now.checked ≡ list_item y.now.spread y.now.checked) }
+{
+    x.spread == y.spread && x.checked == y.checked
+}
+
+/// Whether two definitions have the same fields but for position.
+fn same_definition(x: &Definition, y: &Definition) -> bool
+    ensures { IsTrue result ↔ (definition (string_bytes x.now.url) (option_map string_bytes x.now.title) (string_bytes x.now.identifier) (option_map string_bytes x.now.label) ≡ definition (string_bytes y.now.url) (option_map string_bytes y.now.title) (string_bytes y.now.identifier) (option_map string_bytes y.now.label)) }
+{
+    x.url == y.url && x.title == y.title && x.identifier == y.identifier && x.label == y.label
+}
+
 /// Whether two nodes are of one kind and have the same fields but for children and position.
 fn same_label(a: &Node, b: &Node) -> bool
     ensures { IsTrue result ↔ (label_of a.now ≡ label_of b.now) }
@@ -63,11 +159,11 @@ fn same_label(a: &Node, b: &Node) -> bool
             _ => false,
         },
         Node::FootnoteDefinition(x) => match b {
-            Node::FootnoteDefinition(y) => x.identifier == y.identifier && x.label == y.label,
+            Node::FootnoteDefinition(y) => same_footnote_definition(x, y),
             _ => false,
         },
         Node::List(x) => match b {
-            Node::List(y) => x.ordered == y.ordered && x.start == y.start && x.spread == y.spread,
+            Node::List(y) => same_list(x, y),
             _ => false,
         },
         Node::Toml(x) => match b {
@@ -99,7 +195,7 @@ fn same_label(a: &Node, b: &Node) -> bool
             _ => false,
         },
         Node::FootnoteReference(x) => match b {
-            Node::FootnoteReference(y) => x.identifier == y.identifier && x.label == y.label,
+            Node::FootnoteReference(y) => same_footnote_reference(x, y),
             _ => false,
         },
         Node::Html(x) => match b {
@@ -107,24 +203,19 @@ fn same_label(a: &Node, b: &Node) -> bool
             _ => false,
         },
         Node::Image(x) => match b {
-            Node::Image(y) => x.alt == y.alt && x.url == y.url && x.title == y.title,
+            Node::Image(y) => same_image(x, y),
             _ => false,
         },
         Node::ImageReference(x) => match b {
-            Node::ImageReference(y) => x.alt == y.alt
-                && x.reference_kind == y.reference_kind
-                && x.identifier == y.identifier
-                && x.label == y.label,
+            Node::ImageReference(y) => same_image_reference(x, y),
             _ => false,
         },
         Node::Link(x) => match b {
-            Node::Link(y) => x.url == y.url && x.title == y.title,
+            Node::Link(y) => same_link(x, y),
             _ => false,
         },
         Node::LinkReference(x) => match b {
-            Node::LinkReference(y) => x.reference_kind == y.reference_kind
-                && x.identifier == y.identifier
-                && x.label == y.label,
+            Node::LinkReference(y) => same_link_reference(x, y),
             _ => false,
         },
         Node::Strong(_) => match b {
@@ -136,11 +227,11 @@ fn same_label(a: &Node, b: &Node) -> bool
             _ => false,
         },
         Node::Code(x) => match b {
-            Node::Code(y) => x.value == y.value && x.lang == y.lang && x.meta == y.meta,
+            Node::Code(y) => same_code(x, y),
             _ => false,
         },
         Node::Math(x) => match b {
-            Node::Math(y) => x.value == y.value && x.meta == y.meta,
+            Node::Math(y) => same_math(x, y),
             _ => false,
         },
         Node::Heading(x) => match b {
@@ -164,14 +255,11 @@ fn same_label(a: &Node, b: &Node) -> bool
             _ => false,
         },
         Node::ListItem(x) => match b {
-            Node::ListItem(y) => x.spread == y.spread && x.checked == y.checked,
+            Node::ListItem(y) => same_list_item(x, y),
             _ => false,
         },
         Node::Definition(x) => match b {
-            Node::Definition(y) => x.url == y.url
-                && x.title == y.title
-                && x.identifier == y.identifier
-                && x.label == y.label,
+            Node::Definition(y) => same_definition(x, y),
             _ => false,
         },
         Node::Paragraph(_) => match b {

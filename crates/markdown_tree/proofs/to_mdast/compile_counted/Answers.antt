@@ -1,7 +1,7 @@
 use Rattle.std.proofs.Common.{ap, sym, refl, ◌∙◌, Some}
 use Rattle.std.proofs.lemmas.Result.{err_from_is_err_and}
 use Rattle.markdown_events.specs.declared.unist.Position.{Position}
-use Rattle.markdown_tree.specs.Correct.{extent_of}
+use Rattle.markdown_tree.specs.Extents.{extent_of}
 use Rattle.markdown_tree.specs.Machine.{state_of}
 use Rattle.markdown_tree.specs.Source.{source}
 use Rattle.markdown_tree.proofs.Answer.{fails_rightly, left_open, none_open, some_open, empty_shut, last_read}

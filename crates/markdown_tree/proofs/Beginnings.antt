@@ -1,0 +1,268 @@
+-- What the enter of a span makes of the state, in the program and in the steps.
+use Rattle.std.proofs.Common.{◌≡◌, Bool, true, false, ◌||◌, ◌&&◌, not, is_some, List, [], ◌∷◌, ◌++◌, Option, None, Some, Result, Ok, Err, refl, sym, ap, ◌∙◌, cond, reverse, subst}
+use Rattle.std.proofs.lemmas.List.{reverse-append}
+use Rattle.markdown_events.specs.Names.{role_of}
+use Rattle.markdown_events.specs.declared.event.Name.{Name}
+use Rattle.markdown_events.specs.declared.event.Point.{Point}
+use Rattle.markdown_events.specs.declared.role.Acting.{Acting}
+use Rattle.markdown_events.specs.declared.role.Acting.TheVariants.{Content as content, Part as part}
+use Rattle.markdown_events.specs.declared.role.Content.TheVariants as contents
+use Rattle.markdown_events.specs.declared.role.Part.TheVariants as parts
+use Rattle.markdown_events.specs.declared.role.Role.{Role}
+use Rattle.markdown_events.specs.declared.role.Role.TheVariants.{Plain as plain, Acting as acting}
+use Rattle.markdown_events.specs.declared.unist.Position.{Position}
+use Rattle.markdown_nodes.specs.View.{views}
+use Rattle.markdown_tree.specs.declared.holder.Holder.{Holder as OpenHolder}
+use Rattle.markdown_tree.specs.declared.holder.Holder.TheVariants as holders
+use Rattle.markdown_tree.specs.declared.refusal.Refusal.TheVariants.{Held, UnfinishedBreak}
+use Rattle.markdown_tree.specs.declared.refusal.Stop.{Stop}
+use Rattle.markdown_tree.specs.declared.refusal.Stop.TheVariants as stops
+use Rattle.markdown_tree.specs.declared.context.Context.{Context}
+use Rattle.markdown_tree.specs.declared.context.Frame.{Frame}
+use Rattle.markdown_tree.specs.declared.holding.Holding.{Holding}
+use Rattle.markdown_tree.specs.declared.refusal.Refusal.{Refusal}
+use Rattle.markdown_tree.specs.Compiler.{Holds, Open, State, enter_as, enter_step, enter_checks, entered, fresh, opened}
+use Rattle.markdown_tree.specs.Holders.{Holder, code_fenced, holder_of, leaf, list_ordered, math_flow}
+use Rattle.markdown_tree.specs.Holdings.{IsFresh, first_failing, moved_of, row_of}
+use Rattle.markdown_tree.specs.Around.{may_begin, under}
+use Rattle.markdown_tree.specs.Columns.{columns_entered}
+use Rattle.markdown_tree.specs.Kinds.{is_line_ending, is_table}
+use Rattle.markdown_tree.specs.Place.{Place, line_ending_is_text}
+use Rattle.markdown_tree.specs.Rejections.{Rejection, checked, refused}
+use Rattle.markdown_tree.specs.Source.{Source}
+use Rattle.markdown_tree.specs.States.{Begun, Opened, OpenedHolder, Stops, OpenedLeaf, columns_of, holdings_left, holds_of, kept_top, leaf_holder, leaf_left, leaf_place, marks_of, opens, outer_of, state_of, top_of, with_break}
+
+-- tests that all pass, and a first one that fails
+pub checked_through : {A : Type 0} (tests : List (Bool × Refusal)) (p : Point) (r : Result A Rejection) → first_failing tests ≡ None → checked tests p r ≡ r
+checked_through [] p r h = refl
+checked_through (test ∷ tests) p r h = by-test test.0 (checked_through tests p r) h
+  where
+    by-test : (b : Bool) → (first_failing tests ≡ None → checked tests p r ≡ r) → cond b (first_failing tests) (Some test.1) ≡ None → cond b (checked tests p r) (refused test.1 p) ≡ r
+    by-test true behind h = behind h
+    by-test false behind h = let z : ⊥ = cc in absurd z
+
+some_same : (x y : Refusal) → Some x ≡ Some y → x ≡ y
+some_same x y h = ap (λ (o : Option Refusal). elim o [ Some z ↦ z | None ↦ x ]) h
+
+pub checked_fails : {A : Type 0} (tests : List (Bool × Refusal)) (p : Point) (r : Result A Rejection) (why : Refusal) → first_failing tests ≡ Some why → checked tests p r ≡ refused why p
+checked_fails [] p r why h = let z : ⊥ = cc in absurd z
+checked_fails (test ∷ tests) p r why h = by-test test.0 (checked_fails tests p r why) h
+  where
+    by-test : (b : Bool) → (first_failing tests ≡ Some why → checked tests p r ≡ refused why p) → cond b (first_failing tests) (Some test.1) ≡ Some why → cond b (checked tests p r) (refused test.1 p) ≡ refused why p
+    by-test true behind h = behind h
+    by-test false behind h = ap (λ (x : Refusal). refused x p) (some_same test.1 why h)
+
+-- where an item is taken, no leaf is open
+no_leaf : (s : Source) (what : Acting) (point : Point) (p : Place) (kept : Holds) (b : Bool) → first_failing (enter_checks s (cond b (fresh leaf p) kept) what point) ≡ None → b ≡ false
+no_leaf s what point p kept true h = let z : ⊥ = cc in absurd z
+no_leaf s what point p kept false h = refl
+
+-- what a leaf is
+leaf_speaks : (h : Holder) (what : Acting) → holder_of h what ≡ leaf → line_ending_is_text what ≡ true
+leaf_speaks h (content contents.Table) e = let z : ⊥ = cc in absurd z
+leaf_speaks h (content contents.BlockQuote) e = let z : ⊥ = cc in absurd z
+leaf_speaks h (content contents.TableRow) e = let z : ⊥ = cc in absurd z
+leaf_speaks h (content contents.TableCell) e = let z : ⊥ = cc in absurd z
+leaf_speaks h (content contents.ListOrdered) e = let z : ⊥ = cc in absurd z
+leaf_speaks h (content contents.ListUnordered) e = let z : ⊥ = cc in absurd z
+leaf_speaks list_ordered (content contents.ListItem) e = let z : ⊥ = cc in absurd z
+leaf_speaks h (content contents.ListItem) e = let z : ⊥ = cc in absurd z
+leaf_speaks h (content contents.FootnoteDefinition) e = let z : ⊥ = cc in absurd z
+leaf_speaks h (content contents.CodeFenced) e = let z : ⊥ = cc in absurd z
+leaf_speaks h (content contents.MathFlow) e = let z : ⊥ = cc in absurd z
+leaf_speaks h (content contents.Autolink) e = let z : ⊥ = cc in absurd z
+leaf_speaks h (content contents.Link) e = let z : ⊥ = cc in absurd z
+leaf_speaks h (content contents.Image) e = let z : ⊥ = cc in absurd z
+leaf_speaks h (content contents.FootnoteCall) e = let z : ⊥ = cc in absurd z
+leaf_speaks h (content contents.Definition) e = let z : ⊥ = cc in absurd z
+leaf_speaks code_fenced (part parts.Resource) e = let z : ⊥ = cc in absurd z
+leaf_speaks math_flow (part parts.Resource) e = let z : ⊥ = cc in absurd z
+leaf_speaks h (part parts.Resource) e = let z : ⊥ = cc in absurd z
+leaf_speaks code_fenced (part parts.Reference) e = let z : ⊥ = cc in absurd z
+leaf_speaks math_flow (part parts.Reference) e = let z : ⊥ = cc in absurd z
+leaf_speaks h (part parts.Reference) e = let z : ⊥ = cc in absurd z
+leaf_speaks h (content c) e = refl
+leaf_speaks h (part q) e = refl
+
+leaf_no_table : (h : Holder) (what : Acting) → holder_of h what ≡ leaf → is_table what ≡ false
+leaf_no_table h (content contents.Table) e = let z : ⊥ = cc in absurd z
+leaf_no_table h (content c) e = refl
+leaf_no_table h (part q) e = refl
+
+pushed : (fs : List Frame) (f : Frame) → reverse (fs ++ f ∷ []) ≡ f ∷ reverse fs
+pushed fs f = reverse-append fs (f ∷ [])
+
+or_false : (b c : Bool) → c ≡ false → (b || c) ≡ b
+or_false true c h = refl
+or_false false c h = h
+
+-- ---- Acting spans
+
+-- behind the enter of an acting span
+acting_opened : (s : Source) (name : Name) (what : Acting) (point : Point) (old : Context) (z : State) → first_failing (enter_checks s (top_of old) what point) ≡ None
+    → opened name point (state_of old) (Some (what, top_of old)) (entered (top_of old) what) ≡ z → enter_as s (acting what) name point (state_of old) ≡ Ok z
+acting_opened s name what point old z taken is =
+    checked_through (enter_checks s (top_of old) what point) point (Ok (opened name point (state_of old) (Some (what, top_of old)) (entered (top_of old) what))) taken ∙ ap Ok is
+
+-- an acting span that may not begin
+pub acting_refused : (s : Source) (name : Name) (what : Acting) (point : Point) (old : Context) (why : Refusal) → first_failing (enter_checks s (top_of old) what point) ≡ Some why
+    → enter_as s (acting what) name point (state_of old) ≡ refused why point
+acting_refused s name what point old why fails =
+    checked_fails (enter_checks s (top_of old) what point) point (Ok (opened name point (state_of old) (Some (what, top_of old)) (entered (top_of old) what))) why fails
+
+-- the open spans with a leaf more
+leaf_frames : (what : Acting) (f : Frame) (fs fs' : List Frame) (hs : List Holding) (kept : Holds) → role_of f.name ≡ acting what → fs' ≡ fs ++ f ∷ []
+    → opens (reverse fs') (Some kept) hs ≡ record { name = f.name; start = f.start; around = f.around; before = marks_of f.marks; outer = Some (what, kept) } ∷ opens (reverse fs) None hs
+leaf_frames what f fs fs' hs kept acts is =
+    ap (λ (x : List Frame). opens (reverse x) (Some kept) hs) is
+    ∙ ap (λ (x : List Frame). opens x (Some kept) hs) (pushed fs f)
+    ∙ (λ t. record {
+      name = f.name;
+      start = f.start;
+      around = f.around;
+      before = marks_of f.marks;
+      outer = outer_of (acts t) f.in_table (Some kept) hs;
+    }
+    ∷ opens (reverse fs) (leaf_left (acts t) (Some kept)) (holdings_left (acts t) (Some kept) hs))
+
+-- the open spans with a holder more
+holder_frames : (what : Acting) (f : Frame) (fs fs' : List Frame) (h : Holding) (hs hs' : List Holding) → role_of f.name ≡ acting what → fs' ≡ fs ++ f ∷ [] → hs' ≡ hs ++ h ∷ []
+    → opens (reverse fs') None (reverse hs')
+    ≡ record { name = f.name; start = f.start; around = f.around; before = marks_of f.marks; outer = Some (what, holds_of f.in_table None h) } ∷ opens (reverse fs) None (reverse hs)
+holder_frames what f fs fs' h hs hs' acts is held =
+    (λ t. opens (reverse (is t)) None (reverse (held t)))
+    ∙ (λ t. opens (pushed fs f t) None (reverse-append hs (h ∷ []) t))
+    ∙ (λ t. record {
+      name = f.name;
+      start = f.start;
+      around = f.around;
+      before = marks_of f.marks;
+      outer = outer_of (acts t) f.in_table None (h ∷ reverse hs);
+    }
+    ∷ opens (reverse fs) (leaf_left (acts t) None) (holdings_left (acts t) None (h ∷ reverse hs)))
+
+-- a leaf begins
+pub leaf_entered : (s : Source) (name : Name) (what : Acting) (point : Point) (old mid new : Context) (in_table : Bool) → role_of name ≡ acting what → OpenedLeaf s what point old mid
+    → Begun name (acting what) point true in_table mid new → in_table ≡ (mid.in_table || is_table what) → enter_as s (acting what) name point (state_of old) ≡ Ok (state_of new)
+leaf_entered s name what point old mid new in_table acts o b is =
+    let begun : Begun name (acting what) point true in_table old new = subst (λ (m : Context). Begun name (acting what) point true in_table m new) o.same b in
+    let flag : old.is_leaf ≡ false = no_leaf s what point (leaf_place old.in_table) (kept_top old) old.is_leaf o.taken in
+    let inside : in_table ≡ (old.in_table || is_table what) = is ∙ ap (λ (m : Context). m.in_table || is_table what) o.same in
+    let same : in_table ≡ old.in_table = inside ∙ or_false old.in_table (is_table what) (leaf_no_table (moved_of old.top.holder) what o.leaf_row) in
+    let f : Frame = record { name = name; start = point; around = old.around; in_table = old.in_table; marks = old.marks } in
+    let kept : Holds = holds_of in_table old.pending old.top in
+    let now_top : top_of old ≡ kept = (λ t. cond (flag t) (fresh leaf (leaf_place old.in_table)) (kept_top old)) ∙ sym (λ t. holds_of (same t) old.pending old.top) in
+    let spans : List Open = opens (reverse old.frames.items) None (reverse old.holdings.items) in
+    acting_opened s name what point old (state_of new) o.taken
+    ((λ t. record {
+      frames = ((λ u. record { name = name; start = point; around = old.around; before = marks_of old.marks; outer = Some (what, now_top u) }
+          ∷ opens (reverse old.frames.items) (cond (flag u) (Some (kept_top old)) None) (reverse old.holdings.items))
+          ∙ sym (leaf_frames what f old.frames.items new.frames.items (reverse old.holdings.items) kept acts begun.frames)) t;
+      around = under old.around (acts t);
+      marks = sym begun.marks t;
+      columns = ((λ u. columns_entered (cond (flag u) (fresh leaf (leaf_place old.in_table)) (kept_top old)).place.in_table (acts u) (columns_of old.columns)) ∙ sym begun.columns) t;
+      top = ((λ u. entered (cond (flag u) (fresh leaf (leaf_place old.in_table)) (kept_top old)) what)
+          ∙ (λ u. fresh (o.leaf_row u) (record { line_endings = leaf_speaks (moved_of old.top.holder) what o.leaf_row u; in_table = sym inside u; marker = None }))) t;
+    }) ∙ sym (ap state_of begun.others))
+
+-- no holder of the program is a leaf
+no_leaf_row : (h : OpenHolder) → row_of h ≡ leaf → ⊥
+no_leaf_row holders.AnyContent e = cc
+no_leaf_row (holders.Autolink x) e = cc
+no_leaf_row (holders.Media x) e = cc
+no_leaf_row (holders.FootnoteCall x) e = cc
+no_leaf_row (holders.Resource x) e = cc
+no_leaf_row (holders.Reference x) e = cc
+no_leaf_row (holders.Definition x) e = cc
+no_leaf_row (holders.CharacterReference x) e = cc
+no_leaf_row (holders.CodeFence x) e = cc
+no_leaf_row (holders.MathFence x) e = cc
+no_leaf_row (holders.ListOrdered x) e = cc
+no_leaf_row (holders.ListItem x) e = cc
+no_leaf_row (holders.NumberedItem x) e = cc
+no_leaf_row (holders.TaskParagraph x) e = cc
+no_leaf_row holders.MarkedParagraph e = cc
+no_leaf_row (holders.FootnoteDefinition x) e = cc
+no_leaf_row (holders.HeadingAtx x) e = cc
+no_leaf_row (holders.HeadingSetext x) e = cc
+no_leaf_row (holders.CodeFenced x) e = cc
+no_leaf_row (holders.MathFlow x) e = cc
+
+-- what opens a holder is no line ending
+holder_no_ending : (h : OpenHolder) (row : Holder) (what : Acting) → row_of h ≡ holder_of row what → is_line_ending what ≡ false
+holder_no_ending h row (content contents.LineEnding) e = absurd (no_leaf_row h e)
+holder_no_ending h row (content c) e = refl
+holder_no_ending h row (part q) e = refl
+
+-- where an item that is no line ending is taken, no break waits
+first_passes : (b : Bool) (rest : Option Refusal) (why : Refusal) → cond b rest (Some why) ≡ None → b ≡ true
+first_passes true rest why h = refl
+first_passes false rest why h = let z : ⊥ = cc in absurd z
+
+nothing_waits : (pending : Option Position) (ending : Bool) → (not (is_some pending) || ending) ≡ true → ending ≡ false → pending ≡ None
+nothing_waits None ending h e = refl
+nothing_waits (Some p) ending h e = let wrong : true ≡ false = sym h ∙ e in absurd cc
+
+-- a holder begins
+pub holder_entered : (s : Source) (name : Name) (what : Acting) (point : Point) (old mid new : Context) (in_table : Bool) → role_of name ≡ acting what → OpenedHolder s what point old mid
+    → Begun name (acting what) point false in_table mid new → in_table ≡ (mid.in_table || is_table what) → enter_as s (acting what) name point (state_of old) ≡ Ok (state_of new)
+holder_entered s name what point old mid new in_table acts o b is =
+    let between : Context = record old { top = o.top; holdings = mid.holdings } in
+    let begun : Begun name (acting what) point false in_table between new = subst (λ (m : Context). Begun name (acting what) point false in_table m new) o.others b in
+    let flag : old.is_leaf ≡ false = no_leaf s what point (leaf_place old.in_table) (kept_top old) old.is_leaf o.taken in
+    let inside : in_table ≡ (old.in_table || is_table what) = is ∙ ap (λ (m : Context). m.in_table || is_table what) o.others in
+    let made : IsFresh o.top.holder (holder_of (moved_of old.top.holder) what) = o.fresh_holder in
+    let kept_taken : first_failing (enter_checks s (kept_top old) what point) ≡ None =
+    (λ t. first_failing (enter_checks s (cond (sym flag t) (fresh leaf (leaf_place old.in_table)) (kept_top old)) what point)) ∙ o.taken in
+    let no_break : old.pending ≡ None = nothing_waits old.pending (is_line_ending what) (first_passes (not (is_some old.pending) || is_line_ending what) _ UnfinishedBreak kept_taken)
+    (holder_no_ending o.top.holder (moved_of old.top.holder) what made.row) in
+    let f : Frame = record { name = name; start = point; around = old.around; in_table = old.in_table; marks = old.marks } in
+    let now_top : top_of old ≡ holds_of old.in_table None old.top =
+    (λ t. cond (flag t) (fresh leaf (leaf_place old.in_table)) (kept_top old)) ∙ (λ t. holds_of old.in_table (no_break t) old.top) in
+    acting_opened s name what point old (state_of new) o.taken
+    ((λ t. record {
+      frames = ((λ u. record { name = name; start = point; around = old.around; before = marks_of old.marks; outer = Some (what, now_top u) }
+          ∷ opens (reverse old.frames.items) (cond (flag u) (Some (kept_top old)) None) (reverse old.holdings.items))
+          ∙ sym (holder_frames what f old.frames.items new.frames.items old.top old.holdings.items mid.holdings.items acts begun.frames o.holdings)) t;
+      around = under old.around (acts t);
+      marks = sym begun.marks t;
+      columns = ((λ u. columns_entered (cond (flag u) (fresh leaf (leaf_place old.in_table)) (kept_top old)).place.in_table (acts u) (columns_of old.columns)) ∙ sym begun.columns) t;
+      top = ((λ u. entered (cond (flag u) (fresh leaf (leaf_place old.in_table)) (kept_top old)) what)
+          ∙ (λ u. record {
+            row = sym made.row u;
+            holder = sym made.moved u;
+            place = record { line_endings = sym o.line_endings u; in_table = sym inside u; marker = sym made.marker u };
+            waiting = is_some (sym no_break u);
+            inner = record {
+              nodes = (sym (λ v. with_break (no_break v) (views (o.nodes v)))) u;
+              label = sym made.label u;
+              part = λ way. sym (made.parts way) u;
+              mark = sym made.mark u;
+              value = sym made.value u;
+            };
+          })) t;
+    }) ∙ sym (ap state_of begun.others))
+
+-- a leaf or a holder begins
+pub acting_entered : (s : Source) (name : Name) (what : Acting) (point : Point) (is_leaf : Bool) (old mid new : Context) (in_table : Bool) → role_of name ≡ acting what → Opened s what point old mid (Ok is_leaf)
+    → Begun name (acting what) point is_leaf in_table mid new → in_table ≡ (mid.in_table || is_table what) → enter_as s (acting what) name point (state_of old) ≡ Ok (state_of new)
+acting_entered s name what point true old mid new in_table acts o b is = leaf_entered s name what point old mid new in_table acts o b is
+acting_entered s name what point false old mid new in_table acts o b is = holder_entered s name what point old mid new in_table acts o b is
+
+-- or it stops there
+pub acting_stops : (s : Source) (name : Name) (what : Acting) (point : Point) (stop : Stop) (old mid : Context) → Opened s what point old mid (Err stop) → Stops stop point (enter_as s (acting what) name point (state_of old))
+acting_stops s name what point (stops.Refused why) old mid o = acting_refused s name what point old why o
+acting_stops s name what point (stops.Memory error) old mid o = tt
+
+-- ---- Any span
+
+-- a span that may not begin, and one that may
+pub enter_held : (s : Source) (name : Name) (role : Role) (point : Point) (allowed : Bool) (c : Context) → role ≡ role_of name → allowed ≡ may_begin c.around role → allowed ≡ false
+    → enter_step s name point (state_of c) ≡ refused Held point
+unfolding enter_step
+enter_held s name role point allowed c is is_allowed held = λ t. cond ((ap (may_begin c.around) (sym is) ∙ sym is_allowed ∙ held) t) (enter_as s (role_of name) name point (state_of c)) (refused Held point)
+
+pub enter_free : (s : Source) (name : Name) (role : Role) (point : Point) (allowed : Bool) (c : Context) → role ≡ role_of name → allowed ≡ may_begin c.around role → allowed ≡ true
+    → enter_step s name point (state_of c) ≡ enter_as s role name point (state_of c)
+unfolding enter_step
+enter_free s name role point allowed c is is_allowed free = λ t. cond ((ap (may_begin c.around) (sym is) ∙ sym is_allowed ∙ free) t) (enter_as s (sym is t) name point (state_of c)) (refused Held point)

@@ -1,0 +1,56 @@
+use Rattle.std.proofs.Common.{None, false, refl, sym, ap, subst, ◌∙◌}
+use Rattle.markdown_events.specs.Spread.{Shown}
+use Rattle.markdown_nodes.specs.Tree.{Trees, join}
+use Rattle.markdown_nodes.specs.View.{views}
+use Rattle.markdown_events.specs.declared.role.Content.{Content}
+use Rattle.markdown_tree.specs.declared.holder.Holder.{Holder as Open}
+use Rattle.markdown_tree.specs.Columns.{shown}
+use Rattle.markdown_tree.specs.Compiler.{lacking}
+use Rattle.markdown_tree.specs.Grammar.{is_complete}
+use Rattle.markdown_tree.specs.Nodes.{node_of}
+use Rattle.markdown_tree.specs.Place.{Place}
+use Rattle.markdown_tree.proofs.Stopping.{made_gives, nothing_on_err, passed_on}
+use Rattle.markdown_events.specs.declared.role.Acting.TheVariants.{Content as content}
+use Rattle.markdown_tree.specs.Holdings.{Keeps, marker_of, row_of}
+use Rattle.markdown_tree.specs.Source.{source}
+use Rattle.markdown_tree.specs.States.{columns_of, inner_of_holding, marks_of, place_of, place_with}
+use Rattle.markdown_tree.proofs.SpanEnds.{content_lacks, content_left, made_no_text, unmade_stops}
+use Rattle.markdown_tree.proofs.holding.Holding.take_content.Goals as goal
+
+pub put-requires : goal.put-requires
+put-requires c =
+    made_no_text (source c.args.bytes.now (λ v m. None)) (place_with false c.args.ending.in_table None) c.args.content c.args.ending.start c.args.ending.end _ (inner_of_holding c.args.own) (row_of c.args.own.holder) _
+    c.requires.such c.in_default.not-CharacterReference (c.in_ok-node-in_default.ensures.node.1 (source c.args.bytes.now (λ v m. None)) false None refl)
+
+pub returns-in_err-node-in_default : goal.returns-in_err-node-in_default
+returns-in_err-node-in_default c = record {
+  left = λ s inner_table same. passed_on _ c.args.ending.end c.from_residual.result _ _ c.from_residual.ensures
+      (unmade_stops _ _ _ _ c.args.ending.end _ c.in_err-node-in_default.ensures.node
+      (content_lacks s c.args.ending.in_table inner_table c.args.self.now c.args.own c.args.content c.args.ending.start c.args.ending.end (shown (marks_of c.args.ending.marks) (columns_of c.args.columns.now))));
+  columns = nothing_on_err c.from_residual.result _ c.from_residual.ensures.0;
+}
+
+pub returns-in-CharacterReference-clause-left : goal.returns-in-CharacterReference-clause-left
+returns-in-CharacterReference-clause-left c s inner_table same =
+    let what : Content = c.args.content in
+    let children : Shown = shown (marks_of c.args.ending.marks) (columns_of c.args.columns.now) in
+    let place : Place = place_of c.args.ending.in_table c.args.self.now in
+    made_gives _ c.args.ending.end c.take_reference.result (is_complete (row_of c.args.own.holder) (inner_of_holding c.args.own)) (lacking (row_of c.args.own.holder)) _ _ c.take_reference.ensures.text
+    (λ x complete made. content_left s c.args.ending.in_table inner_table c.args.self.now c.args.own c.take_reference.new.self what c.args.ending.start c.args.ending.end children
+    c.requires.such complete
+    (subst (λ (h : Open). Keeps s place (content what) c.args.ending.start c.args.ending.end (inner_of_holding c.args.own) c.args.self.now.holder h) (sym c.take_reference.ensures.holder) (c.put_content.ensures s place c.args.ending.start c.args.ending.end (views c.args.own.nodes.items)))
+    c.take_reference.ensures.line_endings
+    (made ∙ ap (λ (k : Content). join (views c.args.self.now.nodes.items) (node_of s place (content k) c.args.ending.start c.args.ending.end children (inner_of_holding c.args.own))) (sym c.in-CharacterReference.is)))
+    (content_lacks s c.args.ending.in_table inner_table c.args.self.now c.args.own what c.args.ending.start c.args.ending.end children)
+
+pub returns-in_ok-put-in_default : goal.returns-in_ok-put-in_default
+returns-in_ok-put-in_default c = record {
+  left = λ s inner_table same.
+      content_left s c.args.ending.in_table inner_table c.args.self.now c.args.own
+      (record { holder = c.put_content.new.self; line_endings = c.args.self.now.line_endings; nodes = c.put.new.nodes })
+      c.args.content c.args.ending.start c.args.ending.end (shown (marks_of c.args.ending.marks) (columns_of c.args.columns.now))
+      c.requires.such c.in_ok-node-in_default.ensures.node.0
+      (c.put_content.ensures s (place_of c.args.ending.in_table c.args.self.now) c.args.ending.start c.args.ending.end (views c.args.own.nodes.items)) refl
+      (c.in_ok-put-in_default.ensures ∙ ap (λ (ts : Trees). join (views c.args.self.now.nodes.items) ts) (c.in_ok-node-in_default.ensures.node.1 s c.args.self.now.line_endings (marker_of c.args.self.now.holder) same));
+  columns = c.in_ok-node-in_default.ensures.columns;
+}

@@ -1,0 +1,24 @@
+use Rattle.std.proofs.Common.{refl, ap, ◌∙◌}
+use Rattle.markdown_events.specs.Texts.{fold}
+use Rattle.markdown_nodes.specs.View.{views}
+use Rattle.markdown_tree.specs.Holders
+use Rattle.markdown_tree.specs.Holdings.{inner_with}
+use Rattle.markdown_tree.specs.declared.holder.Holder.TheVariants as holders
+use Rattle.markdown_events.specs.declared.role.Part.TheVariants as parts
+use Rattle.markdown_tree.specs.States.{place_of}
+use Rattle.markdown_tree.proofs.SpanEnds.{none_put, part_left, part_unread, slice_missing, slice_read, slice_there}
+use Rattle.markdown_tree.proofs.holding.Holding.take_definition_label.Goals as goal
+
+pub returns-in_default : goal.returns-in_default
+returns-in_default c s place children same =
+    part_unread s c.args.ending.in_table c.args.self.now Holders.any_content place (inner_with holders.AnyContent (views c.args.nodes.now)) parts.DefinitionLabelString c.args.ending.start c.args.ending.end children
+    refl (slice_missing s c.args.bytes.now c.args.ending.start c.args.ending.end same c.in_default.ensures)
+
+pub returns : goal.returns
+returns c s place children same =
+    part_left s c.args.ending.in_table c.args.self.now (record { holder = c.put_definition_label.new.self; line_endings = c.args.self.now.line_endings; nodes = c.args.self.now.nodes })
+    Holders.any_content place (inner_with holders.AnyContent (views c.args.nodes.now)) parts.DefinitionLabelString c.args.ending.start c.args.ending.end children
+    refl (slice_there s c.args.bytes.now c.in-Some.slice.now c.args.ending.start c.args.ending.end same c.in-Some.ensures)
+    (c.put_definition_label.ensures s (place_of c.args.ending.in_table c.args.self.now) c.args.ending.start c.args.ending.end (views c.args.nodes.now)
+    (c.in_ok-string.ensures.identifier ∙ ap fold (slice_read s c.args.bytes.now c.in-Some.slice.now c.args.ending.start c.args.ending.end same c.in-Some.ensures)) c.in_ok-string.ensures.label)
+    refl (none_put (views c.args.self.now.nodes.items))

@@ -1,0 +1,38 @@
+use Rattle.std.proofs.Common.{ℕ, List, Option, None, false, refl, sym, ap, ◌∙◌}
+use Rattle.std.specs.Prelude.{[], is_some, unwrap_or}
+use Rattle.markdown_events.specs.declared.role.Acting.TheVariants.{Content as content}
+use Rattle.markdown_events.specs.declared.unist.Position.{Position}
+use Rattle.markdown_nodes.specs.Tree.{Tree, Trees, join, node, nothing, only, «break», thematic_break}
+use Rattle.markdown_nodes.specs.View.{views}
+use Rattle.markdown_tree.specs.Compiler.{nothing_yet}
+use Rattle.markdown_tree.specs.Holdings.{moved_of, placed}
+use Rattle.markdown_tree.specs.Media.{linked}
+use Rattle.markdown_tree.specs.Place.{Place}
+use Rattle.markdown_tree.specs.Source.{Source, source}
+use Rattle.markdown_tree.specs.States.{place_of}
+use Rattle.markdown_tree.specs.declared.holding.Holding.{Holding}
+use Rattle.markdown_tree.proofs.LeafEnds.{content_in, leaf_unread, literal_alone, literal_read}
+use Rattle.markdown_tree.proofs.holding.Holding.take_literal.Goals as goal
+use Rattle.std.proofs.Common.{◌++◌}
+use Rattle.markdown_nodes.specs.Tree as tree
+
+pub returns-in_default : goal.returns-in_default
+returns-in_default c text children place =
+    let s : Source = (source c.args.bytes.now text) in
+    let top : Holding = c.args.self.now in
+    leaf_unread s c.args.ending.in_table None top (content c.args.content) c.args.ending.start c.args.ending.end children place
+    (literal_read s (moved_of top.holder) (place_of c.args.ending.in_table top) false c.args.content c.args.ending.start c.args.ending.end c.requires ∙ ap is_some (sym c.in_default.ensures))
+
+pub returns : goal.returns
+returns c text children place =
+    let s : Source = (source c.args.bytes.now text) in
+    let top : Holding = c.args.self.now in
+    let p : Place = place_of c.args.ending.in_table top in
+    content_in s c.args.ending.in_table top (record { holder = top.holder; line_endings = c.args.self.now.line_endings; nodes = c.put.new.nodes }) c.args.content c.args.ending.start c.args.ending.end children place (literal_alone c.args.content c.requires).0 refl refl
+    (c.in_ok-put.ensures ∙ ap (join (views top.nodes.items))
+    (ap only c.in_ok-node.ensures
+    ∙ ap (λ (x : Position). only (placed (tree.link (c.scheme_of.result.now ++ c.in-Some.value.now) None) (only (placed (tree.text c.in-Some.value.now) nothing x)) x)) c.position_of-position.ensures
+    ∙ ap (λ (o : Option (List ℕ)). linked c.scheme_of.result.now (unwrap_or o []) c.args.ending.start c.args.ending.end c.args.ending.start c.args.ending.end) c.in-Some.ensures
+    ∙ sym (c.scheme_of.ensures s p c.args.ending.start c.args.ending.end children nothing_yet)))
+    (literal_alone c.args.content c.requires).1
+    (literal_read s (moved_of top.holder) p false c.args.content c.args.ending.start c.args.ending.end c.requires ∙ sym (ap is_some c.in-Some.ensures))

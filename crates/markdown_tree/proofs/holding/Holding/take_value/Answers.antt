@@ -1,0 +1,30 @@
+use Rattle.std.proofs.Common.{◌≡◌, Some, refl, ap, ◌∙◌}
+use Rattle.std.specs.Prelude.{option_map, string_bytes}
+use Rattle.markdown_tree.specs.Holdings.{byte_of}
+use Rattle.markdown_tree.specs.Parts.{decoded}
+use Rattle.markdown_tree.specs.Place.{Place}
+use Rattle.markdown_tree.specs.Source.{Source, source}
+use Rattle.markdown_tree.specs.States.{place_of}
+use Rattle.markdown_tree.proofs.PartEnds.{decoded_is, value_in, value_unknown, value_unread}
+use Rattle.markdown_tree.proofs.holding.Holding.take_value.Goals as goal
+
+pub returns-in_default : goal.returns-in_default
+returns-in_default g c children place = value_unread (source c.args.bytes.now (g.R.References.text c.args.references.now)) c.args.ending.in_table c.args.self.now c.args.ending.start c.args.ending.end children place c.in_default.ensures
+
+pub returns-in-Some-2 : goal.returns-in-Some-2
+returns-in-Some-2 g c children place =
+    let s : Source = (source c.args.bytes.now (g.R.References.text c.args.references.now)) in
+    let p : Place = place_of c.args.ending.in_table c.args.self.now in
+    let known : decoded s p c.args.ending.start c.args.ending.end ≡ option_map string_bytes c.in_ok-text.field-0 =
+    decoded_is s p c.args.ending.start c.args.ending.end c.in-Some.value.now (option_map byte_of c.last_marker.result) (option_map string_bytes c.in_ok-text.field-0) c.in-Some.ensures c.last_marker.ensures c.in_ok-text.ensures in
+    let found : decoded s p c.args.ending.start c.args.ending.end ≡ Some (string_bytes c.in-Some-2.text) = known ∙ ap (option_map string_bytes) c.in-Some-2.is in
+    value_in s c.args.ending.in_table c.args.self.now (record { holder = c.put_value.new.self; line_endings = c.args.self.now.line_endings; nodes = c.args.self.now.nodes }) c.args.ending.start c.args.ending.end children place c.in-Some.value.now (string_bytes c.in-Some-2.text) c.in-Some.ensures found
+    (c.put_value.ensures s p c.args.ending.start c.args.ending.end found) refl refl
+
+pub returns-in-None : goal.returns-in-None
+returns-in-None g c children place =
+    let s : Source = (source c.args.bytes.now (g.R.References.text c.args.references.now)) in
+    let p : Place = place_of c.args.ending.in_table c.args.self.now in
+    let known : decoded s p c.args.ending.start c.args.ending.end ≡ option_map string_bytes c.in_ok-text.field-0 =
+    decoded_is s p c.args.ending.start c.args.ending.end c.in-Some.value.now (option_map byte_of c.last_marker.result) (option_map string_bytes c.in_ok-text.field-0) c.in-Some.ensures c.last_marker.ensures c.in_ok-text.ensures in
+    value_unknown s c.args.ending.in_table c.args.self.now c.args.ending.start c.args.ending.end children place c.in-Some.value.now c.in-Some.ensures (known ∙ ap (option_map string_bytes) c.in-None.is)

@@ -1,0 +1,194 @@
+-- What the program's values are to the steps of a compilation.
+use Rattle.std.specs.Prelude.{◌≡◌, is_some, ℕ, Bool, true, false, Option, Some, None, Result, Ok, Err, List, [], ◌∷◌, ◌++◌, cond, reverse}
+use Rattle.markdown_events.specs.Names.{role_of}
+use Rattle.markdown_events.specs.declared.role.Acting.{Acting}
+use Rattle.markdown_events.specs.declared.role.Role.{Role}
+use Rattle.markdown_events.specs.declared.role.Role.TheVariants.{Plain as plain, Acting as acting}
+use Rattle.markdown_tree.specs.declared.context.Context.{Context}
+use Rattle.markdown_tree.specs.declared.context.Frame.{Frame}
+use Rattle.markdown_nodes.specs.View.{views}
+use Rattle.markdown_tree.specs.declared.holding.Holding.{Holding}
+use Rattle.markdown_tree.specs.declared.refusal.Refusal.{Refusal}
+use Rattle.markdown_tree.specs.declared.refusal.Stop.{Stop}
+use Rattle.markdown_tree.specs.declared.refusal.Stop.TheVariants as stops
+use Rattle.markdown_nodes.specs.Tree.{Trees, join, node, nothing, «break»}
+use Rattle.markdown_events.specs.declared.event.Point.{Point}
+use Rattle.markdown_events.specs.declared.unist.Position.{Position}
+use Rattle.markdown_tree.specs.Compiler.{Holds, Open, State, enter_checks, fresh}
+use Rattle.markdown_tree.specs.Holders.{Holder, holder_of, leaf}
+use Rattle.markdown_tree.specs.Holdings.{IsFresh, first_failing, inner_with, marker_of, moved_of, row_of}
+use Rattle.markdown_tree.specs.Rejections.{Rejection, refused}
+use Rattle.markdown_tree.specs.Parts.{Inner}
+use Rattle.markdown_tree.specs.Place.{Place, line_ending_is_text}
+use Rattle.markdown_tree.specs.Source.{Source}
+use Rattle.markdown_tree.specs.declared.columns.Columns.{Columns as OpenColumns}
+use Rattle.markdown_tree.specs.declared.columns.Rows.{Rows as OpenRows}
+use Rattle.markdown_tree.specs.declared.columns.Rows.TheVariants as rows
+use Rattle.markdown_tree.specs.declared.marks.First.{First}
+use Rattle.markdown_tree.specs.declared.marks.First.TheVariants as firsts
+use Rattle.markdown_tree.specs.declared.marks.Marks.{Marks as OpenMarks}
+use Rattle.markdown_tree.specs.declared.marks.Sibling.{Sibling as OpenSibling}
+use Rattle.markdown_tree.specs.declared.marks.Sibling.TheVariants as siblings
+use Rattle.markdown_events.specs.declared.event.Name.{Name}
+use Rattle.markdown_tree.specs.Around.{under}
+use Rattle.markdown_tree.specs.Columns.{Columns, Rows, columns_entered, before, inside, behind}
+use Rattle.markdown_tree.specs.Siblings.{Marks, Sibling, no_marks, no_sibling}
+
+-- what a child says
+abbrev pub sibling_in : OpenSibling → Sibling
+sibling_in siblings.Other = no_sibling
+sibling_in siblings.SpaceOrTab = record no_sibling { space = true }
+sibling_in siblings.ListItemPrefix = record no_sibling { item_prefix = true; bare_end = true }
+sibling_in siblings.BlockQuotePrefix = record no_sibling { quote_prefix = true }
+sibling_in siblings.BareBlockQuote = record no_sibling { bare_end = true }
+sibling_in siblings.BareListItem = record no_sibling { bare_item = true }
+sibling_in siblings.DelimiterMarker = record no_sibling { marker = true }
+
+-- whether the first child is a delimiter's marker
+abbrev pub first_of : First → Option Bool
+first_of firsts.Absent = None
+first_of firsts.DelimiterMarker = Some true
+first_of firsts.Other = Some false
+
+-- what the children so far say
+abbrev pub marks_of : OpenMarks → Marks
+marks_of m = record { near = sibling_in m.near; far = sibling_in m.far; item_blank = m.item_blank; list_blank = m.list_blank; marked_first = first_of m.first }
+
+-- where the first delimiter row is
+abbrev pub rows_of : OpenRows → Rows
+rows_of rows.Before = before
+rows_of rows.Inside = inside
+rows_of rows.Behind = behind
+
+-- the columns of the table
+abbrev pub columns_of : OpenColumns → Columns
+columns_of c = record { rows = rows_of c.rows; kinds = c.kinds.items }
+
+-- a place by its parts
+abbrev pub place_with : Bool → Bool → Option ℕ → Place
+place_with line_endings in_table marker = record { line_endings = line_endings; in_table = in_table; marker = marker }
+
+-- what such a holder keeps, with its nodes
+abbrev pub inner_of_holding : Holding → Inner
+inner_of_holding h = inner_with h.holder (views h.nodes.items)
+
+-- a thing is made, if what has to stand there does
+abbrev pub Makes : {X : Type 0} → Result X Stop → Bool → Refusal → (X → Type 0) → Type 0
+Makes (Ok x) complete why Is = (complete ≡ true) × Is x
+Makes (Err (stops.Refused refusal)) complete why Is = (complete ≡ false) × (refusal ≡ why)
+Makes (Err (stops.Memory error)) complete why Is = Unit {0}
+
+-- where the next item of a holder stands
+abbrev pub place_of : Bool → Holding → Place
+place_of in_table h = place_with h.line_endings in_table (marker_of h.holder)
+
+-- the nodes, with the break that waits for its line ending
+abbrev pub with_break : Option Position → Trees → Trees
+with_break None ts = ts
+with_break (Some here) ts = join ts (node «break» nothing (Some here) nothing)
+
+-- a holder, by whether it is in a table, and the break that is its last item
+abbrev pub holds_of : Bool → Option Position → Holding → Holds
+holds_of in_table pending h = record {
+  row = row_of h.holder;
+  holder = moved_of h.holder;
+  place = place_of in_table h;
+  waiting = is_some pending;
+  inner = inner_with h.holder (with_break pending (views h.nodes.items));
+}
+
+-- how a step that stops at a point agrees with what is expected
+abbrev pub Stops : {Y : Type 0} → Stop → Point → Result Y Rejection → Type 0
+Stops (stops.Memory error) point expected = Unit {0}
+Stops (stops.Refused why) point expected = expected ≡ refused why point
+
+-- a function gave, by this view, what is expected, unless memory ran out
+abbrev pub Gives : {X Y : Type 0} → (X → Y) → Point → Result X Stop → Result Y Rejection → Type 0
+Gives seen point (Ok x) expected = expected ≡ Ok (seen x)
+Gives seen point (Err stop) expected = Stops stop point expected
+
+-- a holder of that row at its end, where no break waits
+abbrev pub ended_with : Holder → Place → Inner → Holds
+ended_with row place inner = record { row = row; holder = row; place = place; waiting = false; inner = inner }
+
+-- ---- The state
+
+-- the holder around an open span that acts: that of the innermost leaf, or the next on the stack
+abbrev pub outer_of : Role → Bool → Option Holds → List Holding → Option (Acting × Holds)
+outer_of (plain k) in_table held hs = None
+outer_of (acting what) in_table (Some around) hs = Some (what, around)
+outer_of (acting what) in_table None [] = None
+outer_of (acting what) in_table None (h ∷ hs) = Some (what, holds_of in_table None h)
+
+-- the same is left for the spans outside
+abbrev pub leaf_left : Role → Option Holds → Option Holds
+leaf_left (plain k) held = held
+leaf_left (acting what) held = None
+
+abbrev pub holdings_left : Role → Option Holds → List Holding → List Holding
+holdings_left (acting what) None (h ∷ hs) = hs
+holdings_left role held hs = hs
+
+-- the open spans, the innermost first
+abbrev pub opens : List Frame → Option Holds → List Holding → List Open
+opens [] held hs = []
+opens (f ∷ fs) held hs = record {
+  name = f.name;
+  start = f.start;
+  around = f.around;
+  before = marks_of f.marks;
+  outer = outer_of (role_of f.name) f.in_table held hs;
+} ∷ opens fs (leaf_left (role_of f.name) held) (holdings_left (role_of f.name) held hs)
+
+-- the innermost holder that the program keeps, and the holding of the innermost acting span: a leaf has none of its own
+abbrev pub kept_top : Context → Holds
+kept_top c = holds_of c.in_table c.pending c.top
+
+abbrev pub leaf_place : Bool → Place
+leaf_place in_table = place_with true in_table None
+
+abbrev pub top_of : Context → Holds
+top_of c = cond c.is_leaf (fresh leaf (leaf_place c.in_table)) (kept_top c)
+
+abbrev pub leaf_holder : Context → Option Holds
+leaf_holder c = cond c.is_leaf (Some (kept_top c)) None
+
+-- the state of a compilation
+abbrev pub state_of : Context → State
+state_of c = record {
+  frames = opens (reverse c.frames.items) (leaf_holder c) (reverse c.holdings.items);
+  around = c.around;
+  marks = marks_of c.marks;
+  columns = columns_of c.columns;
+  top = top_of c;
+}
+
+-- a leaf begins: nothing of the program's changes
+pub record OpenedLeaf (s : Source) (what : Acting) (point : Point) (old new : Context) : Type 0 where
+  pub taken : first_failing (enter_checks s (top_of old) what point) ≡ None
+  pub leaf_row : holder_of (moved_of old.top.holder) what ≡ leaf
+  pub same : new ≡ old
+
+-- a holder begins: it is the innermost, over the one that was
+pub record OpenedHolder (s : Source) (what : Acting) (point : Point) (old new : Context) : Type 0 where
+  pub taken : first_failing (enter_checks s (top_of old) what point) ≡ None
+  pub top : Holding
+  pub fresh_holder : IsFresh top.holder (holder_of (moved_of old.top.holder) what)
+  pub line_endings : top.line_endings ≡ line_ending_is_text what
+  pub nodes : top.nodes.items ≡ []
+  pub holdings : new.holdings.items ≡ old.holdings.items ++ old.top ∷ []
+  pub others : new ≡ record old { top = top; holdings = new.holdings }
+
+-- an acting span begins, as a leaf or as a holder, if it may
+abbrev pub Opened : Source → Acting → Point → Context → Context → Result Bool Stop → Type 0
+Opened s what point old new (Ok true) = OpenedLeaf s what point old new
+Opened s what point old new (Ok false) = OpenedHolder s what point old new
+Opened s what point old new (Err (stops.Refused why)) = first_failing (enter_checks s (top_of old) what point) ≡ Some why
+Opened s what point old new (Err (stops.Memory error)) = Unit {0}
+
+-- a span is on the stack: what was around it stays there, and what is in it begins
+pub record Begun (name : Name) (role : Role) (point : Point) (is_leaf in_table : Bool) (old new : Context) : Type 0 where
+  pub frames : new.frames.items ≡ old.frames.items ++ record { name = name; start = point; around = old.around; in_table = old.in_table; marks = old.marks } ∷ []
+  pub marks : marks_of new.marks ≡ no_marks
+  pub columns : columns_of new.columns ≡ columns_entered old.in_table role (columns_of old.columns)
+  pub others : new ≡ record old { frames = new.frames; marks = new.marks; columns = new.columns; around = under old.around role; is_leaf = is_leaf; in_table = in_table }

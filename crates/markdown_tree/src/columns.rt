@@ -1,0 +1,81 @@
+//! How the columns of the open table are aligned, as far as its events are read.
+
+ghost use Rattle.std.specs.Prelude.{◌≡◌, OnOk};
+ghost use Rattle.markdown_events.specs.declared.role.Role.TheVariants as roles;
+ghost use Rattle.markdown_tree.specs.Columns.{columns_entered, columns_left, no_columns};
+ghost use Rattle.markdown_tree.specs.States.{columns_of, marks_of};
+
+use crate::marks::Marks;
+use markdown_nodes::mdast::AlignKind;
+use markdown_nodes::role::{Acting, Content, Plain, Role};
+use std::alloc::{AllocError, Global};
+use std::mem;
+
+/// How far the delimiter rows of the table are.
+#[derive(Clone, Copy, PartialEq, Eq, Debug)]
+pub enum Rows {
+    /// There was none.
+    Before,
+    /// The first is open.
+    Inside,
+    /// The first has ended.
+    Behind,
+}
+
+/// The entries of the first delimiter row of the open table. Tables do not stand in tables, so that
+/// there is one of these for all.
+#[derive(Drop)]
+pub struct Columns {
+    pub rows: Rows,
+    pub kinds: Vec<AlignKind>,
+}
+
+impl Columns {
+    pub fn new(alloc: Global) -> Columns
+        ensures { columns_of result ≡ no_columns }
+    {
+        Columns {
+            rows: Rows::Before,
+            kinds: Vec::new(alloc),
+        }
+    }
+
+    /// A span of the role begins. A table has no entries of another.
+    pub fn enter(&mut self, alloc: Global, in_table: bool, role: Role)
+        ensures { columns_of self.new ≡ columns_entered in_table role (columns_of self.old) }
+    {
+        match role {
+            Role::Plain(Plain::DelimiterRow) => {
+                if in_table && matches!(self.rows, Rows::Before) {
+                    self.rows = Rows::Inside;
+                }
+            }
+            Role::Acting(Acting::Content(Content::Table)) => *self = Columns::new(alloc),
+            _ => {}
+        }
+    }
+
+    /// A plain span ends, with what the spans in it said.
+    pub fn exit(&mut self, plain: Plain, inner: Marks) -> Result<(), AllocError>
+        ensures { OnOk result (columns_of self.new ≡ columns_left (roles.Plain plain) (marks_of inner) (columns_of self.old)) }
+    {
+        if !matches!(self.rows, Rows::Inside) {
+            return Ok(());
+        }
+        match plain {
+            Plain::DelimiterRow => self.rows = Rows::Behind,
+            Plain::DelimiterCellValue => self.kinds.push(inner.align_kind())?,
+            _ => {}
+        }
+        Ok(())
+    }
+
+    /// The entries, at the end of the table. Then there are none.
+    pub fn take(&mut self, alloc: Global) -> Vec<AlignKind>
+        ensures entries { result.items ≡ self.old.kinds.items }
+        ensures columns { columns_of self.new ≡ no_columns }
+    {
+        self.rows = Rows::Before;
+        mem::replace(&mut self.kinds, Vec::new(alloc))
+    }
+}

@@ -1,0 +1,243 @@
+//! The open spans of a list of events, and what each event does to them.
+
+ghost use Rattle.std.specs.Prelude.{◌≡◌, ◌||◌, None, Ok, OnOk, is_some, not, true};
+ghost use Rattle.markdown_events.specs.Names.{role_of};
+ghost use Rattle.markdown_events.specs.declared.role.Role.TheVariants as roles;
+ghost use Rattle.markdown_tree.specs.Compiler;
+ghost use Rattle.markdown_tree.specs.Compiler.{enter_as, enter_checks, enter_step, opening};
+ghost use Rattle.markdown_tree.specs.Holdings.{first_failing};
+ghost use Rattle.markdown_tree.specs.Kinds;
+ghost use Rattle.markdown_tree.specs.Source.{Source};
+ghost use Rattle.markdown_tree.specs.States.{Begun, Gives, Opened, state_of};
+ghost use Rattle.markdown_tree.specs.Well.{is_plain};
+
+use crate::builder::Around;
+use crate::columns::Columns;
+use crate::holder::Holder;
+use crate::holding::{Holding, has_line_endings};
+use crate::marks::Marks;
+use crate::refusal::{Refusal, Stop};
+use crate::slice::byte_at;
+use markdown_nodes::event::{Name, Point};
+use markdown_nodes::role::{Acting, Content, Role};
+use markdown_nodes::unist::Position;
+use std::alloc::{AllocError, Global};
+use std::mem;
+
+/// An open span, with what was so around it.
+#[derive(Clone, Copy)]
+pub struct Frame {
+    pub name: Name,
+    pub start: Point,
+    pub around: Around,
+    /// Whether a table was around it.
+    pub in_table: bool,
+    /// What the spans before it, in the span around it, say.
+    pub marks: Marks,
+}
+
+/// The open spans, with the innermost holder and the holders around it.
+#[derive(Drop)]
+pub struct Context<'a> {
+    pub frames: Vec<Frame>,
+    /// The holders around the innermost one.
+    pub holdings: Vec<Holding<'a>>,
+    pub around: Around,
+    /// Whether the innermost acting span is a leaf, which has no holder of its own.
+    pub is_leaf: bool,
+    /// Whether a table is around, at any depth.
+    pub in_table: bool,
+    /// What the spans before this place, in the innermost open span, say.
+    pub marks: Marks,
+    pub columns: Columns,
+    /// A break that waits for its line ending.
+    pub pending: Option<Position>,
+    /// The innermost holder.
+    pub top: Holding<'a>,
+}
+
+/// Whether a span is a line ending.
+fn is_line_ending(what: Acting) -> bool
+    ensures { result ≡ Kinds.is_line_ending what }
+{
+    matches!(what, Acting::Content(Content::LineEnding))
+}
+
+/// Whether a span is a table.
+fn is_table(what: Acting) -> bool
+    ensures { result ≡ Kinds.is_table what }
+{
+    matches!(what, Acting::Content(Content::Table))
+}
+
+impl<'a> Context<'a> {
+    /// Before the first event.
+    pub fn new(alloc: Global) -> Context<'a>
+        ensures { state_of result ≡ opening }
+    {
+        Context {
+            frames: Vec::new(alloc),
+            holdings: Vec::new(alloc),
+            around: Around {
+                held: false,
+                in_row: false,
+                in_value: false,
+            },
+            is_leaf: false,
+            in_table: false,
+            marks: Marks::new(),
+            columns: Columns::new(alloc),
+            pending: None,
+            top: Holding {
+                holder: Holder::AnyContent,
+                line_endings: false,
+                nodes: Vec::new(alloc),
+            },
+        }
+    }
+
+    /// Whether a break waits for its line ending, and the span is none.
+    fn interrupts_break(&self, what: Acting) -> bool
+        ensures { result ≡ not (not (is_some self.now.pending) || Kinds.is_line_ending what) }
+    {
+        self.pending.is_some() && !is_line_ending(what)
+    }
+
+    /// Whether a table is around the spans in an acting span, or is this span.
+    fn is_in_table(&self, what: Acting) -> bool
+        ensures { result ≡ (self.now.in_table || Kinds.is_table what) }
+    {
+        self.in_table || is_table(what)
+    }
+
+    /// Why an acting span may not begin here, if it may not.
+    fn misfit(&self, bytes: &[u8], what: Acting, point: Point) -> Option<Refusal>
+        ensures { (s : Source) → s.bytes ≡ bytes.now → result ≡ first_failing (enter_checks s (state_of self.now).top what point) }
+    {
+        if self.is_leaf {
+            return Some(Refusal::Misplaced);
+        }
+        if self.interrupts_break(what) {
+            return Some(Refusal::UnfinishedBreak);
+        }
+        if let Some(refusal) = self.top.holder.misfit(what) {
+            return Some(refusal);
+        }
+        if self.in_table && is_table(what) {
+            return Some(Refusal::Misplaced);
+        }
+        match what {
+            Acting::Content(Content::Frontmatter) if byte_at(bytes, point).is_none() => {
+                Some(Refusal::InvalidSlice)
+            }
+            _ => None,
+        }
+    }
+}
+
+impl<'a> Context<'a> {
+    /// Opens an acting span, if the innermost holder takes it, and says whether it is a leaf.
+    fn open(
+        &mut self,
+        alloc: Global,
+        bytes: &[u8],
+        what: Acting,
+        point: Point,
+    ) -> Result<bool, Stop>
+        ensures { (s : Source) → s.bytes ≡ bytes.now → Opened s what point self.old self.new result }
+    {
+        if let Some(refusal) = self.misfit(bytes, what, point) {
+            return Err(Stop::Refused(refusal));
+        }
+        match self.top.holder.opened(what) {
+            None => Ok(true),
+            Some(holder) => {
+                let inner = Holding {
+                    holder,
+                    line_endings: has_line_endings(what),
+                    nodes: Vec::new(alloc),
+                };
+                let outer = mem::replace(&mut self.top, inner);
+                self.holdings.push(outer)?;
+                Ok(false)
+            }
+        }
+    }
+}
+
+impl<'a> Context<'a> {
+    /// Opens a span.
+    fn enter(&mut self, alloc: Global, bytes: &[u8], name: Name, point: Point) -> Result<(), Stop>
+        ensures { (s : Source) → s.bytes ≡ bytes.now → Gives (λ _. state_of self.new) point result (enter_step s name point (state_of self.old)) }
+    {
+        let role = name.role();
+        if !self.around.allows(role) {
+            return Err(Stop::Refused(Refusal::Held));
+        }
+        match role {
+            Role::Plain(_) => self.enter_plain(alloc, name, role, point),
+            Role::Acting(what) => self.enter_acting(alloc, bytes, name, what, point),
+        }
+    }
+
+    /// Opens a plain span, which changes no holder.
+    fn enter_plain(
+        &mut self,
+        alloc: Global,
+        name: Name,
+        role: Role,
+        point: Point,
+    ) -> Result<(), Stop>
+        requires role { role ≡ role_of name }
+        requires plain { is_plain role ≡ true }
+        ensures { Gives (λ _. state_of self.new) point result (Ok (Compiler.opened name point (state_of self.old) None (state_of self.old).top)) }
+    {
+        self.begin(alloc, name, role, point, self.is_leaf, self.in_table)?;
+        Ok(())
+    }
+
+    /// Opens an acting span, if the innermost holder takes it.
+    fn enter_acting(
+        &mut self,
+        alloc: Global,
+        bytes: &[u8],
+        name: Name,
+        what: Acting,
+        point: Point,
+    ) -> Result<(), Stop>
+        requires { role_of name ≡ roles.Acting what }
+        ensures { (s : Source) → s.bytes ≡ bytes.now → Gives (λ _. state_of self.new) point result (enter_as s (roles.Acting what) name point (state_of self.old)) }
+    {
+        let is_leaf = self.open(alloc, bytes, what, point)?;
+        let in_table = self.is_in_table(what);
+        self.begin(alloc, name, Role::Acting(what), point, is_leaf, in_table)?;
+        Ok(())
+    }
+
+    /// Puts a span on the stack. What was around it stays there, and what is in it begins.
+    fn begin(
+        &mut self,
+        alloc: Global,
+        name: Name,
+        role: Role,
+        point: Point,
+        is_leaf: bool,
+        in_table: bool,
+    ) -> Result<(), AllocError>
+        ensures { OnOk result (Begun name role point is_leaf in_table self.old self.new) }
+    {
+        self.frames.push(Frame {
+            name,
+            start: point,
+            around: self.around,
+            in_table: self.in_table,
+            marks: self.marks,
+        })?;
+        self.columns.enter(alloc, self.in_table, role);
+        self.around = self.around.inside(role);
+        self.is_leaf = is_leaf;
+        self.in_table = in_table;
+        self.marks = Marks::new();
+        Ok(())
+    }
+}

@@ -1,0 +1,63 @@
+//! Nodes at the end of a list: a text that meets a text becomes one with it.
+
+ghost use Rattle.std.specs.Prelude.{◌≡◌, false, OnOk, IfOk};
+ghost use Rattle.markdown_nodes.specs.Tree.{join, only};
+ghost use Rattle.markdown_nodes.specs.View.{view, views};
+ghost use Rattle.markdown_tree.specs.Machine.{is_text};
+ghost use Rattle.markdown_tree.specs.TextNodes.{one_text, text_node};
+
+use markdown_nodes::mdast::{Node, Text};
+use markdown_nodes::unist::Position;
+use std::alloc::{AllocError, Global};
+
+/// Puts a node that is no text behind the others.
+#[tactic(auto, using(crate::proofs::Views::views_put))]
+pub fn put(nodes: &mut Vec<Node>, node: Node) -> Result<(), AllocError>
+    requires { is_text (view node).label ≡ false }
+    ensures { OnOk result (views nodes.new.items ≡ join (views nodes.old.items) (only (view node))) }
+{
+    nodes.push(node)?;
+    Ok(())
+}
+
+/// Puts a part of a text behind the others: it goes on with a text that stands there, since the
+/// data, references and line endings of one run of characters are one text in mdast.
+pub fn put_text(
+    alloc: Global,
+    nodes: &mut Vec<Node>,
+    value: &str,
+    position: Position,
+) -> Result<(), AllocError>
+    ensures { OnOk result (views nodes.new.items ≡ join (views nodes.old.items) (one_text value.now position)) }
+{
+    if let Some(last) = nodes.last_mut() {
+        if let Node::Text(text) = last {
+            go_on(text, value, position)?;
+            return Ok(());
+        }
+    }
+    nodes.push(new_text(alloc, value, position)?)?;
+    Ok(())
+}
+
+/// A new text.
+#[tactic(auto, unfolding(markdown_nodes::specs::View::view))]
+fn new_text(alloc: Global, value: &str, position: Position) -> Result<Node, AllocError>
+    ensures { IfOk result (λ made. only (view made) ≡ one_text value.now position) }
+{
+    Ok(Node::Text(Text {
+        value: String::from_str(alloc, value)?,
+        position: Some(position),
+    }))
+}
+
+/// Puts a part of a text behind another: the position then ends where the part does.
+fn go_on(text: &mut Text, part: &str, position: Position) -> Result<(), AllocError>
+    ensures { OnOk result (text_node text.new ≡ join (text_node text.old) (one_text part.now position)) }
+{
+    text.value.push_str(part)?;
+    if let Some(place) = &mut text.position {
+        place.end = position.end;
+    }
+    Ok(())
+}

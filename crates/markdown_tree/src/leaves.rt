@@ -1,0 +1,411 @@
+//! What a leaf gives to the span around it, at its exit.
+//!
+//! A leaf is a span in which nothing else may stand: a run of characters, a break, a marker, a value.
+
+ghost use Rattle.std.specs.Prelude.{◌≡◌, ◌==◌, ◌||◌, Bool, if◌then◌else◌, IfOk, List, None, Ok, Option, [], is_some, not, option_map, string_bytes, true, unwrap_or, ℕ};
+ghost use Rattle.std.specs.Option.{option_and_then};
+ghost use Rattle.markdown_events.specs.Slices.{between, slice};
+ghost use Rattle.markdown_events.specs.Spread.{Shown};
+ghost use Rattle.markdown_events.specs.declared.event.Point.{Point};
+ghost use Rattle.markdown_events.specs.declared.role.Acting.TheVariants as acting;
+ghost use Rattle.markdown_events.specs.declared.role.Content.TheVariants as contents;
+ghost use Rattle.markdown_events.specs.declared.role.Part.TheVariants as parts;
+ghost use Rattle.markdown_nodes.specs.Tree as tree;
+ghost use Rattle.markdown_nodes.specs.Tree.{join, nothing};
+ghost use Rattle.markdown_nodes.specs.View.{view, views};
+ghost use Rattle.markdown_tree.specs.Compiler.{fresh, leave};
+ghost use Rattle.markdown_tree.specs.Gives.{text_read};
+ghost use Rattle.markdown_tree.specs.Grammar.{addresses};
+ghost use Rattle.markdown_tree.specs.Holders;
+ghost use Rattle.markdown_tree.specs.Holdings.{byte_of, is_literal, is_sign, marker_of, misfit_of, moved_of, placed};
+ghost use Rattle.markdown_tree.specs.Kinds.{is_line_ending, is_one_of};
+ghost use Rattle.markdown_tree.specs.Media.{linked};
+ghost use Rattle.markdown_tree.specs.Nodes.{node_of};
+ghost use Rattle.markdown_tree.specs.Parts.{Inner};
+ghost use Rattle.markdown_tree.specs.Place.{Place};
+ghost use Rattle.markdown_tree.specs.Source.{Source, source};
+ghost use Rattle.markdown_tree.specs.States.{Gives, Makes, holds_of};
+ghost use Rattle.markdown_tree.specs.TextNodes.{one_text};
+ghost use Rattle.markdown_tree.specs.declared.refusal.Refusal.TheVariants.{InvalidSlice};
+
+use crate::holder::{Address, Holder, Marker};
+use crate::holding::{Ending, Holding};
+use crate::joining::{put, put_text};
+use crate::number::item_number;
+use crate::raw::linked;
+use crate::references::References;
+use crate::refusal::{Refusal, Stop};
+use crate::slice::{byte_at, depth_of, length_between, position_of, text_of};
+use markdown_nodes::mdast::{Break, Node, ThematicBreak};
+use markdown_nodes::role::{Acting, Content, Part};
+use markdown_nodes::unist::Position;
+use std::alloc::{AllocError, Global};
+
+impl<'a> Holding<'a> {
+    /// Takes a leaf that has ended. `pending` is the break that waits for its line ending, if one
+    /// does.
+    pub fn take_leaf<R: References>(
+        &mut self,
+        pending: &mut Option<Position>,
+        alloc: Global,
+        bytes: &'a [u8],
+        references: &R,
+        what: Acting,
+        ending: Ending,
+    ) -> Result<(), Stop>
+        requires leaf { Holders.holder_of (moved_of self.old.holder) what ≡ Holders.leaf }
+        requires fits { misfit_of self.old.holder what ≡ None }
+        requires waits { (not (is_some pending.old) || is_line_ending what) ≡ true }
+        ensures { (children : Shown) (place : Place) → Gives (λ _. holds_of ending.in_table pending.new self.new) ending.end result (leave (source bytes.now (R.text references.now)) what ending.start ending.end children (fresh Holders.leaf place) (holds_of ending.in_table pending.old self.old)) }
+    {
+        match what {
+            Acting::Content(content) => {
+                self.take_leaf_content(pending, alloc, bytes, content, ending)
+            }
+            Acting::Part(part) => self.take_leaf_part(alloc, bytes, references, part, ending),
+        }
+    }
+
+    /// The same of content, which gives nodes.
+    fn take_leaf_content(
+        &mut self,
+        pending: &mut Option<Position>,
+        alloc: Global,
+        bytes: &[u8],
+        content: Content,
+        ending: Ending,
+    ) -> Result<(), Stop>
+        requires leaf { Holders.content_holder (moved_of self.old.holder) content ≡ Holders.leaf }
+        requires waits { (not (is_some pending.old) || is_line_ending (acting.Content content)) ≡ true }
+        ensures { (text : List ℕ → ℕ → Option (List ℕ)) (children : Shown) (place : Place) → Gives (λ _. holds_of ending.in_table pending.new self.new) ending.end result (leave (source bytes.now text) (acting.Content content) ending.start ending.end children (fresh Holders.leaf place) (holds_of ending.in_table pending.old self.old)) }
+    {
+        match content {
+            Content::Data => self.take_data(alloc, bytes, ending),
+            Content::AutolinkLiteralEmail
+            | Content::AutolinkLiteralWww
+            | Content::AutolinkLiteralWhole => self.take_literal(alloc, bytes, content, ending),
+            Content::ThematicBreak => self.take_thematic_break(ending),
+            Content::HardBreak => {
+                *pending = Some(position_of(ending.start, ending.end));
+                Ok(())
+            }
+            Content::LineEnding => self.take_line_ending(pending, alloc, bytes, ending),
+            _ => unreachable!(),
+        }
+    }
+
+    /// The same of a part, which gives its holder what is kept of it.
+    fn take_leaf_part<R: References>(
+        &mut self,
+        alloc: Global,
+        bytes: &'a [u8],
+        references: &R,
+        part: Part,
+        ending: Ending,
+    ) -> Result<(), Stop>
+        requires leaf { Holders.part_holder (moved_of self.old.holder) part ≡ Holders.leaf }
+        requires fits { misfit_of self.old.holder (acting.Part part) ≡ None }
+        ensures { (children : Shown) (place : Place) → Gives (λ _. holds_of ending.in_table None self.new) ending.end result (leave (source bytes.now (R.text references.now)) (acting.Part part) ending.start ending.end children (fresh Holders.leaf place) (holds_of ending.in_table None self.old)) }
+    {
+        match part {
+            Part::AutolinkEmail | Part::AutolinkProtocol => self.take_address(bytes, part, ending),
+            Part::CharacterReferenceValue => self.take_value(alloc, bytes, references, ending),
+            Part::HeadingAtxSequence => self.take_sequence(bytes, ending),
+            Part::HeadingSetextUnderlineSequence => self.take_underline(bytes, ending),
+            Part::ListItemValue => self.take_item_value(bytes, ending),
+            Part::CharacterReferenceMarker
+            | Part::CharacterReferenceMarkerNumeric
+            | Part::CharacterReferenceMarkerHexadecimal
+            | Part::TaskMarkChecked
+            | Part::TaskMarkUnchecked
+            | Part::CodeFencedFence
+            | Part::MathFlowFence => {
+                self.take_sign(part);
+                Ok(())
+            }
+            _ => unreachable!(),
+        }
+    }
+}
+
+impl<'a> Holding<'a> {
+    /// A run of characters: a text.
+    fn take_data(&mut self, alloc: Global, bytes: &[u8], ending: Ending) -> Result<(), Stop>
+        ensures { (text : List ℕ → ℕ → Option (List ℕ)) (children : Shown) (place : Place) → Gives (λ _. holds_of ending.in_table None self.new) ending.end result (leave (source bytes.now text) (acting.Content contents.Data) ending.start ending.end children (fresh Holders.leaf place) (holds_of ending.in_table None self.old)) }
+    {
+        put_slice(alloc, &mut self.nodes, bytes, ending)
+    }
+
+    /// An address that stands in the text as it is (GFM, autolinks): a link to it, whose text it is.
+    fn take_literal(
+        &mut self,
+        alloc: Global,
+        bytes: &[u8],
+        content: Content,
+        ending: Ending,
+    ) -> Result<(), Stop>
+        requires { is_literal content ≡ true }
+        ensures { (text : List ℕ → ℕ → Option (List ℕ)) (children : Shown) (place : Place) → Gives (λ _. holds_of ending.in_table None self.new) ending.end result (leave (source bytes.now text) (acting.Content content) ending.start ending.end children (fresh Holders.leaf place) (holds_of ending.in_table None self.old)) }
+    {
+        let Some(value) = text_of(bytes, ending.start, ending.end) else {
+            return Err(Stop::Refused(Refusal::InvalidSlice));
+        };
+        let position = position_of(ending.start, ending.end);
+        let node = linked(alloc, scheme_of(content), value, position, position)?;
+        put(&mut self.nodes, node)?;
+        Ok(())
+    }
+
+    /// A thematic break (CommonMark): a node, whatever it is written with.
+    fn take_thematic_break(&mut self, ending: Ending) -> Result<(), Stop>
+        ensures { (s : Source) (children : Shown) (place : Place) → Gives (λ _. holds_of ending.in_table None self.new) ending.end result (leave s (acting.Content contents.ThematicBreak) ending.start ending.end children (fresh Holders.leaf place) (holds_of ending.in_table None self.old)) }
+    {
+        let position = position_of(ending.start, ending.end);
+        put(&mut self.nodes, thematic_break(position))?;
+        Ok(())
+    }
+
+    /// A line ending. Behind a break that waits for it, it ends the break, which is then a node: in
+    /// mdast a break reaches over its line ending. Else it is text, where line endings are.
+    fn take_line_ending(
+        &mut self,
+        pending: &mut Option<Position>,
+        alloc: Global,
+        bytes: &[u8],
+        ending: Ending,
+    ) -> Result<(), Stop>
+        ensures { (text : List ℕ → ℕ → Option (List ℕ)) (children : Shown) (place : Place) → Gives (λ _. holds_of ending.in_table pending.new self.new) ending.end result (leave (source bytes.now text) (acting.Content contents.LineEnding) ending.start ending.end children (fresh Holders.leaf place) (holds_of ending.in_table pending.old self.old)) }
+    {
+        if let Some(position) = pending.take() {
+            let position = Position {
+                start: position.start,
+                end: ending.end.to_unist(),
+            };
+            put(&mut self.nodes, hard_break(position))?;
+            return Ok(());
+        }
+        if self.line_endings {
+            return put_slice(alloc, &mut self.nodes, bytes, ending);
+        }
+        Ok(())
+    }
+}
+
+impl<'a> Holding<'a> {
+    /// The address of an autolink (CommonMark), as it stands there.
+    fn take_address(&mut self, bytes: &'a [u8], part: Part, ending: Ending) -> Result<(), Stop>
+        requires fits { misfit_of self.old.holder (acting.Part part) ≡ None }
+        requires such { is_one_of addresses (acting.Part part) ≡ true }
+        ensures { (text : List ℕ → ℕ → Option (List ℕ)) (children : Shown) (place : Place) → Gives (λ _. holds_of ending.in_table None self.new) ending.end result (leave (source bytes.now text) (acting.Part part) ending.start ending.end children (fresh Holders.leaf place) (holds_of ending.in_table None self.old)) }
+    {
+        let Some(value) = text_of(bytes, ending.start, ending.end) else {
+            return Err(Stop::Refused(Refusal::InvalidSlice));
+        };
+        let address = Address {
+            start: ending.start,
+            end: ending.end,
+            value,
+        };
+        match part {
+            Part::AutolinkEmail => self.holder.put_email(address),
+            Part::AutolinkProtocol => self.holder.put_protocol(address),
+            _ => unreachable!(),
+        }
+        Ok(())
+    }
+
+    /// A part that says all by its name: a marker of a character reference, a mark of a task (GFM),
+    /// or a fence behind the first, behind which line endings are text.
+    fn take_sign(&mut self, part: Part)
+        requires leaf { Holders.part_holder (moved_of self.old.holder) part ≡ Holders.leaf }
+        requires fits { misfit_of self.old.holder (acting.Part part) ≡ None }
+        requires such { is_sign part ≡ true }
+        ensures { (s : Source) (in_table : Bool) (a b : Point) (children : Shown) (place : Place) → leave s (acting.Part part) a b children (fresh Holders.leaf place) (holds_of in_table None self.old) ≡ Ok (holds_of in_table None self.new) }
+    {
+        match part {
+            Part::CharacterReferenceMarker => self.holder.put_marker(Marker::Named),
+            Part::CharacterReferenceMarkerNumeric => self.holder.put_marker(Marker::Decimal),
+            Part::CharacterReferenceMarkerHexadecimal => {
+                self.holder.put_marker(Marker::Hexadecimal);
+            }
+            Part::TaskMarkChecked => self.holder.put_mark(true),
+            Part::TaskMarkUnchecked => self.holder.put_mark(false),
+            Part::CodeFencedFence | Part::MathFlowFence => self.line_endings = true,
+            _ => unreachable!(),
+        }
+    }
+
+    /// The value of a character reference (CommonMark, entity and numeric character references),
+    /// which stands for what the decoder says of it behind the last marker.
+    fn take_value<R: References>(
+        &mut self,
+        alloc: Global,
+        bytes: &[u8],
+        references: &R,
+        ending: Ending,
+    ) -> Result<(), Stop>
+        requires { misfit_of self.old.holder (acting.Part parts.CharacterReferenceValue) ≡ None }
+        ensures { (children : Shown) (place : Place) → Gives (λ _. holds_of ending.in_table None self.new) ending.end result (leave (source bytes.now (R.text references.now)) (acting.Part parts.CharacterReferenceValue) ending.start ending.end children (fresh Holders.leaf place) (holds_of ending.in_table None self.old)) }
+    {
+        let Some(value) = text_of(bytes, ending.start, ending.end) else {
+            return Err(Stop::Refused(Refusal::InvalidSlice));
+        };
+        match decoded(alloc, references, value, self.holder.last_marker())? {
+            Some(text) => {
+                self.holder.put_value(text);
+                Ok(())
+            }
+            None => Err(Stop::Refused(Refusal::UnknownReference)),
+        }
+    }
+
+    /// A sequence of an ATX heading (CommonMark): the first says its depth, and one behind the text
+    /// says nothing.
+    fn take_sequence(&mut self, bytes: &[u8], ending: Ending) -> Result<(), Stop>
+        requires { misfit_of self.old.holder (acting.Part parts.HeadingAtxSequence) ≡ None }
+        ensures { (text : List ℕ → ℕ → Option (List ℕ)) (children : Shown) (place : Place) → Gives (λ _. holds_of ending.in_table None self.new) ending.end result (leave (source bytes.now text) (acting.Part parts.HeadingAtxSequence) ending.start ending.end children (fresh Holders.leaf place) (holds_of ending.in_table None self.old)) }
+    {
+        let Holder::HeadingAtx(depth) = self.holder else {
+            unreachable!()
+        };
+        match depth {
+            None => self.take_depth(bytes, ending),
+            Some(_) => Ok(()),
+        }
+    }
+
+    /// The first sequence of an ATX heading: one byte for each step of depth.
+    fn take_depth(&mut self, bytes: &[u8], ending: Ending) -> Result<(), Stop>
+        requires { moved_of self.old.holder ≡ Holders.heading_atx }
+        ensures { (text : List ℕ → ℕ → Option (List ℕ)) (children : Shown) (place : Place) → Gives (λ _. holds_of ending.in_table None self.new) ending.end result (leave (source bytes.now text) (acting.Part parts.HeadingAtxSequence) ending.start ending.end children (fresh Holders.leaf place) (holds_of ending.in_table None self.old)) }
+    {
+        let Some(length) = length_between(bytes, ending.start, ending.end) else {
+            return Err(Stop::Refused(Refusal::InvalidSlice));
+        };
+        let Some(depth) = depth_of(length) else {
+            return Err(Stop::Refused(Refusal::HeadingDepth));
+        };
+        self.holder.put_depth(depth);
+        Ok(())
+    }
+
+    /// The sequence under a setext heading (CommonMark): of hyphens its depth is two, else one.
+    fn take_underline(&mut self, bytes: &[u8], ending: Ending) -> Result<(), Stop>
+        requires { misfit_of self.old.holder (acting.Part parts.HeadingSetextUnderlineSequence) ≡ None }
+        ensures { (text : List ℕ → ℕ → Option (List ℕ)) (children : Shown) (place : Place) → Gives (λ _. holds_of ending.in_table None self.new) ending.end result (leave (source bytes.now text) (acting.Part parts.HeadingSetextUnderlineSequence) ending.start ending.end children (fresh Holders.leaf place) (holds_of ending.in_table None self.old)) }
+    {
+        let Some(byte) = byte_at(bytes, ending.start) else {
+            return Err(Stop::Refused(Refusal::InvalidSlice));
+        };
+        self.holder.put_underline(depth_over(byte));
+        Ok(())
+    }
+
+    /// The number of an item of an ordered list (CommonMark).
+    fn take_item_value(&mut self, bytes: &[u8], ending: Ending) -> Result<(), Stop>
+        requires { misfit_of self.old.holder (acting.Part parts.ListItemValue) ≡ None }
+        ensures { (text : List ℕ → ℕ → Option (List ℕ)) (children : Shown) (place : Place) → Gives (λ _. holds_of ending.in_table None self.new) ending.end result (leave (source bytes.now text) (acting.Part parts.ListItemValue) ending.start ending.end children (fresh Holders.leaf place) (holds_of ending.in_table None self.old)) }
+    {
+        let Some(text) = text_of(bytes, ending.start, ending.end) else {
+            return Err(Stop::Refused(Refusal::InvalidSlice));
+        };
+        let Some(value) = item_number(text) else {
+            return Err(Stop::Refused(Refusal::InvalidListValue));
+        };
+        self.holder.put_item_value(value);
+        Ok(())
+    }
+}
+
+impl Holder<'_> {
+    /// The last marker of a character reference.
+    fn last_marker(&self) -> Option<Marker>
+        requires { misfit_of self.now (acting.Part parts.CharacterReferenceValue) ≡ None }
+        ensures { option_map byte_of result ≡ marker_of self.now }
+    {
+        match self {
+            Holder::CharacterReference(parts) => parts.last,
+            _ => unreachable!(),
+        }
+    }
+}
+
+impl Marker {
+    /// The character that is it, or that is the last of it.
+    fn byte(self) -> u8
+        ensures { result ≡ byte_of self }
+    {
+        match self {
+            Marker::Named => b'&',
+            Marker::Decimal => b'#',
+            Marker::Hexadecimal => b'x',
+        }
+    }
+}
+
+/// What a value stands for behind the last marker, if it stands for something. Where no marker is
+/// known it stands for nothing.
+fn decoded<R: References>(
+    alloc: Global,
+    references: &R,
+    value: &str,
+    marker: Option<Marker>,
+) -> Result<Option<String>, AllocError>
+    ensures { IfOk result (λ found. option_map string_bytes found ≡ option_and_then (λ byte. R.text references.now value.now byte) (option_map byte_of marker)) }
+{
+    match marker {
+        Some(marker) => references.decode(alloc, value, marker.byte()),
+        None => Ok(None),
+    }
+}
+
+/// Puts the text of a span behind the others.
+fn put_slice(alloc: Global, nodes: &mut Vec<Node>, bytes: &[u8], ending: Ending) -> Result<(), Stop>
+    ensures { Makes result (is_some (slice bytes.now ending.start ending.end)) InvalidSlice (λ _. views nodes.new.items ≡ join (views nodes.old.items) (one_text (unwrap_or (slice bytes.now ending.start ending.end) []) (between ending.start ending.end))) }
+{
+    let Some(value) = text_of(bytes, ending.start, ending.end) else {
+        return Err(Stop::Refused(Refusal::InvalidSlice));
+    };
+    put_text(alloc, nodes, value, position_of(ending.start, ending.end))?;
+    Ok(())
+}
+
+/// What a literal address leaves out of the address that it leads to (GFM, autolinks).
+fn scheme_of(content: Content) -> &'static str
+    requires { is_literal content ≡ true }
+    ensures { (s : Source) (p : Place) (a b : Point) (children : Shown) (i : Inner) → node_of s p (acting.Content content) a b children i ≡ linked result.now (text_read s a b) a b a b }
+{
+    match content {
+        Content::AutolinkLiteralEmail => "mailto:",
+        Content::AutolinkLiteralWww => "http://",
+        Content::AutolinkLiteralWhole => "",
+        _ => unreachable!(),
+    }
+}
+
+/// The depth of a setext heading over a sequence of this character (CommonMark).
+fn depth_over(byte: u8) -> u8
+    ensures { result ≡ if 45 == byte then 2 else 1 }
+{
+    if byte == b'-' { 2 } else { 1 }
+}
+
+/// A thematic break.
+#[tactic(auto, unfolding(markdown_nodes::specs::View::view))]
+fn thematic_break(position: Position) -> Node
+    ensures { view result ≡ placed tree.thematic_break nothing position }
+{
+    Node::ThematicBreak(ThematicBreak {
+        position: Some(position),
+    })
+}
+
+/// A hard break.
+#[tactic(auto, unfolding(markdown_nodes::specs::View::view))]
+fn hard_break(position: Position) -> Node
+    ensures { view result ≡ placed tree.«break» nothing position }
+{
+    Node::Break(Break {
+        position: Some(position),
+    })
+}

@@ -1,0 +1,151 @@
+//! What an open span keeps of the spans in it, plain ones too, for spread and alignment.
+
+ghost use Rattle.std.specs.Prelude.{◌≡◌, Some};
+ghost use Rattle.std.specs.Option.{option_or};
+ghost use Rattle.markdown_events.specs.Spread.{is_delimiter_marker};
+ghost use Rattle.markdown_events.specs.declared.role.Acting.TheVariants as acting;
+ghost use Rattle.markdown_events.specs.declared.role.Content.TheVariants as contents;
+ghost use Rattle.markdown_events.specs.declared.role.Role.TheVariants as roles;
+ghost use Rattle.markdown_tree.specs.Siblings.{kind_by, marks_with, no_marks, past_space, sibling_of};
+ghost use Rattle.markdown_tree.specs.States.{first_of, marks_of, sibling_in};
+
+use markdown_nodes::mdast::AlignKind;
+use markdown_nodes::role::{Acting, Content, Plain, Role};
+
+/// What a child is to its siblings and to its parent.
+#[derive(Clone, Copy, PartialEq, Eq, Debug)]
+pub enum Sibling {
+    Other,
+    SpaceOrTab,
+    ListItemPrefix,
+    BlockQuotePrefix,
+    /// A block quote that ends with its prefix.
+    BareBlockQuote,
+    /// An item without content at its end.
+    BareListItem,
+    DelimiterMarker,
+}
+
+/// What the first child is.
+#[derive(Clone, Copy, PartialEq, Eq, Debug)]
+pub enum First {
+    /// There is no child so far.
+    Absent,
+    DelimiterMarker,
+    Other,
+}
+
+/// What the children so far say.
+#[derive(Clone, Copy, PartialEq, Eq, Debug)]
+pub struct Marks {
+    /// The last child.
+    pub near: Sibling,
+    /// The child before it.
+    pub far: Sibling,
+    pub first: First,
+    /// Whether the span is loose, if it is an item.
+    pub item_blank: bool,
+    /// Whether the span is loose, if it is a list.
+    pub list_blank: bool,
+}
+
+impl Marks {
+    /// There is no child so far.
+    pub fn new() -> Marks
+        ensures { marks_of result ≡ no_marks }
+    {
+        Marks {
+            near: Sibling::Other,
+            far: Sibling::Other,
+            first: First::Absent,
+            item_blank: false,
+            list_blank: false,
+        }
+    }
+
+    /// The last child, one space or tab skipped.
+    fn past_space(self) -> Sibling
+        ensures { sibling_in result ≡ past_space (marks_of self) }
+    {
+        match self.near {
+            Sibling::SpaceOrTab => self.far,
+            near => near,
+        }
+    }
+
+    /// What a span of the role, with these children, is to its siblings and to its parent.
+    fn sibling(self, role: Role) -> Sibling
+        ensures { sibling_in result ≡ sibling_of role (marks_of self) }
+    {
+        match role {
+            Role::Plain(Plain::SpaceOrTab) => Sibling::SpaceOrTab,
+            Role::Plain(Plain::ListItemPrefix) => Sibling::ListItemPrefix,
+            Role::Plain(Plain::BlockQuotePrefix) => Sibling::BlockQuotePrefix,
+            Role::Plain(Plain::DelimiterMarker) => Sibling::DelimiterMarker,
+            Role::Acting(Acting::Content(Content::BlockQuote)) => self.block_quote(),
+            Role::Acting(Acting::Content(Content::ListItem)) => self.list_item(),
+            _ => Sibling::Other,
+        }
+    }
+
+    fn block_quote(self) -> Sibling
+        ensures { sibling_in result ≡ sibling_of (roles.Acting (acting.Content contents.BlockQuote)) (marks_of self) }
+    {
+        match self.near {
+            Sibling::BlockQuotePrefix => Sibling::BareBlockQuote,
+            _ => Sibling::Other,
+        }
+    }
+
+    fn list_item(self) -> Sibling
+        ensures { sibling_in result ≡ sibling_of (roles.Acting (acting.Content contents.ListItem)) (marks_of self) }
+    {
+        match self.past_space() {
+            Sibling::ListItemPrefix | Sibling::BareBlockQuote => Sibling::BareListItem,
+            _ => Sibling::Other,
+        }
+    }
+
+    /// The same behind one child more, of a role and with children of its own.
+    pub fn with(self, role: Role, inner: Marks) -> Marks
+        ensures { marks_of result ≡ marks_with (marks_of self) role (marks_of inner) }
+    {
+        let is_blank = matches!(role, Role::Plain(Plain::BlankLineEnding));
+        Marks {
+            near: inner.sibling(role),
+            far: self.near,
+            first: self.first.or(role),
+            item_blank: self.item_blank
+                || is_blank && !matches!(self.past_space(), Sibling::ListItemPrefix),
+            list_blank: self.list_blank || is_blank && !matches!(self.near, Sibling::BareListItem),
+        }
+    }
+
+    /// How a delimiter cell value with these children aligns its column.
+    pub fn align_kind(self) -> AlignKind
+        ensures { result ≡ kind_by (marks_of self) }
+    {
+        let first = matches!(self.first, First::DelimiterMarker);
+        match (first, self.near) {
+            (true, Sibling::DelimiterMarker) => AlignKind::Center,
+            (true, _) => AlignKind::Left,
+            (false, Sibling::DelimiterMarker) => AlignKind::Right,
+            (false, _) => AlignKind::None,
+        }
+    }
+}
+
+impl First {
+    /// The first child, where the next one has this role.
+    fn or(self, role: Role) -> First
+        ensures { first_of result ≡ option_or (first_of self) (Some (is_delimiter_marker role)) }
+    {
+        match self {
+            First::Absent if matches!(role, Role::Plain(Plain::DelimiterMarker)) => {
+                First::DelimiterMarker
+            }
+            First::Absent => First::Other,
+            known => known,
+        }
+    }
+}

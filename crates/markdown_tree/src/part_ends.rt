@@ -1,0 +1,170 @@
+//! What a part that is no leaf gives to its holder at its exit.
+
+ghost use Rattle.std.specs.Prelude.{◌≡◌, Bool, IfOk, None, Ok, OnOk, string_bytes, true};
+ghost use Rattle.markdown_events.specs.Spread.{Shown};
+ghost use Rattle.markdown_events.specs.Texts.{fold};
+ghost use Rattle.markdown_events.specs.declared.role.Acting.TheVariants as acting;
+ghost use Rattle.markdown_events.specs.declared.role.Part.TheVariants as parts;
+ghost use Rattle.markdown_nodes.specs.Tree.{Trees, plain_text};
+ghost use Rattle.markdown_nodes.specs.View.{views};
+ghost use Rattle.markdown_tree.specs.Compiler.{leave};
+ghost use Rattle.markdown_tree.specs.Holders;
+ghost use Rattle.markdown_tree.specs.Holdings.{inner_with, is_text_part, misfit_of, moved_of};
+ghost use Rattle.markdown_tree.specs.Source.{Source};
+ghost use Rattle.markdown_tree.specs.States.{Gives, ended_with, holds_of};
+ghost use Rattle.markdown_tree.specs.Place.{Place};
+ghost use Rattle.markdown_events.specs.declared.event.Point.{Point};
+ghost use Rattle.markdown_tree.specs.declared.holder.Holder.TheVariants as holders;
+
+use crate::buffer::values_of;
+use crate::holder::{CodeFenceParts, Identified, Label, MathFenceParts, ResourceParts};
+use crate::holding::{Ending, Holding};
+use crate::refusal::{Refusal, Stop};
+use crate::slice::text_of;
+use crate::steps::Steps;
+use markdown_nodes::mdast::Node;
+use markdown_nodes::role::Part;
+use markdown_nodes::text::normalize_identifier;
+use std::alloc::{AllocError, Global};
+
+/// What a label says: the identifier of its slice, and its text.
+fn identified(
+    alloc: Global,
+    steps: &mut Steps<'_>,
+    slice: &str,
+    nodes: &[Node],
+) -> Result<Identified, AllocError>
+    ensures identifier { IfOk result (λ made. string_bytes made.identifier ≡ fold slice.now) }
+    ensures label { IfOk result (λ made. string_bytes made.label ≡ plain_text (views nodes.now)) }
+{
+    Ok(Identified {
+        identifier: normalize_identifier(alloc, slice)?,
+        label: values_of(alloc, steps, nodes)?,
+    })
+}
+
+impl<'a> Holding<'a> {
+    /// Takes the label of a link, an image or a footnote call as it stands: its text is made where
+    /// it is asked for.
+    fn take_label(&mut self, bytes: &'a [u8], nodes: Vec<Node>, ending: Ending) -> Result<(), Stop>
+        requires { misfit_of self.old.holder (acting.Part parts.LabelText) ≡ None }
+        ensures { (s : Source) (place : Place) (children : Shown) → s.bytes ≡ bytes.now → Gives (λ _. holds_of ending.in_table None self.new) ending.end result (leave s (acting.Part parts.LabelText) ending.start ending.end children (ended_with Holders.any_content place (inner_with holders.AnyContent (views nodes.items))) (holds_of ending.in_table None self.old)) }
+    {
+        let Some(slice) = text_of(bytes, ending.start, ending.end) else {
+            return Err(Stop::Refused(Refusal::InvalidSlice));
+        };
+        self.holder.put_label(Label { slice, nodes });
+        Ok(())
+    }
+
+    /// Takes a destination, a title, or what stands behind a fence.
+    fn take_text(
+        &mut self,
+        alloc: Global,
+        steps: &mut Steps<'_>,
+        part: Part,
+        nodes: &[Node],
+    ) -> Result<(), AllocError>
+        requires fits { misfit_of self.old.holder (acting.Part part) ≡ None }
+        requires such { is_text_part part ≡ true }
+        ensures { OnOk result ((s : Source) (a b : Point) (in_table : Bool) (place : Place) (children : Shown) → leave s (acting.Part part) a b children (ended_with Holders.any_content place (inner_with holders.AnyContent (views nodes.now))) (holds_of in_table None self.old) ≡ Ok (holds_of in_table None self.new)) }
+    {
+        let text = values_of(alloc, steps, nodes)?;
+        self.holder.put_text(part, text);
+        Ok(())
+    }
+
+    /// Takes the resource of a link or an image.
+    fn take_resource(&mut self, resource: ResourceParts)
+        requires { misfit_of self.old.holder (acting.Part parts.Resource) ≡ None }
+        ensures { (s : Source) (a b : Point) (in_table : Bool) (place : Place) (children : Shown) (ts : Trees) → leave s (acting.Part parts.Resource) a b children (ended_with Holders.resource place (inner_with (holders.Resource resource) ts)) (holds_of in_table None self.old) ≡ Ok (holds_of in_table None self.new) }
+    {
+        self.holder.put_resource(resource);
+    }
+
+    /// Takes the reference of a link or an image.
+    fn take_reference_part(&mut self, string: Option<Identified>)
+        requires { misfit_of self.old.holder (acting.Part parts.Reference) ≡ None }
+        ensures { (s : Source) (a b : Point) (in_table : Bool) (place : Place) (children : Shown) (ts : Trees) → leave s (acting.Part parts.Reference) a b children (ended_with Holders.reference place (inner_with (holders.Reference string) ts)) (holds_of in_table None self.old) ≡ Ok (holds_of in_table None self.new) }
+    {
+        self.holder.put_reference(string);
+    }
+
+    /// Takes the first fence of a block of code. Behind it line endings are text.
+    fn take_code_fence(&mut self, fence: CodeFenceParts)
+        requires { moved_of self.old.holder ≡ Holders.code_fenced }
+        ensures { (s : Source) (a b : Point) (in_table : Bool) (place : Place) (children : Shown) (ts : Trees) → leave s (acting.Part parts.CodeFencedFence) a b children (ended_with Holders.code_fence place (inner_with (holders.CodeFence fence) ts)) (holds_of in_table None self.old) ≡ Ok (holds_of in_table None self.new) }
+    {
+        self.holder.put_code_fence(fence);
+        self.line_endings = true;
+    }
+
+    /// Takes the first fence of a block of math. Behind it line endings are text.
+    fn take_math_fence(&mut self, fence: MathFenceParts)
+        requires { moved_of self.old.holder ≡ Holders.math_flow }
+        ensures { (s : Source) (a b : Point) (in_table : Bool) (place : Place) (children : Shown) (ts : Trees) → leave s (acting.Part parts.MathFlowFence) a b children (ended_with Holders.math_fence place (inner_with (holders.MathFence fence) ts)) (holds_of in_table None self.old) ≡ Ok (holds_of in_table None self.new) }
+    {
+        self.holder.put_math_fence(fence);
+        self.line_endings = true;
+    }
+
+    /// Takes the label of a reference.
+    fn take_reference_string(
+        &mut self,
+        alloc: Global,
+        steps: &mut Steps<'_>,
+        bytes: &[u8],
+        nodes: &[Node],
+        ending: Ending,
+    ) -> Result<(), Stop>
+        requires { misfit_of self.old.holder (acting.Part parts.ReferenceString) ≡ None }
+        ensures { (s : Source) (place : Place) (children : Shown) → s.bytes ≡ bytes.now → Gives (λ _. holds_of ending.in_table None self.new) ending.end result (leave s (acting.Part parts.ReferenceString) ending.start ending.end children (ended_with Holders.any_content place (inner_with holders.AnyContent (views nodes.now))) (holds_of ending.in_table None self.old)) }
+    {
+        let Some(slice) = text_of(bytes, ending.start, ending.end) else {
+            return Err(Stop::Refused(Refusal::InvalidSlice));
+        };
+        let string = identified(alloc, steps, slice, nodes)?;
+        self.holder.put_reference_string(string);
+        Ok(())
+    }
+
+    /// Takes the label of a definition.
+    fn take_definition_label(
+        &mut self,
+        alloc: Global,
+        steps: &mut Steps<'_>,
+        bytes: &[u8],
+        nodes: &[Node],
+        ending: Ending,
+    ) -> Result<(), Stop>
+        requires { misfit_of self.old.holder (acting.Part parts.DefinitionLabelString) ≡ None }
+        ensures { (s : Source) (place : Place) (children : Shown) → s.bytes ≡ bytes.now → Gives (λ _. holds_of ending.in_table None self.new) ending.end result (leave s (acting.Part parts.DefinitionLabelString) ending.start ending.end children (ended_with Holders.any_content place (inner_with holders.AnyContent (views nodes.now))) (holds_of ending.in_table None self.old)) }
+    {
+        let Some(slice) = text_of(bytes, ending.start, ending.end) else {
+            return Err(Stop::Refused(Refusal::InvalidSlice));
+        };
+        let string = identified(alloc, steps, slice, nodes)?;
+        self.holder.put_definition_label(string);
+        Ok(())
+    }
+
+    /// Takes the label of a footnote definition.
+    fn take_footnote_label(
+        &mut self,
+        alloc: Global,
+        steps: &mut Steps<'_>,
+        bytes: &[u8],
+        nodes: &[Node],
+        ending: Ending,
+    ) -> Result<(), Stop>
+        requires { misfit_of self.old.holder (acting.Part parts.FootnoteDefinitionLabelString) ≡ None }
+        ensures { (s : Source) (place : Place) (children : Shown) → s.bytes ≡ bytes.now → Gives (λ _. holds_of ending.in_table None self.new) ending.end result (leave s (acting.Part parts.FootnoteDefinitionLabelString) ending.start ending.end children (ended_with Holders.any_content place (inner_with holders.AnyContent (views nodes.now))) (holds_of ending.in_table None self.old)) }
+    {
+        let Some(slice) = text_of(bytes, ending.start, ending.end) else {
+            return Err(Stop::Refused(Refusal::InvalidSlice));
+        };
+        let string = identified(alloc, steps, slice, nodes)?;
+        self.holder.put_footnote_label(string);
+        Ok(())
+    }
+}
