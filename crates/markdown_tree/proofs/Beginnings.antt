@@ -1,5 +1,5 @@
 -- What the enter of a span makes of the state, in the program and in the steps.
-use Rattle.std.proofs.Common.{◌≡◌, Bool, true, false, ◌||◌, ◌&&◌, not, is_some, List, [], ◌∷◌, ◌++◌, Option, None, Some, Result, Ok, Err, refl, sym, ap, ◌∙◌, cond, reverse, subst}
+use Rattle.std.proofs.Common.{◌≡◌, Bool, true, false, ◌||◌, not, is_some, List, [], ◌∷◌, ◌++◌, Option, None, Some, Result, Ok, Err, refl, sym, ap, ◌∙◌, cond, reverse, subst}
 use Rattle.std.proofs.lemmas.List.{reverse-append}
 use Rattle.markdown_events.specs.Names.{role_of}
 use Rattle.markdown_events.specs.declared.event.Name.{Name}
@@ -9,7 +9,7 @@ use Rattle.markdown_events.specs.declared.role.Acting.TheVariants.{Content as co
 use Rattle.markdown_events.specs.declared.role.Content.TheVariants as contents
 use Rattle.markdown_events.specs.declared.role.Part.TheVariants as parts
 use Rattle.markdown_events.specs.declared.role.Role.{Role}
-use Rattle.markdown_events.specs.declared.role.Role.TheVariants.{Plain as plain, Acting as acting}
+use Rattle.markdown_events.specs.declared.role.Role.TheVariants.{Acting as acting}
 use Rattle.markdown_events.specs.declared.unist.Position.{Position}
 use Rattle.markdown_nodes.specs.View.{views}
 use Rattle.markdown_tree.specs.declared.holder.Holder.{Holder as OpenHolder}
@@ -30,7 +30,7 @@ use Rattle.markdown_tree.specs.Kinds.{is_line_ending, is_table}
 use Rattle.markdown_tree.specs.Place.{Place, line_ending_is_text}
 use Rattle.markdown_tree.specs.Rejections.{Rejection, checked, refused}
 use Rattle.markdown_tree.specs.Source.{Source}
-use Rattle.markdown_tree.specs.States.{Begun, Opened, OpenedHolder, Stops, OpenedLeaf, columns_of, holdings_left, holds_of, kept_top, leaf_holder, leaf_left, leaf_place, marks_of, opens, outer_of, state_of, top_of, with_break}
+use Rattle.markdown_tree.specs.States.{Begun, Opened, OpenedHolder, Stops, OpenedLeaf, columns_of, holdings_left, holds_of, kept_top, leaf_left, leaf_place, marks_of, opens, outer_of, state_of, top_of, with_break}
 
 -- tests that all pass, and a first one that fails
 pub checked_through : {A : Type 0} (tests : List (Bool × Refusal)) (p : Point) (r : Result A Rejection) → first_failing tests ≡ None → checked tests p r ≡ r

@@ -4,8 +4,10 @@ use Rattle.markdown_nodes.specs.declared.mdast.Node.{Node}
 use Rattle.markdown_nodes.specs.declared.mdast.Node.TheVariants as nodes
 use Rattle.markdown_nodes.specs.declared.mdast.Text.{Text}
 use Rattle.markdown_events.specs.declared.unist.Position.{Position}
-use Rattle.markdown_nodes.specs.Tree.{Label, Trees, Tree, before, join, node, only, seam, text}
+use Rattle.std.specs.List.{remove}
+use Rattle.markdown_nodes.specs.Tree.{Label, Trees, Tree, before, join, node, nothing, only, seam, text}
 use Rattle.markdown_nodes.specs.View.{view, views}
+use Rattle.markdown_nodes.proofs.Joining.{join-nothing}
 use Rattle.markdown_nodes.proofs.Views.{view-Text}
 use Rattle.markdown_tree.specs.Machine.{is_text}
 use Rattle.markdown_tree.specs.TextNodes.{text_node}
@@ -50,3 +52,39 @@ text_begun ns items new_items n last new t count some at kept put none made =
 pub first_begun : (ns items new_items : List Node) (n : ℕ) (new : Node) (t : Trees) → n ≡ length ns → (0 < n → false ≡ true) → items ≡ ns → new_items ≡ items ++ new ∷ [] → only (view new) ≡ t → views new_items ≡ join (views ns) t
 first_begun [] items new_items n new t count empty kept put made = ap views (put ∙ ap (λ (xs : List Node). xs ++ new ∷ []) kept) ∙ made
 first_begun (m ∷ ns) items new_items n new t count empty kept put made = let h = empty (omega arith) in cc
+
+-- trees behind others, where none meet
+behind : Trees → Trees → Trees
+behind nothing us = us
+behind (node l c p r) us = node l c p (behind r us)
+
+views_behind : (ns os : List Node) → views (ns ++ os) ≡ behind (views ns) (views os)
+unfolding behind
+views_behind [] os = refl
+views_behind (n ∷ ns) os = ap (before (view n)) (views_behind ns os)
+
+-- only the first of what comes meets what is there
+seam_behind : (l m : Label) (c d : Trees) (p q : Option Position) (us : Trees) → behind (seam l c p (node m d q nothing)) us ≡ seam l c p (node m d q us)
+unfolding behind
+seam_behind (text v) (text w) c d p q us = refl
+seam_behind (text v) m c d p q us = refl
+seam_behind l m c d p q us = refl
+
+join_behind : (ts : Trees) (t : Tree) (us : Trees) → behind (join ts (only t)) us ≡ join ts (before t us)
+unfolding behind
+join_behind nothing t us = refl
+join_behind (node l c p nothing) t us = seam_behind l t.label c t.children p t.position us
+join_behind (node l c p (node m d q r)) t us = ap (node l c p) (join_behind (node m d q r) t us)
+
+-- once the first is put, the rest are behind it
+pub appended : (ns mid new os rest : List Node) (n k : ℕ) (first : Node) → n ≡ length os → k + 1 ≡ n → first ≡ slice_index_or os 0 first → rest ≡ remove os 0
+    → views mid ≡ join (views ns) (only (view first)) → new ≡ mid ++ rest → views new ≡ join (views ns) (views os)
+appended ns mid new [] rest n k first count some at left put more = absurd (omega arith)
+appended ns mid new (o ∷ os) rest n k first count some at left put more =
+    ap views (more ∙ ap (λ (xs : List Node). mid ++ xs) left) ∙ views_behind mid os ∙ ap (λ (ts : Trees). behind ts (views os)) put
+    ∙ join_behind (views ns) (view first) (views os) ∙ ap (λ (x : Node). join (views ns) (before (view x) (views os))) at
+
+-- behind them none change nothing
+pub none_appended : (ns os : List Node) → length os ≡ 0 → views ns ≡ join (views ns) (views os)
+none_appended ns [] h = sym (join-nothing (views ns))
+none_appended ns (o ∷ os) h = absurd (omega arith)

@@ -1,5 +1,5 @@
 -- What the program's holders are to the grammar and to what is kept of parts.
-use Rattle.std.specs.Prelude.{◌≡◌, unwrap_or, ℕ, Bool, true, false, List, [], Option, Some, None, cond, ◌∷◌, is_some, option_map, string_bytes}
+use Rattle.std.specs.Prelude.{◌||◌, ◌≡◌, unwrap_or, ℕ, Bool, true, false, List, [], Option, Some, None, cond, ◌∷◌, is_some, option_map, string_bytes}
 use Rattle.markdown_events.specs.declared.role.Content.{Content}
 use Rattle.markdown_events.specs.declared.role.Content.TheVariants as contents
 use Rattle.markdown_events.specs.declared.role.Part.{Part}
@@ -12,7 +12,6 @@ use Rattle.markdown_nodes.specs.View.{views}
 use Rattle.markdown_tree.specs.declared.holder.Address.{Address}
 use Rattle.markdown_tree.specs.declared.holder.AutolinkParts.{AutolinkParts}
 use Rattle.markdown_tree.specs.declared.holder.AutolinkParts.TheVariants as autolinks
-use Rattle.markdown_tree.specs.declared.holder.CharacterReferenceParts.{CharacterReferenceParts}
 use Rattle.markdown_tree.specs.declared.holder.CodeFenceParts.{CodeFenceParts}
 use Rattle.markdown_tree.specs.declared.holder.DefinitionParts.{DefinitionParts}
 use Rattle.markdown_tree.specs.declared.holder.Holder.{Holder as Open}
@@ -20,6 +19,7 @@ use Rattle.markdown_tree.specs.declared.holder.Holder.TheVariants as holders
 use Rattle.markdown_tree.specs.declared.holder.Identified.{Identified}
 use Rattle.markdown_tree.specs.declared.holder.Label.{Label}
 use Rattle.markdown_tree.specs.declared.holder.Marker.{Marker}
+use Rattle.markdown_tree.specs.declared.holder.Markers.{Markers}
 use Rattle.markdown_tree.specs.declared.holder.Marker.TheVariants as markers
 use Rattle.markdown_tree.specs.declared.holder.MathFenceParts.{MathFenceParts}
 use Rattle.markdown_tree.specs.declared.holder.ResourceParts.{ResourceParts}
@@ -151,6 +151,24 @@ mark_if true (Some true) = Some stood
 mark_if false (Some false) = Some stood
 mark_if _ _ = None
 
+-- one marker is another
+abbrev pub is_marker : Marker → Marker → Bool
+is_marker markers.Named markers.Named = true
+is_marker markers.Decimal markers.Decimal = true
+is_marker markers.Hexadecimal markers.Hexadecimal = true
+is_marker _ _ = false
+
+-- a marker stood before the last
+abbrev pub stood_before : Marker → Markers → Bool
+stood_before markers.Named x = x.named
+stood_before markers.Decimal x = x.decimal
+stood_before markers.Hexadecimal x = x.hexadecimal
+
+-- a marker stood
+abbrev pub has_marker : Marker → Option Markers → Bool
+has_marker marker None = false
+has_marker marker (Some x) = stood_before marker x || is_marker marker x.last
+
 -- what is kept of the part at the end of a path
 abbrev pub part_of : Open → Path → Option Kept
 part_of (holders.Autolink x) (into parts.AutolinkEmail way) = ending (email_kept x) way
@@ -164,9 +182,9 @@ part_of (holders.Reference x) way = in_reference x way
 part_of (holders.Definition x) (into parts.DefinitionLabelString way) = ending (identified_kept x.label) way
 part_of (holders.Definition x) (into parts.DefinitionDestinationString way) = ending (option_map words (option_map string_bytes x.destination)) way
 part_of (holders.Definition x) (into parts.DefinitionTitleString way) = ending (option_map words (option_map string_bytes x.title)) way
-part_of (holders.CharacterReference x) (into parts.CharacterReferenceMarker way) = ending (stood_if x.named) way
-part_of (holders.CharacterReference x) (into parts.CharacterReferenceMarkerNumeric way) = ending (stood_if x.decimal) way
-part_of (holders.CharacterReference x) (into parts.CharacterReferenceMarkerHexadecimal way) = ending (stood_if x.hexadecimal) way
+part_of (holders.CharacterReference x) (into parts.CharacterReferenceMarker way) = ending (stood_if (has_marker markers.Named x.markers)) way
+part_of (holders.CharacterReference x) (into parts.CharacterReferenceMarkerNumeric way) = ending (stood_if (has_marker markers.Decimal x.markers)) way
+part_of (holders.CharacterReference x) (into parts.CharacterReferenceMarkerHexadecimal way) = ending (stood_if (has_marker markers.Hexadecimal x.markers)) way
 part_of (holders.CharacterReference x) (into parts.CharacterReferenceValue way) = ending (option_map words (option_map string_bytes x.text)) way
 part_of (holders.CodeFence x) way = in_code_fence x way
 part_of (holders.MathFence x) way = in_math_fence x way
@@ -188,7 +206,7 @@ byte_of markers.Decimal = 35
 byte_of markers.Hexadecimal = 120
 
 abbrev pub marker_of : Open → Option ℕ
-marker_of (holders.CharacterReference x) = option_map byte_of x.last
+marker_of (holders.CharacterReference x) = option_map (λ (m : Markers). byte_of m.last) x.markers
 marker_of _ = None
 
 -- the mark of an item, or of a paragraph in one
@@ -294,11 +312,15 @@ is_sign parts.CodeFencedFence = true
 is_sign parts.MathFlowFence = true
 is_sign _ = false
 
--- a marker has stood
-abbrev pub marked : CharacterReferenceParts → Marker → CharacterReferenceParts
-marked x markers.Named = record x { named = true; last = Some markers.Named }
-marked x markers.Decimal = record x { decimal = true; last = Some markers.Decimal }
-marked x markers.Hexadecimal = record x { hexadecimal = true; last = Some markers.Hexadecimal }
+-- a marker has stood, and is the last
+abbrev pub marked : Option Markers → Marker → Markers
+marked None marker = record { last = marker; named = false; decimal = false; hexadecimal = false }
+marked (Some x) marker = record {
+  last = marker;
+  named = x.named || is_marker markers.Named x.last;
+  decimal = x.decimal || is_marker markers.Decimal x.last;
+  hexadecimal = x.hexadecimal || is_marker markers.Hexadecimal x.last;
+}
 
 -- ---- Nodes
 

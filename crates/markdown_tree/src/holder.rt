@@ -85,13 +85,19 @@ pub enum Marker {
     Hexadecimal,
 }
 
-/// What stood in a character reference: which markers, the last of them, and what the value stands for.
-#[derive(Drop)]
-pub struct CharacterReferenceParts {
+/// The markers that stood in a character reference: the last, and which stood before it.
+#[derive(Clone, Copy, PartialEq, Eq, Debug)]
+pub struct Markers {
+    pub last: Marker,
     pub named: bool,
     pub decimal: bool,
     pub hexadecimal: bool,
-    pub last: Option<Marker>,
+}
+
+/// What stood in a character reference: its markers, and what its value stands for.
+#[derive(Drop)]
+pub struct CharacterReferenceParts {
+    pub markers: Option<Markers>,
     pub text: Option<String>,
 }
 
@@ -247,7 +253,7 @@ impl CharacterReferenceParts {
             | Part::CharacterReferenceMarkerNumeric
             | Part::CharacterReferenceMarkerHexadecimal => only(!has_value),
             Part::CharacterReferenceValue if has_value => Some(Refusal::Repeated),
-            Part::CharacterReferenceValue if self.named || self.decimal || self.hexadecimal => None,
+            Part::CharacterReferenceValue if self.markers.is_some() => None,
             Part::CharacterReferenceValue => Some(Refusal::IncompleteReference),
             _ => Some(Refusal::Misplaced),
         }
@@ -373,10 +379,7 @@ impl<'a> Holder<'a> {
             | Content::LineEnding => None,
             Content::CharacterReference => Some(Holder::CharacterReference(
                 CharacterReferenceParts {
-                    named: false,
-                    decimal: false,
-                    hexadecimal: false,
-                    last: None,
+                    markers: None,
                     text: None,
                 },
             )),

@@ -1,7 +1,7 @@
 //! Nodes at the end of a list: a text that meets a text becomes one with it.
 
 ghost use Rattle.std.specs.Prelude.{◌≡◌, false, OnOk, IfOk};
-ghost use Rattle.markdown_nodes.specs.Tree.{join, only};
+ghost use Rattle.markdown_nodes.specs.Tree.{from_to, join, only};
 ghost use Rattle.markdown_nodes.specs.View.{view, views};
 ghost use Rattle.markdown_tree.specs.Machine.{is_text};
 ghost use Rattle.markdown_tree.specs.TextNodes.{one_text, text_node};
@@ -60,4 +60,69 @@ fn go_on(text: &mut Text, part: &str, position: Position) -> Result<(), AllocErr
         place.end = position.end;
     }
     Ok(())
+}
+
+/// Puts nodes behind others: a text that begins them goes on with one that ends the others. Behind
+/// no nodes they are taken as they are.
+#[tactic(auto, using(crate::proofs::Joins::none_appended))]
+pub fn append(nodes: &mut Vec<Node>, others: Vec<Node>) -> Result<(), AllocError>
+    ensures { OnOk result (views nodes.new.items ≡ join (views nodes.old.items) (views others.items)) }
+{
+    if nodes.is_empty() {
+        *nodes = others;
+        return Ok(());
+    }
+    if others.is_empty() {
+        return Ok(());
+    }
+    let mut rest = others;
+    put_first(nodes, rest.remove(0))?;
+    nodes.append(&mut rest)?;
+    Ok(())
+}
+
+/// Puts any node behind the others: a text goes on with one that stands there.
+fn put_first(nodes: &mut Vec<Node>, node: Node) -> Result<(), AllocError>
+    ensures { OnOk result (views nodes.new.items ≡ join (views nodes.old.items) (only (view node))) }
+{
+    match node {
+        Node::Text(text) => put_made(nodes, text),
+        other => put(nodes, other),
+    }
+}
+
+/// Puts a text behind the others: one that stands there goes on with it.
+fn put_made(nodes: &mut Vec<Node>, text: Text) -> Result<(), AllocError>
+    ensures { OnOk result (views nodes.new.items ≡ join (views nodes.old.items) (text_node text)) }
+{
+    if let Some(last) = nodes.last_mut() {
+        if let Node::Text(before) = last {
+            lengthen(before, &text)?;
+            return Ok(());
+        }
+    }
+    nodes.push(Node::Text(text))?;
+    Ok(())
+}
+
+/// Lets a text go on with another, from the start of the one to the end of the other.
+fn lengthen(text: &mut Text, other: &Text) -> Result<(), AllocError>
+    ensures { OnOk result (text_node text.new ≡ join (text_node text.old) (text_node other.now)) }
+{
+    text.value.push_str(other.value.as_str())?;
+    text.position = from_to(text.position, other.position);
+    Ok(())
+}
+
+/// From the start of one position to the end of another, where both are known.
+fn from_to(first: Option<Position>, last: Option<Position>) -> Option<Position>
+    ensures { result ≡ from_to first last }
+{
+    match (first, last) {
+        (Some(first), Some(last)) => Some(Position {
+            start: first.start,
+            end: last.end,
+        }),
+        _ => None,
+    }
 }

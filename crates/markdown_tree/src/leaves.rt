@@ -250,7 +250,8 @@ impl<'a> Holding<'a> {
         let Some(value) = text_of(bytes, ending.start, ending.end) else {
             return Err(Stop::Refused(Refusal::InvalidSlice));
         };
-        match decoded(alloc, references, value, self.holder.last_marker())? {
+        let marker = self.holder.last_marker().byte();
+        match references.decode(alloc, value, marker)? {
             Some(text) => {
                 self.holder.put_value(text);
                 Ok(())
@@ -318,13 +319,16 @@ impl<'a> Holding<'a> {
 }
 
 impl Holder<'_> {
-    /// The last marker of a character reference.
-    fn last_marker(&self) -> Option<Marker>
+    /// The last marker of a character reference, which stands before the value.
+    fn last_marker(&self) -> Marker
         requires { misfit_of self.now (acting.Part parts.CharacterReferenceValue) ≡ None }
-        ensures { option_map byte_of result ≡ marker_of self.now }
+        ensures { Some (byte_of result) ≡ marker_of self.now }
     {
         match self {
-            Holder::CharacterReference(parts) => parts.last,
+            Holder::CharacterReference(parts) => match parts.markers {
+                Some(markers) => markers.last,
+                None => unreachable!(),
+            },
             _ => unreachable!(),
         }
     }
@@ -340,22 +344,6 @@ impl Marker {
             Marker::Decimal => b'#',
             Marker::Hexadecimal => b'x',
         }
-    }
-}
-
-/// What a value stands for behind the last marker, if it stands for something. Where no marker is
-/// known it stands for nothing.
-fn decoded<R: References>(
-    alloc: Global,
-    references: &R,
-    value: &str,
-    marker: Option<Marker>,
-) -> Result<Option<String>, AllocError>
-    ensures { IfOk result (λ found. option_map string_bytes found ≡ option_and_then (λ byte. R.text references.now value.now byte) (option_map byte_of marker)) }
-{
-    match marker {
-        Some(marker) => references.decode(alloc, value, marker.byte()),
-        None => Ok(None),
     }
 }
 

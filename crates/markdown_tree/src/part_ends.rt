@@ -9,7 +9,7 @@ ghost use Rattle.markdown_nodes.specs.Tree.{Trees, plain_text};
 ghost use Rattle.markdown_nodes.specs.View.{views};
 ghost use Rattle.markdown_tree.specs.Compiler.{leave};
 ghost use Rattle.markdown_tree.specs.Holders;
-ghost use Rattle.markdown_tree.specs.Holdings.{inner_with, is_text_part, misfit_of, moved_of};
+ghost use Rattle.markdown_tree.specs.Holdings.{inner_with, is_part_row, is_text_part, misfit_of, moved_of, row_of};
 ghost use Rattle.markdown_tree.specs.Source.{Source};
 ghost use Rattle.markdown_tree.specs.States.{Gives, ended_with, holds_of};
 ghost use Rattle.markdown_tree.specs.Place.{Place};
@@ -17,8 +17,9 @@ ghost use Rattle.markdown_events.specs.declared.event.Point.{Point};
 ghost use Rattle.markdown_tree.specs.declared.holder.Holder.TheVariants as holders;
 
 use crate::buffer::values_of;
-use crate::holder::{CodeFenceParts, Identified, Label, MathFenceParts, ResourceParts};
+use crate::holder::{CodeFenceParts, Holder, Identified, Label, MathFenceParts, ResourceParts};
 use crate::holding::{Ending, Holding};
+use crate::joining::append;
 use crate::refusal::{Refusal, Stop};
 use crate::slice::text_of;
 use crate::steps::Steps;
@@ -165,6 +166,75 @@ impl<'a> Holding<'a> {
         };
         let string = identified(alloc, steps, slice, nodes)?;
         self.holder.put_footnote_label(string);
+        Ok(())
+    }
+
+    /// Takes the text of a heading over its underline: its nodes are the heading's. Behind it line
+    /// endings are no text.
+    fn take_heading_text(&mut self, nodes: Vec<Node>) -> Result<(), AllocError>
+        requires { misfit_of self.old.holder (acting.Part parts.HeadingSetextText) ≡ None }
+        ensures { OnOk result ((s : Source) (a b : Point) (in_table : Bool) (place : Place) (children : Shown) → leave s (acting.Part parts.HeadingSetextText) a b children (ended_with Holders.any_content place (inner_with holders.AnyContent (views nodes.items))) (holds_of in_table None self.old) ≡ Ok (holds_of in_table None self.new)) }
+    {
+        self.holder.put_heading_text();
+        append(&mut self.nodes, nodes)?;
+        self.line_endings = false;
+        Ok(())
+    }
+
+    /// Takes a part in which any content stood.
+    fn take_string(
+        &mut self,
+        alloc: Global,
+        steps: &mut Steps<'_>,
+        bytes: &'a [u8],
+        part: Part,
+        nodes: Vec<Node>,
+        ending: Ending,
+    ) -> Result<(), Stop>
+        requires such { is_part_row part Holders.any_content ≡ true }
+        requires fits { misfit_of self.old.holder (acting.Part part) ≡ None }
+        ensures { (s : Source) (place : Place) (children : Shown) → s.bytes ≡ bytes.now → Gives (λ _. holds_of ending.in_table None self.new) ending.end result (leave s (acting.Part part) ending.start ending.end children (ended_with Holders.any_content place (inner_with holders.AnyContent (views nodes.items))) (holds_of ending.in_table None self.old)) }
+    {
+        match part {
+            Part::HeadingSetextText => Ok(self.take_heading_text(nodes)?),
+            Part::LabelText => self.take_label(bytes, nodes, ending),
+            Part::ReferenceString => {
+                self.take_reference_string(alloc, steps, bytes, &nodes, ending)
+            }
+            Part::DefinitionLabelString => {
+                self.take_definition_label(alloc, steps, bytes, &nodes, ending)
+            }
+            Part::FootnoteDefinitionLabelString => {
+                self.take_footnote_label(alloc, steps, bytes, &nodes, ending)
+            }
+            text => Ok(self.take_text(alloc, steps, text, &nodes)?),
+        }
+    }
+
+    /// Takes a part that has ended, which was no leaf.
+    pub fn take_part(
+        &mut self,
+        alloc: Global,
+        steps: &mut Steps<'_>,
+        bytes: &'a [u8],
+        part: Part,
+        own: Holding<'a>,
+        ending: Ending,
+    ) -> Result<(), Stop>
+        requires row { row_of own.holder ≡ Holders.part_holder (moved_of self.old.holder) part }
+        requires such { is_part_row part (row_of own.holder) ≡ true }
+        requires fits { misfit_of self.old.holder (acting.Part part) ≡ None }
+        ensures { (s : Source) (inner_table : Bool) (children : Shown) → s.bytes ≡ bytes.now → Gives (λ _. holds_of ending.in_table None self.new) ending.end result (leave s (acting.Part part) ending.start ending.end children (holds_of inner_table None own.entry) (holds_of ending.in_table None self.old)) }
+    {
+        let Holding { holder, nodes, .. } = own;
+        match (holder, part) {
+            (Holder::AnyContent, _) => self.take_string(alloc, steps, bytes, part, nodes, ending)?,
+            (Holder::Resource(resource), Part::Resource) => self.take_resource(resource),
+            (Holder::Reference(string), Part::Reference) => self.take_reference_part(string),
+            (Holder::CodeFence(fence), Part::CodeFencedFence) => self.take_code_fence(fence),
+            (Holder::MathFence(fence), Part::MathFlowFence) => self.take_math_fence(fence),
+            _ => unreachable!(),
+        }
         Ok(())
     }
 }

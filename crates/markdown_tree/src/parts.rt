@@ -21,7 +21,7 @@ ghost use Rattle.markdown_tree.specs.declared.holder.Holder.TheVariants as holde
 
 use crate::holder::{
     Address, AutolinkParts, CharacterReferenceParts, CodeFenceParts, Holder, Identified, Label,
-    Marker, MathFenceParts, ResourceParts, Target,
+    Marker, Markers, MathFenceParts, ResourceParts, Target,
 };
 use markdown_nodes::role::{Content, Part};
 
@@ -288,13 +288,30 @@ impl<'a> Holder<'a> {
 impl CharacterReferenceParts {
     /// A marker has stood, and is the last.
     fn mark(&mut self, marker: Marker)
-        ensures { self.new ≡ marked self.old marker }
+        ensures { self.new ≡ record self.old { markers = Some (marked self.old.markers marker) } }
     {
-        self.last = Some(marker);
-        match marker {
-            Marker::Named => self.named = true,
-            Marker::Decimal => self.decimal = true,
-            Marker::Hexadecimal => self.hexadecimal = true,
+        self.markers = Some(match self.markers {
+            Some(before) => before.followed_by(marker),
+            None => Markers {
+                last: marker,
+                named: false,
+                decimal: false,
+                hexadecimal: false,
+            },
+        });
+    }
+}
+
+impl Markers {
+    /// The markers with one more, which is the last.
+    fn followed_by(self, marker: Marker) -> Markers
+        ensures { result ≡ marked (Some self) marker }
+    {
+        Markers {
+            last: marker,
+            named: self.named || matches!(self.last, Marker::Named),
+            decimal: self.decimal || matches!(self.last, Marker::Decimal),
+            hexadecimal: self.hexadecimal || matches!(self.last, Marker::Hexadecimal),
         }
     }
 }

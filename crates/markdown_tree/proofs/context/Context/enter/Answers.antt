@@ -1,4 +1,4 @@
-use Rattle.std.proofs.Common.{sym, ap, ◌∙◌}
+use Rattle.std.proofs.Common.{ap, ◌∙◌}
 use Rattle.markdown_events.specs.declared.role.Role.{Role}
 use Rattle.markdown_tree.specs.Compiler.{enter_as}
 use Rattle.markdown_tree.specs.States.{state_of}

@@ -1,5 +1,4 @@
-use Rattle.std.proofs.Common.{[], ◌∷◌, ◌++◌, refl, sym, ap, ◌∙◌}
-use Rattle.markdown_tree.specs.declared.context.Context.{Context}
+use Rattle.std.proofs.Common.{[], ◌∷◌, ◌++◌, sym, ap, ◌∙◌}
 use Rattle.markdown_tree.specs.declared.holding.Holding.{Holding}
 use Rattle.markdown_tree.proofs.context.Context.open.Goals as goal
 

@@ -1,6 +1,5 @@
 use Rattle.std.proofs.Common.{◌≡◌, Some, refl, ap, ◌∙◌}
 use Rattle.std.specs.Prelude.{option_map, string_bytes}
-use Rattle.markdown_tree.specs.Holdings.{byte_of}
 use Rattle.markdown_tree.specs.Parts.{decoded}
 use Rattle.markdown_tree.specs.Place.{Place}
 use Rattle.markdown_tree.specs.Source.{Source, source}
@@ -16,7 +15,7 @@ returns-in-Some-2 g c children place =
     let s : Source = (source c.args.bytes.now (g.R.References.text c.args.references.now)) in
     let p : Place = place_of c.args.ending.in_table c.args.self.now in
     let known : decoded s p c.args.ending.start c.args.ending.end ≡ option_map string_bytes c.in_ok-text.field-0 =
-    decoded_is s p c.args.ending.start c.args.ending.end c.in-Some.value.now (option_map byte_of c.last_marker.result) (option_map string_bytes c.in_ok-text.field-0) c.in-Some.ensures c.last_marker.ensures c.in_ok-text.ensures in
+    decoded_is s p c.args.ending.start c.args.ending.end c.in-Some.value.now (Some c.byte-marker.result) (option_map string_bytes c.in_ok-text.field-0) c.in-Some.ensures (ap Some c.byte-marker.ensures ∙ c.last_marker.ensures) c.in_ok-text.ensures in
     let found : decoded s p c.args.ending.start c.args.ending.end ≡ Some (string_bytes c.in-Some-2.text) = known ∙ ap (option_map string_bytes) c.in-Some-2.is in
     value_in s c.args.ending.in_table c.args.self.now (record { holder = c.put_value.new.self; line_endings = c.args.self.now.line_endings; nodes = c.args.self.now.nodes }) c.args.ending.start c.args.ending.end children place c.in-Some.value.now (string_bytes c.in-Some-2.text) c.in-Some.ensures found
     (c.put_value.ensures s p c.args.ending.start c.args.ending.end found) refl refl
@@ -26,5 +25,5 @@ returns-in-None g c children place =
     let s : Source = (source c.args.bytes.now (g.R.References.text c.args.references.now)) in
     let p : Place = place_of c.args.ending.in_table c.args.self.now in
     let known : decoded s p c.args.ending.start c.args.ending.end ≡ option_map string_bytes c.in_ok-text.field-0 =
-    decoded_is s p c.args.ending.start c.args.ending.end c.in-Some.value.now (option_map byte_of c.last_marker.result) (option_map string_bytes c.in_ok-text.field-0) c.in-Some.ensures c.last_marker.ensures c.in_ok-text.ensures in
+    decoded_is s p c.args.ending.start c.args.ending.end c.in-Some.value.now (Some c.byte-marker.result) (option_map string_bytes c.in_ok-text.field-0) c.in-Some.ensures (ap Some c.byte-marker.ensures ∙ c.last_marker.ensures) c.in_ok-text.ensures in
     value_unknown s c.args.ending.in_table c.args.self.now c.args.ending.start c.args.ending.end children place c.in-Some.value.now c.in-Some.ensures (known ∙ ap (option_map string_bytes) c.in-None.is)
