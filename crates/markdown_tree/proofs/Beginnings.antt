@@ -84,12 +84,12 @@ leaf_speaks h (part parts.Reference) e = let z : ⊥ = cc in absurd z
 leaf_speaks h (content c) e = refl
 leaf_speaks h (part q) e = refl
 
-leaf_no_table : (h : Holder) (what : Acting) → holder_of h what ≡ leaf → is_table what ≡ false
+pub leaf_no_table : (h : Holder) (what : Acting) → holder_of h what ≡ leaf → is_table what ≡ false
 leaf_no_table h (content contents.Table) e = let z : ⊥ = cc in absurd z
 leaf_no_table h (content c) e = refl
 leaf_no_table h (part q) e = refl
 
-pushed : (fs : List Frame) (f : Frame) → reverse (fs ++ f ∷ []) ≡ f ∷ reverse fs
+pub pushed : (fs : List Frame) (f : Frame) → reverse (fs ++ f ∷ []) ≡ f ∷ reverse fs
 pushed fs f = reverse-append fs (f ∷ [])
 
 or_false : (b c : Bool) → c ≡ false → (b || c) ≡ b
@@ -166,7 +166,7 @@ leaf_entered s name what point old mid new in_table acts o b is =
     }) ∙ sym (ap state_of begun.others))
 
 -- no holder of the program is a leaf
-no_leaf_row : (h : OpenHolder) → row_of h ≡ leaf → ⊥
+pub no_leaf_row : (h : OpenHolder) → row_of h ≡ leaf → ⊥
 no_leaf_row holders.AnyContent e = cc
 no_leaf_row (holders.Autolink x) e = cc
 no_leaf_row (holders.Media x) e = cc

@@ -14,6 +14,7 @@ pub mod PartEnds
 pub mod Stopping
 pub mod Misfits
 pub mod Beginnings
+pub mod Endings
 pub mod Loop
 pub mod Outcomes
 pub mod Extents

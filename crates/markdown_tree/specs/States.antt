@@ -1,5 +1,5 @@
 -- What the program's values are to the steps of a compilation.
-use Rattle.std.specs.Prelude.{◌≡◌, is_some, ℕ, Bool, true, false, Option, Some, None, Result, Ok, Err, List, [], ◌∷◌, ◌++◌, cond, reverse}
+use Rattle.std.specs.Prelude.{◌≡◌, ◌||◌, is_some, not, ℕ, Bool, true, false, Option, Some, None, Result, Ok, Err, List, [], ◌∷◌, ◌++◌, cond, reverse}
 use Rattle.markdown_events.specs.Names.{role_of}
 use Rattle.markdown_events.specs.declared.role.Acting.{Acting}
 use Rattle.markdown_events.specs.declared.role.Role.{Role}
@@ -14,9 +14,9 @@ use Rattle.markdown_tree.specs.declared.refusal.Stop.TheVariants as stops
 use Rattle.markdown_nodes.specs.Tree.{Trees, join, node, nothing, «break»}
 use Rattle.markdown_events.specs.declared.event.Point.{Point}
 use Rattle.markdown_events.specs.declared.unist.Position.{Position}
-use Rattle.markdown_tree.specs.Compiler.{Holds, Open, State, enter_checks, fresh}
+use Rattle.markdown_tree.specs.Compiler.{Holds, Open, State, enter_checks, fresh, leave_to}
 use Rattle.markdown_tree.specs.Holders.{Holder, holder_of, leaf}
-use Rattle.markdown_tree.specs.Holdings.{IsFresh, first_failing, inner_with, marker_of, moved_of, row_of}
+use Rattle.markdown_tree.specs.Holdings.{IsFresh, first_failing, inner_with, marker_of, misfit_of, moved_of, row_of}
 use Rattle.markdown_tree.specs.Rejections.{Rejection, refused}
 use Rattle.markdown_tree.specs.Parts.{Inner}
 use Rattle.markdown_tree.specs.Place.{Place, line_ending_is_text}
@@ -31,7 +31,8 @@ use Rattle.markdown_tree.specs.declared.marks.Sibling.{Sibling as OpenSibling}
 use Rattle.markdown_tree.specs.declared.marks.Sibling.TheVariants as siblings
 use Rattle.markdown_events.specs.declared.event.Name.{Name}
 use Rattle.markdown_tree.specs.Around.{under}
-use Rattle.markdown_tree.specs.Columns.{Columns, Rows, columns_entered, before, inside, behind}
+use Rattle.markdown_tree.specs.Columns.{Columns, Rows, columns_entered, columns_left, before, inside, behind, shown}
+use Rattle.markdown_tree.specs.Kinds.{is_line_ending}
 use Rattle.markdown_tree.specs.Siblings.{Marks, Sibling, no_marks, no_sibling}
 
 -- what a child says
@@ -192,3 +193,40 @@ pub record Begun (name : Name) (role : Role) (point : Point) (is_leaf in_table :
   pub marks : marks_of new.marks ≡ no_marks
   pub columns : columns_of new.columns ≡ columns_entered old.in_table role (columns_of old.columns)
   pub others : new ≡ record old { frames = new.frames; marks = new.marks; columns = new.columns; around = under old.around role; is_leaf = is_leaf; in_table = in_table }
+
+-- ---- The end of a span
+
+-- the innermost span, a leaf, ends: the innermost holder took it
+pub record LeafEnds (what : Acting) (c : Context) : Type 0 where
+  pub row : holder_of (moved_of c.top.holder) what ≡ leaf
+  pub fits : misfit_of c.top.holder what ≡ None
+  pub awaited : (not (is_some c.pending) || is_line_ending what) ≡ true
+
+-- the innermost span, which has a holder of its own, ends: the holder around it took it
+pub record HolderEnds (what : Acting) (c : Context) : Type 0 where
+  pub outer : Holding
+  pub others : List Holding
+  pub holdings : reverse c.holdings.items ≡ outer ∷ others
+  pub row : row_of c.top.holder ≡ holder_of (moved_of outer.holder) what
+  pub fits : misfit_of outer.holder what ≡ None
+
+-- the innermost span may end, by whether it is a leaf, and by its role: of a plain one nothing is asked
+abbrev pub EndsAs : Bool → Role → Context → Type 0
+EndsAs leaves (plain k) c = Unit {0}
+EndsAs true (acting what) c = LeafEnds what c
+EndsAs false (acting what) c = HolderEnds what c
+
+abbrev pub Ends : Role → Context → Type 0
+Ends role c = EndsAs c.is_leaf role c
+
+-- what the innermost span belongs to, and what is made of that at its end
+abbrev pub left_to : Source → Role → Frame → Point → Context → Result Holds Rejection
+left_to s role f end c = leave_to s f.start end (shown (marks_of c.marks) (columns_of c.columns)) (top_of c) (outer_of role f.in_table (leaf_holder c) (reverse c.holdings.items))
+
+-- the innermost span has left the stack, and the holder around it is on top
+pub record Closed (role : Role) (old new : Context) : Type 0 where
+  pub frames : new.frames ≡ old.frames
+  pub marks : new.marks ≡ old.marks
+  pub columns : columns_of new.columns ≡ columns_left role (marks_of old.marks) (columns_of old.columns)
+  pub leaf : leaf_holder new ≡ leaf_left role (leaf_holder old)
+  pub holdings : reverse new.holdings.items ≡ holdings_left role (leaf_holder old) (reverse old.holdings.items)

@@ -1,23 +1,25 @@
 //! The open spans of a list of events, and what each event does to them.
 
-ghost use Rattle.std.specs.Prelude.{◌≡◌, ◌||◌, None, Ok, OnOk, is_some, not, true};
+ghost use Rattle.std.specs.Prelude.{◌≡◌, ◌||◌, None, Ok, OnOk, false, is_some, not, true};
 ghost use Rattle.markdown_events.specs.Names.{role_of};
 ghost use Rattle.markdown_events.specs.declared.role.Role.TheVariants as roles;
 ghost use Rattle.markdown_tree.specs.Compiler;
-ghost use Rattle.markdown_tree.specs.Compiler.{enter_as, enter_checks, enter_step, opening};
+ghost use Rattle.markdown_tree.specs.Compiler.{enter_as, enter_checks, enter_step, exit_step, opening};
 ghost use Rattle.markdown_tree.specs.Holdings.{first_failing};
 ghost use Rattle.markdown_tree.specs.Kinds;
-ghost use Rattle.markdown_tree.specs.Source.{Source};
-ghost use Rattle.markdown_tree.specs.States.{Begun, Gives, Opened, state_of};
-ghost use Rattle.markdown_tree.specs.Well.{is_plain};
+ghost use Rattle.markdown_tree.specs.Source.{Source, source};
+ghost use Rattle.markdown_tree.specs.States.{Begun, Closed, Ends, Gives, HolderEnds, LeafEnds, Opened, left_to, state_of, top_of};
+ghost use Rattle.markdown_tree.specs.Well.{Well, is_plain};
 
 use crate::builder::Around;
 use crate::columns::Columns;
 use crate::holder::Holder;
-use crate::holding::{Holding, has_line_endings};
+use crate::holding::{Ending, Holding, has_line_endings};
 use crate::marks::Marks;
+use crate::references::References;
 use crate::refusal::{Refusal, Stop};
 use crate::slice::byte_at;
+use crate::steps::Steps;
 use markdown_nodes::event::{Name, Point};
 use markdown_nodes::role::{Acting, Content, Role};
 use markdown_nodes::unist::Position;
@@ -239,5 +241,122 @@ impl<'a> Context<'a> {
         self.in_table = in_table;
         self.marks = Marks::new();
         Ok(())
+    }
+}
+
+impl<'a> Context<'a> {
+    /// Closes the innermost span, if the name is its name.
+    fn exit<R: References>(
+        &mut self,
+        alloc: Global,
+        steps: &mut Steps<'_>,
+        bytes: &'a [u8],
+        references: &R,
+        name: Name,
+        point: Point,
+    ) -> Result<(), Stop>
+        requires { Well (source bytes.now (R.text references.now)) (state_of self.old) }
+        ensures { Gives (λ _. state_of self.new) point result (exit_step (source bytes.now (R.text references.now)) name point (state_of self.old)) }
+    {
+        let Some(frame) = self.frames.pop() else {
+            return Err(Stop::Refused(Refusal::Unbalanced));
+        };
+        if !frame.name.is(name) {
+            return Err(Stop::Refused(Refusal::Unbalanced));
+        }
+        let role = frame.name.role();
+        self.leave(alloc, steps, bytes, references, role, frame, point)?;
+        self.around = frame.around;
+        self.marks = frame.marks.with(role, self.marks);
+        Ok(())
+    }
+
+    /// Puts what a span gives where it belongs.
+    fn leave<R: References>(
+        &mut self,
+        alloc: Global,
+        steps: &mut Steps<'_>,
+        bytes: &'a [u8],
+        references: &R,
+        role: Role,
+        frame: Frame,
+        end: Point,
+    ) -> Result<(), Stop>
+        requires { Ends role self.old }
+        ensures gives { Gives (λ _. top_of self.new) end result (left_to (source bytes.now (R.text references.now)) role frame end self.old) }
+        ensures closed { OnOk result (Closed role self.old self.new) }
+    {
+        match role {
+            Role::Plain(plain) => Ok(self.columns.exit(plain, self.marks)?),
+            Role::Acting(what) if self.is_leaf => {
+                self.leave_leaf(alloc, bytes, references, what, frame, end)
+            }
+            Role::Acting(what) => self.leave_holder(alloc, steps, bytes, what, frame, end),
+        }
+    }
+
+    /// The same of a leaf, which goes into the innermost holder.
+    fn leave_leaf<R: References>(
+        &mut self,
+        alloc: Global,
+        bytes: &'a [u8],
+        references: &R,
+        what: Acting,
+        frame: Frame,
+        end: Point,
+    ) -> Result<(), Stop>
+        requires open { self.old.is_leaf ≡ true }
+        requires ends { LeafEnds what self.old }
+        ensures gives { Gives (λ _. top_of self.new) end result (left_to (source bytes.now (R.text references.now)) (roles.Acting what) frame end self.old) }
+        ensures closed { OnOk result (Closed (roles.Acting what) self.old self.new) }
+    {
+        let ending = Ending {
+            start: frame.start,
+            end,
+            in_table: self.in_table,
+            marks: self.marks,
+        };
+        self.top
+            .take_leaf(&mut self.pending, alloc, bytes, references, what, ending)?;
+        self.is_leaf = false;
+        Ok(())
+    }
+
+    /// The same of the innermost holder, which goes into the one around it.
+    fn leave_holder(
+        &mut self,
+        alloc: Global,
+        steps: &mut Steps<'_>,
+        bytes: &'a [u8],
+        what: Acting,
+        frame: Frame,
+        end: Point,
+    ) -> Result<(), Stop>
+        requires open { self.old.is_leaf ≡ false }
+        requires ends { HolderEnds what self.old }
+        ensures gives { (s : Source) → s.bytes ≡ bytes.now → Gives (λ _. top_of self.new) end result (left_to s (roles.Acting what) frame end self.old) }
+        ensures closed { OnOk result (Closed (roles.Acting what) self.old self.new) }
+    {
+        if self.pending.is_some() {
+            return Err(Stop::Refused(Refusal::UnfinishedBreak));
+        }
+        let Some(outer) = self.holdings.pop() else {
+            unreachable!()
+        };
+        let own = mem::replace(&mut self.top, outer);
+        let ending = Ending {
+            start: frame.start,
+            end,
+            in_table: frame.in_table,
+            marks: self.marks,
+        };
+        self.in_table = frame.in_table;
+        match what {
+            Acting::Content(content) => {
+                self.top
+                    .take_content(alloc, steps, bytes, &mut self.columns, content, own, ending)
+            }
+            Acting::Part(part) => self.top.take_part(alloc, steps, bytes, part, own, ending),
+        }
     }
 }
