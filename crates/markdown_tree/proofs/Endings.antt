@@ -1,37 +1,48 @@
 -- What the exit of a span makes of the state, in the program and in the steps.
-use Rattle.std.proofs.Common.{◌≡◌, Bool, true, false, ◌||◌, not, is_some, List, [], ◌∷◌, ◌++◌, Option, None, Some, Result, Ok, Err, Vec, refl, sym, ap, ◌∙◌, cond, reverse, subst}
+use Rattle.std.proofs.Common.{◌≡◌, ◌-◌, arith, inl, inr, Bool, true, false, ◌||◌, ◌&&◌, not, is_some, List, [], ◌∷◌, ◌++◌, Option, None, Some, Result, Ok, Err, Vec, Global, refl, sym, ap, ◌∙◌, cond, reverse, subst}
 use Rattle.markdown_events.specs.Names.{role_of}
 use Rattle.markdown_events.specs.Walks.{is_same_name}
 use Rattle.markdown_events.specs.declared.event.Name.{Name}
 use Rattle.markdown_events.specs.declared.event.Point.{Point}
+use Rattle.std.proofs.lemmas.List.{nil_from_length, reverse-append}
+use Rattle.std.proofs.lemmas.Option.{slice_get_cases}
+use Rattle.std.specs.Prelude.{slice_get, vec_len}
+use Rattle.markdown_events.specs.Spread.{Shown}
 use Rattle.markdown_events.specs.declared.role.Acting.{Acting}
+use Rattle.markdown_events.specs.declared.role.Acting.TheVariants.{Content as content, Part as part}
+use Rattle.markdown_events.specs.declared.role.Content.{Content}
+use Rattle.markdown_events.specs.declared.role.Content.TheVariants as contents
+use Rattle.markdown_events.specs.declared.role.Part.{Part}
+use Rattle.markdown_events.specs.declared.role.Part.TheVariants as parts
 use Rattle.markdown_events.specs.declared.role.Role.{Role}
 use Rattle.markdown_events.specs.declared.role.Role.TheVariants.{Plain as plain, Acting as acting}
 use Rattle.markdown_events.specs.declared.unist.Position.{Position}
 use Rattle.markdown_tree.specs.declared.context.Context.{Context}
 use Rattle.markdown_tree.specs.declared.context.Frame.{Frame}
+use Rattle.markdown_tree.specs.declared.holder.Holder.{Holder as OpenHolder}
 use Rattle.markdown_tree.specs.declared.holding.Holding.{Holding}
 use Rattle.markdown_tree.specs.declared.marks.Marks.{Marks as OpenMarks}
 use Rattle.markdown_tree.specs.declared.refusal.Refusal.{Refusal}
-use Rattle.markdown_tree.specs.declared.refusal.Refusal.TheVariants.{InvalidSlice, Misplaced, Unbalanced}
+use Rattle.markdown_tree.specs.declared.refusal.Refusal.TheVariants.{InvalidSlice, Misplaced, Unbalanced, UnfinishedBreak}
 use Rattle.markdown_tree.specs.declared.refusal.Stop.{Stop}
 use Rattle.markdown_tree.specs.declared.refusal.Stop.TheVariants as stops
 use Rattle.markdown_tree.specs.Columns.{columns_left, shown}
-use Rattle.markdown_tree.specs.Compiler.{Holds, Open, State, enter_checks, exit_from, exit_step, fresh, leave_to, rule_checks, shut}
-use Rattle.markdown_tree.specs.Grammar.{rules}
-use Rattle.markdown_tree.specs.Holders.{leaf}
-use Rattle.markdown_tree.specs.Holdings.{first_failing, inner_with, misfit_of, row_of}
+use Rattle.markdown_tree.specs.Compiler.{Holds, Open, State, closed, enter_checks, exit_from, exit_step, fresh, lacking, leave, leave_to, rule_checks, shut, unread}
+use Rattle.markdown_tree.specs.Grammar.{is_complete, rules}
+use Rattle.markdown_tree.specs.Holders.{Holder, code_fenced, holder_of, leaf, list_item, list_ordered, marked_item, marked_numbered_item, math_flow, numbered_item}
+use Rattle.markdown_tree.specs.Holdings.{first_failing, is_part_row, is_row_of, misfit_of, row_of}
 use Rattle.markdown_tree.specs.Kinds.{is_frontmatter, is_line_ending, is_table}
-use Rattle.markdown_tree.specs.Parts.{Inner}
 use Rattle.markdown_tree.specs.Ranges.{byte_at}
+use Rattle.markdown_tree.specs.Reads.{is_read}
 use Rattle.markdown_tree.specs.Rejections.{Rejection, checked, passes, refused, ◌>>=◌}
 use Rattle.markdown_tree.specs.Siblings.{marks_with}
 use Rattle.markdown_tree.specs.Source.{Source}
-use Rattle.markdown_tree.specs.States.{Closed, Ends, EndsAs, HolderEnds, LeafEnds, Stops, columns_of, holdings_left, holds_of, kept_top, leaf_holder, leaf_left, leaf_place, left_to, marks_of, opens, outer_of, state_of, top_of}
+use Rattle.markdown_tree.specs.States.{Closed, Ends, EndsAs, Gives, HolderEnds, LeafEnds, Stops, columns_of, holdings_left, holds_of, kept_top, leaf_holder, leaf_left, leaf_place, left_to, marks_of, opens, outer_of, state_of, top_of}
 use Rattle.markdown_tree.specs.Well.{AllStand, Stands, Taken, Well, is_plain}
-use Rattle.markdown_tree.proofs.Beginnings.{pushed}
+use Rattle.markdown_tree.proofs.Beginnings.{no_leaf_row, pushed}
 use Rattle.markdown_tree.proofs.Booleans.{and-right}
 use Rattle.markdown_tree.proofs.Misfits.{left_none, misfit_first, none_fails}
+use Rattle.markdown_tree.proofs.Stopping.{gives_same}
 use Rattle.markdown_tree.proofs.WellKept.{taken-awaited}
 
 -- ---- What is known of a span that ends
@@ -85,13 +96,20 @@ last_open c f fs at =
     ap (λ (x : List Frame). opens (reverse x) (leaf_holder c) (reverse c.holdings.items)) at ∙ ap (λ (x : List Frame). opens x (leaf_holder c) (reverse c.holdings.items)) (pushed fs f)
 
 -- where all open spans stand, the innermost may end
-pub ends : (s : Source) (old : Context) (frames : Vec Frame) (f : Frame) (role : Role) → Well s (state_of old) → old.frames.items ≡ frames.items ++ f ∷ [] → role ≡ role_of f.name → Ends role (record old { frames = frames })
+pub ends : (s : Source) (old : Context) (frames : Vec Frame Global) (f : Frame) (role : Role) → Well s (state_of old) → old.frames.items ≡ frames.items ++ f ∷ [] → role ≡ role_of f.name → Ends role (record old { frames = frames })
 ends s old frames f role well at is =
     let stands : AllStand s (open_of f old ∷ around_it f frames.items old) (top_of old) = subst (λ (fs : List Open). AllStand s fs (top_of old)) (last_open old f frames.items at) well in
     subst (λ (r : Role). Ends r (record old { frames = frames })) (sym is)
     (stands_ends s (open_of f old) (role_of f.name) f.in_table old.is_leaf (record old { frames = frames }) (reverse old.holdings.items) (AllStand s (around_it f frames.items old)) refl refl stands)
 
 -- ---- The step of an exit
+
+-- nothing is left where no span is popped
+pub none_left : (v : Vec Frame Global) → None ≡ slice_get v.items (vec_len v - 1) → v.items ≡ []
+none_left v h = elim (slice_get_cases v.items (vec_len v - 1)).1 [
+  | inl p ↦ (let wrong : None ≡ Some p.0 = h ∙ p.2 in absurd cc)
+  | inr p ↦ (let b = p.0 in let l = v.ok.0 in nil_from_length v.items (omega (arith, b, l)))
+]
 
 -- where no span is open
 pub exit_none : (s : Source) (name : Name) (point : Point) (c : Context) → c.frames.items ≡ [] → exit_step s name point (state_of c) ≡ refused Unbalanced point
@@ -112,7 +130,7 @@ pub exit_other : (s : Source) (name : Name) (point : Point) (c : Context) (f : F
 exit_other s name point c f fs at is = exit_by s name point c f fs false at is
 
 -- where its holder does not take it
-pub exit_stops : (s : Source) (name : Name) (point : Point) (old : Context) (frames : Vec Frame) (f : Frame) (role : Role) (stop : Stop) → old.frames.items ≡ frames.items ++ f ∷ [] → role ≡ role_of f.name
+pub exit_stops : (s : Source) (name : Name) (point : Point) (old : Context) (frames : Vec Frame Global) (f : Frame) (role : Role) (stop : Stop) → old.frames.items ≡ frames.items ++ f ∷ [] → role ≡ role_of f.name
     → is_same_name f.name name ≡ true → Stops stop point (left_to s role f point (record old { frames = frames })) → Stops stop point (exit_step s name point (state_of old))
 exit_stops s name point old frames f role (stops.Memory error) at is same left = tt
 exit_stops s name point old frames f role (stops.Refused why) at is same left =
@@ -121,20 +139,107 @@ exit_stops s name point old frames f role (stops.Refused why) at is same left =
     ∙ ap (λ (r : Result Holds Rejection). r >>= λ top. Ok (shut (open_of f old) (around_it f frames.items old) (state_of old) top)) left
 
 -- where it takes it
-pub exit_done : (s : Source) (name : Name) (point : Point) (old mid : Context) (frames : Vec Frame) (f : Frame) (role : Role) (marks : OpenMarks) → old.frames.items ≡ frames.items ++ f ∷ [] → role ≡ role_of f.name
+pub exit_done : (s : Source) (name : Name) (point : Point) (old mid : Context) (frames : Vec Frame Global) (f : Frame) (role : Role) (marks : OpenMarks) → old.frames.items ≡ frames.items ++ f ∷ [] → role ≡ role_of f.name
     → is_same_name f.name name ≡ true → left_to s role f point (record old { frames = frames }) ≡ Ok (top_of mid) → Closed role (record old { frames = frames }) mid
     → marks_of marks ≡ marks_with (marks_of f.marks) role (marks_of mid.marks)
     → exit_step s name point (state_of old) ≡ Ok (state_of (record mid { around = f.around; marks = marks }))
-exit_done s name point old mid frames f role marks at is same left closed with =
+exit_done s name point old mid frames f role marks at is same left shuts with =
     let on : Holds → Result State Rejection = λ top. Ok (shut (open_of f old) (around_it f frames.items old) (state_of old) top) in
     exit_by s name point old f frames.items true at same
     ∙ (λ t. left_to s (sym is t) f point old >>= on)
     ∙ ap (λ (r : Result Holds Rejection). r >>= on) left
     ∙ (λ t. Ok (record {
       frames = ((λ u. opens (reverse frames.items) (leaf_left (sym is u) (leaf_holder old)) (holdings_left (sym is u) (leaf_holder old) (reverse old.holdings.items)))
-          ∙ (λ u. opens (reverse (sym closed.frames u).items) (sym closed.leaf u) (sym closed.holdings u))) t;
+          ∙ (λ u. opens (reverse (sym shuts.frames u).items) (sym shuts.leaf u) (sym shuts.holdings u))) t;
       around = f.around;
-      marks = ((λ u. marks_with (marks_of f.marks) (sym is u) (marks_of (sym closed.marks u))) ∙ sym with) t;
-      columns = ((λ u. columns_left (sym is u) (marks_of old.marks) (columns_of old.columns)) ∙ sym closed.columns) t;
+      marks = ((λ u. marks_with (marks_of f.marks) (sym is u) (marks_of (sym shuts.marks u))) ∙ sym with) t;
+      columns = ((λ u. columns_left (sym is u) (marks_of old.marks) (columns_of old.columns)) ∙ sym shuts.columns) t;
       top = top_of mid;
     }))
+
+-- ---- The end of a holder
+
+-- no break waits
+no_break : (pending : Option Position) → is_some pending ≡ false → pending ≡ None
+no_break None h = refl
+no_break (Some here) h = let z : ⊥ = cc in absurd z
+
+-- it goes into the holder around it
+holder_leaves : (s : Source) (what : Acting) (f : Frame) (end : Point) (c : Context) (outer : Holding) (others : List Holding) → c.is_leaf ≡ false → reverse c.holdings.items ≡ outer ∷ others
+    → left_to s (acting what) f end c ≡ leave s what f.start end (shown (marks_of c.marks) (columns_of c.columns)) (kept_top c) (holds_of f.in_table None outer)
+holder_leaves s what f end c outer others grows at =
+    λ t. leave_to s f.start end (shown (marks_of c.marks) (columns_of c.columns)) (cond (grows t) (fresh leaf (leaf_place c.in_table)) (kept_top c))
+    (outer_of (acting what) f.in_table (cond (grows t) (Some (kept_top c)) None) (at t))
+
+-- where a break waits for its line ending
+pub holder_waits : (s : Source) (what : Acting) (f : Frame) (end : Point) (c : Context) → c.is_leaf ≡ false → HolderEnds what c → is_some c.pending ≡ true → left_to s (acting what) f end c ≡ refused UnfinishedBreak end
+unfolding leave
+holder_waits s what f end c grows h waits =
+    let children : Shown = shown (marks_of c.marks) (columns_of c.columns) in
+    let own : Holds = kept_top c in
+    let top : Holds = holds_of f.in_table None h.outer in
+    let out : Result Holds Rejection = Ok (closed s top what f.start end children own.inner) in
+    holder_leaves s what f end c h.outer h.others grows h.holdings
+    ∙ (λ t. cond (not (waits t)) (checked ((is_complete own.row own.inner, lacking own.row) ∷ (is_read s top.holder top.place top.waiting what f.start end, unread s what f.start end) ∷ []) end out) (refused UnfinishedBreak end))
+
+-- where none does
+pub holder_left : (s : Source) (what : Acting) (f : Frame) (end : Point) (c : Context) (outer : Holding) (others : List Holding) → c.is_leaf ≡ false → reverse c.holdings.items ≡ outer ∷ others → is_some c.pending ≡ false
+    → left_to s (acting what) f end c ≡ leave s what f.start end (shown (marks_of c.marks) (columns_of c.columns)) (holds_of c.in_table None c.top) (holds_of f.in_table None outer)
+holder_left s what f end c outer others grows at none =
+    holder_leaves s what f end c outer others grows at
+    ∙ (λ t. leave s what f.start end (shown (marks_of c.marks) (columns_of c.columns)) (holds_of c.in_table (no_break c.pending none t) c.top) (holds_of f.in_table None outer))
+
+-- where it is on top then
+pub holder_gives : (s : Source) (what : Acting) (f : Frame) (end : Point) (old new : Context) (outer : Holding) (others : List Holding) (result : Result (Unit {0}) Stop) → old.is_leaf ≡ false → reverse old.holdings.items ≡ outer ∷ others
+    → is_some old.pending ≡ false → new.is_leaf ≡ old.is_leaf → new.pending ≡ old.pending → new.in_table ≡ f.in_table
+    → Gives {X = Unit {0}} {Y = Holds} (λ x. holds_of f.in_table None new.top) end result (leave s what f.start end (shown (marks_of old.marks) (columns_of old.columns)) (holds_of old.in_table None old.top) (holds_of f.in_table None outer))
+    → Gives {X = Unit {0}} {Y = Holds} (λ x. top_of new) end result (left_to s (acting what) f end old)
+holder_gives s what f end old new outer others result grows at none same_leaf same_break same_table given =
+    let after : Result Holds Rejection = leave s what f.start end (shown (marks_of old.marks) (columns_of old.columns)) (holds_of old.in_table None old.top) (holds_of f.in_table None outer) in
+    let tops : top_of new ≡ holds_of f.in_table None new.top =
+    (λ t. cond ((same_leaf ∙ grows) t) (fresh leaf (leaf_place new.in_table)) (kept_top new)) ∙ (λ t. holds_of (same_table t) ((same_break ∙ no_break old.pending none) t) new.top) in
+    gives_same (λ x. top_of new) end result after (left_to s (acting what) f end old) (holder_left s what f end old outer others grows at none)
+    (subst (λ (h : Holds). Gives {X = Unit {0}} {Y = Holds} (λ x. h) end result after) (sym tops) given)
+
+-- the holder around one that is popped
+pub popped : (hs rest : List Holding) (h : Holding) → hs ≡ rest ++ h ∷ [] → reverse hs ≡ h ∷ reverse rest
+popped hs rest h at = ap (λ (x : List Holding). reverse x) at ∙ reverse-append rest (h ∷ [])
+
+-- ---- Rows
+
+-- the row of content that is no leaf is one that it may have
+pub content_row : (h : OpenHolder) (x : Holder) (c : Content) → row_of h ≡ holder_of x (content c) → is_row_of c (row_of h) ≡ true
+content_row h x contents.Data e = absurd (no_leaf_row h e)
+content_row h x contents.AutolinkLiteralEmail e = absurd (no_leaf_row h e)
+content_row h x contents.AutolinkLiteralWww e = absurd (no_leaf_row h e)
+content_row h x contents.AutolinkLiteralWhole e = absurd (no_leaf_row h e)
+content_row h x contents.HardBreak e = absurd (no_leaf_row h e)
+content_row h x contents.ThematicBreak e = absurd (no_leaf_row h e)
+content_row h x contents.LineEnding e = absurd (no_leaf_row h e)
+content_row h list_ordered contents.ListItem e = ap (is_row_of contents.ListItem) e
+content_row h x contents.ListItem e = ap (is_row_of contents.ListItem) e
+content_row h list_item contents.Paragraph e = ap (is_row_of contents.Paragraph) e
+content_row h numbered_item contents.Paragraph e = ap (is_row_of contents.Paragraph) e
+content_row h marked_item contents.Paragraph e = ap (is_row_of contents.Paragraph) e
+content_row h marked_numbered_item contents.Paragraph e = ap (is_row_of contents.Paragraph) e
+content_row h x contents.Paragraph e = ap (is_row_of contents.Paragraph) e
+content_row h x c e = ap (is_row_of c) e
+
+-- and so is that of a part
+pub part_row : (h : OpenHolder) (x : Holder) (q : Part) → row_of h ≡ holder_of x (part q) → is_part_row q (row_of h) ≡ true
+part_row h code_fenced parts.CodeFencedFence e = ap (is_part_row parts.CodeFencedFence) e
+part_row h x parts.CodeFencedFence e = absurd (no_leaf_row h e)
+part_row h math_flow parts.MathFlowFence e = ap (is_part_row parts.MathFlowFence) e
+part_row h x parts.MathFlowFence e = absurd (no_leaf_row h e)
+part_row h x parts.AutolinkEmail e = absurd (no_leaf_row h e)
+part_row h x parts.AutolinkProtocol e = absurd (no_leaf_row h e)
+part_row h x parts.CharacterReferenceMarker e = absurd (no_leaf_row h e)
+part_row h x parts.CharacterReferenceMarkerNumeric e = absurd (no_leaf_row h e)
+part_row h x parts.CharacterReferenceMarkerHexadecimal e = absurd (no_leaf_row h e)
+part_row h x parts.CharacterReferenceValue e = absurd (no_leaf_row h e)
+part_row h x parts.TaskMarkChecked e = absurd (no_leaf_row h e)
+part_row h x parts.TaskMarkUnchecked e = absurd (no_leaf_row h e)
+part_row h x parts.HeadingAtxSequence e = absurd (no_leaf_row h e)
+part_row h x parts.HeadingSetextUnderlineSequence e = absurd (no_leaf_row h e)
+part_row h x parts.ListItemValue e = absurd (no_leaf_row h e)
+part_row h x q e = ap (is_part_row q) e
