@@ -75,6 +75,7 @@ pub everywhere-then : (Is Too : Label → Option Position → Type 0) → ((l : 
 everywhere-then Is Too follows nothing k = tt
 everywhere-then Is Too follows (node l c h r) k = (follows l h k.0, everywhere-then Is Too follows c k.1, everywhere-then Is Too follows r k.2)
 
+-- where two lists meet, at most a text comes about
 seam-everywhere : (Is : Label → Position → Type 0) → AsksNoMore Is → (l : Label) (c : Trees) (h : Option Position) (b : Trees)
     → At Is l h → Everywhere (At Is) c → Everywhere (At Is) b → Everywhere (At Is) (seam l c h b)
 seam-everywhere Is others (text v) c h nothing here below behind = (here, below, tt)
@@ -89,6 +90,7 @@ join-everywhere Is others nothing b first second = second
 join-everywhere Is others (node l c h nothing) b first second = seam-everywhere Is others l c h b first.0 first.1 second
 join-everywhere Is others (node l c h (node l' c' h' r)) b first second = (first.0, first.1, join-everywhere Is others (node l' c' h' r) b first.2 second)
 
+-- a mark cuts texts and moves paragraphs, of which nothing more is asked
 trimmed-everywhere : (Is : Label → Position → Type 0) → AsksNoMore Is → (cut : List ℕ × UnistPoint) (at : Position) (others : Trees) → Everywhere (At Is) others → Everywhere (At Is) (trimmed_text cut (Some at) others)
 trimmed-everywhere Is asks ([], p) at others k = k
 trimmed-everywhere Is asks (b ∷ bs, p) at others k = (asks _ _ refl, tt, k)
@@ -107,6 +109,7 @@ pub record AllSo (Is : Label → Position → Type 0) (t : Trees) : Type 0 where
 one-so : (Is : Label → Position → Type 0) (l : Label) (c : Trees) (a b : Point) → Is l (between a b) → Everywhere (At Is) c → AllSo Is (node_at l c a b)
 one-so Is l c a b here below = record { so = (here, below, tt) }
 
+-- links give a link and a text
 linked-so : (Is : Label → Position → Type 0) → AsksNoMore Is → (scheme value : List ℕ) (a b from to : Point) → AllSo Is (linked scheme value a b from to)
 linked-so Is asks scheme value a b from to = record { so = (asks _ _ refl, (asks _ _ refl, tt, tt), tt) }
 
@@ -115,6 +118,7 @@ autolink-so Is asks (Some (address from to value)) y a b = linked-so Is asks (co
 autolink-so Is asks x (Some (address from to value)) a b = linked-so Is asks [] value a b from to
 autolink-so Is asks x y a b = one-so Is (tree.link [] None) nothing a b (asks _ _ refl) tt
 
+-- labels that are made by cases
 link-unasked : (m : Media) → is_asked_of (link_label m) ≡ false
 link-unasked m = by-resource m.resource
   where
@@ -148,6 +152,7 @@ bare-so Is asks l a b free = one-so Is l nothing a b (asks l (between a b) free)
 full-so : (Is : Label → Position → Type 0) → AsksNoMore Is → (l : Label) (c : Trees) (a b : Point) → is_asked_of l ≡ false → Everywhere (At Is) c → AllSo Is (node_at l c a b)
 full-so Is asks l c a b free below = one-so Is l c a b (asks l (between a b) free) below
 
+-- the nodes of an item, by its own label and the nodes in it
 node-so : (Is : Label → Position → Type 0) → AsksNoMore Is → (s : Source) (p : Place) (what : Acting) (a b : Point) (shown : Shown) (i : Inner)
     → IfAsked Is (between a b) (asked_label what shown i) → Everywhere (At Is) i.nodes → Everywhere (At Is) i.label → AllSo Is (node_of s p what a b shown i)
 node-so Is asks s p (content contents.LineEnding) a b shown i own below label = if-so Is p.line_endings _ (bare-so Is asks _ a b refl)
@@ -188,9 +193,11 @@ own-elsewhere Is s in_table ending other_ending marker other_marker (item what a
   own-elsewhere Is s in_table (line_ending_is_text_behind what ending) (line_ending_is_text_behind what other_ending) (option_or (marker_of what) marker) (option_or (marker_of what) other_marker) rest own.2,
 )
 
+-- so behind an item as before it
 own-behind : (Is : Label → Position → Type 0) (s : Source) (p : Place) (what : Acting) (xs : Items) → OwnNodes Is s (place_behind what p) xs → OwnNodes Is s p xs
 own-behind Is s p what xs own = own-elsewhere Is s p.in_table (line_ending_is_text_behind what p.line_endings) p.line_endings (option_or (marker_of what) p.marker) p.marker xs own
 
+-- if the own nodes of items are so, then all of their nodes are
 pub nodes-everywhere : (Is : Label → Position → Type 0) → AsksNoMore Is → (s : Source) (w : Path) (p : Place) (xs : Items) → OwnNodes Is s p xs → Everywhere (At Is) (nodes s w p xs)
 nodes-everywhere Is asks s w p none own = tt
 nodes-everywhere Is asks s itself p (item (content contents.HardBreak) a b d i (item (content contents.LineEnding) a' b' d' i' rest)) own =
@@ -206,5 +213,6 @@ nodes-everywhere Is asks s (into q way) p (item (part r) a b d i rest) own =
     ]
 nodes-everywhere Is asks s (into q way) p (item (content c) a b d i rest) own = nodes-everywhere Is asks s (into q way) p rest (own-behind Is s p (content c) rest own.2)
 
+-- and so are all of a meaning
 pub meaning-everywhere : (Is : Label → Position → Type 0) → AsksNoMore Is → (s : Source) (f : Forest) → OwnNodes Is s root_place (items f) → Everywhere (At Is) (only (meaning s f))
 meaning-everywhere Is asks s f own = (asks tree.root (extent f) refl, nodes-everywhere Is asks s itself root_place (items f) own, tt)

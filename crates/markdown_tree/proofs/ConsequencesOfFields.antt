@@ -47,12 +47,13 @@ at-position : (l : Label) (h : Option Position) → At Any l h → HasPosition l
 at-position l None k = absurd k
 at-position l (Some at) k = refl
 
+-- every node has a position
 pub positions : (s : Source) (f : Forest) → Everywhere HasPosition (only (meaning s f))
 positions s f = everywhere-then (At Any) HasPosition at-position (only (meaning s f)) (meaning-everywhere Any (λ l at free. tt) s f (any-own s root_place (items f)))
 
 -- ---- Starts of lists
 
--- a list has a start exactly when it is ordered
+-- the same of a label that lies somewhere
 abbrev StartFits : Label → Position → Type 0
 StartFits label at = HasStartIfOrdered label (Some at)
 
@@ -80,6 +81,7 @@ at-start : (l : Label) (h : Option Position) → At StartFits l h → HasStartIf
 at-start l None k = absurd k
 at-start l (Some at) k = k
 
+-- a list has a start exactly when it is ordered
 pub starts : (s : Source) (f : Forest) → accepted s f ≡ true → Everywhere HasStartIfOrdered (only (meaning s f))
 starts s f k =
     everywhere-then (At StartFits) HasStartIfOrdered at-start (only (meaning s f))
@@ -87,7 +89,7 @@ starts s f k =
 
 -- ---- Depths of headings
 
--- a heading's depth is from 1 to 6
+-- the same of a label that lies somewhere
 abbrev DepthFits : Label → Position → Type 0
 DepthFits label at = HasDepthToSix label (Some at)
 
@@ -120,6 +122,7 @@ depth-bounds (Some n) k = (at-least (and-left (nat_lt 0 n) (nat_le n 6) k), at-m
     at-most : nat_le n 6 ≡ true → n ≤ 6
     at-most h = grind (arith, nat_tests)
 
+-- the depth that a sequence gives
 atx-depth : (s : Source) (o : Option Stretch) (kept : Stretch → Kept) → ((x : Stretch) → kept x ≡ count (unwrap_or (length_between s.bytes x.start x.end) 0)) → is_some (option_map kept o) ≡ true → IsDepthAt s o
     → (1 ≤ count_of (option_map kept o)) × (count_of (option_map kept o) ≤ 6)
 atx-depth s None kept counts there k = let z : ⊥ = cc in absurd z
@@ -135,6 +138,7 @@ setext-depth : (s : Source) (o : Option Stretch) (kept : Stretch → Kept) → (
 setext-depth s None kept counts there = let z : ⊥ = cc in absurd z
 setext-depth s (Some x) kept counts there = subst (λ (y : Kept). (1 ≤ count_of (Some y)) × (count_of (Some y) ≤ 6)) (sym (counts x)) (one-or-two (is_byte s 45 x.start))
 
+-- a heading that is complete has its sequence
 depth-here : (s : Source) (h : Holder) (what : Acting) (at : Position) (shown : Shown) (p : Place) (inner : Items) → is_complete (holder_of h what) (inner_from s p inner) ≡ true
     → all_pass (has_its_value s) (holder_of h what) p false inner ≡ true → IfAsked DepthFits at (asked_label what shown (inner_from s p inner))
 depth-here s h (content contents.HeadingAtx) at shown p inner there k =
@@ -158,6 +162,7 @@ at-depth : (l : Label) (h : Option Position) → At DepthFits l h → HasDepthTo
 at-depth l None k = absurd k
 at-depth l (Some at) k = k
 
+-- every heading has a depth from 1 to 6
 pub depths : (s : Source) (f : Forest) → accepted s f ≡ true → Everywhere HasDepthToSix (only (meaning s f))
 depths s f k =
     let holds : Accepted s f = conditions-hold s f k in

@@ -29,6 +29,7 @@ use Rattle.markdown_events.specs.declared.role.Role.TheVariants.{Plain as plain,
 
 -- ---- How many entries a delimiter row has
 
+-- where there is no cell value, none is counted
 no-cells : (f : Forest) → lacks is_delimiter_cell_value f ≡ true → cell_values f ≡ 0
 no-cells empty h = refl
 no-cells (span n a b c r) h =
@@ -61,6 +62,7 @@ abbrev IsShaped : Option Forest → Type 0
 IsShaped None = ⊤
 IsShaped (Some row) = has_right_shape row ≡ true
 
+-- the first delimiter row has the right shape
 row-shaped : (f : Forest) → has_right_shape f ≡ true → IsShaped (first_row f)
 row-shaped empty h = tt
 row-shaped (span n a b c r) h =
@@ -76,6 +78,7 @@ row-shaped (span n a b c r) h =
     by-role (acting what) c o p shape h k = either o p h k
     by-role role c o p shape h k = either o p h k
 
+-- the alignments of a table, counted
 align-counted : (f : Forest) → has_right_shape f ≡ true → length (align f) ≡ cell_values_in_row (first_row f)
 align-counted f h = by-row (first_row f) (row-shaped f h)
   where
@@ -85,7 +88,7 @@ align-counted f h = by-row (first_row f) (row-shaped f h)
 
 -- ---- The tables of a forest
 
--- if it is a table, a span of the forest declares its columns
+-- the same of a label that lies somewhere
 abbrev ColumnsFit : Forest → Label → Position → Type 0
 ColumnsFit forest label at = HasColumnsOf forest label (Some at)
 
@@ -97,6 +100,7 @@ columns-unasked forest l at free = tt
 abbrev AllIn : Forest → Forest → Type 0
 AllIn part whole = (alignments : List AlignKind) (at : Position) → SomeSpan (DeclaresColumns alignments (Some at)) part → SomeSpan (DeclaresColumns alignments (Some at)) whole
 
+-- two lists of items, one after the other
 own-then : (Is : Label → Position → Type 0) (s : Source) (p : Place) (xs ys : Items) → OwnNodes Is s p xs → ((q : Place) → OwnNodes Is s q ys) → OwnNodes Is s p (xs then ys)
 own-then Is s p none ys own others = others p
 own-then Is s p (item what a b d inner rest) ys own others = (own.0, own.1, own-then Is s (place_behind what p) rest ys own.2 others)
@@ -108,12 +112,14 @@ table-here : (whole : Forest) (s : Source) (p : Place) (what : Acting) (a b : Po
 table-here whole s p (content contents.Table) a b c inner shape found = found (align c) (record { is_table = refl; lies_there = refl; said_by_row = refl; one_for_each = align-counted c shape })
 table-here whole s p what a b c inner shape found = tt
 
+-- the items of one span, and those behind it
 span-own : (whole : Forest) (s : Source) (role : Role) (a b : Point) (c : Forest) (inner rest : Items) → has_right_shape c ≡ true
     → ((alignments : List AlignKind) → DeclaresColumns alignments (Some (between a b)) role a b c → SomeSpan (DeclaresColumns alignments (Some (between a b))) whole)
     → ((q : Place) → OwnNodes (ColumnsFit whole) s q inner) → ((q : Place) → OwnNodes (ColumnsFit whole) s q rest) → (p : Place) → OwnNodes (ColumnsFit whole) s p (place_items role a b c inner rest)
 span-own whole s (acting what) a b c inner rest shape found below beside p = (table-here whole s (place_inside what p) what a b c inner shape found, below (place_inside what p), beside (place_behind what p))
 span-own whole s (plain kind) a b c inner rest shape found below beside p = own-then (ColumnsFit whole) s p inner rest (below p) beside
 
+-- the items of the spans that are among those of a forest
 columns-own : (whole : Forest) (s : Source) (f : Forest) → has_right_shape f ≡ true → AllIn f whole → (p : Place) → OwnNodes (ColumnsFit whole) s p (items f)
 columns-own whole s empty shape all_in p = tt
 columns-own whole s (span n a b c r) shape all_in p =
@@ -126,6 +132,7 @@ at-columns : (forest : Forest) (l : Label) (h : Option Position) → At (Columns
 at-columns forest l None k = absurd k
 at-columns forest l (Some at) k = k
 
+-- every table has the columns that its span declares
 pub columns : (s : Source) (f : Forest) → accepted s f ≡ true → Everywhere (HasColumnsOf f) (only (meaning s f))
 columns s f k =
     everywhere-then (At (ColumnsFit f)) (HasColumnsOf f) (at-columns f) (only (meaning s f))

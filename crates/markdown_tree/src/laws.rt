@@ -21,8 +21,10 @@ ghost use Rattle.markdown_tree.specs.Source.{Source};
 /// No Text stands directly behind a Text among siblings, at any depth.
 ///
 /// A tokenizer cuts text wherever it stops to look: at an escape, at a character reference, at a
-/// line ending. In mdast a Text is all of the text that stands together, so that whoever searches
-/// or replaces words finds each of them whole. It holds of every forest, accepted or not.
+/// line ending. Parsers to mdast join the pieces, so that one Text is all of the text that stands
+/// together, and whoever searches or replaces words finds each of them whole.
+///
+/// It holds of every forest, accepted or not.
 #[tactic(auto, using(crate::proofs::Merged::no_text_behind_text))]
 pub fn no_text_behind_text()
     ensures { (s : Source) (f : Forest) → NoTextBehindText (only (meaning s f)) }
@@ -30,9 +32,10 @@ pub fn no_text_behind_text()
 
 /// Every node has a position.
 ///
-/// In mdast, as in every unist tree, a node that stems from a document says where it lies in it;
-/// a node that a program makes has no position. Every node here stems from the document. It holds
-/// of every forest, accepted or not.
+/// In mdast, as in every unist tree, a node that stems from a document says where it lies in it,
+/// and a node that a program makes has no position. Every node here stems from the document.
+///
+/// It holds of every forest, accepted or not.
 #[tactic(auto, using(crate::proofs::ConsequencesOfFields::positions))]
 pub fn every_node_has_a_position()
     ensures { (s : Source) (f : Forest) → Everywhere HasPosition (only (meaning s f)) }
@@ -42,6 +45,7 @@ pub fn every_node_has_a_position()
 ///
 /// CommonMark has six levels of headings: one to six number signs open a heading, and an underline
 /// of equals signs or dashes makes one of level 1 or 2. mdast takes the level for the `depth`.
+/// Only an accepted forest is sure to have the signs or the underline.
 #[tactic(auto, using(crate::proofs::ConsequencesOfFields::depths))]
 pub fn heading_depths_are_one_to_six()
     ensures { (s : Source) (f : Forest) → accepted s f ≡ true → Everywhere HasDepthToSix (only (meaning s f)) }
@@ -50,7 +54,8 @@ pub fn heading_depths_are_one_to_six()
 /// A List has a `start` exactly when it is ordered.
 ///
 /// In CommonMark an ordered list starts with the number of its first item, and a bullet list has no
-/// numbers. In mdast `start` is that number, and is there for ordered lists alone.
+/// numbers. In mdast `start` is that number, and is there for ordered lists alone. Only in an
+/// accepted forest an ordered list is sure to have a number.
 #[tactic(auto, using(crate::proofs::ConsequencesOfFields::starts))]
 pub fn lists_have_a_start_when_ordered()
     ensures { (s : Source) (f : Forest) → accepted s f ≡ true → Everywhere HasStartIfOrdered (only (meaning s f)) }
@@ -62,6 +67,8 @@ pub fn lists_have_a_start_when_ordered()
 /// In GFM the delimiter row, the second line of a table, has a cell of dashes for each column, and
 /// the colons beside the dashes say how the column is aligned. In mdast `align` lists that, column
 /// by column; in HTML the alignment goes to each cell of the column.
+///
+/// In a forest that is not accepted a cell value may stand in another, and has no entry there.
 #[tactic(auto, using(crate::proofs::ConsequencesOfTables::columns))]
 pub fn tables_have_an_alignment_for_each_column()
     ensures { (s : Source) (f : Forest) → accepted s f ≡ true → Everywhere (HasColumnsOf f) (only (meaning s f)) }
@@ -69,8 +76,9 @@ pub fn tables_have_an_alignment_for_each_column()
 
 /// An autolink gives a Link, from its start to its end, before the nodes of what stands behind it.
 ///
-/// CommonMark has autolinks in angle brackets, and GFM has addresses that stand bare in a text, which
-/// it calls autolinks too. mdast has no kind for either: both are Links, without a title.
+/// CommonMark has autolinks in angle brackets, and GFM has addresses that stand bare in a text,
+/// which it calls autolinks too. mdast has no kind for either: both are Links, without a title.
+///
 /// It holds of every item of a forest, accepted or not, wherever it stands.
 #[tactic(auto, using(crate::proofs::ConsequencesOfLinks::links))]
 pub fn autolinks_give_links()
