@@ -94,7 +94,7 @@ pub record Passing (test : Occurrence → Bool) (h : Holder) (p : Place) (x : Oc
   pub below : all_pass test (holder_of h x.what) (place_inside x.what p) false inner ≡ true
   pub behind : all_pass test (holder_behind h x.what (is_some (mark inner))) (place_behind x.what p) (is_hard_break x.what) rest ≡ true
 
-passing : (test : Occurrence → Bool) (h : Holder) (p : Place) (x : Occurrence) (inner rest : Items) →
+pub passing : (test : Occurrence → Bool) (h : Holder) (p : Place) (x : Occurrence) (inner rest : Items) →
     (test x && all_pass test (holder_of h x.what) (place_inside x.what p) false inner && all_pass test (holder_behind h x.what (is_some (mark inner))) (place_behind x.what p) (is_hard_break x.what) rest) ≡ true → Passing test h p x inner rest
 passing test h p x inner rest k =
     let below : Bool = all_pass test (holder_of h x.what) (place_inside x.what p) false inner in

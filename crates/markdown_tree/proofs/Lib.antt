@@ -52,7 +52,11 @@ pub mod LastEvents
 pub mod Known
 pub mod Reasons
 pub mod Sayings
-mod Merged
+pub mod Merged
+pub mod Consequences
+pub mod ConsequencesOfFields
+pub mod ConsequencesOfTables
+pub mod ConsequencesOfLinks
 mod SpanLaw
 mod Orderly
 mod RowsTexts

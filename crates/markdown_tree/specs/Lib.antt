@@ -10,6 +10,7 @@ pub mod Tasks
 pub mod Media
 pub mod Nodes
 pub mod Meaning
+pub mod Consequences
 pub mod Rules
 pub mod Holders
 pub mod Grammar

@@ -10,6 +10,7 @@ mod count;
 mod holder;
 mod holding;
 mod joining;
+pub mod laws;
 mod leaves;
 mod marks;
 mod number;
