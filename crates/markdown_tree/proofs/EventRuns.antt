@@ -18,7 +18,7 @@ use Rattle.markdown_tree.specs.Compiler.{Holds, Open, State, enter_as, enter_che
 use Rattle.markdown_tree.specs.Rejections.{Rejection, checked, ◌>>=◌}
 use Rattle.markdown_tree.specs.Siblings.{Marks, marks_with, no_marks}
 use Rattle.markdown_tree.specs.Source.{Source}
-use Rattle.markdown_tree.specs.declared.builder.Around.{Around}
+use Rattle.markdown_tree.specs.declared.around.Around.{Around}
 use Rattle.markdown_events.specs.declared.event.Kind.TheVariants.{Enter, Exit}
 use Rattle.markdown_events.specs.declared.role.Role.TheVariants.{Plain as plain, Acting as acting}
 use Rattle.markdown_tree.specs.declared.refusal.Refusal.TheVariants.{Held, Unbalanced}

@@ -20,7 +20,7 @@ use Rattle.markdown_tree.specs.Items.{Items, item, items, none, place_items, ◌
 use Rattle.markdown_tree.specs.Rejections.{Rejection, checked, passes, ◌>>=◌}
 use Rattle.markdown_tree.specs.Siblings.{Marks}
 use Rattle.markdown_tree.specs.Source.{Source}
-use Rattle.markdown_tree.specs.declared.builder.Around.{Around}
+use Rattle.markdown_tree.specs.declared.around.Around.{Around}
 use Rattle.markdown_events.specs.declared.role.Role.TheVariants.{Plain as plain, Acting as acting}
 use Rattle.markdown_tree.specs.declared.refusal.Refusal.TheVariants.{Held}
 

@@ -39,7 +39,7 @@ use Rattle.markdown_tree.specs.Siblings.{Marks, marks_with, no_marks}
 use Rattle.markdown_tree.specs.Source.{Source}
 use Rattle.markdown_tree.specs.Spots.{place_past}
 use Rattle.markdown_tree.specs.Walked.{run_walks, walked_by}
-use Rattle.markdown_tree.specs.declared.builder.Around.{Around}
+use Rattle.markdown_tree.specs.declared.around.Around.{Around}
 use Rattle.markdown_tree.specs.declared.refusal.Refusal.{Refusal}
 use Rattle.markdown_events.specs.declared.role.Part.TheVariants as parts
 use Rattle.markdown_events.specs.declared.role.Role.TheVariants.{Plain as plain, Acting as acting}

@@ -23,7 +23,7 @@ use Rattle.markdown_tree.specs.Items.{Items, items, kinds, none, ◌then◌}
 use Rattle.markdown_tree.specs.Place.{Place, root_place}
 use Rattle.markdown_tree.specs.Source.{Source}
 use Rattle.markdown_tree.specs.Spots.{Entered, Spot, around_of, spot_in, spot_of, told}
-use Rattle.markdown_tree.specs.declared.builder.Around.{Around}
+use Rattle.markdown_tree.specs.declared.around.Around.{Around}
 use Rattle.markdown_events.specs.declared.role.Role.TheVariants.{Plain as plain, Acting as acting}
 
 -- what the holder of a spot keeps

@@ -18,16 +18,9 @@ pub mod Endings
 pub mod Loop
 pub mod Outcomes
 pub mod Extents
-pub mod Walk
-pub mod Eval
 pub mod Shape
 pub mod Booleans
 pub mod Conditions
-pub mod CarriedNames
-pub mod Runs
-pub mod Stops
-pub mod Main
-pub mod Answer
 mod ItemLists
 mod RuleLists
 mod BreakEnds

@@ -8,7 +8,8 @@ use Rattle.markdown_events.specs.declared.event.Point.{Point}
 use Rattle.markdown_events.specs.declared.role.Acting.{Acting}
 use Rattle.markdown_events.specs.declared.unist.Point.{Point as UnistPoint}
 use Rattle.markdown_events.specs.declared.unist.Position.{Position}
-use Rattle.markdown_tree.specs.Consequences.{NoTextBehindText, begins_with_text, is_text}
+use Rattle.markdown_tree.specs.Consequences.{NoTextBehindText, begins_with_text}
+use Rattle.markdown_tree.specs.TextNodes.{is_text}
 use Rattle.markdown_tree.specs.Gives.{mark, text_read}
 use Rattle.markdown_tree.specs.Media.{autolink, link_label, media_of, node_at}
 use Rattle.markdown_tree.specs.Items.{Items, item, items, none, same_part}

@@ -30,7 +30,7 @@ use Rattle.markdown_tree.specs.Place.{Place}
 use Rattle.markdown_tree.specs.Rejections.{Rejection, checked, passes, refused, ◌>>=◌}
 use Rattle.markdown_tree.specs.Siblings.{no_marks}
 use Rattle.markdown_tree.specs.Source.{Source}
-use Rattle.markdown_tree.specs.declared.builder.Around.{Around}
+use Rattle.markdown_tree.specs.declared.around.Around.{Around}
 use Rattle.markdown_tree.specs.declared.refusal.Refusal.{Refusal}
 use Rattle.markdown_events.specs.declared.event.Kind.TheVariants.{Enter, Exit}
 

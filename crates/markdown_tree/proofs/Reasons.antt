@@ -35,7 +35,7 @@ use Rattle.markdown_tree.specs.Rejections.{Rejection, checked, refused, â—Œ>>=â—
 use Rattle.markdown_tree.specs.Rules.{Rule, keeps}
 use Rattle.markdown_tree.specs.Source.{Source}
 use Rattle.markdown_tree.specs.Spots.{Entered, Spot, around_of, occurrence, spot_in, spot_of}
-use Rattle.markdown_tree.specs.declared.builder.Around.{Around}
+use Rattle.markdown_tree.specs.declared.around.Around.{Around}
 use Rattle.markdown_tree.specs.declared.refusal.Refusal.{Refusal}
 use Rattle.markdown_events.specs.declared.event.Kind.TheVariants.{Enter, Exit}
 use Rattle.markdown_events.specs.declared.role.Role.TheVariants.{Plain as plain, Acting as acting}

@@ -8,7 +8,7 @@ use Rattle.markdown_events.specs.declared.role.Content.TheVariants as contents
 use Rattle.markdown_events.specs.declared.role.Plain.TheVariants as plains
 use Rattle.markdown_events.specs.Forest.{Forest, empty, span, is_empty, lacks, may_hold, has_right_shape, is_delimiter_row, is_delimiter_cell_value}
 use Rattle.markdown_events.specs.Names.{role_of}
-use Rattle.markdown_tree.specs.declared.builder.Around.{Around}
+use Rattle.markdown_tree.specs.declared.around.Around.{Around}
 use Rattle.markdown_events.specs.Walks.{holds_nothing}
 use Rattle.markdown_tree.specs.Around.{may_begin, under, in_the_open}
 

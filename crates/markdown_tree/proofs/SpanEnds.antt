@@ -32,7 +32,7 @@ use Rattle.markdown_tree.specs.Source.{Source}
 use Rattle.markdown_tree.specs.declared.refusal.Stop.{Stop}
 use Rattle.markdown_tree.specs.declared.refusal.Stop.TheVariants as stops
 use Rattle.markdown_tree.specs.States.{Makes, Stops, ended_with, holds_of, inner_of_holding, place_of}
-use Rattle.markdown_tree.specs.Machine.{is_text}
+use Rattle.markdown_tree.specs.TextNodes.{is_text}
 
 -- what one more item makes of a holder, where no break is before it and it is none
 pub closed_is : (s : Source) (in_table : Bool) (top new : Holding) (what : Acting) (a b : Point) (children : Shown) (i : Inner)

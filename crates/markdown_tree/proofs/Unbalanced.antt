@@ -27,7 +27,7 @@ use Rattle.markdown_tree.specs.Rejections.{Rejection, checked, refused, â—Œ>>=â—
 use Rattle.markdown_tree.specs.Rules.{Rule, never, once, only, only_before, only_behind}
 use Rattle.markdown_tree.specs.Siblings.{Marks}
 use Rattle.markdown_tree.specs.Source.{Source}
-use Rattle.markdown_tree.specs.declared.builder.Around.{Around}
+use Rattle.markdown_tree.specs.declared.around.Around.{Around}
 use Rattle.markdown_tree.specs.declared.refusal.Refusal.{Refusal}
 use Rattle.markdown_events.specs.declared.role.Acting.TheVariants.{Content as content, Part as part}
 use Rattle.markdown_events.specs.declared.role.Content.TheVariants as contents

@@ -9,13 +9,7 @@ use Rattle.markdown_events.specs.declared.unist.Position.{Position}
 use Rattle.markdown_nodes.specs.Tree.{Trees, Tree, Label, nothing, node, before, only, seam, join, text}
 use Rattle.markdown_nodes.specs.View.{view, views}
 use Rattle.markdown_nodes.proofs.Views.{view-Text}
-use Rattle.markdown_tree.specs.declared.builder.Frame.{Frame}
-use Rattle.markdown_tree.specs.Machine.{open_of, is_text, longer}
-use Rattle.markdown_tree.specs.Carried.{text_tree}
-
--- the stack after a push
-pub stack_push : (fs : List Frame) (f : Frame) → reverse (map open_of (fs ++ f ∷ [])) ≡ open_of f ∷ reverse (map open_of fs)
-stack_push fs f = ap reverse (map_push open_of fs f) ∙ reverse-append (map open_of fs) (open_of f ∷ [])
+use Rattle.markdown_tree.specs.TextNodes.{is_text}
 
 -- nodes before trees
 onto : List Node → Trees → Trees
@@ -54,25 +48,6 @@ pub views_put : (ns : List Node) (n : Node) → is_text (view n).label ≡ false
 views_put [] n h = refl
 views_put (m ∷ []) n h = sym (seam_second (view m).label (view n).label (view m).children (view n).children (view m).position (view n).position nothing h)
 views_put (m ∷ k ∷ ns) n h = ap (before (view m)) (views_put (k ∷ ns) n h)
-
--- a text goes on
-pub views_longer : (old rest new : List Node) (t : Text) (n : Node) (value : List ℕ) (p : Position)
-    → old ≡ rest ++ nodes.Text t ∷ [] → new ≡ rest ++ n ∷ [] → view n ≡ longer (string_bytes t.value) t.position value p → views new ≡ join (views old) (only (text_tree value p))
-views_longer old rest new t n value p was is made =
-    ap views is ∙ views_then rest n ∙ ap (λ (x : Tree). onto rest (only x)) made
-    ∙ sym (ap (λ (ns : List Node). join (views ns) (only (text_tree value p))) was
-    ∙ ap (λ (ts : Trees). join ts (only (text_tree value p))) (views_then rest (nodes.Text t) ∙ ap (λ (x : Tree). onto rest (only x)) (view-Text t))
-    ∙ join_onto rest (record { label = text (string_bytes t.value); children = nothing; position = t.position }) (only (text_tree value p)))
-
--- a text begins behind a node that is none
-pub views_begun : (old rest mid new : List Node) (last n : Node) (t : Tree)
-    → old ≡ rest ++ last ∷ [] → mid ≡ rest ++ last ∷ [] → new ≡ mid ++ n ∷ [] → view n ≡ t → is_text (view last).label ≡ false → views new ≡ join (views old) (only t)
-views_begun old rest mid new last n t was kept is made none =
-    ap views (is ∙ ap (λ (ns : List Node). ns ++ n ∷ []) kept) ∙ views_then_two rest last n ∙ ap (λ (x : Tree). onto rest (before (view last) (only x))) made
-    ∙ sym (ap (λ (ns : List Node). join (views ns) (only t)) was
-    ∙ ap (λ (ts : Trees). join ts (only t)) (views_then rest last)
-    ∙ join_onto rest (view last) (only t)
-    ∙ ap (onto rest) (seam_first (view last).label (view last).children (view last).position (only t) none))
 
 -- what is not the variant is no text
 pub no_text : (n : Node) → ((t : Text) → n ≡ nodes.Text t → ⊥) → is_text (view n).label ≡ false

@@ -3,7 +3,7 @@ use Rattle.std.specs.Prelude.{Bool, false, not, ◌&&◌, ◌||◌}
 use Rattle.markdown_events.specs.Forest.{is_delimiter_cell_value, is_delimiter_row}
 use Rattle.markdown_events.specs.Walks.{holds_nothing}
 use Rattle.markdown_events.specs.declared.role.Role.{Role}
-use Rattle.markdown_tree.specs.declared.builder.Around.{Around}
+use Rattle.markdown_tree.specs.declared.around.Around.{Around}
 
 -- nothing is around
 abbrev pub in_the_open : Around

@@ -31,7 +31,7 @@ use Rattle.markdown_tree.specs.Rejections.{Rejection, checked, refused, â—Œ>>=â—
 use Rattle.markdown_tree.specs.Rules.{Rule, never, once, only, only_before, only_behind}
 use Rattle.markdown_tree.specs.Siblings.{Marks, marks_with, no_marks}
 use Rattle.markdown_tree.specs.Source.{Source}
-use Rattle.markdown_tree.specs.declared.builder.Around.{Around}
+use Rattle.markdown_tree.specs.declared.around.Around.{Around}
 use Rattle.markdown_tree.specs.declared.refusal.Refusal.{Refusal}
 use Rattle.markdown_events.specs.declared.event.Kind.TheVariants.{Enter, Exit}
 use Rattle.markdown_events.specs.declared.role.Acting.TheVariants.{Part as part}

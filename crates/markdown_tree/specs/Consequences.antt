@@ -14,6 +14,7 @@ use Rattle.markdown_events.specs.declared.role.Content.TheVariants as contents
 use Rattle.markdown_events.specs.declared.role.Acting.TheVariants.{Content as content}
 use Rattle.markdown_events.specs.declared.role.Role.TheVariants.{Acting as acting}
 use Rattle.markdown_nodes.specs.Tree as tree
+use Rattle.markdown_tree.specs.TextNodes.{is_text}
 
 -- each node, at any depth, is so, by its label and its position
 abbrev pub Everywhere : (Label → Option Position → Type 0) → Trees → Type 0
@@ -21,11 +22,6 @@ Everywhere Is nothing = ⊤
 Everywhere Is (node label children position rest) = Is label position × Everywhere Is children × Everywhere Is rest
 
 -- ---- Texts
-
--- it is the label of a text
-abbrev pub is_text : Label → Bool
-is_text (tree.text value) = true
-is_text _ = false
 
 -- the first of the nodes is a text
 abbrev pub begins_with_text : Trees → Bool

@@ -16,7 +16,6 @@ pub mod Holders
 pub mod Grammar
 pub mod Reads
 pub mod Accepted
-pub mod Carried
 pub mod Ordered
 pub mod Buffers
 pub mod Readings
@@ -30,7 +29,6 @@ pub mod Counted
 pub mod Rejections
 pub mod Around
 pub mod Steps
-pub mod Machine
 pub mod Siblings
 pub mod Columns
 pub mod Compiler

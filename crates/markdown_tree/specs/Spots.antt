@@ -15,7 +15,7 @@ use Rattle.markdown_tree.specs.Holders.{Holder, any_content, holder_behind, hold
 use Rattle.markdown_tree.specs.Items.{Items, item, items, none, ◌then◌}
 use Rattle.markdown_tree.specs.Kinds.{marker_of}
 use Rattle.markdown_tree.specs.Place.{Place, line_ending_is_text_behind, place_inside, root_place}
-use Rattle.markdown_tree.specs.declared.builder.Around.{Around}
+use Rattle.markdown_tree.specs.declared.around.Around.{Around}
 use Rattle.markdown_events.specs.declared.role.Role.TheVariants.{Plain as plain, Acting as acting}
 
 -- ---- Behind a list of items

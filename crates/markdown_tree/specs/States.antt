@@ -4,6 +4,10 @@ use Rattle.markdown_events.specs.Names.{role_of}
 use Rattle.markdown_events.specs.declared.role.Acting.{Acting}
 use Rattle.markdown_events.specs.declared.role.Role.{Role}
 use Rattle.markdown_events.specs.declared.role.Role.TheVariants.{Plain as plain, Acting as acting}
+use Rattle.markdown_events.specs.declared.message.Fault.{Fault}
+use Rattle.markdown_events.specs.declared.message.Fault.TheVariants as faults
+use Rattle.markdown_tree.specs.Refusals.{Says}
+use Rattle.markdown_tree.specs.Walked.{walked_by}
 use Rattle.markdown_tree.specs.declared.context.Context.{Context}
 use Rattle.markdown_tree.specs.declared.context.Frame.{Frame}
 use Rattle.markdown_nodes.specs.View.{views}
@@ -107,6 +111,16 @@ Stops (stops.Refused why) point expected = expected ≡ refused why point
 abbrev pub Gives : {X Y : Type 0} → (X → Y) → Point → Result X Stop → Result Y Rejection → Type 0
 Gives seen point (Ok x) expected = expected ≡ Ok (seen x)
 Gives seen point (Err stop) expected = Stops stop point expected
+
+-- how a fault agrees with what is expected: it names the refusal and its point
+abbrev pub Fails : {Y : Type 0} → Fault → Result Y Rejection → Type 0
+Fails (faults.Memory error) expected = Unit {0}
+Fails (faults.Message message) expected = (why : Rejection) × (expected ≡ Err why) × Says message why.refusal why.point
+
+-- a function gave, by this view, what is expected, or a fault that agrees with it
+abbrev pub Completes : {X Y : Type 0} → (X → Y) → Result X Fault → Result Y Rejection → Type 0
+Completes seen (Ok x) expected = expected ≡ Ok (seen x)
+Completes seen (Err fault) expected = Fails fault expected
 
 -- a holder of that row at its end, where no break waits
 abbrev pub ended_with : Holder → Place → Inner → Holds
@@ -222,6 +236,10 @@ Ends role c = EndsAs c.is_leaf role c
 -- what the innermost span belongs to, and what is made of that at its end
 abbrev pub left_to : Source → Role → Frame → Point → Context → Result Holds Rejection
 left_to s role f end c = leave_to s f.start end (shown (marks_of c.marks) (columns_of c.columns)) (top_of c) (outer_of role f.in_table (leaf_holder c) (reverse c.holdings.items))
+
+-- how many nodes are walked over there
+abbrev pub left_walks : Role → Frame → Context → ℕ
+left_walks role f c = walked_by (outer_of role f.in_table (leaf_holder c) (reverse c.holdings.items)) (top_of c).inner
 
 -- the innermost span has left the stack, and the holder around it is on top
 pub record Closed (role : Role) (old new : Context) : Type 0 where

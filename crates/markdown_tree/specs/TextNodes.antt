@@ -1,8 +1,13 @@
 -- A text among its siblings.
-use Rattle.std.specs.Prelude.{List, Some, string_bytes, ℕ}
-use Rattle.markdown_nodes.specs.Tree.{Trees, node, nothing, text}
+use Rattle.std.specs.Prelude.{Bool, List, Some, false, string_bytes, true, ℕ}
+use Rattle.markdown_nodes.specs.Tree.{Label, Trees, node, nothing, text}
 use Rattle.markdown_nodes.specs.declared.mdast.Text.{Text}
 use Rattle.markdown_events.specs.declared.unist.Position.{Position}
+
+-- it is the label of a text
+abbrev pub is_text : Label → Bool
+is_text (text value) = true
+is_text _ = false
 
 -- a text alone, by its value and its place
 abbrev pub one_text : List ℕ → Position → Trees

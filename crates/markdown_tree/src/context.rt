@@ -1,17 +1,18 @@
 //! The open spans of a list of events, and what each event does to them.
 
-ghost use Rattle.std.specs.Prelude.{◌≡◌, ◌||◌, None, Ok, OnOk, false, is_some, not, true};
+ghost use Rattle.std.specs.Prelude.{◌≡◌, ◌≤◌, ◌+◌, ◌||◌, [], None, Ok, OnOk, false, is_some, not, true};
 ghost use Rattle.markdown_events.specs.Names.{role_of};
 ghost use Rattle.markdown_events.specs.declared.role.Role.TheVariants as roles;
 ghost use Rattle.markdown_tree.specs.Compiler;
-ghost use Rattle.markdown_tree.specs.Compiler.{enter_as, enter_checks, enter_step, exit_step, opening};
+ghost use Rattle.markdown_tree.specs.Compiler.{enter_as, enter_checks, enter_step, exit_step, last_checks, opening};
 ghost use Rattle.markdown_tree.specs.Holdings.{first_failing};
 ghost use Rattle.markdown_tree.specs.Kinds;
 ghost use Rattle.markdown_tree.specs.Source.{Source, source};
-ghost use Rattle.markdown_tree.specs.States.{Begun, Closed, Ends, Gives, HolderEnds, LeafEnds, Opened, left_to, state_of, top_of};
+ghost use Rattle.markdown_tree.specs.States.{Begun, Closed, Ends, Gives, HolderEnds, LeafEnds, Opened, left_to, left_walks, state_of, top_of};
+ghost use Rattle.markdown_tree.specs.Walked.{exit_walks, step_walks};
 ghost use Rattle.markdown_tree.specs.Well.{Well, is_plain};
 
-use crate::builder::Around;
+use crate::around::Around;
 use crate::columns::Columns;
 use crate::holder::Holder;
 use crate::holding::{Ending, Holding, has_line_endings};
@@ -20,7 +21,7 @@ use crate::references::References;
 use crate::refusal::{Refusal, Stop};
 use crate::slice::byte_at;
 use crate::steps::Steps;
-use markdown_nodes::event::{Name, Point};
+use markdown_nodes::event::{Event, Kind, Name, Point};
 use markdown_nodes::role::{Acting, Content, Role};
 use markdown_nodes::unist::Position;
 use std::alloc::{AllocError, Global};
@@ -135,9 +136,7 @@ impl<'a> Context<'a> {
             _ => None,
         }
     }
-}
 
-impl<'a> Context<'a> {
     /// Opens an acting span, if the innermost holder takes it, and says whether it is a leaf.
     fn open(
         &mut self,
@@ -165,9 +164,42 @@ impl<'a> Context<'a> {
             }
         }
     }
-}
 
-impl<'a> Context<'a> {
+    /// Takes one event.
+    pub fn step<R: References>(
+        &mut self,
+        alloc: Global,
+        steps: &mut Steps<'_>,
+        bytes: &'a [u8],
+        references: &R,
+        event: Event,
+    ) -> Result<(), Stop>
+        requires { Well (source bytes.now (R.text references.now)) (state_of self.old) }
+        ensures gives { Gives (λ _. state_of self.new) event.point result (Compiler.step (source bytes.now (R.text references.now)) event (state_of self.old)) }
+        ensures list { steps.new.events ≡ steps.old.events }
+        ensures bound { steps.new.count ≤ steps.old.count + step_walks event (state_of self.old) }
+    {
+        match event.kind {
+            Kind::Enter => self.enter(alloc, bytes, event.name, event.point),
+            Kind::Exit => self.exit(alloc, steps, bytes, references, event.name, event.point),
+        }
+    }
+
+    /// What is wrong behind the last event, if anything is: a span is open, or a break waits for its
+    /// line ending.
+    pub fn unfinished(&self) -> Option<Refusal>
+        requires { self.now.frames.items ≡ [] → self.now.is_leaf ≡ false }
+        ensures { result ≡ first_failing (last_checks (state_of self.now)) }
+    {
+        if !self.frames.is_empty() {
+            return Some(Refusal::Unbalanced);
+        }
+        if self.pending.is_some() {
+            return Some(Refusal::UnfinishedBreak);
+        }
+        None
+    }
+
     /// Opens a span.
     fn enter(&mut self, alloc: Global, bytes: &[u8], name: Name, point: Point) -> Result<(), Stop>
         ensures { (s : Source) → s.bytes ≡ bytes.now → Gives (λ _. state_of self.new) point result (enter_step s name point (state_of self.old)) }
@@ -242,9 +274,7 @@ impl<'a> Context<'a> {
         self.marks = Marks::new();
         Ok(())
     }
-}
 
-impl<'a> Context<'a> {
     /// Closes the innermost span, if the name is its name.
     fn exit<R: References>(
         &mut self,
@@ -256,7 +286,9 @@ impl<'a> Context<'a> {
         point: Point,
     ) -> Result<(), Stop>
         requires { Well (source bytes.now (R.text references.now)) (state_of self.old) }
-        ensures { Gives (λ _. state_of self.new) point result (exit_step (source bytes.now (R.text references.now)) name point (state_of self.old)) }
+        ensures gives { Gives (λ _. state_of self.new) point result (exit_step (source bytes.now (R.text references.now)) name point (state_of self.old)) }
+        ensures list { steps.new.events ≡ steps.old.events }
+        ensures bound { steps.new.count ≤ steps.old.count + exit_walks name (state_of self.old).frames (top_of self.old).inner }
     {
         let Some(frame) = self.frames.pop() else {
             return Err(Stop::Refused(Refusal::Unbalanced));
@@ -285,6 +317,8 @@ impl<'a> Context<'a> {
         requires { Ends role self.old }
         ensures gives { Gives (λ _. top_of self.new) end result (left_to (source bytes.now (R.text references.now)) role frame end self.old) }
         ensures closed { OnOk result (Closed role self.old self.new) }
+        ensures list { steps.new.events ≡ steps.old.events }
+        ensures bound { steps.new.count ≤ steps.old.count + left_walks role frame self.old }
     {
         match role {
             Role::Plain(plain) => Ok(self.columns.exit(plain, self.marks)?),
@@ -336,6 +370,8 @@ impl<'a> Context<'a> {
         requires ends { HolderEnds what self.old }
         ensures gives { (s : Source) → s.bytes ≡ bytes.now → Gives (λ _. top_of self.new) end result (left_to s (roles.Acting what) frame end self.old) }
         ensures closed { OnOk result (Closed (roles.Acting what) self.old self.new) }
+        ensures list { steps.new.events ≡ steps.old.events }
+        ensures bound { steps.new.count ≤ steps.old.count + left_walks (roles.Acting what) frame self.old }
     {
         if self.pending.is_some() {
             return Err(Stop::Refused(Refusal::UnfinishedBreak));

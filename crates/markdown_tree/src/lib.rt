@@ -1,8 +1,8 @@
 //! From the events of a tokenizer to a syntax tree of mdast.
 #![tactic(auto)]
 
+mod around;
 mod buffer;
-mod builder;
 mod closing;
 mod columns;
 mod context;

@@ -1,18 +1,24 @@
 //! From events to a tree.
 
 ghost use Rattle.std.specs.Prelude.{◌≡◌, ◌≤◌, ◌+◌, ◌*◌, length, IfOk, IfErr};
+ghost use Rattle.markdown_events.specs.Forest.{Forest, spell};
+ghost use Rattle.markdown_nodes.specs.View.{view};
+ghost use Rattle.markdown_tree.specs.Buffers.{held, inside};
+ghost use Rattle.markdown_tree.specs.Compiler.{compiled, opening, point_of, run};
 ghost use Rattle.markdown_tree.specs.Correct.{IsMeaning, FailsRightly};
-ghost use Rattle.markdown_tree.specs.Extents.{extent_of};
-ghost use Rattle.markdown_tree.specs.Machine.{Completes, state_of, opening, run};
+ghost use Rattle.markdown_tree.specs.Extents.{extent_of, last_event};
 ghost use Rattle.markdown_tree.specs.Source.{source};
+ghost use Rattle.markdown_tree.specs.States.{Completes, state_of};
 ghost use Rattle.markdown_tree.specs.Steps.{events_in};
+ghost use Rattle.markdown_tree.specs.Walked.{run_walks};
 
-use crate::builder::{Builder, Holding};
+use crate::context::Context;
+use crate::holding::Holding;
 pub use crate::references::References;
-use crate::refusal::{Refusal, Stop};
+use crate::refusal::Stop;
 use crate::slice::position_of;
 use crate::steps::Steps;
-use markdown_nodes::event::Event;
+use markdown_nodes::event::{Event, Point};
 use markdown_nodes::mdast::{Node, Root};
 use markdown_nodes::message::Fault;
 use markdown_nodes::unist::Position;
@@ -28,7 +34,15 @@ use std::alloc::Global;
 /// - `span-held`: a span stands in one that holds nothing, or a delimiter row or delimiter cell
 ///   value in another;
 /// - `name-misplaced`: the holder does not take the name there;
-/// - `slice-invalid`: a value that is read is no text of the document.
+/// - `part-repeated`: a part stands again that may stand once;
+/// - `slice-invalid`: a value that is read is no text of the document;
+/// - `list-value-invalid`: the value of an item is no number up to 4294967295;
+/// - `list-value-missing`: no item of an ordered list has a value;
+/// - `reference-unknown`: `references` has no text for a character reference;
+/// - `reference-incomplete`: a character reference has no value, or no marker before it;
+/// - `fence-missing`: fenced code or math has no fence;
+/// - `heading-depth`: a heading has no sequence, or an ATX heading one that is not 1 to 6 long;
+/// - `break-unfinished`: a hard break is not followed by its line ending.
 ///
 /// `Fault::Memory` comes only where the allocator or the decoder had no memory. A refusal hands out
 /// no tree. For no events the tree is an empty root, and no memory is asked for.
@@ -50,7 +64,10 @@ pub fn compile<R: References>(
 
 /// The same for the list in `steps`, which is read through `steps` alone, with its steps added.
 ///
-/// It answers as [`compile`] does, and adds at most four steps for each event.
+/// It answers as [`compile`] does. It adds at most four steps for each event, and at a tree one for
+/// each node in each buffer: a span whose nodes are collected for a text, as those of code, of a
+/// label or of a title. Where there is no tree, it adds at most one more for each event inside a
+/// span with such a name.
 pub fn compile_counted<R: References>(
     alloc: Global,
     steps: &mut Steps<'_>,
@@ -63,59 +80,86 @@ pub fn compile_counted<R: References>(
     ensures refused { IfErr result (λ fault. FailsRightly fault steps.old.events (source bytes.now (R.text references.now))) }
     // The list is kept.
     ensures list { steps.new.events ≡ steps.old.events }
-    // Each event takes at most four steps.
-    ensures count { steps.new.count ≤ steps.old.count + 4 * length steps.old.events }
+    // Each event takes at most four steps, and each node in a buffer one.
+    ensures bound { IfOk result (λ tree. (forest : Forest) → spell forest ≡ steps.old.events → steps.new.count ≤ steps.old.count + 4 * length steps.old.events + held (source bytes.now (R.text references.now)) forest) }
+    // Without a tree, each event inside a span with a buffer's name takes at most one more.
+    ensures bound_without { IfErr result (λ fault. steps.new.count ≤ steps.old.count + 4 * length steps.old.events + inside steps.old.events) }
 {
-    let Built { builder, length } = take_all(alloc, steps, bytes, references)?;
-    let Builder {
-        frames,
-        around: _,
-        top,
-    } = builder;
-    if frames.is_empty() {
-        let Holding { holder: _, nodes } = top;
-        return Ok(Node::Root(Root {
-            children: nodes,
-            position: Some(whole(steps, length)),
-        }));
-    }
-    match steps.read(length.saturating_sub(1)) {
-        Some(last) => Err(Stop::Refused(Refusal::Unbalanced).at(last.point)),
-        None => unreachable!(),
-    }
+    compile_list(alloc, steps, bytes, references)
 }
 
-/// What all events made, and how many there are.
-#[derive(Drop)]
-struct Built {
-    builder: Builder,
-    length: usize,
-}
-
-/// Takes all events, one after the other.
-fn take_all<R: References>(
+/// The same, as the compilation on values gives it.
+fn compile_list<R: References>(
     alloc: Global,
     steps: &mut Steps<'_>,
     bytes: &[u8],
     references: &R,
-) -> Result<Built, Fault>
-    ensures gives { Completes (λ built. state_of built.builder) result (run (source bytes.now (R.text references.now)) steps.old.events opening) }
-    ensures length { IfOk result (λ built. built.length ≡ length steps.old.events) }
+) -> Result<Node, Fault>
+    ensures gives { Completes view result (compiled (source bytes.now (R.text references.now)) steps.old.events) }
     ensures list { steps.new.events ≡ steps.old.events }
-    ensures count { steps.new.count ≤ steps.old.count + length steps.old.events }
+    ensures bound { steps.new.count ≤ steps.old.count + 4 * length steps.old.events + run_walks (source bytes.now (R.text references.now)) steps.old.events opening }
 {
-    let mut builder = Builder::new(alloc);
+    let Taken { context, length } = take_all(alloc, steps, bytes, references)?;
+    if let Some(refusal) = context.unfinished() {
+        return Err(Stop::Refused(refusal).at(last_point(steps, length)));
+    }
+    let Context { top, .. } = context;
+    let Holding { nodes, .. } = top;
+    Ok(Node::Root(Root {
+        children: nodes,
+        position: Some(whole(steps, length)),
+    }))
+}
+
+/// What all events made, and how many there are.
+#[derive(Drop)]
+struct Taken<'a> {
+    context: Context<'a>,
+    length: usize,
+}
+
+/// Takes all events, one after the other.
+fn take_all<'a, R: References>(
+    alloc: Global,
+    steps: &mut Steps<'_>,
+    bytes: &'a [u8],
+    references: &R,
+) -> Result<Taken<'a>, Fault>
+    ensures gives { Completes (λ taken. state_of taken.context) result (run (source bytes.now (R.text references.now)) steps.old.events opening) }
+    ensures length { IfOk result (λ taken. taken.length ≡ length steps.old.events) }
+    ensures list { steps.new.events ≡ steps.old.events }
+    ensures bound { steps.new.count ≤ steps.old.count + length steps.old.events + run_walks (source bytes.now (R.text references.now)) steps.old.events opening }
+{
+    let mut context = Context::new(alloc);
     let mut index = 0;
     while let Some(event) = steps.read(index) {
-        if let Err(stop) = builder.step(alloc, bytes, references, event) {
+        if let Err(stop) = context.step(alloc, steps, bytes, references, event) {
             return Err(stop.at(event.point));
         }
         index += 1;
     }
-    Ok(Built {
-        builder,
+    Ok(Taken {
+        context,
         length: index,
     })
+}
+
+/// The point of the last event, or the first place of a document where there is none.
+fn last_point(steps: &mut Steps<'_>, length: usize) -> Point
+    requires { length ≡ events_in steps.old.events }
+    ensures point { result ≡ point_of (last_event steps.old.events) }
+    ensures list { steps.new.events ≡ steps.old.events }
+    ensures count { steps.new.count ≤ steps.old.count + length }
+{
+    match steps.read(length.saturating_sub(1)) {
+        Some(last) => last.point,
+        None => Point {
+            line: 1,
+            column: 1,
+            index: 0,
+            vs: 0,
+        },
+    }
 }
 
 /// From the first event to the last, or the first place of a document where there is none.

@@ -1,0 +1,39 @@
+//! What is around a span, as far as the right shape of a list asks.
+
+ghost use Rattle.std.specs.Prelude.{◌≡◌};
+ghost use Rattle.markdown_tree.specs.Around.{may_begin, under};
+
+use markdown_nodes::role::Role;
+
+/// What is around a span, as far as its right shape asks.
+#[derive(Clone, Copy, PartialEq, Eq, Debug)]
+pub struct Around {
+    /// The innermost open span holds nothing.
+    pub held: bool,
+    /// A delimiter row is open.
+    pub in_row: bool,
+    /// A delimiter cell value is open.
+    pub in_value: bool,
+}
+
+impl Around {
+    /// Whether a span of the role may begin here.
+    pub fn allows(self, role: Role) -> bool
+        ensures { result ≡ may_begin self role }
+    {
+        let second_row = self.in_row && role.is_delimiter_row();
+        let second_value = self.in_value && role.is_delimiter_cell_value();
+        !self.held && !second_row && !second_value
+    }
+
+    /// What is around the spans in a span of the role.
+    pub fn inside(self, role: Role) -> Around
+        ensures { result ≡ under self role }
+    {
+        Around {
+            held: role.holds_nothing(),
+            in_row: self.in_row || role.is_delimiter_row(),
+            in_value: self.in_value || role.is_delimiter_cell_value(),
+        }
+    }
+}
