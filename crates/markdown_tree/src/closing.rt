@@ -1,9 +1,10 @@
 //! The nodes that spans of content give at their exit.
 
-ghost use Rattle.std.specs.Prelude.{◌≡◌, [], IfOk, Some, option_map, string_bytes, true, unwrap_or};
+ghost use Rattle.std.specs.Prelude.{◌≡◌, ◌≤◌, ◌+◌, [], IfOk, Some, option_map, string_bytes, true, unwrap_or};
 ghost use Rattle.markdown_nodes.specs.Tree.{nothing};
 ghost use Rattle.markdown_nodes.specs.Tree as tree;
 ghost use Rattle.markdown_nodes.specs.View.{view, views};
+ghost use Rattle.markdown_tree.specs.Buffers.{node_count};
 ghost use Rattle.markdown_tree.specs.Holdings.{definition_label, footnote_label, identified_kept, inner_with, is_parent, label_kept, nodes_of_label, parent_label, placed};
 ghost use Rattle.markdown_tree.specs.Media.{image_label, link_label, media_of};
 ghost use Rattle.markdown_tree.specs.Parts.{identifier_of, text_of, words_of};
@@ -174,7 +175,9 @@ fn label_text(
     steps: &mut Steps<'_>,
     label: &Option<Label<'_>>,
 ) -> Result<String, AllocError>
-    ensures { IfOk result (λ made. string_bytes made ≡ text_of (label_kept label.now)) }
+    ensures text { IfOk result (λ made. string_bytes made ≡ text_of (label_kept label.now)) }
+    ensures list { steps.new.events ≡ steps.old.events }
+    ensures bound { steps.new.count ≤ steps.old.count + node_count (nodes_of_label label.now) }
 {
     match label {
         Some(label) => label_of(alloc, steps, &label.nodes),
@@ -190,6 +193,8 @@ fn identified(
 ) -> Result<Identified, AllocError>
     ensures identifier { IfOk result (λ made. string_bytes made.identifier ≡ identifier_of (label_kept label.now)) }
     ensures label { IfOk result (λ made. string_bytes made.label ≡ text_of (label_kept label.now)) }
+    ensures list { steps.new.events ≡ steps.old.events }
+    ensures bound { steps.new.count ≤ steps.old.count + node_count (nodes_of_label label.now) }
 {
     Ok(Identified {
         identifier: label_identifier(alloc, label)?,
@@ -246,7 +251,9 @@ pub fn link_node(
     parts: MediaParts<'_>,
     position: Position,
 ) -> Result<Node, AllocError>
-    ensures { IfOk result (λ node. view node ≡ placed (link_label (media_of (inner_with (holders.Media parts.entry) nothing))) (nodes_of_label parts.entry.label) position) }
+    ensures node { IfOk result (λ node. view node ≡ placed (link_label (media_of (inner_with (holders.Media parts.entry) nothing))) (nodes_of_label parts.entry.label) position) }
+    ensures list { steps.new.events ≡ steps.old.events }
+    ensures bound { steps.new.count ≤ steps.old.count + node_count (nodes_of_label parts.entry.label) }
 {
     let MediaParts { label, target } = parts;
     match target {
@@ -313,7 +320,9 @@ pub fn image_node(
     parts: MediaParts<'_>,
     position: Position,
 ) -> Result<Node, AllocError>
-    ensures { IfOk result (λ node. view node ≡ placed (image_label (text_of (label_kept parts.entry.label)) (media_of (inner_with (holders.Media parts.entry) nothing))) nothing position) }
+    ensures node { IfOk result (λ node. view node ≡ placed (image_label (text_of (label_kept parts.entry.label)) (media_of (inner_with (holders.Media parts.entry) nothing))) nothing position) }
+    ensures list { steps.new.events ≡ steps.old.events }
+    ensures bound { steps.new.count ≤ steps.old.count + node_count (nodes_of_label parts.entry.label) }
 {
     let MediaParts { label, target } = parts;
     let alt = label_text(alloc, steps, &label)?;
@@ -352,7 +361,9 @@ pub fn footnote_call(
     label: Option<Label<'_>>,
     position: Position,
 ) -> Result<Node, AllocError>
-    ensures { IfOk result (λ node. view node ≡ placed (tree.footnote_reference (identifier_of (label_kept label.entry)) (Some (text_of (label_kept label.entry)))) nothing position) }
+    ensures node { IfOk result (λ node. view node ≡ placed (tree.footnote_reference (identifier_of (label_kept label.entry)) (Some (text_of (label_kept label.entry)))) nothing position) }
+    ensures list { steps.new.events ≡ steps.old.events }
+    ensures bound { steps.new.count ≤ steps.old.count + node_count (nodes_of_label label.entry) }
 {
     let Identified { identifier, label } = identified(alloc, steps, &label)?;
     Ok(Node::FootnoteReference(FootnoteReference {

@@ -1,6 +1,6 @@
 //! An open acting span with the nodes made in it so far, and what it makes of its items.
 
-ghost use Rattle.std.specs.Prelude.{◌≡◌, ◌≢◌, Bool, IfOk, None, OnOk, Option, is_some, option_map, true, ℕ};
+ghost use Rattle.std.specs.Prelude.{◌≡◌, ◌≢◌, ◌≤◌, ◌+◌, Bool, IfOk, None, OnOk, Option, is_some, option_map, true, ℕ};
 ghost use Rattle.markdown_events.specs.declared.role.Part.TheVariants as parts;
 ghost use Rattle.markdown_events.specs.Slices.{between};
 ghost use Rattle.markdown_events.specs.Spread.{Shown};
@@ -10,6 +10,7 @@ ghost use Rattle.markdown_events.specs.Texts.{trim};
 ghost use Rattle.markdown_tree.specs.Parts.{count, count_of, path_to, text_of};
 ghost use Rattle.markdown_tree.specs.declared.refusal.Refusal.TheVariants.{HeadingDepth, MissingFence, MissingListValue};
 ghost use Rattle.markdown_events.specs.declared.role.Content.TheVariants as contents;
+ghost use Rattle.markdown_tree.specs.Buffers.{node_count};
 ghost use Rattle.markdown_tree.specs.Compiler.{lacking, leave};
 ghost use Rattle.markdown_tree.specs.Grammar.{is_complete};
 ghost use Rattle.markdown_tree.specs.Tasks.{task_if};
@@ -17,7 +18,7 @@ ghost use Rattle.markdown_nodes.specs.View.{view, views};
 ghost use Rattle.markdown_events.specs.declared.role.Acting.TheVariants as acting;
 ghost use Rattle.markdown_tree.specs.Columns.{columns_left, shown};
 ghost use Rattle.markdown_tree.specs.Holders;
-ghost use Rattle.markdown_tree.specs.Holdings.{code_label, inner_with, is_row_of, math_label, moved_of, placed, row_of};
+ghost use Rattle.markdown_tree.specs.Holdings.{code_label, inner_with, is_row_of, math_label, moved_of, nodes_of_label, placed, row_of};
 ghost use Rattle.markdown_events.specs.declared.role.Role.TheVariants as roles;
 ghost use Rattle.markdown_tree.specs.Nodes.{node_of};
 ghost use Rattle.markdown_tree.specs.declared.holder.Holder.TheVariants as holders;
@@ -25,6 +26,7 @@ ghost use Rattle.markdown_tree.specs.Place.{Place, line_ending_is_text};
 ghost use Rattle.markdown_tree.specs.Source.{Source};
 ghost use Rattle.markdown_tree.specs.States.{Gives, Makes, columns_of, holds_of, inner_of_holding, marks_of, place_with};
 ghost use Rattle.markdown_tree.specs.TextNodes.{one_text};
+ghost use Rattle.markdown_tree.specs.Walked.{walked};
 
 use crate::closing::{
     definition, footnote_call, footnote_definition, heading, image_node, link_node, list,
@@ -112,6 +114,8 @@ fn any_content_node(
     requires { is_row_of content Holders.any_content ≡ true }
     ensures node { IfOk result (λ node. (s : Source) (line_endings : Bool) (marker : Option ℕ) → s.bytes ≡ bytes.now → only (view node) ≡ node_of s (place_with line_endings ending.in_table marker) (acting.Content content) ending.start ending.end (shown (marks_of ending.marks) (columns_of columns.old)) (inner_with holders.AnyContent (views nodes.items))) }
     ensures columns { OnOk result (columns_of columns.new ≡ columns_left (roles.Acting (acting.Content content)) (marks_of ending.marks) (columns_of columns.old)) }
+    ensures list { steps.new.events ≡ steps.old.events }
+    ensures bound { steps.new.count ≤ steps.old.count + walked (acting.Content content) (inner_with holders.AnyContent (views nodes.items)) }
 {
     let position = position_of(ending.start, ending.end);
     match content {
@@ -170,7 +174,9 @@ fn code_node(
     position: Position,
     fence: Option<CodeFenceParts>,
 ) -> Result<Node, Stop>
-    ensures { Makes result (is_some fence) MissingFence (λ node. view node ≡ placed (code_label fence (trim (plain_text (views nodes.now)) true true)) nothing position) }
+    ensures node { Makes result (is_some fence) MissingFence (λ node. view node ≡ placed (code_label fence (trim (plain_text (views nodes.now)) true true)) nothing position) }
+    ensures list { steps.new.events ≡ steps.old.events }
+    ensures bound { steps.new.count ≤ steps.old.count + node_count (views nodes.now) }
 {
     match fence {
         Some(fence) => Ok(fenced_code(alloc, steps, nodes, position, fence)?),
@@ -186,7 +192,9 @@ fn math_node(
     position: Position,
     fence: Option<MathFenceParts>,
 ) -> Result<Node, Stop>
-    ensures { Makes result (is_some fence) MissingFence (λ node. view node ≡ placed (math_label fence (trim (plain_text (views nodes.now)) true true)) nothing position) }
+    ensures node { Makes result (is_some fence) MissingFence (λ node. view node ≡ placed (math_label fence (trim (plain_text (views nodes.now)) true true)) nothing position) }
+    ensures list { steps.new.events ≡ steps.old.events }
+    ensures bound { steps.new.count ≤ steps.old.count + node_count (views nodes.now) }
 {
     match fence {
         Some(fence) => Ok(math(alloc, steps, nodes, position, fence)?),
@@ -203,7 +211,9 @@ fn media_node(
     position: Position,
 ) -> Result<Node, AllocError>
     requires { is_row_of content Holders.media ≡ true }
-    ensures { IfOk result (λ node. (s : Source) (p : Place) (a b : Point) (children : Shown) (ts : Trees) → position ≡ between a b → only (view node) ≡ node_of s p (acting.Content content) a b children (inner_with (holders.Media parts.entry) ts)) }
+    ensures node { IfOk result (λ node. (s : Source) (p : Place) (a b : Point) (children : Shown) (ts : Trees) → position ≡ between a b → only (view node) ≡ node_of s p (acting.Content content) a b children (inner_with (holders.Media parts.entry) ts)) }
+    ensures list { steps.new.events ≡ steps.old.events }
+    ensures bound { steps.new.count ≤ steps.old.count + node_count (nodes_of_label parts.entry.label) }
 {
     match content {
         Content::Link => link_node(alloc, steps, parts, position),
@@ -227,6 +237,8 @@ impl<'a> Holding<'a> {
         requires other { content ≢ contents.CharacterReference }
         ensures node { Makes result (is_complete (row_of self.entry.holder) (inner_of_holding self.entry)) (lacking (row_of self.entry.holder)) (λ node. (s : Source) (line_endings : Bool) (marker : Option ℕ) → s.bytes ≡ bytes.now → only (view node) ≡ node_of s (place_with line_endings ending.in_table marker) (acting.Content content) ending.start ending.end (shown (marks_of ending.marks) (columns_of columns.old)) (inner_of_holding self.entry)) }
         ensures columns { OnOk result (columns_of columns.new ≡ columns_left (roles.Acting (acting.Content content)) (marks_of ending.marks) (columns_of columns.old)) }
+        ensures list { steps.new.events ≡ steps.old.events }
+        ensures bound { steps.new.count ≤ steps.old.count + walked (acting.Content content) (inner_of_holding self.entry) }
     {
         let Holding {
             holder,
@@ -280,6 +292,8 @@ impl<'a> Holding<'a> {
         requires such { is_row_of content (row_of own.holder) ≡ true }
         ensures left { (s : Source) (inner_table : Bool) → s.bytes ≡ bytes.now → Gives (λ _. holds_of ending.in_table None self.new) ending.end result (leave s (acting.Content content) ending.start ending.end (shown (marks_of ending.marks) (columns_of columns.old)) (holds_of inner_table None own.entry) (holds_of ending.in_table None self.old)) }
         ensures columns { OnOk result (columns_of columns.new ≡ columns_left (roles.Acting (acting.Content content)) (marks_of ending.marks) (columns_of columns.old)) }
+        ensures list { steps.new.events ≡ steps.old.events }
+        ensures bound { steps.new.count ≤ steps.old.count + walked (acting.Content content) (inner_of_holding own.entry) }
     {
         self.holder.put_content(content, &own.holder);
         match content {

@@ -1,17 +1,19 @@
 //! What a part that is no leaf gives to its holder at its exit.
 
-ghost use Rattle.std.specs.Prelude.{◌≡◌, Bool, IfOk, None, Ok, OnOk, string_bytes, true};
+ghost use Rattle.std.specs.Prelude.{◌≡◌, ◌≤◌, ◌+◌, Bool, IfOk, None, Ok, OnOk, string_bytes, true};
 ghost use Rattle.markdown_events.specs.Spread.{Shown};
 ghost use Rattle.markdown_events.specs.Texts.{fold};
 ghost use Rattle.markdown_events.specs.declared.role.Acting.TheVariants as acting;
 ghost use Rattle.markdown_events.specs.declared.role.Part.TheVariants as parts;
 ghost use Rattle.markdown_nodes.specs.Tree.{Trees, plain_text};
 ghost use Rattle.markdown_nodes.specs.View.{views};
+ghost use Rattle.markdown_tree.specs.Buffers.{node_count};
 ghost use Rattle.markdown_tree.specs.Compiler.{leave};
 ghost use Rattle.markdown_tree.specs.Holders;
 ghost use Rattle.markdown_tree.specs.Holdings.{inner_with, is_part_row, is_text_part, misfit_of, moved_of, row_of};
 ghost use Rattle.markdown_tree.specs.Source.{Source};
-ghost use Rattle.markdown_tree.specs.States.{Gives, ended_with, holds_of};
+ghost use Rattle.markdown_tree.specs.States.{Gives, ended_with, holds_of, inner_of_holding};
+ghost use Rattle.markdown_tree.specs.Walked.{walked};
 ghost use Rattle.markdown_tree.specs.Place.{Place};
 ghost use Rattle.markdown_events.specs.declared.event.Point.{Point};
 ghost use Rattle.markdown_tree.specs.declared.holder.Holder.TheVariants as holders;
@@ -37,6 +39,8 @@ fn identified(
 ) -> Result<Identified, AllocError>
     ensures identifier { IfOk result (λ made. string_bytes made.identifier ≡ fold slice.now) }
     ensures label { IfOk result (λ made. string_bytes made.label ≡ plain_text (views nodes.now)) }
+    ensures list { steps.new.events ≡ steps.old.events }
+    ensures bound { steps.new.count ≤ steps.old.count + node_count (views nodes.now) }
 {
     Ok(Identified {
         identifier: normalize_identifier(alloc, slice)?,
@@ -68,7 +72,9 @@ impl<'a> Holding<'a> {
     ) -> Result<(), AllocError>
         requires fits { misfit_of self.old.holder (acting.Part part) ≡ None }
         requires such { is_text_part part ≡ true }
-        ensures { OnOk result ((s : Source) (a b : Point) (in_table : Bool) (place : Place) (children : Shown) → leave s (acting.Part part) a b children (ended_with Holders.any_content place (inner_with holders.AnyContent (views nodes.now))) (holds_of in_table None self.old) ≡ Ok (holds_of in_table None self.new)) }
+        ensures left { OnOk result ((s : Source) (a b : Point) (in_table : Bool) (place : Place) (children : Shown) → leave s (acting.Part part) a b children (ended_with Holders.any_content place (inner_with holders.AnyContent (views nodes.now))) (holds_of in_table None self.old) ≡ Ok (holds_of in_table None self.new)) }
+        ensures list { steps.new.events ≡ steps.old.events }
+        ensures bound { steps.new.count ≤ steps.old.count + node_count (views nodes.now) }
     {
         let text = values_of(alloc, steps, nodes)?;
         self.holder.put_text(part, text);
@@ -119,7 +125,9 @@ impl<'a> Holding<'a> {
         ending: Ending,
     ) -> Result<(), Stop>
         requires { misfit_of self.old.holder (acting.Part parts.ReferenceString) ≡ None }
-        ensures { (s : Source) (place : Place) (children : Shown) → s.bytes ≡ bytes.now → Gives (λ _. holds_of ending.in_table None self.new) ending.end result (leave s (acting.Part parts.ReferenceString) ending.start ending.end children (ended_with Holders.any_content place (inner_with holders.AnyContent (views nodes.now))) (holds_of ending.in_table None self.old)) }
+        ensures left { (s : Source) (place : Place) (children : Shown) → s.bytes ≡ bytes.now → Gives (λ _. holds_of ending.in_table None self.new) ending.end result (leave s (acting.Part parts.ReferenceString) ending.start ending.end children (ended_with Holders.any_content place (inner_with holders.AnyContent (views nodes.now))) (holds_of ending.in_table None self.old)) }
+        ensures list { steps.new.events ≡ steps.old.events }
+        ensures bound { steps.new.count ≤ steps.old.count + node_count (views nodes.now) }
     {
         let Some(slice) = text_of(bytes, ending.start, ending.end) else {
             return Err(Stop::Refused(Refusal::InvalidSlice));
@@ -139,7 +147,9 @@ impl<'a> Holding<'a> {
         ending: Ending,
     ) -> Result<(), Stop>
         requires { misfit_of self.old.holder (acting.Part parts.DefinitionLabelString) ≡ None }
-        ensures { (s : Source) (place : Place) (children : Shown) → s.bytes ≡ bytes.now → Gives (λ _. holds_of ending.in_table None self.new) ending.end result (leave s (acting.Part parts.DefinitionLabelString) ending.start ending.end children (ended_with Holders.any_content place (inner_with holders.AnyContent (views nodes.now))) (holds_of ending.in_table None self.old)) }
+        ensures left { (s : Source) (place : Place) (children : Shown) → s.bytes ≡ bytes.now → Gives (λ _. holds_of ending.in_table None self.new) ending.end result (leave s (acting.Part parts.DefinitionLabelString) ending.start ending.end children (ended_with Holders.any_content place (inner_with holders.AnyContent (views nodes.now))) (holds_of ending.in_table None self.old)) }
+        ensures list { steps.new.events ≡ steps.old.events }
+        ensures bound { steps.new.count ≤ steps.old.count + node_count (views nodes.now) }
     {
         let Some(slice) = text_of(bytes, ending.start, ending.end) else {
             return Err(Stop::Refused(Refusal::InvalidSlice));
@@ -159,7 +169,9 @@ impl<'a> Holding<'a> {
         ending: Ending,
     ) -> Result<(), Stop>
         requires { misfit_of self.old.holder (acting.Part parts.FootnoteDefinitionLabelString) ≡ None }
-        ensures { (s : Source) (place : Place) (children : Shown) → s.bytes ≡ bytes.now → Gives (λ _. holds_of ending.in_table None self.new) ending.end result (leave s (acting.Part parts.FootnoteDefinitionLabelString) ending.start ending.end children (ended_with Holders.any_content place (inner_with holders.AnyContent (views nodes.now))) (holds_of ending.in_table None self.old)) }
+        ensures left { (s : Source) (place : Place) (children : Shown) → s.bytes ≡ bytes.now → Gives (λ _. holds_of ending.in_table None self.new) ending.end result (leave s (acting.Part parts.FootnoteDefinitionLabelString) ending.start ending.end children (ended_with Holders.any_content place (inner_with holders.AnyContent (views nodes.now))) (holds_of ending.in_table None self.old)) }
+        ensures list { steps.new.events ≡ steps.old.events }
+        ensures bound { steps.new.count ≤ steps.old.count + node_count (views nodes.now) }
     {
         let Some(slice) = text_of(bytes, ending.start, ending.end) else {
             return Err(Stop::Refused(Refusal::InvalidSlice));
@@ -193,7 +205,9 @@ impl<'a> Holding<'a> {
     ) -> Result<(), Stop>
         requires such { is_part_row part Holders.any_content ≡ true }
         requires fits { misfit_of self.old.holder (acting.Part part) ≡ None }
-        ensures { (s : Source) (place : Place) (children : Shown) → s.bytes ≡ bytes.now → Gives (λ _. holds_of ending.in_table None self.new) ending.end result (leave s (acting.Part part) ending.start ending.end children (ended_with Holders.any_content place (inner_with holders.AnyContent (views nodes.items))) (holds_of ending.in_table None self.old)) }
+        ensures left { (s : Source) (place : Place) (children : Shown) → s.bytes ≡ bytes.now → Gives (λ _. holds_of ending.in_table None self.new) ending.end result (leave s (acting.Part part) ending.start ending.end children (ended_with Holders.any_content place (inner_with holders.AnyContent (views nodes.items))) (holds_of ending.in_table None self.old)) }
+        ensures list { steps.new.events ≡ steps.old.events }
+        ensures bound { steps.new.count ≤ steps.old.count + walked (acting.Part part) (inner_with holders.AnyContent (views nodes.items)) }
     {
         match part {
             Part::HeadingSetextText => Ok(self.take_heading_text(nodes)?),
@@ -224,7 +238,9 @@ impl<'a> Holding<'a> {
         requires row { row_of own.holder ≡ Holders.part_holder (moved_of self.old.holder) part }
         requires such { is_part_row part (row_of own.holder) ≡ true }
         requires fits { misfit_of self.old.holder (acting.Part part) ≡ None }
-        ensures { (s : Source) (inner_table : Bool) (children : Shown) → s.bytes ≡ bytes.now → Gives (λ _. holds_of ending.in_table None self.new) ending.end result (leave s (acting.Part part) ending.start ending.end children (holds_of inner_table None own.entry) (holds_of ending.in_table None self.old)) }
+        ensures left { (s : Source) (inner_table : Bool) (children : Shown) → s.bytes ≡ bytes.now → Gives (λ _. holds_of ending.in_table None self.new) ending.end result (leave s (acting.Part part) ending.start ending.end children (holds_of inner_table None own.entry) (holds_of ending.in_table None self.old)) }
+        ensures list { steps.new.events ≡ steps.old.events }
+        ensures bound { steps.new.count ≤ steps.old.count + walked (acting.Part part) (inner_of_holding own.entry) }
     {
         let Holding { holder, nodes, .. } = own;
         match (holder, part) {

@@ -1,12 +1,13 @@
 //! The nodes of raw content, whose value is the text of their buffer, and those of links that are
 //! written as their address.
 
-ghost use Rattle.std.specs.Prelude.{◌≡◌, ◌++◌, [], IfOk, None, Some, codes, false, if◌then◌else◌, option_map, string_bytes, true};
+ghost use Rattle.std.specs.Prelude.{◌≡◌, ◌≤◌, ◌+◌, ◌++◌, [], IfOk, None, Some, codes, false, if◌then◌else◌, option_map, string_bytes, true};
 ghost use Rattle.markdown_events.specs.Slices.{between};
 ghost use Rattle.markdown_events.specs.Texts.{raw, spaces, trim};
 ghost use Rattle.markdown_nodes.specs.Tree as tree;
 ghost use Rattle.markdown_nodes.specs.Tree.{nothing, only, plain_text};
 ghost use Rattle.markdown_nodes.specs.View.{view, views};
+ghost use Rattle.markdown_tree.specs.Buffers.{node_count};
 ghost use Rattle.markdown_tree.specs.Holdings.{email_kept, placed, protocol_kept};
 ghost use Rattle.markdown_tree.specs.Media.{autolink, linked};
 ghost use Rattle.markdown_tree.specs.Nodes.{frontmatter};
@@ -31,7 +32,9 @@ pub fn fenced_code(
     position: Position,
     fence: CodeFenceParts,
 ) -> Result<Node, AllocError>
-    ensures { IfOk result (λ node. view node ≡ placed (tree.code (trim (plain_text (views nodes.now)) true true) (option_map string_bytes fence.info) (option_map string_bytes fence.meta)) nothing position) }
+    ensures node { IfOk result (λ node. view node ≡ placed (tree.code (trim (plain_text (views nodes.now)) true true) (option_map string_bytes fence.info) (option_map string_bytes fence.meta)) nothing position) }
+    ensures list { steps.new.events ≡ steps.old.events }
+    ensures bound { steps.new.count ≤ steps.old.count + node_count (views nodes.now) }
 {
     let CodeFenceParts { info, meta } = fence;
     let text = values_of(alloc, steps, nodes)?;
@@ -51,7 +54,9 @@ pub fn indented_code(
     nodes: &[Node],
     position: Position,
 ) -> Result<Node, AllocError>
-    ensures { IfOk result (λ node. view node ≡ placed (tree.code (trim (plain_text (views nodes.now)) false true) None None) nothing position) }
+    ensures node { IfOk result (λ node. view node ≡ placed (tree.code (trim (plain_text (views nodes.now)) false true) None None) nothing position) }
+    ensures list { steps.new.events ≡ steps.old.events }
+    ensures bound { steps.new.count ≤ steps.old.count + node_count (views nodes.now) }
 {
     let text = values_of(alloc, steps, nodes)?;
     Ok(Node::Code(Code {
@@ -71,7 +76,9 @@ pub fn math(
     position: Position,
     fence: MathFenceParts,
 ) -> Result<Node, AllocError>
-    ensures { IfOk result (λ node. view node ≡ placed (tree.math (trim (plain_text (views nodes.now)) true true) (option_map string_bytes fence.meta)) nothing position) }
+    ensures node { IfOk result (λ node. view node ≡ placed (tree.math (trim (plain_text (views nodes.now)) true true) (option_map string_bytes fence.meta)) nothing position) }
+    ensures list { steps.new.events ≡ steps.old.events }
+    ensures bound { steps.new.count ≤ steps.old.count + node_count (views nodes.now) }
 {
     let MathFenceParts { meta } = fence;
     let text = values_of(alloc, steps, nodes)?;
@@ -91,7 +98,9 @@ pub fn frontmatter(
     position: Position,
     is_toml: bool,
 ) -> Result<Node, AllocError>
-    ensures { IfOk result (λ node. view node ≡ placed (frontmatter is_toml (trim (plain_text (views nodes.now)) true true)) nothing position) }
+    ensures node { IfOk result (λ node. view node ≡ placed (frontmatter is_toml (trim (plain_text (views nodes.now)) true true)) nothing position) }
+    ensures list { steps.new.events ≡ steps.old.events }
+    ensures bound { steps.new.count ≤ steps.old.count + node_count (views nodes.now) }
 {
     let text = values_of(alloc, steps, nodes)?;
     let value = block_value(text, true);
@@ -112,7 +121,9 @@ pub fn inline_code(
     position: Position,
     in_table: bool,
 ) -> Result<Node, AllocError>
-    ensures { IfOk result (λ node. view node ≡ placed (tree.inline_code (raw (spaces (plain_text (views nodes.now))) in_table)) nothing position) }
+    ensures node { IfOk result (λ node. view node ≡ placed (tree.inline_code (raw (spaces (plain_text (views nodes.now))) in_table)) nothing position) }
+    ensures list { steps.new.events ≡ steps.old.events }
+    ensures bound { steps.new.count ≤ steps.old.count + node_count (views nodes.now) }
 {
     let text = values_of(alloc, steps, nodes)?;
     Ok(Node::InlineCode(InlineCode {
@@ -130,7 +141,9 @@ pub fn inline_math(
     position: Position,
     in_table: bool,
 ) -> Result<Node, AllocError>
-    ensures { IfOk result (λ node. view node ≡ placed (tree.inline_math (raw (spaces (plain_text (views nodes.now))) in_table)) nothing position) }
+    ensures node { IfOk result (λ node. view node ≡ placed (tree.inline_math (raw (spaces (plain_text (views nodes.now))) in_table)) nothing position) }
+    ensures list { steps.new.events ≡ steps.old.events }
+    ensures bound { steps.new.count ≤ steps.old.count + node_count (views nodes.now) }
 {
     let text = values_of(alloc, steps, nodes)?;
     Ok(Node::InlineMath(InlineMath {
@@ -147,7 +160,9 @@ pub fn html(
     nodes: &[Node],
     position: Position,
 ) -> Result<Node, AllocError>
-    ensures { IfOk result (λ node. view node ≡ placed (tree.html (plain_text (views nodes.now))) nothing position) }
+    ensures node { IfOk result (λ node. view node ≡ placed (tree.html (plain_text (views nodes.now))) nothing position) }
+    ensures list { steps.new.events ≡ steps.old.events }
+    ensures bound { steps.new.count ≤ steps.old.count + node_count (views nodes.now) }
 {
     Ok(Node::Html(Html {
         value: values_of(alloc, steps, nodes)?,

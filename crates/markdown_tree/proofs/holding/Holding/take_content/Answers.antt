@@ -28,6 +28,8 @@ returns-in_err-node-in_default c = record {
       (unmade_stops _ _ _ _ c.args.ending.end _ c.in_err-node-in_default.ensures.node
       (content_lacks s c.args.ending.in_table inner_table c.args.self.now c.args.own c.args.content c.args.ending.start c.args.ending.end (shown (marks_of c.args.ending.marks) (columns_of c.args.columns.now))));
   columns = nothing_on_err c.from_residual.result _ c.from_residual.ensures.0;
+  list = c.node.ensures.list;
+  bound = c.node.ensures.bound;
 }
 
 pub returns-in-CharacterReference-clause-left : goal.returns-in-CharacterReference-clause-left
@@ -53,4 +55,6 @@ returns-in_ok-put-in_default c = record {
       (c.put_content.ensures s (place_of c.args.ending.in_table c.args.self.now) c.args.ending.start c.args.ending.end (views c.args.own.nodes.items)) refl
       (c.in_ok-put-in_default.ensures ∙ ap (λ (ts : Trees). join (views c.args.self.now.nodes.items) ts) (c.in_ok-node-in_default.ensures.node.1 s c.args.self.now.line_endings (marker_of c.args.self.now.holder) same));
   columns = c.in_ok-node-in_default.ensures.columns;
+  list = c.node.ensures.list;
+  bound = c.node.ensures.bound;
 }

@@ -9,13 +9,13 @@ use Rattle.markdown_tree.specs.States.{place_of}
 use Rattle.markdown_tree.proofs.SpanEnds.{none_put, part_left, part_unread, slice_missing, slice_read, slice_there}
 use Rattle.markdown_tree.proofs.holding.Holding.take_footnote_label.Goals as goal
 
-pub returns-in_default : goal.returns-in_default
-returns-in_default c s place children same =
+pub returns-in_default-clause-left : goal.returns-in_default-clause-left
+returns-in_default-clause-left c s place children same =
     part_unread s c.args.ending.in_table c.args.self.now Holders.any_content place (inner_with holders.AnyContent (views c.args.nodes.now)) parts.FootnoteDefinitionLabelString c.args.ending.start c.args.ending.end children
     refl (slice_missing s c.args.bytes.now c.args.ending.start c.args.ending.end same c.in_default.ensures)
 
-pub returns : goal.returns
-returns c s place children same =
+pub returns-clause-left : goal.returns-clause-left
+returns-clause-left c s place children same =
     part_left s c.args.ending.in_table c.args.self.now (record { holder = c.put_footnote_label.new.self; line_endings = c.args.self.now.line_endings; nodes = c.args.self.now.nodes })
     Holders.any_content place (inner_with holders.AnyContent (views c.args.nodes.now)) parts.FootnoteDefinitionLabelString c.args.ending.start c.args.ending.end children
     refl (slice_there s c.args.bytes.now c.in-Some.slice.now c.args.ending.start c.args.ending.end same c.in-Some.ensures)

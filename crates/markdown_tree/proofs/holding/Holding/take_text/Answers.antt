@@ -7,8 +7,8 @@ use Rattle.markdown_tree.specs.States.{place_of}
 use Rattle.markdown_tree.proofs.SpanEnds.{part_left, text_part_behind, text_part_put, text_part_read}
 use Rattle.markdown_tree.proofs.holding.Holding.take_text.Goals as goal
 
-pub returns : goal.returns
-returns c s a b in_table place children =
+pub returns-clause-left : goal.returns-clause-left
+returns-clause-left c s a b in_table place children =
     part_left s in_table c.args.self.now (record { holder = c.put_text.new.self; line_endings = c.args.self.now.line_endings; nodes = c.args.self.now.nodes })
     Holders.any_content place (inner_with holders.AnyContent (views c.args.nodes.now)) c.args.part a b children
     refl (text_part_read s (moved_of c.args.self.now.holder) (place_of in_table c.args.self.now) c.args.part a b c.requires.such)
