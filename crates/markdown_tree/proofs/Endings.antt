@@ -1,12 +1,11 @@
 -- What the exit of a span makes of the state, in the program and in the steps.
-use Rattle.std.proofs.Common.{◌≡◌, ◌-◌, arith, inl, inr, Bool, true, false, ◌||◌, ◌&&◌, not, is_some, List, [], ◌∷◌, ◌++◌, Option, None, Some, Result, Ok, Err, Vec, Global, refl, sym, ap, ◌∙◌, cond, reverse, subst}
+use Rattle.std.proofs.Common.{◌≡◌, ◌<◌, ℕ, arith, length, Bool, true, false, ◌||◌, ◌&&◌, not, is_some, List, [], ◌∷◌, ◌++◌, Option, None, Some, Result, Ok, Err, Vec, Global, refl, sym, ap, ◌∙◌, cond, reverse, subst}
+use Rattle.std.specs.Prelude.{if◌then◌else◌}
 use Rattle.markdown_events.specs.Names.{role_of}
 use Rattle.markdown_events.specs.Walks.{is_same_name}
 use Rattle.markdown_events.specs.declared.event.Name.{Name}
 use Rattle.markdown_events.specs.declared.event.Point.{Point}
-use Rattle.std.proofs.lemmas.List.{nil_from_length, reverse-append}
-use Rattle.std.proofs.lemmas.Option.{slice_get_cases}
-use Rattle.std.specs.Prelude.{slice_get, vec_len}
+use Rattle.std.proofs.lemmas.List.{reverse-append}
 use Rattle.markdown_events.specs.Spread.{Shown}
 use Rattle.markdown_events.specs.declared.role.Acting.{Acting}
 use Rattle.markdown_events.specs.declared.role.Acting.TheVariants.{Content as content, Part as part}
@@ -37,7 +36,8 @@ use Rattle.markdown_tree.specs.Reads.{is_read}
 use Rattle.markdown_tree.specs.Rejections.{Rejection, checked, passes, refused, ◌>>=◌}
 use Rattle.markdown_tree.specs.Siblings.{marks_with}
 use Rattle.markdown_tree.specs.Source.{Source}
-use Rattle.markdown_tree.specs.States.{Closed, Ends, EndsAs, Gives, HolderEnds, LeafEnds, Stops, columns_of, holdings_left, holds_of, kept_top, leaf_holder, leaf_left, leaf_place, left_to, marks_of, opens, outer_of, state_of, top_of}
+use Rattle.markdown_tree.specs.States.{Closed, Ends, EndsAs, Gives, HolderEnds, LeafEnds, Stops, columns_of, holdings_left, holds_of, kept_top, leaf_holder, leaf_left, leaf_place, left_to, left_walks, inner_of_holding, marks_of, opens, outer_of, state_of, top_of}
+use Rattle.markdown_tree.specs.Walked.{exit_walks, walked, walked_by}
 use Rattle.markdown_tree.specs.Well.{AllStand, Stands, Taken, Well, is_plain}
 use Rattle.markdown_tree.proofs.Beginnings.{no_leaf_row, pushed}
 use Rattle.markdown_tree.proofs.Booleans.{and-right}
@@ -104,12 +104,10 @@ ends s old frames f role well at is =
 
 -- ---- The step of an exit
 
--- nothing is left where no span is popped
-pub none_left : (v : Vec Frame Global) → None ≡ slice_get v.items (vec_len v - 1) → v.items ≡ []
-none_left v h = elim (slice_get_cases v.items (vec_len v - 1)).1 [
-  | inl p ↦ (let wrong : None ≡ Some p.0 = h ∙ p.2 in absurd cc)
-  | inr p ↦ (let b = p.0 in let l = v.ok.0 in nil_from_length v.items (omega (arith, b, l)))
-]
+-- nothing is popped where no frame is left
+pub none_left : (fs : List Frame) (n : ℕ) (last : Frame → Frame) → n ≡ length fs → ((d : Frame) → 0 < n → None ≡ Some (last d)) → fs ≡ []
+none_left [] n last l h = refl
+none_left (f ∷ fs) n last l h = let more : 0 < n = omega (arith, l) in let wrong : None ≡ Some (last f) = h f more in absurd cc
 
 -- where no span is open
 pub exit_none : (s : Source) (name : Name) (point : Point) (c : Context) → c.frames.items ≡ [] → exit_step s name point (state_of c) ≡ refused Unbalanced point
@@ -243,3 +241,20 @@ part_row h x parts.HeadingAtxSequence e = absurd (no_leaf_row h e)
 part_row h x parts.HeadingSetextUnderlineSequence e = absurd (no_leaf_row h e)
 part_row h x parts.ListItemValue e = absurd (no_leaf_row h e)
 part_row h x q e = ap (is_part_row q) e
+
+-- ---- Nodes that are walked over
+
+-- the exit walks over what the span that it closes is left with
+pub exit_walks_left : (name : Name) (old : Context) (frames : Vec Frame Global) (f : Frame) (role : Role) → old.frames.items ≡ frames.items ++ f ∷ [] → role ≡ role_of f.name → is_same_name f.name name ≡ true
+    → left_walks role f (record old { frames = frames }) ≡ exit_walks name (state_of old).frames (top_of old).inner
+exit_walks_left name old frames f role at is same =
+    (λ t. walked_by (outer_of (is t) f.in_table (leaf_holder old) (reverse old.holdings.items)) (top_of old).inner)
+    ∙ sym (ap (λ (x : List Open). exit_walks name x (top_of old).inner) (last_open old f frames.items at)
+    ∙ ap (λ (b : Bool). if b then walked_by (open_of f old).outer (top_of old).inner else 0) same)
+
+-- those of a holder, where no break waits in it
+pub holder_walks : (what : Acting) (f : Frame) (c : Context) (outer : Holding) (others : List Holding) → c.is_leaf ≡ false → reverse c.holdings.items ≡ outer ∷ others → is_some c.pending ≡ false
+    → left_walks (acting what) f c ≡ walked what (inner_of_holding c.top)
+holder_walks what f c outer others grows at none =
+    (λ t. walked_by (outer_of (acting what) f.in_table (cond (grows t) (Some (kept_top c)) None) (at t)) (cond (grows t) (fresh leaf (leaf_place c.in_table)) (kept_top c)).inner)
+    ∙ (λ t. walked what (holds_of c.in_table (no_break c.pending none t) c.top).inner)

@@ -16,6 +16,7 @@ pub mod Misfits
 pub mod Beginnings
 pub mod Endings
 pub mod Loop
+pub mod Answered
 pub mod Outcomes
 pub mod Extents
 pub mod Shape

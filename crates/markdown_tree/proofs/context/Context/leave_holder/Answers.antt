@@ -1,4 +1,4 @@
-use Rattle.std.proofs.Common.{Bool, None, refl, reverse, sym, ap, ◌∙◌}
+use Rattle.std.proofs.Common.{arith, Bool, None, refl, reverse, sym, ap, ◌∙◌}
 use Rattle.markdown_events.specs.Spread.{Shown}
 use Rattle.markdown_events.specs.declared.role.Acting.{Acting}
 use Rattle.markdown_tree.specs.declared.holding.Holding.{Holding}
@@ -6,8 +6,9 @@ use Rattle.markdown_tree.specs.Columns.{shown}
 use Rattle.markdown_tree.specs.Compiler.{leave}
 use Rattle.markdown_tree.specs.Holders.{holder_of}
 use Rattle.markdown_tree.specs.Holdings.{moved_of, row_of}
-use Rattle.markdown_tree.specs.States.{columns_of, holds_of, marks_of}
-use Rattle.markdown_tree.proofs.Endings.{content_row, holder_gives, holder_waits, part_row, popped}
+use Rattle.markdown_tree.specs.States.{columns_of, holds_of, inner_of_holding, marks_of}
+use Rattle.markdown_tree.specs.Walked.{walked}
+use Rattle.markdown_tree.proofs.Endings.{content_row, holder_gives, holder_waits, holder_walks, part_row, popped}
 use Rattle.markdown_tree.proofs.Stopping.{gives_same}
 use Rattle.markdown_tree.proofs.context.Context.leave_holder.Goals as goal
 
@@ -35,4 +36,20 @@ returns-in-Part-clause-gives c s same =
     (sym c.is_some.ensures ∙ c.if-is_some.false) refl refl refl
     (gives_same (λ x. holds_of c.args.frame.in_table None c.take_part.new.self) c.args.end c.take_part.result _ _
     (λ t. leave s (c.in-Part.is t) c.args.frame.start c.args.end children (holds_of in_table None (sym c.replace-own.ensures.value t)) (holds_of c.args.frame.in_table None (sym c.replace-own.ensures.after t)))
-    (c.take_part.ensures s in_table children same))
+    (c.take_part.ensures.left s in_table children same))
+
+pub returns-in-Content-clause-bound : goal.returns-in-Content-clause-bound
+returns-in-Content-clause-bound c =
+    let same = holder_walks c.args.what c.args.frame c.args.self.now c.in-Some.outer (reverse c.pop.new.self.items) c.requires.«open»
+    (popped c.args.self.now.holdings.items c.pop.new.self.items c.in-Some.outer c.in-Some.ensures.items) (sym c.is_some.ensures ∙ c.if-is_some.false)
+    ∙ (λ t. walked (c.in-Content.is t) (inner_of_holding (sym c.replace-own.ensures.value t))) in
+    let bound = c.take_content.ensures.bound in
+    omega (arith, same, bound)
+
+pub returns-in-Part-clause-bound : goal.returns-in-Part-clause-bound
+returns-in-Part-clause-bound c =
+    let same = holder_walks c.args.what c.args.frame c.args.self.now c.in-Some.outer (reverse c.pop.new.self.items) c.requires.«open»
+    (popped c.args.self.now.holdings.items c.pop.new.self.items c.in-Some.outer c.in-Some.ensures.items) (sym c.is_some.ensures ∙ c.if-is_some.false)
+    ∙ (λ t. walked (c.in-Part.is t) (inner_of_holding (sym c.replace-own.ensures.value t))) in
+    let bound = c.take_part.ensures.bound in
+    omega (arith, same, bound)
