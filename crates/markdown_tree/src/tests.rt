@@ -127,15 +127,18 @@ fn a_virtual_space_moves_the_start_of_a_slice(rt: HostRuntime) -> Result<(), Fai
 }
 
 #[test]
-fn names_that_are_not_carried_are_misplaced(rt: HostRuntime) -> Result<(), Fail> {
+fn names_stand_where_their_holder_takes_them(rt: HostRuntime) -> Result<(), Fail> {
     let emphasis = [enter(Name::Emphasis, 0), exit(Name::Emphasis, 2)];
     assert_eq!(rt;
         answer(rt.alloc(), &emphasis, b"Hi")?.as_str(),
-        "1:1 (0): name-misplaced"
+        "Root { children: [Emphasis { children: [], position: Some(1:1-1:3 (0-2)) }], position: Some(1:1-1:3 (0-2)) }"
     );
-    let nested = [enter(Name::Paragraph, 0), enter(Name::Paragraph, 1)];
+    let mark_alone = [
+        enter(Name::Paragraph, 0),
+        enter(Name::GfmTaskListItemValueChecked, 1),
+    ];
     assert_eq!(rt;
-        answer(rt.alloc(), &nested, b"Hi")?.as_str(),
+        answer(rt.alloc(), &mark_alone, b"Hi")?.as_str(),
         "1:2 (1): name-misplaced"
     );
     Ok(())
