@@ -17,9 +17,9 @@ use Rattle.markdown_nodes.specs.declared.mdast.Node.{Node}
 use Rattle.markdown_nodes.specs.declared.mdast.Node.TheVariants as nodes
 use Rattle.markdown_nodes.specs.declared.mdast.Root.{Root as RootNode}
 use Rattle.markdown_nodes.proofs.Views.{view-Root}
-use Rattle.markdown_tree.specs.Accepted.{Accepted, accepted}
+use Rattle.markdown_tree.specs.Accepted.{accepted}
 use Rattle.markdown_tree.specs.Buffers.{held, inside}
-use Rattle.markdown_tree.specs.Compiler.{Holds, Open, State, compiled, fresh, is_shut, last_checks, opening, point_of, run, tree_of}
+use Rattle.markdown_tree.specs.Compiler.{Holds, State, compiled, fresh, is_shut, last_checks, opening, point_of, run, tree_of}
 use Rattle.markdown_tree.specs.Correct.{FailsRightly, IsMeaning, IsRefused, LeftOpen, StopsAt}
 use Rattle.markdown_tree.specs.Extents.{extent_of, last_event}
 use Rattle.markdown_tree.specs.Holders.{any_content, leaf}
@@ -29,7 +29,7 @@ use Rattle.markdown_tree.specs.Rejections.{Rejection, checked, refused, â—Œ>>=â—
 use Rattle.markdown_tree.specs.Source.{Source}
 use Rattle.markdown_tree.specs.States.{Completes, Fails, kept_top, leaf_holder, leaf_place, opens, state_of, top_of, with_break}
 use Rattle.markdown_tree.specs.Walked.{run_walks}
-use Rattle.markdown_tree.specs.Well.{AllStand, Well}
+use Rattle.markdown_tree.specs.Well.{AllStand}
 use Rattle.markdown_tree.specs.declared.context.Context.{Context}
 use Rattle.markdown_tree.specs.declared.context.Frame.{Frame}
 use Rattle.markdown_tree.specs.declared.holding.Holding.{Holding}

@@ -1,5 +1,5 @@
 -- What the exit of a span makes of the state, in the program and in the steps.
-use Rattle.std.proofs.Common.{◌≡◌, ◌<◌, ℕ, arith, length, Bool, true, false, ◌||◌, ◌&&◌, not, is_some, List, [], ◌∷◌, ◌++◌, Option, None, Some, Result, Ok, Err, Vec, Global, refl, sym, ap, ◌∙◌, cond, reverse, subst}
+use Rattle.std.proofs.Common.{◌≡◌, ◌<◌, ℕ, arith, length, Bool, true, false, ◌||◌, ◌&&◌, not, is_some, List, [], ◌∷◌, ◌++◌, Option, None, Some, Result, Ok, Vec, Global, refl, sym, ap, ◌∙◌, cond, reverse, subst}
 use Rattle.std.specs.Prelude.{if◌then◌else◌}
 use Rattle.markdown_events.specs.Names.{role_of}
 use Rattle.markdown_events.specs.Walks.{is_same_name}
@@ -36,9 +36,9 @@ use Rattle.markdown_tree.specs.Reads.{is_read}
 use Rattle.markdown_tree.specs.Rejections.{Rejection, checked, passes, refused, ◌>>=◌}
 use Rattle.markdown_tree.specs.Siblings.{marks_with}
 use Rattle.markdown_tree.specs.Source.{Source}
-use Rattle.markdown_tree.specs.States.{Closed, Ends, EndsAs, Gives, HolderEnds, LeafEnds, Stops, columns_of, holdings_left, holds_of, kept_top, leaf_holder, leaf_left, leaf_place, left_to, left_walks, inner_of_holding, marks_of, opens, outer_of, state_of, top_of}
+use Rattle.markdown_tree.specs.States.{Closed, Ends, EndsAs, Gives, HolderEnds, Stops, columns_of, holdings_left, holds_of, kept_top, leaf_holder, leaf_left, leaf_place, left_to, left_walks, inner_of_holding, marks_of, opens, outer_of, state_of, top_of}
 use Rattle.markdown_tree.specs.Walked.{exit_walks, walked, walked_by}
-use Rattle.markdown_tree.specs.Well.{AllStand, Stands, Taken, Well, is_plain}
+use Rattle.markdown_tree.specs.Well.{AllStand, Stands, Well, is_plain}
 use Rattle.markdown_tree.proofs.Beginnings.{no_leaf_row, pushed}
 use Rattle.markdown_tree.proofs.Booleans.{and-right}
 use Rattle.markdown_tree.proofs.Misfits.{left_none, misfit_first, none_fails}
