@@ -11,11 +11,19 @@
 #[cfg(test)]
 mod alignment;
 #[cfg(test)]
+mod cases;
+#[cfg(test)]
+mod decoder;
+#[cfg(test)]
+mod memory;
+#[cfg(test)]
 mod names;
 #[cfg(test)]
 mod nodes;
 #[cfg(test)]
 mod outline;
+#[cfg(test)]
+mod pairs;
 #[cfg(test)]
 mod spans;
 #[cfg(test)]
