@@ -18,8 +18,20 @@ const COLON: (usize, Name) = (3, Name::GfmTableDelimiterMarker);
 
 const LINE: (usize, Name) = (3, Name::GfmTableDelimiterFiller);
 
+const COLONS: [(usize, Name); 17] = [
+    TABLE, ROW, VALUE, LINE, VALUE, COLON, LINE, VALUE, LINE, COLON, VALUE, COLON, LINE, COLON,
+    VALUE, COLON, VALUE,
+];
+
+const NO_ROW: [(usize, Name); 4] = [TABLE, TABLE, ROW, VALUE];
+
+const SECOND_ROW: [(usize, Name); 9] = [TABLE, ROW, VALUE, COLON, ROW, VALUE, LINE, VALUE, LINE];
+
+/// The tables of the tests here.
+pub const TABLES: [&[(usize, Name)]; 3] = [&COLONS, &NO_ROW, &SECOND_ROW];
+
 /// How the columns of the table that begins at this index are aligned, if one begins there.
-fn table_align(
+pub fn table_align(
     alloc: Global,
     events: &[Event],
     index: usize,
@@ -53,10 +65,6 @@ fn aligned(
 
 #[test]
 fn colons_align_a_column(rt: HostRuntime) -> Result<(), Fail> {
-    let outline = [
-        TABLE, ROW, VALUE, LINE, VALUE, COLON, LINE, VALUE, LINE, COLON, VALUE, COLON, LINE, COLON,
-        VALUE, COLON, VALUE,
-    ];
     let want = [
         AlignKind::None,
         AlignKind::Left,
@@ -65,16 +73,15 @@ fn colons_align_a_column(rt: HostRuntime) -> Result<(), Fail> {
         AlignKind::Center,
         AlignKind::None,
     ];
-    aligned(&rt, rt.alloc(), &outline, &want)
+    aligned(&rt, rt.alloc(), &COLONS, &want)
 }
 
 #[test]
 fn a_table_without_its_row_has_no_column(rt: HostRuntime) -> Result<(), Fail> {
-    aligned(&rt, rt.alloc(), &[TABLE, TABLE, ROW, VALUE], &[])
+    aligned(&rt, rt.alloc(), &NO_ROW, &[])
 }
 
 #[test]
 fn a_second_row_aligns_nothing(rt: HostRuntime) -> Result<(), Fail> {
-    let outline = [TABLE, ROW, VALUE, COLON, ROW, VALUE, LINE, VALUE, LINE];
-    aligned(&rt, rt.alloc(), &outline, &[AlignKind::Center])
+    aligned(&rt, rt.alloc(), &SECOND_ROW, &[AlignKind::Center])
 }

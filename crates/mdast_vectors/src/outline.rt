@@ -1,4 +1,4 @@
-//! Events of spans, where it does not matter at which point they stand.
+//! Events of spans in one line, mostly where it does not matter at which point they stand.
 
 use markdown_nodes::event::{Event, Kind, Name, Point};
 use std::alloc::{AllocError, Global};
@@ -27,18 +27,19 @@ fn leave(events: &mut Vec<Event>, names: &mut Vec<Name>, depth: usize) -> Result
 }
 
 pub fn enter(name: Name) -> Event {
-    at_start(Kind::Enter, name)
+    event_at(Kind::Enter, name, 0)
 }
 
 pub fn exit(name: Name) -> Event {
-    at_start(Kind::Exit, name)
+    event_at(Kind::Exit, name, 0)
 }
 
-fn at_start(kind: Kind, name: Name) -> Event {
+/// An event in the first line.
+pub fn event_at(kind: Kind, name: Name, index: usize) -> Event {
     let point = Point {
         line: 1,
-        column: 1,
-        index: 0,
+        column: index.saturating_add(1),
+        index,
         vs: 0,
     };
     Event { kind, name, point }

@@ -6,8 +6,59 @@ use markdown_nodes::infer::{list_item_loose, list_loose};
 use std::alloc::{AllocError, Global};
 use std::test::Fail;
 
+const LIST: (usize, Name) = (0, Name::ListUnordered);
+
+const ITEM: (usize, Name) = (1, Name::ListItem);
+
+const PREFIX: (usize, Name) = (2, Name::ListItemPrefix);
+
+const SPACE: (usize, Name) = (2, Name::SpaceOrTab);
+
+const TEXT: (usize, Name) = (2, Name::Paragraph);
+
+const QUOTE: (usize, Name) = (2, Name::BlockQuote);
+
+const MARK: (usize, Name) = (3, Name::BlockQuotePrefix);
+
+/// A blank line between items.
+const BLANK: (usize, Name) = (1, Name::BlankLineEnding);
+
+/// A blank line in an item.
+const BLANK_WITHIN: (usize, Name) = (2, Name::BlankLineEnding);
+
+const BARE: [(usize, Name); 5] = [LIST, ITEM, PREFIX, BLANK, ITEM];
+
+const SPACED: [(usize, Name); 6] = [LIST, ITEM, PREFIX, SPACE, BLANK, ITEM];
+
+const TWICE: [(usize, Name); 6] = [LIST, ITEM, PREFIX, BLANK, BLANK, ITEM];
+
+const QUOTED: [(usize, Name); 7] = [LIST, ITEM, PREFIX, QUOTE, MARK, BLANK, ITEM];
+
+const WITHIN: [(usize, Name); 6] = [LIST, ITEM, PREFIX, TEXT, BLANK_WITHIN, TEXT];
+
+const EMPTY_ITEM: [(usize, Name); 4] = [LIST, ITEM, PREFIX, BLANK_WITHIN];
+
+const SPACED_ITEM: [(usize, Name); 5] = [LIST, ITEM, PREFIX, SPACE, BLANK_WITHIN];
+
+const BLANK_ITEM: [(usize, Name); 3] = [LIST, ITEM, BLANK_WITHIN];
+
+const TEXT_ITEM: [(usize, Name); 5] = [LIST, ITEM, PREFIX, TEXT, BLANK_WITHIN];
+
+/// The lists of the tests here. Each begins with an item.
+pub const LISTS: [&[(usize, Name)]; 9] = [
+    &BARE,
+    &SPACED,
+    &TWICE,
+    &QUOTED,
+    &WITHIN,
+    &EMPTY_ITEM,
+    &SPACED_ITEM,
+    &BLANK_ITEM,
+    &TEXT_ITEM,
+];
+
 /// Whether the list that begins at this index is loose, if one begins there.
-fn list_spread(
+pub fn list_spread(
     alloc: Global,
     events: &[Event],
     index: usize,
@@ -28,7 +79,11 @@ fn list_spread(
 }
 
 /// Whether the list item that begins at this index is loose, if one begins there.
-fn item_spread(alloc: Global, events: &[Event], index: usize) -> Result<Option<bool>, AllocError> {
+pub fn item_spread(
+    alloc: Global,
+    events: &[Event],
+    index: usize,
+) -> Result<Option<bool>, AllocError> {
     let Some(_) = span_begins(alloc, events, index)? else {
         return Ok(None);
     };
@@ -45,22 +100,11 @@ fn item_spread(alloc: Global, events: &[Event], index: usize) -> Result<Option<b
 
 #[test]
 fn blank_lines_between_items(rt: HostRuntime) -> Result<(), Fail> {
-    let list = (0, Name::ListUnordered);
-    let item = (1, Name::ListItem);
-    let prefix = (2, Name::ListItemPrefix);
-    let space = (2, Name::SpaceOrTab);
-    let quote = (2, Name::BlockQuote);
-    let mark = (3, Name::BlockQuotePrefix);
-    let blank = (1, Name::BlankLineEnding);
-    let bare = [list, item, prefix, blank, item];
-    let spaced = [list, item, prefix, space, blank, item];
-    let twice = [list, item, prefix, blank, blank, item];
-    let quoted = [list, item, prefix, quote, mark, blank, item];
     for (outline, want) in [
-        (bare.as_slice(), false),
-        (&spaced, false),
-        (&twice, true),
-        (&quoted, false),
+        (BARE.as_slice(), false),
+        (&SPACED, false),
+        (&TWICE, true),
+        (&QUOTED, false),
     ] {
         let events = spelled(rt.alloc(), outline)?;
         let spread = list_spread(rt.alloc(), events.as_slice(), 0, false)?;
@@ -71,15 +115,7 @@ fn blank_lines_between_items(rt: HostRuntime) -> Result<(), Fail> {
 
 #[test]
 fn blank_lines_within_an_item(rt: HostRuntime) -> Result<(), Fail> {
-    let outline = [
-        (0, Name::ListUnordered),
-        (1, Name::ListItem),
-        (2, Name::ListItemPrefix),
-        (2, Name::Paragraph),
-        (2, Name::BlankLineEnding),
-        (2, Name::Paragraph),
-    ];
-    let events = spelled(rt.alloc(), &outline)?;
+    let events = spelled(rt.alloc(), &WITHIN)?;
     for (include_items, want) in [(false, false), (true, true)] {
         let spread = list_spread(rt.alloc(), events.as_slice(), 0, include_items)?;
         assert_eq!(rt; spread, Some(want));
@@ -89,19 +125,14 @@ fn blank_lines_within_an_item(rt: HostRuntime) -> Result<(), Fail> {
 
 #[test]
 fn blank_lines_of_an_item(rt: HostRuntime) -> Result<(), Fail> {
-    let item = (0, Name::ListItem);
-    let prefix = (1, Name::ListItemPrefix);
-    let space = (1, Name::SpaceOrTab);
-    let text = (1, Name::Paragraph);
-    let blank = (1, Name::BlankLineEnding);
     for (outline, want) in [
-        ([item, prefix, blank].as_slice(), false),
-        (&[item, prefix, space, blank], false),
-        (&[item, blank], true),
-        (&[item, prefix, text, blank], true),
+        (EMPTY_ITEM.as_slice(), false),
+        (&SPACED_ITEM, false),
+        (&BLANK_ITEM, true),
+        (&TEXT_ITEM, true),
     ] {
         let events = spelled(rt.alloc(), outline)?;
-        assert_eq!(rt; item_spread(rt.alloc(), events.as_slice(), 0)?, Some(want));
+        assert_eq!(rt; item_spread(rt.alloc(), events.as_slice(), 1)?, Some(want));
     }
     Ok(())
 }

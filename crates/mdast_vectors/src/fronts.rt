@@ -1,0 +1,85 @@
+//! Lists that are nearly a row: its fronts, and those with two exits swapped.
+
+use crate::cases::{Case, cases};
+use crate::rows;
+use markdown_nodes::event::{Event, Kind, Point};
+use std::alloc::Global;
+use std::process::Abort;
+use std::test::Fail;
+
+/// Rows with more events are left out.
+const MOST_EVENTS: usize = 40;
+
+/// The small rows of a table that have a tree.
+fn small_rows(alloc: Global, table: &str) -> Result<Vec<Case<'_>>, Fail> {
+    let mut rows = cases(alloc, table)?;
+    rows.retain(|row| row.is_accepted() && row.events.len() <= MOST_EVENTS);
+    Ok(rows)
+}
+
+/// These events are refused as unbalanced at this point.
+fn unbalanced(
+    rt: &impl Abort,
+    alloc: Global,
+    row: &Case<'_>,
+    events: &[Event],
+    point: Point,
+) -> Result<(), Fail> {
+    let place = point.to_unist();
+    let want = format!(in alloc; "! events-unbalanced {place:?}")?;
+    let name = row.name;
+    assert_eq!(rt;
+        row.answer(alloc, events)?.as_str(),
+        want.as_str(),
+        "{name}"
+    );
+    Ok(())
+}
+
+/// Each front of a row that leaves a span open is unbalanced at its last event.
+fn fronts(rt: &impl Abort, alloc: Global, row: &Case<'_>) -> Result<(), Fail> {
+    let mut front = Vec::new(alloc);
+    let mut open: usize = 0;
+    for event in &row.events {
+        front.push(*event)?;
+        open = match event.kind {
+            Kind::Enter => open.saturating_add(1),
+            Kind::Exit => open.saturating_sub(1),
+        };
+        if open > 0 {
+            unbalanced(rt, alloc, row, front.as_slice(), event.point)?;
+        }
+    }
+    Ok(())
+}
+
+/// A row with two neighbouring exits of different names swapped is unbalanced at the first of them.
+fn swaps(rt: &impl Abort, alloc: Global, row: &Case<'_>) -> Result<(), Fail> {
+    let mut front = Vec::new(alloc);
+    for pair in row.events.windows(2) {
+        if let [first, second] = pair {
+            if first.kind == Kind::Exit
+                && second.kind == Kind::Exit
+                && !first.name.is(second.name)
+            {
+                let mut swapped = front.clone()?;
+                swapped.push(*second)?;
+                swapped.push(*first)?;
+                unbalanced(rt, alloc, row, swapped.as_slice(), second.point)?;
+            }
+            front.push(*first)?;
+        }
+    }
+    Ok(())
+}
+
+#[test]
+fn fronts_and_swapped_exits_are_unbalanced(rt: HostRuntime) -> Result<(), Fail> {
+    for table in rows::ALL {
+        for row in &small_rows(rt.alloc(), table)? {
+            fronts(&rt, rt.alloc(), row)?;
+            swaps(&rt, rt.alloc(), row)?;
+        }
+    }
+    Ok(())
+}

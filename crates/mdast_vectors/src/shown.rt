@@ -1,0 +1,83 @@
+//! What a tree shows of lists and tables is what the calls on events say of them.
+
+use crate::alignment::{TABLES, table_align};
+use crate::cases::compiled;
+use crate::outline::{enter, exit, spelled};
+use crate::spread::{LISTS, item_spread, list_spread};
+use markdown_nodes::event::{Event, Name};
+use markdown_nodes::mdast::{AlignKind, Node};
+use std::alloc::{AllocError, Global};
+use std::test::Fail;
+
+/// Where the span begins in what `placed` gives.
+const BEGIN: usize = 3;
+
+/// The events of an outline in a block quote, behind a paragraph.
+fn placed(alloc: Global, outline: &[(usize, Name)]) -> Result<Vec<Event>, AllocError> {
+    let mut events = Vec::new(alloc);
+    events.push(enter(Name::BlockQuote))?;
+    events.push(enter(Name::Paragraph))?;
+    events.push(exit(Name::Paragraph))?;
+    events.extend_from_slice(spelled(alloc, outline)?.as_slice())?;
+    events.push(exit(Name::BlockQuote))?;
+    Ok(events)
+}
+
+fn first_child(node: &Node) -> Option<&Node> {
+    node.children()?.first()
+}
+
+/// The node of what was placed.
+fn shown(tree: &Node) -> Option<&Node> {
+    first_child(tree)?.children()?.get(1)
+}
+
+/// Whether the list that was placed is spread.
+fn shown_list(tree: &Node) -> Option<bool> {
+    match shown(tree)? {
+        Node::List(list) => Some(list.spread),
+        _ => None,
+    }
+}
+
+/// Whether the first item of the list that was placed is spread.
+fn shown_item(tree: &Node) -> Option<bool> {
+    match first_child(shown(tree)?)? {
+        Node::ListItem(item) => Some(item.spread),
+        _ => None,
+    }
+}
+
+/// How the columns of the table that was placed are aligned.
+fn shown_table(tree: &Node) -> Option<&[AlignKind]> {
+    match shown(tree)? {
+        Node::Table(table) => Some(table.align.as_slice()),
+        _ => None,
+    }
+}
+
+#[test]
+fn lists_and_items_show_what_is_said_of_events(rt: HostRuntime) -> Result<(), Fail> {
+    for outline in LISTS {
+        let events = placed(rt.alloc(), outline)?;
+        let list = list_spread(rt.alloc(), events.as_slice(), BEGIN, false)?;
+        let item = item_spread(rt.alloc(), events.as_slice(), BEGIN + 1)?;
+        assert!(rt; list.is_some() && item.is_some());
+        let tree = compiled(rt.alloc(), b"", events.as_slice())?;
+        assert_eq!(rt; shown_list(&tree), list);
+        assert_eq!(rt; shown_item(&tree), item);
+    }
+    Ok(())
+}
+
+#[test]
+fn tables_show_what_is_said_of_events(rt: HostRuntime) -> Result<(), Fail> {
+    for outline in TABLES {
+        let events = placed(rt.alloc(), outline)?;
+        let kinds = table_align(rt.alloc(), events.as_slice(), BEGIN)?;
+        assert!(rt; kinds.is_some());
+        let tree = compiled(rt.alloc(), b"", events.as_slice())?;
+        assert!(rt; shown_table(&tree) == kinds.as_deref());
+    }
+    Ok(())
+}

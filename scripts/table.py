@@ -1,0 +1,101 @@
+"""Reads the table of rows, rows/rows.txt: its sections, and the spans of a row as events."""
+
+import os
+import re
+
+TOP = os.path.join(os.path.dirname(os.path.abspath(__file__)), "..")
+ROWS = os.path.join(TOP, "rows", "rows.txt")
+
+ESCAPES = {"n": "\n", "r": "\r", "t": "\t", "\\": "\\", '"': '"'}
+
+
+def sections():
+    """The name of each section, and its rows: what each says, by the word that its line begins with."""
+    found = []
+    row = None
+    for line in open(ROWS, encoding="utf-8").read().split("\n"):
+        word, _, rest = line.partition(" ")
+        if line.startswith("#") or not line:
+            continue
+        if word == "section":
+            found.append((rest, []))
+        elif word == "row":
+            row = {"name": rest}
+            found[-1][1].append(row)
+        elif line.startswith('"'):
+            row["document"] = line
+        elif word in ("columns", "decoder", "ordered"):
+            row[word] = rest
+        elif word == "=":
+            row["tree"] = rest
+        elif word == "!":
+            row["refused"] = rest
+        else:
+            row["spans"] = line
+    return found
+
+
+def unescaped(text):
+    """The bytes of a text in quotes."""
+    return re.sub(r"\\(.)", lambda match: ESCAPES[match.group(1)], text[1:-1]).encode()
+
+
+def document(row):
+    return unescaped(row["document"])
+
+
+def line_starts(row):
+    """The offset at which each line of the document begins."""
+    text = document(row)
+    starts = [0]
+    index = 0
+    while index < len(text) and not row.get("columns"):
+        index += 2 if text[index : index + 2] == b"\r\n" else 1
+        if text[index - 1] in b"\r\n":
+            starts.append(index)
+    return starts
+
+
+def point(text, starts):
+    """The line, the column and the offset of an end of a span, and its virtual spaces, if they are given."""
+    if text.startswith("@"):
+        return tuple(int(number) for number in text[1:].split(":"))
+    offset = int(text)
+    line = max(number for number, start in enumerate(starts) if start <= offset)
+    return (line + 1, offset - starts[line] + 1, offset, None)
+
+
+def spans(row):
+    """The spans of a row, each with its name, its two ends, and the spans in it."""
+    tokens = re.findall(r"[A-Za-z]+ @?[\d:]+-@?[\d:]+|[{},]", row.get("spans", ""))
+    starts = line_starts(row)
+
+    def read():
+        found = []
+        while tokens and tokens[0] != "}":
+            token = tokens.pop(0)
+            if token == ",":
+                continue
+            name, ends = token.split(" ")
+            begin, end = ends.split("-")
+            inner = []
+            if tokens and tokens[0] == "{":
+                tokens.pop(0)
+                inner = read()
+                tokens.pop(0)
+            found.append((name, point(begin, starts), point(end, starts), inner))
+        return found
+
+    return read()
+
+
+def write_or_compare(command, path, text, compares):
+    """Writes a file, or, where it is only to be compared, says that it is stale and returns so."""
+    if not compares:
+        with open(path, "w", encoding="utf-8") as file:
+            file.write(text)
+        return False
+    if os.path.exists(path) and open(path, encoding="utf-8").read() == text:
+        return False
+    print(f"{command}: {os.path.basename(path)} is not what its table says")
+    return True
