@@ -1,8 +1,10 @@
 ghost use Rattle.std.specs.Prelude.{◌<◌};
 
+use crate::decoder::Decoder;
 use crate::lines::events;
 use crate::run::run;
 use markdown_nodes::event::{Kind, Name};
+use markdown_tree::to_mdast::References;
 use std::io::{self, ErrorKind, Read, Write};
 use std::process::Abort;
 use std::test::Fail;
@@ -158,4 +160,61 @@ fn reads_up_to_its_bound(rt: HostRuntime) {
 fn fails_where_nothing_can_be_written(rt: HostRuntime) {
     let mut input = HI;
     assert_eq!(rt; run(rt.alloc(), b"Hi", &mut input, &mut Closed), 2);
+}
+
+#[test]
+fn decodes_names_and_numbers(rt: HostRuntime) -> Result<(), Fail> {
+    for (value, marker, text) in [
+        ("amp", b'&', "&"),
+        ("lt", b'&', "<"),
+        ("gt", b'&', ">"),
+        ("quot", b'&', "\""),
+        ("65", b'#', "A"),
+        ("0000065", b'#', "A"),
+        ("41", b'x', "A"),
+        ("20ac", b'x', "\u{20AC}"),
+        ("20AC", b'x', "\u{20AC}"),
+        ("10FFFF", b'x', "\u{10FFFF}"),
+    ] {
+        let found = Decoder.decode(rt.alloc(), value, marker)?;
+        assert_eq!(rt; found.as_deref(), Some(text));
+    }
+    Ok(())
+}
+
+#[test]
+fn decodes_what_is_no_character_as_a_replacement(rt: HostRuntime) -> Result<(), Fail> {
+    for (value, marker) in [
+        ("0", b'#'),
+        ("9999999", b'#'),
+        ("D800", b'x'),
+        ("DFFF", b'x'),
+        ("110000", b'x'),
+    ] {
+        let found = Decoder.decode(rt.alloc(), value, marker)?;
+        assert_eq!(rt; found.as_deref(), Some("\u{FFFD}"));
+    }
+    Ok(())
+}
+
+#[test]
+fn decodes_nothing_else(rt: HostRuntime) -> Result<(), Fail> {
+    for (value, marker) in [
+        ("12345678", b'#'),
+        ("1234567", b'x'),
+        ("copy", b'&'),
+        ("AMP", b'&'),
+        ("", b'&'),
+        ("", b'#'),
+        ("", b'x'),
+        ("4g", b'x'),
+        ("4a", b'#'),
+        ("-1", b'#'),
+        ("+1", b'#'),
+        ("65", b';'),
+    ] {
+        let found = Decoder.decode(rt.alloc(), value, marker)?;
+        assert_eq!(rt; found.as_deref(), None);
+    }
+    Ok(())
 }
