@@ -95,8 +95,8 @@ left_fails (faults.Memory e) s es st why p h fails at says = absurd says
 left_fails (faults.Message m) s es st why p h fails at says = (
   record { refusal = why; point = p },
   ap (λ (r : Result State Rejection). r >>= λ x. checked (last_checks x) (point_of (last_event es)) (Ok (tree_of es x))) h
-  ∙ checked_fails (last_checks st) (point_of (last_event es)) (Ok (tree_of es st)) why fails
-  ∙ ap (λ (x : Point). refused why x) (sym at),
+      ∙ checked_fails (last_checks st) (point_of (last_event es)) (Ok (tree_of es st)) why fails
+      ∙ ap (λ (x : Point). refused why x) (sym at),
   says,
 )
 

@@ -389,8 +389,7 @@ impl<'a> Context<'a> {
         self.in_table = frame.in_table;
         match what {
             Acting::Content(content) => {
-                self.top
-                    .take_content(alloc, steps, bytes, &mut self.columns, content, own, ending)
+                self.top.take_content(alloc, steps, bytes, &mut self.columns, content, own, ending)
             }
             Acting::Part(part) => self.top.take_part(alloc, steps, bytes, part, own, ending),
         }

@@ -6,7 +6,7 @@ use Rattle.markdown_tree.proofs.Stopping.{passed_on}
 use Rattle.markdown_tree.proofs.context.Context.exit.Goals as goal
 
 pub returns-in_default-clause-gives : goal.returns-in_default-clause-gives
-returns-in_default-clause-gives g c = exit_none (source c.args.bytes.now (g.R.References.text c.args.references.now)) c.args.name c.args.point c.args.self.now 
+returns-in_default-clause-gives g c = exit_none (source c.args.bytes.now (g.R.References.text c.args.references.now)) c.args.name c.args.point c.args.self.now
     (none_left c.args.self.now.frames.items (vec_len c.args.self.now.frames) (λ d. get_or c.args.self.now.frames.items (vec_len c.args.self.now.frames - 1) d) c.args.self.now.frames.ok.0 (λ d more. c.in_default.ensures.value d more))
 
 pub returns-then-not-is-clause-gives : goal.returns-then-not-is-clause-gives
