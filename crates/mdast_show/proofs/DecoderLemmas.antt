@@ -1,5 +1,5 @@
 -- Lemmas on character references: what digits write.
-use Rattle.std.proofs.Common.{◌≡◌, ◌≢◌, ℕ, suc, ◌+◌, ◌*◌, ◌^◌, ◌<◌, ◌≤◌, List, [], ◌∷◌, Option, Some, None, Bool, true, false, ◌&&◌, if◌then◌else◌, eqb, length, slice_index, refl, sym, ◌∙◌, ap, arith}
+use Rattle.std.proofs.Common.{◌≡◌, ◌≢◌, ℕ, suc, ◌+◌, ◌*◌, ◌^◌, ◌<◌, ◌≤◌, List, [], ◌∷◌, Some, None, Bool, true, false, ◌&&◌, if◌then◌else◌, eqb, length, slice_index, refl, sym, ◌∙◌, ap, arith}
 use Rattle.std.proofs.Math.Nat.{add-mul, mul_assoc, pow-zero, pow-succ', pow-le-pow_right}
 use Rattle.std.specs.Bool.{Decides}
 use Rattle.std.specs.Char.{digit_value, is_digit}
