@@ -446,30 +446,21 @@ def plain_tower(writer, depth):
         writer.exit("Content")
 
 
-def label_tower(writer, depth):
-    """Links to definitions in the labels of one another, each with a letter of its own."""
-    for _ in range(depth):
-        writer.enter("Link")
-        writer.span("LabelMarker", "[")
-        writer.enter("LabelText")
-        writer.span("Data", "a")
-    for _ in range(depth):
-        writer.exit("LabelText")
-        writer.span("LabelMarker", "]")
-        writer.exit("Link")
+def label_tower(name):
+    """Links or images, by their name, that refer to their labels, each in the label of the next with a letter of its own."""
 
+    def tower(writer, depth):
+        for _ in range(depth):
+            writer.enter(name)
+            writer.span("LabelMarker", "[")
+            writer.enter("LabelText")
+            writer.span("Data", "a")
+        for _ in range(depth):
+            writer.exit("LabelText")
+            writer.span("LabelMarker", "]")
+            writer.exit(name)
 
-def image_tower(writer, depth):
-    """Images in the labels of one another, each with a letter of its own."""
-    for _ in range(depth):
-        writer.enter("Image")
-        writer.span("LabelMarker", "[")
-        writer.enter("LabelText")
-        writer.span("Data", "a")
-    for _ in range(depth):
-        writer.exit("LabelText")
-        writer.span("LabelMarker", "]")
-        writer.exit("Image")
+    return tower
 
 
 def emphasis_tower(writer, depth):
@@ -507,9 +498,9 @@ def plain(size):
 
 def labels(size):
     """Links in one another, in ten towers: ten events a level."""
-    return towers(label_tower, size // 100)
+    return towers(label_tower("Link"), size // 100)
 
 
 def images(size):
     """Images in one another, in ten towers: ten events a level."""
-    return towers(image_tower, size // 100)
+    return towers(label_tower("Image"), size // 100)
