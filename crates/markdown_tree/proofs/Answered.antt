@@ -83,12 +83,7 @@ fails_rightly (faults.Message m) es s h = record { why = h.0; says = h.2; is_ref
 
 -- ---- Behind the last event
 
--- a run that stops
-pub run_fails : (f : Fault) (s : Source) (es : List Event) → Fails f (run s es opening) → Fails f (compiled s es)
-run_fails (faults.Memory e) s es h = tt
-run_fails (faults.Message m) s es h = (h.0, ap (λ (r : Result State Rejection). r >>= λ st. checked (last_checks st) (point_of (last_event es)) (Ok (tree_of es st))) h.1, h.2)
-
--- one behind which something is left open
+-- a run behind which something is left open
 pub left_fails : (f : Fault) (s : Source) (es : List Event) (st : State) (why : Refusal) (p : Point) → run s es opening ≡ Ok st → first_failing (last_checks st) ≡ Some why → p ≡ point_of (last_event es)
     → IsFaultOf (stops.Refused why) p f → Fails f (compiled s es)
 left_fails (faults.Memory e) s es st why p h fails at says = absurd says

@@ -4,37 +4,11 @@ use Rattle.markdown_nodes.specs.declared.mdast.Node.{Node}
 use Rattle.markdown_nodes.specs.declared.mdast.Node.TheVariants as nodes
 use Rattle.markdown_nodes.specs.declared.mdast.Text.{Text}
 use Rattle.markdown_events.specs.declared.unist.Position.{Position}
-use Rattle.markdown_nodes.specs.Tree.{Trees, Tree, Label, nothing, node, before, only, seam, join, text}
+use Rattle.markdown_nodes.specs.Tree.{Trees, Label, nothing, node, before, only, seam, join, text}
 use Rattle.markdown_nodes.specs.View.{view, views}
 use Rattle.markdown_tree.specs.TextNodes.{is_text}
 
--- nodes before trees
-onto : List Node → Trees → Trees
-onto [] others = others
-onto (n ∷ ns) others = before (view n) (onto ns others)
-
-views_then : (ns : List Node) (n : Node) → views (ns ++ n ∷ []) ≡ onto ns (only (view n))
-unfolding onto
-views_then [] n = refl
-views_then (m ∷ ns) n = ap (before (view m)) (views_then ns n)
-
-views_then_two : (ns : List Node) (n m : Node) → views ((ns ++ n ∷ []) ++ m ∷ []) ≡ onto ns (before (view n) (only (view m)))
-unfolding onto
-views_then_two [] n m = refl
-views_then_two (k ∷ ns) n m = ap (before (view k)) (views_then_two ns n m)
-
--- only the last node meets what follows
-join_onto : (ns : List Node) (t : Tree) (others : Trees) → join (onto ns (only t)) others ≡ onto ns (seam t.label t.children t.position others)
-unfolding onto
-join_onto [] t others = refl
-join_onto (n ∷ []) t others = refl
-join_onto (n ∷ m ∷ ns) t others = ap (before (view n)) (join_onto (m ∷ ns) t others)
-
 -- a node that is no text meets nothing
-seam_first : (l : Label) (c : Trees) (p : Option Position) (others : Trees) → is_text l ≡ false → seam l c p others ≡ node l c p others
-seam_first (text v) c p others h = let z : ⊥ = cc in absurd z
-seam_first l c p others h = refl
-
 seam_second : (l m : Label) (c d : Trees) (p q : Option Position) (rest : Trees) → is_text m ≡ false → seam l c p (node m d q rest) ≡ node l c p (node m d q rest)
 seam_second (text v) (text w) c d p q rest h = let z : ⊥ = cc in absurd z
 seam_second (text v) m c d p q rest h = refl

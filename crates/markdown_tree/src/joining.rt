@@ -41,7 +41,7 @@ pub fn put_text(
 
 /// A new text.
 #[tactic(auto, unfolding(markdown_nodes::specs::View::view))]
-fn new_text(alloc: Global, value: &str, position: Position) -> Result<Node, AllocError>
+pub fn new_text(alloc: Global, value: &str, position: Position) -> Result<Node, AllocError>
     ensures { IfOk result (λ made. only (view made) ≡ one_text value.now position) }
 {
     Ok(Node::Text(Text {

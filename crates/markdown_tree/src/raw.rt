@@ -15,11 +15,12 @@ ghost use Rattle.markdown_tree.specs.Nodes.{frontmatter};
 use crate::buffer::values_of;
 use crate::closing::link;
 use crate::holder::{AutolinkParts, CodeFenceParts, MathFenceParts};
+use crate::joining::new_text;
 use crate::slice::position_of;
 use crate::steps::Steps;
 use crate::texts::{address, block_value, inline_value};
 use markdown_nodes::event::Point;
-use markdown_nodes::mdast::{Code, Html, InlineCode, InlineMath, Math, Node, Text, Toml, Yaml};
+use markdown_nodes::mdast::{Code, Html, InlineCode, InlineMath, Math, Node, Toml, Yaml};
 use markdown_nodes::unist::Position;
 use std::alloc::{AllocError, Global};
 
@@ -170,17 +171,6 @@ pub fn html(
     }))
 }
 
-/// A text.
-#[tactic(auto, unfolding(markdown_nodes::specs::View::view))]
-fn text(alloc: Global, value: &str, position: Position) -> Result<Node, AllocError>
-    ensures { IfOk result (λ node. view node ≡ placed (tree.text value.now) nothing position) }
-{
-    Ok(Node::Text(Text {
-        value: String::from_str(alloc, value)?,
-        position: Some(position),
-    }))
-}
-
 /// A link to an address, with this text for its child. A scheme that the text leaves out stands
 /// before the address.
 #[tactic(auto, unfolding(markdown_nodes::specs::View::view))]
@@ -194,7 +184,7 @@ pub fn linked(
     ensures { IfOk result (λ node. view node ≡ placed (tree.link (scheme.now ++ value.now) None) (only (placed (tree.text value.now) nothing place)) position) }
 {
     let mut children = Vec::new(alloc);
-    children.push(text(alloc, value, place)?)?;
+    children.push(new_text(alloc, value, place)?)?;
     let url = address(alloc, scheme, value)?;
     Ok(link(children, position, url, None))
 }
