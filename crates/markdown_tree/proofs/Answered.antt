@@ -11,7 +11,7 @@ use Rattle.markdown_events.specs.declared.event.Point.{Point}
 use Rattle.markdown_events.specs.declared.unist.Position.{Position}
 use Rattle.markdown_events.specs.declared.message.Fault.{Fault}
 use Rattle.markdown_events.specs.declared.message.Fault.TheVariants as faults
-use Rattle.markdown_nodes.specs.Tree.{root}
+use Rattle.markdown_nodes.specs.Tree.{Tree, only, root}
 use Rattle.markdown_nodes.specs.View.{view, views}
 use Rattle.markdown_nodes.specs.declared.mdast.Node.{Node}
 use Rattle.markdown_nodes.specs.declared.mdast.Node.TheVariants as nodes
@@ -24,6 +24,7 @@ use Rattle.markdown_tree.specs.Correct.{FailsRightly, IsMeaning, IsRefused, Left
 use Rattle.markdown_tree.specs.Extents.{extent_of, last_event}
 use Rattle.markdown_tree.specs.Holders.{any_content, leaf}
 use Rattle.markdown_tree.specs.Holdings.{first_failing}
+use Rattle.markdown_tree.specs.Ordered.{IsOrdered, NeverGoesBack}
 use Rattle.markdown_tree.specs.Refusals.{IsFaultOf}
 use Rattle.markdown_tree.specs.Rejections.{Rejection, checked, refused, ◌>>=◌}
 use Rattle.markdown_tree.specs.Source.{Source}
@@ -44,6 +45,7 @@ use Rattle.markdown_tree.proofs.InsideWalks.{any-walks}
 use Rattle.markdown_tree.proofs.Reasons.{explained}
 use Rattle.markdown_tree.proofs.Refused as refused_at
 use Rattle.markdown_tree.proofs.Refused.{refused-where, refuses}
+use Rattle.markdown_tree.proofs.SpanLaw.{span_law}
 use Rattle.markdown_tree.proofs.Unbalanced.{unbalanced}
 use Rattle.markdown_tree.proofs.WellKept.{well-opening, well-run}
 
@@ -54,6 +56,10 @@ pub means : (s : Source) (es : List Event) (tree : Node) → compiled s es ≡ O
 means s es tree h =
     let m = sound s es (view tree) h in
     record { forest = m.forest; spelled = m.is_spelled; accepted = conditions-hold s m.forest m.is_accepted; is_meaning = m.is_meaning }
+
+-- and its nodes nest and stand in order, where the indexes never go back
+is_ordered : (s : Source) (es : List Event) (tree : Node) → IsMeaning tree es s → NeverGoesBack es → IsOrdered (only (view tree))
+is_ordered s es tree m rises = subst (λ (t : Tree). IsOrdered (only t)) (sym m.is_meaning) (span_law s m.forest (subst NeverGoesBack (sym m.spelled) rises))
 
 -- where it is refused
 place_named : (s : Source) (es : List Event) (m : Rejection) → refused_at.StopsAt s es m ⊎ refused_at.StopsLast es m → StopsAt m es s ⊎ LeftOpen m es
@@ -186,6 +192,11 @@ steps_of_any s es began after bound = let walks = any-walks s es in omega (arith
 pub found : (s : Source) (es : List Event) (r : Result Node Fault) → Completes view r (compiled s es) → IfOk r (λ tree. IsMeaning tree es s)
 found s es (Ok tree) h = means s es tree h
 found s es (Err f) h = tt
+
+-- a tree nests and stands in order
+pub ordered_so : (s : Source) (es : List Event) (r : Result Node Fault) → Completes view r (compiled s es) → IfOk r (λ tree. NeverGoesBack es → IsOrdered (only (view tree)))
+ordered_so s es (Ok tree) h = λ rises. is_ordered s es tree (means s es tree h) rises
+ordered_so s es (Err f) h = tt
 
 pub refused_so : (s : Source) (es : List Event) (r : Result Node Fault) → Completes view r (compiled s es) → IfErr r (λ f. FailsRightly f es s)
 refused_so s es (Ok tree) h = tt

@@ -23,7 +23,7 @@ use Rattle.markdown_tree.specs.Media.{autolink, Media, image_label, link_label, 
 use Rattle.markdown_tree.specs.Items.{Items, item, items, none, place_items, same_part, ◌then◌}
 use Rattle.markdown_tree.specs.Meaning.{last_end, meaning}
 use Rattle.markdown_tree.specs.Nodes.{frontmatter, node_of, nodes}
-use Rattle.markdown_tree.specs.Ordered.{InOrder, IsBefore, IsOrdered, RisesTo, Standing, elsewhere, first_child, first_in_paragraph, first_in_task}
+use Rattle.markdown_tree.specs.Ordered.{NeverGoesBack, InOrder, IsBefore, IsOrdered, RisesTo, Standing, elsewhere, first_child, first_in_paragraph, first_in_task}
 use Rattle.markdown_tree.specs.Parts.{Path, Stretch, address, first_part, inner_of, into, itself, path_to}
 use Rattle.markdown_tree.specs.Place.{Place, place_behind, place_inside, root_place}
 use Rattle.markdown_tree.specs.Source.{Source}
@@ -322,14 +322,14 @@ append-nil : (xs : List Event) → xs ++ [] ≡ xs
 append-nil [] = refl
 append-nil (x ∷ xs) = ap (λ l. x ∷ l) (append-nil xs)
 
--- where the indexes do not fall, the nodes of the meaning nest and stand in order
-pub span_law : (s : Source) (f : Forest) → RisesTo 0 (spell f) (2 ^ 64 - 1) → IsOrdered (only (meaning s f))
+-- where the indexes never go back, the nodes of the meaning nest and stand in order
+pub span_law : (s : Source) (f : Forest) → NeverGoesBack (spell f) → IsOrdered (only (meaning s f))
 span_law s empty h = tt
 span_law s (span n a b c r) h =
-    let all_ = forest-rises (span n a b c r) [] a.index (2 ^ 64 - 1) (from_first n a b c r (subst (λ l. RisesTo 0 l (2 ^ 64 - 1)) (sym (append-nil (spell (span n a b c r)))) h)) in
+    let all_ = forest-rises (span n a b c r) [] a.index (2 ^ 64 - 1) (from_first n a b c r (subst NeverGoesBack (sym (append-nil (spell (span n a b c r)))) h)) in
     let end : (last_end b r).index ≡ end_index b.index r = last_end-index b r in
     let rises : Rises a.index (items (span n a b c r)) (last_end b r).index = subst (λ m. Rises a.index (items (span n a b c r)) m) (sym end) all_.0 in
     nodes-ordered s itself root_place (items (span n a b c r)) a.index (last_end b r).index (omega (arith, all_.1, end)) rises
   where
-    from_first : (n : Name) (a b : Point) (c r : Forest) → RisesTo 0 (spell (span n a b c r) ++ []) (2 ^ 64 - 1) → RisesTo a.index (spell (span n a b c r) ++ []) (2 ^ 64 - 1)
+    from_first : (n : Name) (a b : Point) (c r : Forest) → NeverGoesBack (spell (span n a b c r) ++ []) → RisesTo a.index (spell (span n a b c r) ++ []) (2 ^ 64 - 1)
     from_first n a b c r h = (omega arith, h.1)

@@ -1,5 +1,5 @@
 -- Trees whose nodes nest and stand in order, by offsets.
-use Rattle.std.specs.Prelude.{Bool, IsFalse, List, None, Some, [], false, true, ℕ, ⊤, ◌∷◌, ◌≤◌}
+use Rattle.std.specs.Prelude.{Bool, IsFalse, List, None, Some, [], false, true, ℕ, ⊤, ◌-◌, ◌^◌, ◌∷◌, ◌≤◌}
 use Rattle.markdown_nodes.specs.Tree.{Label, Trees, list_item, node, nothing, paragraph}
 use Rattle.markdown_events.specs.declared.event.Event.{Event}
 use Rattle.markdown_events.specs.declared.unist.Position.{Position}
@@ -8,6 +8,10 @@ use Rattle.markdown_events.specs.declared.unist.Position.{Position}
 abbrev pub RisesTo : ℕ → List Event → ℕ → Type 0
 RisesTo low [] high = low ≤ high
 RisesTo low (event ∷ events) high = (low ≤ event.point.index) × RisesTo event.point.index events high
+
+-- no event's index is below that of the event before it, and the last is one that a usize can be
+abbrev pub NeverGoesBack : List Event → Type 0
+NeverGoesBack events = RisesTo 0 events (2 ^ 64 - 1)
 
 -- where a node stands: first in an item with a mark, first in the paragraph there, or elsewhere
 pub data Standing : Type 0 where

@@ -2,11 +2,13 @@
 
 ghost use Rattle.std.specs.Prelude.{◌≡◌, ◌≤◌, ◌+◌, ◌*◌, length, IfOk, IfErr};
 ghost use Rattle.markdown_events.specs.Forest.{Forest, spell};
+ghost use Rattle.markdown_nodes.specs.Tree.{only};
 ghost use Rattle.markdown_nodes.specs.View.{view};
 ghost use Rattle.markdown_tree.specs.Buffers.{held, inside};
 ghost use Rattle.markdown_tree.specs.Compiler.{compiled, opening, point_of, run};
 ghost use Rattle.markdown_tree.specs.Correct.{IsMeaning, FailsRightly};
 ghost use Rattle.markdown_tree.specs.Extents.{extent_of, last_event};
+ghost use Rattle.markdown_tree.specs.Ordered.{IsOrdered, NeverGoesBack};
 ghost use Rattle.markdown_tree.specs.Source.{source};
 ghost use Rattle.markdown_tree.specs.States.{Completes, state_of};
 ghost use Rattle.markdown_tree.specs.Steps.{events_in};
@@ -58,6 +60,9 @@ pub fn compile<R: References>(
     ensures found { IfOk result (λ tree. IsMeaning tree events.now (source bytes.now (R.text references.now))) }
     // A message comes only where there is no such forest.
     ensures refused { IfErr result (λ fault. FailsRightly fault events.now (source bytes.now (R.text references.now))) }
+    // Where the offsets never go back, spans nest and siblings stand in order, but for the starts in
+    // the first paragraphs of task items.
+    ensures ordered { IfOk result (λ tree. NeverGoesBack events.now → IsOrdered (only (view tree))) }
 {
     compile_counted(alloc, &mut Steps::new(events), bytes, references)
 }
@@ -78,6 +83,9 @@ pub fn compile_counted<R: References>(
     ensures found { IfOk result (λ tree. IsMeaning tree steps.old.events (source bytes.now (R.text references.now))) }
     // A message comes only where there is no such forest.
     ensures refused { IfErr result (λ fault. FailsRightly fault steps.old.events (source bytes.now (R.text references.now))) }
+    // Where the offsets never go back, spans nest and siblings stand in order, but for the starts in
+    // the first paragraphs of task items.
+    ensures ordered { IfOk result (λ tree. NeverGoesBack steps.old.events → IsOrdered (only (view tree))) }
     // The list is kept.
     ensures list { steps.new.events ≡ steps.old.events }
     // Each event takes at most four steps, and each node in a buffer one.

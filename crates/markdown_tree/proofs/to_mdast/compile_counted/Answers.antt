@@ -1,9 +1,12 @@
 use Rattle.markdown_tree.specs.Source.{source}
-use Rattle.markdown_tree.proofs.Answered.{found, other_bound, refused_so, tree_bound}
+use Rattle.markdown_tree.proofs.Answered.{found, ordered_so, other_bound, refused_so, tree_bound}
 use Rattle.markdown_tree.proofs.to_mdast.compile_counted.Goals as goal
 
 pub returns-clause-found : goal.returns-clause-found
 returns-clause-found g c = found (source c.args.bytes.now (g.R.References.text c.args.references.now)) c.args.steps.now.events c.compile_list.result c.compile_list.ensures.gives
+
+pub returns-clause-ordered : goal.returns-clause-ordered
+returns-clause-ordered g c = ordered_so (source c.args.bytes.now (g.R.References.text c.args.references.now)) c.args.steps.now.events c.compile_list.result c.compile_list.ensures.gives
 
 pub returns-clause-refused : goal.returns-clause-refused
 returns-clause-refused g c = refused_so (source c.args.bytes.now (g.R.References.text c.args.references.now)) c.args.steps.now.events c.compile_list.result c.compile_list.ensures.gives
