@@ -121,6 +121,7 @@ impl Name {
     ///
     /// `Name::HtmlText.role()` is `Role::Acting(Acting::Content(Content::Html))`, as is that of
     /// `Name::HtmlFlow`.
+    #[inline(always)]
     pub fn role(self) -> Role
         ensures { result ≡ role_of self }
     {

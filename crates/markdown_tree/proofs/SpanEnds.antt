@@ -1,7 +1,7 @@
 -- What comes up at the exit of a span, in the program and in the steps.
 use Rattle.std.proofs.Common.{◌≡◌, ◌≢◌, ℕ, List, [], Bool, true, false, Option, None, Some, Result, Ok, Err, refl, sym, ap, ◌∙◌, cond}
 use Rattle.std.specs.Prelude.{is_some, unwrap_or}
-use Rattle.markdown_events.specs.Slices.{slice}
+use Rattle.markdown_events.specs.Slices.{between, slice}
 use Rattle.markdown_events.specs.Spread.{Shown}
 use Rattle.markdown_tree.specs.Gives.{text_read}
 use Rattle.markdown_nodes.specs.Tree.{Label, Tree, Trees, join, node, nothing, only}
@@ -19,8 +19,8 @@ use Rattle.markdown_tree.specs.declared.holding.Holding.{Holding}
 use Rattle.markdown_tree.specs.declared.refusal.Refusal.{Refusal}
 use Rattle.markdown_tree.specs.Compiler.{Holds, closed, lacking, leave, unread}
 use Rattle.markdown_tree.specs.Grammar.{is_complete}
-use Rattle.markdown_tree.specs.Holders.{Holder}
-use Rattle.markdown_tree.specs.Holdings.{Keeps, is_row_of, is_text_part, moved_of, row_of}
+use Rattle.markdown_tree.specs.Holders.{Holder, any_content}
+use Rattle.markdown_tree.specs.Holdings.{Keeps, is_parent, is_row_of, is_text_part, moved_of, parent_label, placed, row_of}
 use Rattle.markdown_tree.specs.Kinds.{is_hard_break}
 use Rattle.markdown_tree.specs.Media.{Media, autolink, image_label, link_label}
 use Rattle.markdown_tree.specs.Nodes.{frontmatter, node_of}
@@ -81,6 +81,29 @@ unfolding leave
 content_lacks s in_table inner_table top own c a b children lacks =
     let read : Bool = is_read s (holds_of in_table None top).holder (place_of in_table top) false (content c) a b in
     λ t. cond (lacks t) (cond read (Ok (closed s (holds_of in_table None top) (content c) a b children (inner_of_holding own))) (refused (unread s (content c) a b) b)) (refused (lacking (row_of own.holder)) b)
+
+-- ---- Parents
+
+-- what a parent gives, and its row
+pub parent_made : (s : Source) (p : Place) (c : Content) (a b : Point) (children : Shown) (i : Inner) → is_parent c ≡ true → node_of s p (content c) a b children i ≡ only (placed (parent_label c) i.nodes (between a b))
+parent_made s p contents.BlockQuote a b children i such = refl
+parent_made s p contents.Emphasis a b children i such = refl
+parent_made s p contents.Strong a b children i such = refl
+parent_made s p contents.Strikethrough a b children i such = refl
+parent_made s p contents.Paragraph a b children i such = refl
+parent_made s p contents.TableRow a b children i such = refl
+parent_made s p contents.TableCell a b children i such = refl
+parent_made s p c a b children i such = let z : ⊥ = cc in absurd z
+
+pub parent_row : (c : Content) → is_parent c ≡ true → is_row_of c any_content ≡ true
+parent_row contents.BlockQuote such = refl
+parent_row contents.Emphasis such = refl
+parent_row contents.Strong such = refl
+parent_row contents.Strikethrough such = refl
+parent_row contents.Paragraph such = refl
+parent_row contents.TableRow such = refl
+parent_row contents.TableCell such = refl
+parent_row c such = let z : ⊥ = cc in absurd z
 
 -- ---- The label of a node
 

@@ -260,11 +260,6 @@ pub record IsFresh (h : Open) (begun : Holder) : Type 0 where
   pub mark : mark_of h ≡ None
   pub value : value_of h ≡ None
 
--- a span of this row has this holder of its own, or it is a leaf
-abbrev pub Opens : Option Open → Holder → Type 0
-Opens None row = row ≡ leaf
-Opens (Some h) row = IsFresh h row
-
 -- what such a holder keeps, with these nodes
 abbrev pub inner_with : Open → Trees → Inner
 inner_with h ts = record { nodes = ts; label = label_of h; part = part_of h; mark = mark_of h; value = value_of h }

@@ -3,7 +3,7 @@
 ghost use Rattle.std.specs.Prelude.{◌≡◌};
 ghost use Rattle.markdown_tree.specs.Around.{may_begin, under};
 
-use markdown_nodes::role::Role;
+use markdown_nodes::role::{Plain, Role};
 
 /// What is around a span, as far as its right shape asks.
 #[derive(Clone, Copy, PartialEq, Eq, Debug)]
@@ -21,19 +21,33 @@ impl Around {
     pub fn allows(self, role: Role) -> bool
         ensures { result ≡ may_begin self role }
     {
-        let second_row = self.in_row && role.is_delimiter_row();
-        let second_value = self.in_value && role.is_delimiter_cell_value();
-        !self.held && !second_row && !second_value
+        match role {
+            Role::Plain(Plain::DelimiterRow) => !self.held && !self.in_row,
+            Role::Plain(Plain::DelimiterCellValue) => !self.held && !self.in_value,
+            _ => !self.held,
+        }
     }
 
     /// What is around the spans in a span of the role.
     pub fn inside(self, role: Role) -> Around
         ensures { result ≡ under self role }
     {
-        Around {
-            held: role.holds_nothing(),
-            in_row: self.in_row || role.is_delimiter_row(),
-            in_value: self.in_value || role.is_delimiter_cell_value(),
+        match role {
+            Role::Plain(Plain::DelimiterRow) => Around {
+                held: false,
+                in_row: true,
+                in_value: self.in_value,
+            },
+            Role::Plain(Plain::DelimiterCellValue) => Around {
+                held: false,
+                in_row: self.in_row,
+                in_value: true,
+            },
+            _ => Around {
+                held: role.holds_nothing(),
+                in_row: self.in_row,
+                in_value: self.in_value,
+            },
         }
     }
 }

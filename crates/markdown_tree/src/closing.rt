@@ -23,6 +23,22 @@ use markdown_nodes::text::normalize_identifier;
 use markdown_nodes::unist::Position;
 use std::alloc::{AllocError, Global};
 
+/// Whether the node of content has children, and nothing else.
+pub fn is_parent(content: Content) -> bool
+    ensures { result ≡ is_parent content }
+{
+    matches!(
+        content,
+        Content::BlockQuote
+            | Content::Emphasis
+            | Content::Strong
+            | Content::Strikethrough
+            | Content::Paragraph
+            | Content::TableRow
+            | Content::TableCell
+    )
+}
+
 /// A parent that has children, and nothing else.
 pub fn parent(content: Content, children: Vec<Node>, position: Position) -> Node
     requires { is_parent content ≡ true }

@@ -2,10 +2,12 @@
 
 ghost use Rattle.std.specs.Prelude.{◌≡◌, ◌≤◌, ◌+◌, ◌||◌, [], None, Ok, OnOk, false, is_some, not, true};
 ghost use Rattle.markdown_events.specs.Names.{role_of};
+ghost use Rattle.markdown_events.specs.declared.role.Acting.TheVariants as acting;
 ghost use Rattle.markdown_events.specs.declared.role.Role.TheVariants as roles;
 ghost use Rattle.markdown_tree.specs.Compiler;
 ghost use Rattle.markdown_tree.specs.Compiler.{enter_as, enter_checks, enter_step, exit_step, last_checks, opening};
-ghost use Rattle.markdown_tree.specs.Holdings.{first_failing};
+ghost use Rattle.markdown_tree.specs.Holdings.{first_failing, is_parent};
+ghost use Rattle.markdown_tree.specs.declared.holder.Holder.TheVariants as holders;
 ghost use Rattle.markdown_tree.specs.Kinds;
 ghost use Rattle.markdown_tree.specs.Source.{Source, source};
 ghost use Rattle.markdown_tree.specs.States.{Begun, Closed, Ends, Gives, HolderEnds, LeafEnds, Opened, left_to, left_walks, state_of, top_of};
@@ -13,6 +15,7 @@ ghost use Rattle.markdown_tree.specs.Walked.{exit_walks, step_walks};
 ghost use Rattle.markdown_tree.specs.Well.{Well, is_plain};
 
 use crate::around::Around;
+use crate::closing::is_parent;
 use crate::columns::Columns;
 use crate::holder::Holder;
 use crate::holding::{Ending, Holding, has_line_endings};
@@ -27,11 +30,12 @@ use markdown_nodes::unist::Position;
 use std::alloc::{AllocError, Global};
 use std::mem;
 
-/// An open span, with what was so around it.
+/// An open span, with what was so around it. The point stands first, so that the small fields lie
+/// side by side.
 #[derive(Clone, Copy)]
 pub struct Frame {
-    pub name: Name,
     pub start: Point,
+    pub name: Name,
     pub around: Around,
     /// Whether a table was around it.
     pub in_table: bool,
@@ -150,19 +154,17 @@ impl<'a> Context<'a> {
         if let Some(refusal) = self.misfit(bytes, what, point) {
             return Err(Stop::Refused(refusal));
         }
-        match self.top.holder.opened(what) {
-            None => Ok(true),
-            Some(holder) => {
-                let inner = Holding {
-                    holder,
-                    line_endings: has_line_endings(what),
-                    nodes: Vec::new(alloc),
-                };
-                let outer = mem::replace(&mut self.top, inner);
-                self.holdings.push(outer)?;
-                Ok(false)
-            }
+        if self.top.holder.has_leaf(what) {
+            return Ok(true);
         }
+        let inner = Holding {
+            holder: self.top.holder.opened(what),
+            line_endings: has_line_endings(what),
+            nodes: Vec::new(alloc),
+        };
+        let outer = mem::replace(&mut self.top, inner);
+        self.holdings.push(outer)?;
+        Ok(false)
     }
 
     /// Takes one event.
@@ -249,6 +251,7 @@ impl<'a> Context<'a> {
     }
 
     /// Puts a span on the stack. What was around it stays there, and what is in it begins.
+    #[inline(always)]
     fn begin(
         &mut self,
         alloc: Global,
@@ -261,8 +264,8 @@ impl<'a> Context<'a> {
         ensures { OnOk result (Begun name role point is_leaf in_table self.old self.new) }
     {
         self.frames.push(Frame {
-            name,
             start: point,
+            name,
             around: self.around,
             in_table: self.in_table,
             marks: self.marks,
@@ -376,6 +379,51 @@ impl<'a> Context<'a> {
         if self.pending.is_some() {
             return Err(Stop::Refused(Refusal::UnfinishedBreak));
         }
+        match (what, &self.top.holder) {
+            (Acting::Content(content), Holder::AnyContent) if is_parent(content) => {
+                Ok(self.leave_parent(content, frame, end)?)
+            }
+            _ => self.leave_any(alloc, steps, bytes, what, frame, end),
+        }
+    }
+
+    /// The same of a parent of which nothing but nodes is kept, as most holders are. No other part of
+    /// its holding is moved.
+    fn leave_parent(&mut self, content: Content, frame: Frame, end: Point) -> Result<(), AllocError>
+        requires open { self.old.is_leaf ≡ false }
+        requires ends { HolderEnds (acting.Content content) self.old }
+        requires settled { is_some self.old.pending ≡ false }
+        requires such { is_parent content ≡ true }
+        requires holder { self.old.top.holder ≡ holders.AnyContent }
+        ensures gives { OnOk result ((s : Source) → left_to s (roles.Acting (acting.Content content)) frame end self.old ≡ Ok (top_of self.new)) }
+        ensures closed { OnOk result (Closed (roles.Acting (acting.Content content)) self.old self.new) }
+    {
+        let Some(outer) = self.holdings.pop() else {
+            unreachable!()
+        };
+        let Holding { nodes, .. } = mem::replace(&mut self.top, outer);
+        self.in_table = frame.in_table;
+        self.top.take_parent(content, nodes, frame.start, end)
+    }
+
+    /// The same of any holder.
+    fn leave_any(
+        &mut self,
+        alloc: Global,
+        steps: &mut Steps<'_>,
+        bytes: &'a [u8],
+        what: Acting,
+        frame: Frame,
+        end: Point,
+    ) -> Result<(), Stop>
+        requires open { self.old.is_leaf ≡ false }
+        requires ends { HolderEnds what self.old }
+        requires settled { is_some self.old.pending ≡ false }
+        ensures gives { (s : Source) → s.bytes ≡ bytes.now → Gives (λ _. top_of self.new) end result (left_to s (roles.Acting what) frame end self.old) }
+        ensures closed { OnOk result (Closed (roles.Acting what) self.old self.new) }
+        ensures list { steps.new.events ≡ steps.old.events }
+        ensures bound { steps.new.count ≤ steps.old.count + left_walks (roles.Acting what) frame self.old }
+    {
         let Some(outer) = self.holdings.pop() else {
             unreachable!()
         };

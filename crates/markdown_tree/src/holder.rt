@@ -1,10 +1,10 @@
 //! What the open acting spans are to the items in them, and which parts have stood in them.
 
-ghost use Rattle.std.specs.Prelude.{◌≡◌, not, cond, Some};
+ghost use Rattle.std.specs.Prelude.{◌≡◌, ◌≢◌, false, not, cond, Some, true};
 ghost use Rattle.markdown_events.specs.declared.role.Acting.TheVariants as acting;
 ghost use Rattle.markdown_tree.specs.Grammar.{task_marks};
 ghost use Rattle.markdown_tree.specs.Holders;
-ghost use Rattle.markdown_tree.specs.Holdings.{IsFresh, Opens, misfit_of, moved_of, refusal_if};
+ghost use Rattle.markdown_tree.specs.Holdings.{IsFresh, misfit_of, moved_of, refusal_if};
 ghost use Rattle.markdown_events.specs.declared.role.Content.TheVariants as contents;
 ghost use Rattle.markdown_tree.specs.Kinds;
 ghost use Rattle.markdown_tree.specs.declared.holder.Holder.TheVariants as holders;
@@ -354,10 +354,54 @@ impl<'a> Holder<'a> {
 }
 
 impl<'a> Holder<'a> {
-    /// What a span is to the items in it, at its enter in this holder. A leaf takes none, and is no
-    /// holder.
-    pub fn opened(&self, what: Acting) -> Option<Holder<'a>>
-        ensures { Opens result (Holders.holder_of (moved_of self.now) what) }
+    /// Whether a span is a leaf in this holder: it takes no items, and is no holder. A fence behind the
+    /// first is one.
+    pub fn has_leaf(&self, what: Acting) -> bool
+        ensures leaf { result ≡ true → Holders.holder_of (moved_of self.now) what ≡ Holders.leaf }
+        ensures holder { result ≡ false → Holders.holder_of (moved_of self.now) what ≢ Holders.leaf }
+    {
+        match what {
+            Acting::Content(content) => matches!(
+                content,
+                Content::Data
+                    | Content::AutolinkLiteralEmail
+                    | Content::AutolinkLiteralWww
+                    | Content::AutolinkLiteralWhole
+                    | Content::ThematicBreak
+                    | Content::HardBreak
+                    | Content::LineEnding
+            ),
+            Acting::Part(part) => self.has_leaf_part(part),
+        }
+    }
+
+    /// The same of a part.
+    fn has_leaf_part(&self, part: Part) -> bool
+        ensures leaf { result ≡ true → Holders.part_holder (moved_of self.now) part ≡ Holders.leaf }
+        ensures holder { result ≡ false → Holders.part_holder (moved_of self.now) part ≢ Holders.leaf }
+    {
+        match part {
+            Part::AutolinkEmail
+            | Part::AutolinkProtocol
+            | Part::CharacterReferenceMarker
+            | Part::CharacterReferenceMarkerNumeric
+            | Part::CharacterReferenceMarkerHexadecimal
+            | Part::CharacterReferenceValue
+            | Part::TaskMarkChecked
+            | Part::TaskMarkUnchecked
+            | Part::HeadingAtxSequence
+            | Part::HeadingSetextUnderlineSequence
+            | Part::ListItemValue => true,
+            Part::CodeFencedFence => !matches!(self, Holder::CodeFenced(None)),
+            Part::MathFlowFence => !matches!(self, Holder::MathFlow(None)),
+            _ => false,
+        }
+    }
+
+    /// What a span that is no leaf is to the items in it, at its enter in this holder.
+    pub fn opened(&self, what: Acting) -> Holder<'a>
+        requires { Holders.holder_of (moved_of self.now) what ≢ Holders.leaf }
+        ensures { IsFresh result (Holders.holder_of (moved_of self.now) what) }
     {
         match what {
             Acting::Content(content) => self.opened_by_content(content),
@@ -366,46 +410,38 @@ impl<'a> Holder<'a> {
     }
 
     /// The same of content.
-    fn opened_by_content(&self, content: Content) -> Option<Holder<'a>>
-        ensures { Opens result (Holders.content_holder (moved_of self.now) content) }
+    fn opened_by_content(&self, content: Content) -> Holder<'a>
+        requires { Holders.content_holder (moved_of self.now) content ≢ Holders.leaf }
+        ensures { IsFresh result (Holders.content_holder (moved_of self.now) content) }
     {
         match content {
-            Content::Data
-            | Content::AutolinkLiteralEmail
-            | Content::AutolinkLiteralWww
-            | Content::AutolinkLiteralWhole
-            | Content::ThematicBreak
-            | Content::HardBreak
-            | Content::LineEnding => None,
-            Content::CharacterReference => Some(Holder::CharacterReference(
-                CharacterReferenceParts {
-                    markers: None,
-                    text: None,
-                },
-            )),
-            Content::Autolink => Some(Holder::Autolink(AutolinkParts::Empty)),
-            Content::Link | Content::Image => Some(Holder::Media(MediaParts {
+            Content::CharacterReference => Holder::CharacterReference(CharacterReferenceParts {
+                markers: None,
+                text: None,
+            }),
+            Content::Autolink => Holder::Autolink(AutolinkParts::Empty),
+            Content::Link | Content::Image => Holder::Media(MediaParts {
                 label: None,
                 target: Target::Label,
-            })),
-            Content::FootnoteCall => Some(Holder::FootnoteCall(None)),
-            Content::Definition => Some(Holder::Definition(DefinitionParts {
+            }),
+            Content::FootnoteCall => Holder::FootnoteCall(None),
+            Content::Definition => Holder::Definition(DefinitionParts {
                 label: None,
                 destination: None,
                 title: None,
-            })),
-            Content::ListOrdered => Some(Holder::ListOrdered(None)),
-            Content::ListItem => Some(self.opened_item()),
-            Content::Paragraph => Some(self.opened_paragraph()),
-            Content::FootnoteDefinition => Some(Holder::FootnoteDefinition(None)),
-            Content::HeadingAtx => Some(Holder::HeadingAtx(None)),
-            Content::HeadingSetext => Some(Holder::HeadingSetext(SetextParts {
+            }),
+            Content::ListOrdered => Holder::ListOrdered(None),
+            Content::ListItem => self.opened_item(),
+            Content::Paragraph => self.opened_paragraph(),
+            Content::FootnoteDefinition => Holder::FootnoteDefinition(None),
+            Content::HeadingAtx => Holder::HeadingAtx(None),
+            Content::HeadingSetext => Holder::HeadingSetext(SetextParts {
                 depth: None,
                 has_text: false,
-            })),
-            Content::CodeFenced => Some(Holder::CodeFenced(None)),
-            Content::MathFlow => Some(Holder::MathFlow(None)),
-            _ => Some(Holder::AnyContent),
+            }),
+            Content::CodeFenced => Holder::CodeFenced(None),
+            Content::MathFlow => Holder::MathFlow(None),
+            _ => Holder::AnyContent,
         }
     }
 
@@ -440,39 +476,23 @@ impl<'a> Holder<'a> {
         }
     }
 
-    /// The same of a part. A fence behind the first is a leaf.
-    fn opened_by_part(&self, part: Part) -> Option<Holder<'a>>
-        ensures { Opens result (Holders.part_holder (moved_of self.now) part) }
+    /// The same of a part.
+    fn opened_by_part(&self, part: Part) -> Holder<'a>
+        requires { Holders.part_holder (moved_of self.now) part ≢ Holders.leaf }
+        ensures { IsFresh result (Holders.part_holder (moved_of self.now) part) }
     {
         match part {
-            Part::AutolinkEmail
-            | Part::AutolinkProtocol
-            | Part::CharacterReferenceMarker
-            | Part::CharacterReferenceMarkerNumeric
-            | Part::CharacterReferenceMarkerHexadecimal
-            | Part::CharacterReferenceValue
-            | Part::TaskMarkChecked
-            | Part::TaskMarkUnchecked
-            | Part::HeadingAtxSequence
-            | Part::HeadingSetextUnderlineSequence
-            | Part::ListItemValue => None,
-            Part::CodeFencedFence => match self {
-                Holder::CodeFenced(None) => Some(Holder::CodeFence(CodeFenceParts {
-                    info: None,
-                    meta: None,
-                })),
-                _ => None,
-            },
-            Part::MathFlowFence => match self {
-                Holder::MathFlow(None) => Some(Holder::MathFence(MathFenceParts { meta: None })),
-                _ => None,
-            },
-            Part::Resource => Some(Holder::Resource(ResourceParts {
+            Part::CodeFencedFence => Holder::CodeFence(CodeFenceParts {
+                info: None,
+                meta: None,
+            }),
+            Part::MathFlowFence => Holder::MathFence(MathFenceParts { meta: None }),
+            Part::Resource => Holder::Resource(ResourceParts {
                 destination: None,
                 title: None,
-            })),
-            Part::Reference => Some(Holder::Reference(None)),
-            _ => Some(Holder::AnyContent),
+            }),
+            Part::Reference => Holder::Reference(None),
+            _ => Holder::AnyContent,
         }
     }
 }

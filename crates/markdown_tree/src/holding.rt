@@ -1,6 +1,6 @@
 //! An open acting span with the nodes made in it so far, and what it makes of its items.
 
-ghost use Rattle.std.specs.Prelude.{◌≡◌, ◌≢◌, ◌≤◌, ◌+◌, Bool, IfOk, None, OnOk, Option, is_some, option_map, true, ℕ};
+ghost use Rattle.std.specs.Prelude.{◌≡◌, ◌≢◌, ◌≤◌, ◌+◌, Bool, IfOk, None, Ok, OnOk, Option, is_some, option_map, true, ℕ};
 ghost use Rattle.markdown_events.specs.declared.role.Part.TheVariants as parts;
 ghost use Rattle.markdown_events.specs.Slices.{between};
 ghost use Rattle.markdown_events.specs.Spread.{Shown};
@@ -18,7 +18,7 @@ ghost use Rattle.markdown_nodes.specs.View.{view, views};
 ghost use Rattle.markdown_events.specs.declared.role.Acting.TheVariants as acting;
 ghost use Rattle.markdown_tree.specs.Columns.{columns_left, shown};
 ghost use Rattle.markdown_tree.specs.Holders;
-ghost use Rattle.markdown_tree.specs.Holdings.{code_label, inner_with, is_row_of, math_label, moved_of, nodes_of_label, placed, row_of};
+ghost use Rattle.markdown_tree.specs.Holdings.{code_label, inner_with, is_parent, is_row_of, math_label, moved_of, nodes_of_label, placed, row_of};
 ghost use Rattle.markdown_events.specs.declared.role.Role.TheVariants as roles;
 ghost use Rattle.markdown_tree.specs.Nodes.{node_of};
 ghost use Rattle.markdown_tree.specs.declared.holder.Holder.TheVariants as holders;
@@ -273,6 +273,28 @@ impl<'a> Holding<'a> {
             | Holder::CodeFence(_)
             | Holder::MathFence(_) => unreachable!(),
         }
+    }
+}
+
+impl Holding<'_> {
+    /// Takes a parent that has ended, of which nothing but nodes is kept.
+    pub fn take_parent(
+        &mut self,
+        content: Content,
+        nodes: Vec<Node>,
+        start: Point,
+        end: Point,
+    ) -> Result<(), AllocError>
+        requires row { Holders.any_content ≡ Holders.content_holder (moved_of self.old.holder) content }
+        requires such { is_parent content ≡ true }
+        ensures { OnOk result ((s : Source) (in_table inner_table line_endings : Bool) (children : Shown) → leave s (acting.Content content) start end children (holds_of inner_table None (record { holder = holders.AnyContent; line_endings = line_endings; nodes = nodes })) (holds_of in_table None self.old) ≡ Ok (holds_of in_table None self.new)) }
+    {
+        self.holder.put_content(content, &Holder::AnyContent);
+        put(
+            &mut self.nodes,
+            parent(content, nodes, position_of(start, end)),
+        )?;
+        Ok(())
     }
 }
 

@@ -5,6 +5,7 @@ ghost use Rattle.std.specs.Option.{option_or};
 ghost use Rattle.markdown_events.specs.Spread.{is_delimiter_marker};
 ghost use Rattle.markdown_events.specs.declared.role.Acting.TheVariants as acting;
 ghost use Rattle.markdown_events.specs.declared.role.Content.TheVariants as contents;
+ghost use Rattle.markdown_events.specs.declared.role.Plain.TheVariants as plain;
 ghost use Rattle.markdown_events.specs.declared.role.Role.TheVariants as roles;
 ghost use Rattle.markdown_tree.specs.Siblings.{kind_by, marks_with, no_marks, past_space, sibling_of};
 ghost use Rattle.markdown_tree.specs.States.{first_of, marks_of, sibling_in};
@@ -110,14 +111,29 @@ impl Marks {
     pub fn with(self, role: Role, inner: Marks) -> Marks
         ensures { marks_of result ≡ marks_with (marks_of self) role (marks_of inner) }
     {
-        let is_blank = matches!(role, Role::Plain(Plain::BlankLineEnding));
+        match role {
+            Role::Plain(Plain::BlankLineEnding) => self.with_blank_line(),
+            _ => Marks {
+                near: inner.sibling(role),
+                far: self.near,
+                first: self.first.or(role),
+                item_blank: self.item_blank,
+                list_blank: self.list_blank,
+            },
+        }
+    }
+
+    /// The same behind a blank line. It makes a list loose, but behind an item without content at its
+    /// end, and an item, but behind its prefix.
+    fn with_blank_line(self) -> Marks
+        ensures { marks_of result ≡ marks_with (marks_of self) (roles.Plain plain.BlankLineEnding) no_marks }
+    {
         Marks {
-            near: inner.sibling(role),
+            near: Sibling::Other,
             far: self.near,
-            first: self.first.or(role),
-            item_blank: self.item_blank
-                || is_blank && !matches!(self.past_space(), Sibling::ListItemPrefix),
-            list_blank: self.list_blank || is_blank && !matches!(self.near, Sibling::BareListItem),
+            first: self.first.or(Role::Plain(Plain::BlankLineEnding)),
+            item_blank: self.item_blank || !matches!(self.past_space(), Sibling::ListItemPrefix),
+            list_blank: self.list_blank || !matches!(self.near, Sibling::BareListItem),
         }
     }
 
