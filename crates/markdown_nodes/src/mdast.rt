@@ -409,9 +409,11 @@ pub struct List {
     pub position: Option<Position>,
     /// Whether the items are numbered.
     pub ordered: bool,
-    /// The number of the first item, if the items are numbered.
+    /// The number of the first item that has one, if the items are numbered.
     pub start: Option<u32>,
-    /// Whether a blank line stands between two of its items.
+    /// Whether a blank line stands directly in it, a last one too (markdown-rs). One directly behind
+    /// an item without content at its end does not count, and blank lines in the items are not
+    /// asked for.
     pub spread: bool,
 }
 
@@ -704,7 +706,8 @@ pub struct ListItem {
     pub children: Vec<Node>,
     /// Where it stands, if it stands in a document.
     pub position: Option<Position>,
-    /// Whether a blank line stands between two of its children.
+    /// Whether a blank line stands directly in it, a last one too (markdown-rs). One behind the
+    /// item's prefix does not count.
     pub spread: bool,
     /// Whether the task is done, if it is a task.
     pub checked: Option<bool>,
