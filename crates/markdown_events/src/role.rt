@@ -1,4 +1,6 @@
-//! What each name is to the tree. Nothing else looks at the names themselves but their spelling.
+//! What each name is to the tree. Besides, names are looked at for their spelling, and two are
+//! compared for whether they are the same. One name is written elsewhere: `row_align` in `infer`
+//! begins with `Name::GfmTableDelimiterRow`, which says that nothing stands before in the row.
 
 ghost use Rattle.std.specs.Prelude.{◌≡◌};
 ghost use Rattle.markdown_events.specs.Names.{role_of};

@@ -706,8 +706,8 @@ pub struct ListItem {
     pub children: Vec<Node>,
     /// Where it stands, if it stands in a document.
     pub position: Option<Position>,
-    /// Whether a blank line stands directly in it, a last one too (markdown-rs). One behind the
-    /// item's prefix does not count.
+    /// Whether a blank line stands directly in it, a last one too (markdown-rs). One directly
+    /// behind the item's prefix, a span of white space between them skipped, does not count.
     pub spread: bool,
     /// Whether the task is done, if it is a task.
     pub checked: Option<bool>,
