@@ -12,7 +12,9 @@ mod spans;
 
 pub use spans::span_begins;
 
-/// Whether an event is where a span begins or where it ends.
+/// Whether an event is where a span begins or where it ends (micromark).
+///
+/// In an event line `Kind::Enter` is written `+`, and `Kind::Exit` is written `-`.
 #[derive(Clone, Copy, PartialEq, Eq, Debug)]
 pub enum Kind {
     /// A span begins here.
@@ -24,6 +26,9 @@ pub enum Kind {
 /// What a span is, in the terms of micromark and of the tokenizer of the crate `markdown`.
 ///
 /// [`Name::role`] says what a name is to the tree, and [`Name::text`] how it is written.
+///
+/// In the document `*a*` the whole is `Name::Emphasis`, each star `Name::EmphasisSequence`, and the
+/// `a` is `Name::EmphasisText`, which holds a `Name::Data`.
 #[derive(Clone, Copy, PartialEq, Eq, Debug)]
 pub enum Name {
     // Data: a part of a text.
@@ -570,14 +575,17 @@ fn find_in_row(names: &[Name], text: &[u8]) -> Option<Name>
     None
 }
 
-/// A place between two characters of a document, as the tokenizer has it.
+/// A place between two characters of a document, as the tokenizer of the crate `markdown` has it.
+///
+/// In the document `Hi` the place behind the `H` is
+/// `Point { line: 1, column: 2, index: 1, vs: 0 }`.
 #[derive(Clone, Copy, PartialEq, Eq, Debug)]
 pub struct Point {
     /// The line, counted from 1.
     pub line: usize,
     /// The column, counted from 1.
     pub column: usize,
-    /// The byte of the document, counted from 0.
+    /// The byte of the document, counted from 0: how many bytes stand before the place.
     pub index: usize,
     /// How many spaces of the tab at the index stand before the place.
     pub vs: usize,
@@ -594,7 +602,10 @@ impl Point {
     }
 }
 
-/// Where a span begins or ends.
+/// Where a span begins or ends (micromark).
+///
+/// The event line `+Data 1:1:0` is `Event { kind: Kind::Enter, name: Name::Data, point }`, where
+/// `point` is the start of the document.
 #[derive(Clone, Copy, PartialEq, Eq, Debug)]
 pub struct Event {
     /// Whether the span begins or ends here.

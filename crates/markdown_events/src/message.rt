@@ -6,7 +6,9 @@ ghost use Rattle.markdown_events.specs.declared.message.Fault.TheVariants.{Memor
 use crate::unist::{Point, Position};
 use std::alloc::{AllocError, AllocFailed};
 
-/// Where a message points to.
+/// Where a message points to (the crate `markdown`).
+///
+/// `Place::Point(Point::new(1, 3, 2))` points to line 1, column 3, before which two bytes stand.
 #[derive(Clone, Copy, PartialEq, Eq, Debug)]
 pub enum Place {
     /// One place.
@@ -15,7 +17,11 @@ pub enum Place {
     Position(Position),
 }
 
-/// What is wrong with an input, and where. Making one takes no memory.
+/// What is wrong with an input, and where. Making one takes no memory. The fields are those of the
+/// crate `markdown`; the rules are ours.
+///
+/// For a list of events that leaves a span open `rule_id` is `events-unbalanced`, and `place` is the
+/// point of the last event.
 #[derive(Clone, Copy, PartialEq, Eq, Debug)]
 pub struct Message {
     /// Where it is wrong. The compiler of trees always gives a point.
@@ -28,7 +34,10 @@ pub struct Message {
     pub source: &'static str,
 }
 
-/// Why no tree was made: the input is refused, or memory ran out.
+/// Why no tree was made: the input is refused, or memory ran out (ours).
+///
+/// `Fault::Memory(error)` says nothing of the input; `Fault::Message(message)` says what is wrong
+/// with it.
 #[derive(Debug, Drop)]
 pub enum Fault {
     /// The input is refused.

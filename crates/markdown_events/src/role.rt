@@ -10,12 +10,18 @@ ghost use Rattle.markdown_events.specs.Walks.{holds_nothing, is_list_item, is_bl
 
 use crate::event::Name;
 
-/// A plain name: it makes no node, and what it holds is its holder's.
+/// A plain name: it makes no node, and what it holds is its holder's (ours).
+///
+/// `Name::EmphasisText.role()` is `Role::Plain(Plain::Other)`: what it holds is the emphasis's.
 #[derive(Clone, Copy, PartialEq, Eq, Debug)]
 pub enum Plain {
+    /// The line ending of a line that has nothing but white space (CommonMark, blank lines).
     BlankLineEnding,
+    /// White space in a line.
     SpaceOrTab,
+    /// The bullet or the number of an item, with the white space beside it.
     ListItemPrefix,
+    /// The `>` of a block quote, with the white space beside it.
     BlockQuotePrefix,
     /// The row under the head of a table.
     DelimiterRow,
@@ -27,19 +33,27 @@ pub enum Plain {
     Other,
 }
 
-/// A name that a holder of content takes, any number of times. Names that mean the same are one.
+/// A name that a holder of content takes, any number of times (ours). Names that mean the same are
+/// one.
+///
+/// `Name::HardBreakEscape` and `Name::HardBreakTrailing` are both `Content::HardBreak`.
 #[derive(Clone, Copy, PartialEq, Eq, Debug)]
 pub enum Content {
     /// A part of a text: its slice.
     Data,
+    /// A character by its name or its number: `&amp;`.
     CharacterReference,
+    /// An address in angle brackets: `<https://a.b>`.
     Autolink,
     BlockQuote,
     CodeFenced,
     CodeIndented,
+    /// Code among words.
     CodeText,
+    /// A link reference definition: `[a]: b`.
     Definition,
     Emphasis,
+    /// Metadata at the head of a document.
     Frontmatter,
     /// An address without its `mailto:`.
     AutolinkLiteralEmail,
@@ -47,13 +61,17 @@ pub enum Content {
     AutolinkLiteralWww,
     /// An address with its scheme.
     AutolinkLiteralWhole,
+    /// A mark that leads to a footnote: `[^a]`.
     FootnoteCall,
+    /// What a footnote says: `[^a]: b`.
     FootnoteDefinition,
     Strikethrough,
     Table,
     TableRow,
     TableCell,
+    /// A heading behind number signs.
     HeadingAtx,
+    /// A heading above a line of equals signs or hyphens.
     HeadingSetext,
     /// HTML, flow or text.
     Html,
@@ -62,7 +80,9 @@ pub enum Content {
     ListItem,
     ListOrdered,
     ListUnordered,
+    /// Lines of mathematics.
     MathFlow,
+    /// Mathematics among words.
     MathText,
     Paragraph,
     Strong,
@@ -72,46 +92,81 @@ pub enum Content {
     LineEnding,
 }
 
-/// A name that only some holders take.
+/// A name that only some holders take (ours).
+///
+/// `Part::LabelText` has its place in a link, an image and a footnote call alone.
 #[derive(Clone, Copy, PartialEq, Eq, Debug)]
 pub enum Part {
+    /// An email address in angle brackets, without them.
     AutolinkEmail,
+    /// An address with its scheme in angle brackets, without them.
     AutolinkProtocol,
+    /// The `&` with which a character reference begins.
     CharacterReferenceMarker,
+    /// The `#` of a reference by number. Alone it says that the number is decimal.
     CharacterReferenceMarkerNumeric,
+    /// The `x` or `X` behind the `#`, which says that the number is hexadecimal.
     CharacterReferenceMarkerHexadecimal,
+    /// What stands behind the markers: `amp` in `&amp;`.
     CharacterReferenceValue,
+    /// The first word behind a fence of code, which names the language.
     CodeFencedFenceInfo,
+    /// What stands behind that word.
     CodeFencedFenceMeta,
+    /// `b` in `[a]: b "c"`.
     DefinitionDestinationString,
+    /// `a` in `[a]: b "c"`.
     DefinitionLabelString,
+    /// `c` in `[a]: b "c"`.
     DefinitionTitleString,
+    /// `a` in `[^a]: b`.
     FootnoteDefinitionLabelString,
+    /// What stands in the first brackets of a link, an image or a footnote call: `a` in `[a][b]`.
     LabelText,
+    /// What stands behind a fence of mathematics.
     MathFlowFenceMeta,
+    /// `b` in `[a][b]`.
     ReferenceString,
+    /// `b` in `[a](b "c")`.
     ResourceDestinationString,
+    /// `c` in `[a](b "c")`.
     ResourceTitleString,
+    /// The line that opens fenced code, or the one that closes it.
     CodeFencedFence,
+    /// The line that opens a block of mathematics, or the one that closes it.
     MathFlowFence,
+    /// The `x` in `[x]`: the task is done (GFM).
     TaskMarkChecked,
+    /// The blank in `[ ]`: the task is not done (GFM).
     TaskMarkUnchecked,
+    /// Number signs before the text of an ATX heading, or behind it.
     HeadingAtxSequence,
+    /// The text of a setext heading, without the line under it.
     HeadingSetextText,
+    /// The equals signs or hyphens under a setext heading.
     HeadingSetextUnderlineSequence,
+    /// The digits of a numbered item: `3` in `3. a`.
     ListItemValue,
+    /// `[b]` in `[a][b]`.
     Reference,
+    /// `(b "c")` in `[a](b "c")`.
     Resource,
 }
 
-/// A name that says something to the tree.
+/// A name that says something to the tree (ours).
+///
+/// `Acting::Content(Content::Paragraph)` gives a node, and `Acting::Part(Part::LabelText)` gives
+/// what it holds to a link or an image.
 #[derive(Clone, Copy, PartialEq, Eq, Debug)]
 pub enum Acting {
     Content(Content),
     Part(Part),
 }
 
-/// What a name is to the tree.
+/// What a name is to the tree (ours).
+///
+/// `Name::Content.role()` is `Role::Plain(Plain::Other)`, and `Name::Paragraph.role()` is
+/// `Role::Acting(Acting::Content(Content::Paragraph))`.
 #[derive(Clone, Copy, PartialEq, Eq, Debug)]
 pub enum Role {
     Plain(Plain),
