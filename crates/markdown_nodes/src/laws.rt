@@ -14,20 +14,27 @@ use crate::mdast::{
 };
 pub use markdown_events::laws::one_forest;
 
-/// Lists of nodes may be joined from either side: texts at the seams become one in any order.
+/// Lists of nodes may be joined from either side: texts at the seams become one in any order
+/// (ours).
+///
+/// Lists of one Text each, `a`, `b` and `c`, give a list of the Text `abc` either way.
 #[tactic(auto, using(crate::proofs::Joining::join_assoc))]
 pub fn seam()
     ensures { (a b c : Trees) → join (join a b) c ≡ join a (join b c) }
 {}
 
 /// Two nodes are equal exactly where they are of one kind and all their fields are equal,
-/// positions included.
+/// positions included (as Rust derives it).
+///
+/// Two Texts `a` at two places are not equal, and no Text is equal to an Html.
 pub fn nodes_equal()
     ensures { Tells ⟦<Node as PartialEq>⟧.eq view }
 {}
 
 /// Two structs of one kind are equal exactly where their nodes are the same: where all their fields
-/// are equal, positions included.
+/// are equal, positions included (as Rust derives it).
+///
+/// Two Headings of depths 1 and 2 are not equal.
 pub fn structs_equal()
     ensures root_equal { Tells ⟦<Root as PartialEq>⟧.eq (λ x. view (nodes.Root x)) }
     ensures blockquote_equal { Tells ⟦<Blockquote as PartialEq>⟧.eq (λ x. view (nodes.Blockquote x)) }

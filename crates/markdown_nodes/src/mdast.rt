@@ -221,7 +221,8 @@ impl Node {
     /// Where the node stands, to be changed, and `None` for one that stands in no document.
     ///
     /// What is written through it becomes the node's position, and changes nothing else. Give a
-    /// position to a node that has none by `position_set`.
+    /// position to a node that has none by `position_set`. `position.end = end` lets the node end at
+    /// the point `end`, where `position` is what `node.position_mut()` has.
     pub fn position_mut(&mut self) -> Option<&mut Position>
         ensures* writes_back { sem 𝓛 (LendsPosition self.entry result) }
         ensures value { option_map (λ p. p.now) result ≡ position_of self.old }

@@ -24,6 +24,9 @@ ghost use Rattle.markdown_tree.specs.Source.{Source};
 /// line ending. Parsers to mdast join the pieces, so that one Text is all of the text that stands
 /// together, and whoever searches or replaces words finds each of them whole.
 ///
+/// In the document `a\*b` a tokenizer finds the data `a`, `*` and `b`; the tree has one Text, which
+/// is `a*b`.
+///
 /// It holds of every forest, accepted or not.
 #[tactic(auto, using(crate::proofs::Merged::no_text_behind_text))]
 pub fn no_text_behind_text()
@@ -34,6 +37,8 @@ pub fn no_text_behind_text()
 ///
 /// In mdast, as in every unist tree, a node that stems from a document says where it lies in it,
 /// and a node that a program makes has no position. Every node here stems from the document.
+///
+/// The Text of the document `Hi` has a position that is printed as `1:1-1:3 (0-2)`.
 ///
 /// It holds of every forest, accepted or not.
 #[tactic(auto, using(crate::proofs::ConsequencesOfFields::positions))]
@@ -46,6 +51,8 @@ pub fn every_node_has_a_position()
 /// CommonMark has six levels of headings: one to six number signs open a heading, and an underline
 /// of equals signs or dashes makes one of level 1 or 2. mdast takes the level for the `depth`.
 /// Only an accepted forest is sure to have the signs or the underline.
+///
+/// `### a` gives a Heading of depth 3, and `a` above `---` one of depth 2.
 #[tactic(auto, using(crate::proofs::ConsequencesOfFields::depths))]
 pub fn heading_depths_are_one_to_six()
     ensures { (s : Source) (f : Forest) → accepted s f ≡ true → Everywhere HasDepthToSix (only (meaning s f)) }
@@ -54,8 +61,11 @@ pub fn heading_depths_are_one_to_six()
 /// A List has a `start` exactly when it is ordered.
 ///
 /// In CommonMark an ordered list starts with the number of its first item, and a bullet list has no
-/// numbers. In mdast `start` is that number, and is there for ordered lists alone. Only in an
-/// accepted forest an ordered list is sure to have a number.
+/// numbers. In mdast `start` is that number, and is there for ordered lists alone. Here it is that
+/// of the first item that has one. Only in an accepted forest an ordered list is sure to have a
+/// number.
+///
+/// `3. a` gives a List with the `start` 3, and `* a` one without.
 #[tactic(auto, using(crate::proofs::ConsequencesOfFields::starts))]
 pub fn lists_have_a_start_when_ordered()
     ensures { (s : Source) (f : Forest) → accepted s f ≡ true → Everywhere HasStartIfOrdered (only (meaning s f)) }
@@ -68,6 +78,8 @@ pub fn lists_have_a_start_when_ordered()
 /// the colons beside the dashes say how the column is aligned. In mdast `align` lists that, column
 /// by column; in HTML the alignment goes to each cell of the column.
 ///
+/// The delimiter row `| :-- | - |` gives `AlignKind::Left` and `AlignKind::None`.
+///
 /// In a forest that is not accepted a cell value may stand in another, and has no entry there.
 #[tactic(auto, using(crate::proofs::ConsequencesOfTables::columns))]
 pub fn tables_have_an_alignment_for_each_column()
@@ -78,6 +90,8 @@ pub fn tables_have_an_alignment_for_each_column()
 ///
 /// CommonMark has autolinks in angle brackets, and GFM has addresses that stand bare in a text,
 /// which it calls autolinks too. mdast has no kind for either: both are Links, without a title.
+///
+/// `<https://a.b>` gives a Link to `https://a.b` with that address as its one Text.
 ///
 /// It holds of every item of a forest, accepted or not, wherever it stands.
 #[tactic(auto, using(crate::proofs::ConsequencesOfLinks::links))]

@@ -4,7 +4,11 @@ ghost use Rattle.std.specs.Prelude.{◌≡◌, List, ℕ, Option, option_map, st
 
 use std::alloc::{AllocError, Global};
 
-/// What the values of character references stand for: a decoder, which the caller hands in.
+/// What the values of character references stand for (CommonMark, entity and numeric character
+/// references): a decoder, which the caller hands in. That it is handed in is ours.
+///
+/// For a decoder that knows `&lt;` alone, `text` is `<` for the value `lt` behind `&`, and nothing
+/// for all others.
 ///
 /// Its meaning is `text`: a text or none for each value and marker. An implementation is lawful
 /// when each answer that is no want of memory is that meaning, and it is proved to be.

@@ -7,7 +7,9 @@ use crate::count::Count;
 use markdown_nodes::event::Event;
 use std::marker::Model;
 
-/// A list of events, and how many steps were taken over it.
+/// A list of events, and how many steps were taken over it (ours).
+///
+/// In `Steps::new(&events)` no step is taken; `steps.read(0)` takes one, if there is an event.
 ///
 /// A step is one read of an event, or one descent from a node to a child. The count is a whole
 /// number without a greatest value; contracts see it as `count`, the list as `events`, and at run
