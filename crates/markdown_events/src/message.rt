@@ -20,8 +20,8 @@ pub enum Place {
 /// What is wrong with an input, and where. Making one takes no memory. The fields are those of the
 /// crate `markdown`; the rules are ours.
 ///
-/// For a list of events that leaves a span open `rule_id` is `events-unbalanced`, and `place` is the
-/// point of the last event.
+/// For a list of events that leaves a span open `rule_id` is `events-unbalanced`, and `place` is
+/// the point of the last event.
 #[derive(Clone, Copy, PartialEq, Eq, Debug)]
 pub struct Message {
     /// Where it is wrong. The compiler of trees always gives a point.

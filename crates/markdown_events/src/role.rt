@@ -155,8 +155,8 @@ pub enum Part {
 
 /// A name that says something to the tree (ours).
 ///
-/// `Acting::Content(Content::Paragraph)` gives a node, and `Acting::Part(Part::LabelText)` gives
-/// what it holds to a link or an image.
+/// `Acting::Content(Content::Paragraph)` gives a node, and `Acting::Part(Part::LabelText)` tells
+/// its holder a label.
 #[derive(Clone, Copy, PartialEq, Eq, Debug)]
 pub enum Acting {
     Content(Content),

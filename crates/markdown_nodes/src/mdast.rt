@@ -221,8 +221,8 @@ impl Node {
     /// Where the node stands, to be changed, and `None` for one that stands in no document.
     ///
     /// What is written through it becomes the node's position, and changes nothing else. Give a
-    /// position to a node that has none by `position_set`. `position.end = end` lets the node end at
-    /// the point `end`, where `position` is what `node.position_mut()` has.
+    /// position to a node that has none by `position_set`. Where `node.position_mut()` is
+    /// `Some(position)`, `position.end = end` lets the node end at the point `end`.
     pub fn position_mut(&mut self) -> Option<&mut Position>
         ensures* writes_back { sem 𝓛 (LendsPosition self.entry result) }
         ensures value { option_map (λ p. p.now) result ≡ position_of self.old }
@@ -412,9 +412,9 @@ pub struct List {
     pub ordered: bool,
     /// The number of the first item that has one, if the items are numbered.
     pub start: Option<u32>,
-    /// Whether a blank line stands directly in it, a last one too (markdown-rs). One directly behind
-    /// an item without content at its end does not count, and blank lines in the items are not
-    /// asked for.
+    /// Whether a blank line stands directly in it, a last one too (markdown-rs). One directly
+    /// behind an item without content at its end does not count, and blank lines in the items are
+    /// not asked for.
     pub spread: bool,
 }
 
