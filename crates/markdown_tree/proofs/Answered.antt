@@ -1,5 +1,5 @@
 -- From what the steps give to what `compile` says.
-use Rattle.std.proofs.Common.{◌≡◌, ◌≢◌, ◌==◌, ◌⊎◌, inl, inr, ℕ, ◌+◌, ◌*◌, ◌≤◌, arith, Bool, true, false, not, List, [], ◌∷◌, length, Option, None, Some, Result, Ok, Err, cond, eq-eqb, reverse, refl, sym, ap, subst, ◌∙◌}
+use Rattle.std.proofs.Common.{◌≡◌, ◌≢◌, ◌==◌, ◌⊎◌, inl, inr, ℕ, ◌+◌, ◌*◌, ◌<◌, ◌≤◌, arith, Bool, true, false, not, List, [], ◌∷◌, length, Option, None, Some, Result, Ok, Err, cond, eq-eqb, reverse, refl, sym, ap, subst, ◌∙◌}
 use Rattle.std.specs.Prelude.{IfErr, IfOk, is_some, vec_len}
 use Rattle.std.specs.Global.{Vec}
 use Rattle.std.proofs.lemmas.Bool.{eqb-true}
@@ -42,6 +42,7 @@ use Rattle.markdown_tree.proofs.Compiled.{sound}
 use Rattle.markdown_tree.proofs.Conditions.{conditions-accept, conditions-hold}
 use Rattle.markdown_tree.proofs.HeldWalks.{accepted-walks}
 use Rattle.markdown_tree.proofs.InsideWalks.{any-walks}
+use Rattle.markdown_tree.proofs.Outcomes.{ok_is}
 use Rattle.markdown_tree.proofs.Reasons.{explained}
 use Rattle.markdown_tree.proofs.Refused as refused_at
 use Rattle.markdown_tree.proofs.Refused.{refused-where, refuses}
@@ -100,6 +101,15 @@ left_fails (faults.Message m) s es st why p h fails at says = (
       ∙ ap (λ (x : Point). refused why x) (sym at),
   says,
 )
+
+-- where something is, there is an event
+pub some_event : (s : Source) (es : List Event) (st : State) (why : Refusal) → run s es opening ≡ Ok st → first_failing (last_checks st) ≡ Some why → 0 < length es
+unfolding run
+some_event s [] st why h fails =
+    let same : opening ≡ st = ok_is opening st h in
+    let wrong : None ≡ Some why = ap (λ (x : State). first_failing (last_checks x)) same ∙ fails in
+    absurd cc
+some_event s (e ∷ es) st why h fails = omega arith
 
 -- and one behind which nothing is
 pub tree_gives : (s : Source) (es : List Event) (st : State) (r : RootNode) → run s es opening ≡ Ok st → first_failing (last_checks st) ≡ None → views r.children.items ≡ st.top.inner.nodes → r.position ≡ Some (extent_of es)

@@ -1,11 +1,12 @@
 -- From the first event to the last: of a spelling as of its forest.
-use Rattle.std.proofs.Common.{◌≡◌, ℕ, ◌-◌, List, [], ◌∷◌, ◌++◌, length, Option, Some, arith, refl, sym, ap, ◌∙◌}
+use Rattle.std.proofs.Common.{◌≡◌, ℕ, ◌-◌, ◌<◌, List, [], ◌∷◌, ◌++◌, length, Option, None, Some, arith, refl, sym, ap, ◌∙◌}
 use Rattle.std.specs.Prelude.{slice_get}
 use Rattle.markdown_events.specs.Forest.{Forest, empty, enter, exit, span, spell}
 use Rattle.markdown_events.specs.Slices.{between}
 use Rattle.markdown_events.specs.declared.event.Event.{Event}
 use Rattle.markdown_events.specs.declared.event.Name.{Name}
 use Rattle.markdown_events.specs.declared.event.Point.{Point}
+use Rattle.markdown_tree.specs.Compiler.{point_of}
 use Rattle.markdown_tree.specs.Extents.{extent_between, extent_of, last_event}
 use Rattle.markdown_tree.specs.Meaning.{extent, last_end}
 
@@ -23,6 +24,19 @@ pub last-of : (e : Event) (es : List Event) → (last : Event) × (last_event (e
 last-of e es =
     let count : length (e ∷ es) - 1 ≡ length es = omega arith in
     (last_or e es, ap (slice_get (e ∷ es)) count ∙ last_at e es)
+
+pub has_last : (es : List Event) → 0 < length es → None ≡ slice_get es (length es - 1) → ⊥
+has_last [] h none = omega (arith, h)
+has_last (e ∷ es) h none = let some = last-of e es in let wrong : None ≡ Some some.0 = none ∙ some.1 in cc
+
+-- from the first of them to the last
+pub extent_to_last : (es : List Event) (first : Event) → Some first ≡ slice_get es 0 → extent_of es ≡ between first.point (point_of (last_event es))
+extent_to_last [] first h = absurd cc
+extent_to_last (e ∷ es) first h =
+    let some = last-of e es in
+    ap (λ (o : Option Event). extent_between o (last_event (e ∷ es))) (sym h)
+    ∙ ap (λ (o : Option Event). extent_between (Some first) o) some.1
+    ∙ sym (ap (λ (o : Option Event). between first.point (point_of o)) some.1)
 
 last_after : (e d : Event) (es fs : List Event) → last_or e (es ++ (d ∷ fs)) ≡ last_or d fs
 unfolding last_or

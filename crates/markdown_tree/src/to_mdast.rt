@@ -1,6 +1,6 @@
 //! From events to a tree.
 
-ghost use Rattle.std.specs.Prelude.{◌≡◌, ◌≤◌, ◌+◌, ◌*◌, length, IfOk, IfErr};
+ghost use Rattle.std.specs.Prelude.{◌≡◌, ◌<◌, ◌≤◌, ◌+◌, ◌*◌, length, IfOk, IfErr};
 ghost use Rattle.markdown_events.specs.Forest.{Forest, spell};
 ghost use Rattle.markdown_nodes.specs.Tree.{only};
 ghost use Rattle.markdown_nodes.specs.View.{view};
@@ -29,8 +29,10 @@ use std::alloc::Global;
 /// The tree that a list of events stands for, over the bytes of the document.
 ///
 /// A tree comes exactly when the events spell a forest that the grammar accepts over the bytes and
-/// the meaning of `references`, and it is that forest's meaning. Every other list is refused by a
-/// message with one of these rules, at the point of an event of the list:
+/// the meaning of `references`, and it is that forest's meaning. Where the offsets of the events
+/// never go back, its spans nest and siblings stand in order, but for the starts in the first
+/// paragraphs of task items. Every other list is refused by a message with one of these rules, at
+/// the point of an event of the list:
 ///
 /// - `events-unbalanced`: an exit is not that of the open span, or a span is open at the end;
 /// - `span-held`: a span stands in one that holds nothing, or a delimiter row or delimiter cell
@@ -155,21 +157,17 @@ fn take_all<'a, R: References>(
     })
 }
 
-/// The point of the last event, or the first place of a document where there is none.
+/// The point of the last event, where there is one.
 fn last_point(steps: &mut Steps<'_>, length: usize) -> Point
-    requires { length ≡ events_in steps.old.events }
+    requires length { length ≡ events_in steps.old.events }
+    requires some { 0 < length }
     ensures point { result ≡ point_of (last_event steps.old.events) }
     ensures list { steps.new.events ≡ steps.old.events }
-    ensures count { steps.new.count ≤ steps.old.count + length }
+    ensures count { steps.new.count ≤ steps.old.count + 1 }
 {
-    match steps.read(length.saturating_sub(1)) {
+    match steps.read(length - 1) {
         Some(last) => last.point,
-        None => Point {
-            line: 1,
-            column: 1,
-            index: 0,
-            vs: 0,
-        },
+        None => unreachable!(),
     }
 }
 
@@ -180,8 +178,8 @@ fn whole(steps: &mut Steps<'_>, length: usize) -> Position
     ensures list { steps.new.events ≡ steps.old.events }
     ensures count { steps.new.count ≤ steps.old.count + 2 * length }
 {
-    match (steps.read(0), steps.read(length.saturating_sub(1))) {
-        (Some(first), Some(last)) => position_of(first.point, last.point),
-        _ => Position::new(1, 1, 0, 1, 1, 0),
+    match steps.read(0) {
+        Some(first) => position_of(first.point, last_point(steps, length)),
+        None => Position::new(1, 1, 0, 1, 1, 0),
     }
 }

@@ -1,21 +1,34 @@
-use Rattle.std.proofs.Common.{List, Some, ap, sym, ◌∙◌}
+use Rattle.std.proofs.Common.{List, Some, arith, ap, sym, ◌∙◌}
 use Rattle.markdown_events.specs.declared.event.Event.{Event}
 use Rattle.markdown_events.specs.declared.unist.Position.{Position}
 use Rattle.markdown_tree.specs.Compiler.{point_of}
 use Rattle.markdown_tree.specs.Extents.{extent_of, last_event}
 use Rattle.markdown_tree.specs.Source.{source}
 use Rattle.markdown_tree.specs.States.{state_of}
-use Rattle.markdown_tree.proofs.Answered.{left_fails, no_leaf_open, root_nodes, tree_gives}
+use Rattle.markdown_tree.proofs.Answered.{left_fails, no_leaf_open, root_nodes, some_event, tree_gives}
 use Rattle.markdown_tree.proofs.to_mdast.compile_list.Goals as goal
 
 pub unfinished-requires : goal.unfinished-requires
 unfinished-requires g c none = no_leaf_open (source c.args.bytes.now (g.R.References.text c.args.references.now)) c.args.steps.now.events c.in_ok-context.field-0.context c.in_ok-context.ensures.gives none
+
+pub last_point-requires-clause-some : goal.last_point-requires-clause-some
+last_point-requires-clause-some g c =
+    let some = some_event (source c.args.bytes.now (g.R.References.text c.args.references.now)) c.args.steps.now.events (state_of c.in_ok-context.field-0.context) c.in-Some.refusal c.in_ok-context.ensures.gives (sym c.unfinished.ensures ∙ c.in-Some.is) in
+    let count = c.in_ok-context.ensures.length in
+    omega (arith, some, count)
 
 pub returns-in-Some-clause-gives : goal.returns-in-Some-clause-gives
 returns-in-Some-clause-gives g c =
     left_fails c.at.result (source c.args.bytes.now (g.R.References.text c.args.references.now)) c.args.steps.now.events (state_of c.in_ok-context.field-0.context) c.in-Some.refusal c.last_point.result
     c.in_ok-context.ensures.gives (sym c.unfinished.ensures ∙ c.in-Some.is)
     (c.last_point.ensures.point ∙ ap (λ (es : List Event). point_of (last_event es)) c.take_all.ensures.list) c.at.ensures
+
+pub returns-in-Some-clause-bound : goal.returns-in-Some-clause-bound
+returns-in-Some-clause-bound g c =
+    let some = some_event (source c.args.bytes.now (g.R.References.text c.args.references.now)) c.args.steps.now.events (state_of c.in_ok-context.field-0.context) c.in-Some.refusal c.in_ok-context.ensures.gives (sym c.unfinished.ensures ∙ c.in-Some.is) in
+    let taken = c.take_all.ensures.bound in
+    let last = c.last_point.ensures.count in
+    omega (arith, some, taken, last)
 
 pub returns-clause-gives : goal.returns-clause-gives
 returns-clause-gives g c =
