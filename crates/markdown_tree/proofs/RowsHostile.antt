@@ -188,6 +188,17 @@ a_reference_without_a_value-refused : refusal_of (compiled (over (97 ∷ 98 ∷ 
 unfolding is_utf8 chars encode slice fold caseless run enter_step exit_step leave
 a_reference_without_a_value-refused = refl
 
+abbrev a_value_before_any_marker : Forest
+a_value_before_any_marker = (span n.CharacterReference (at 1 1 0) (at 1 3 2) (span n.CharacterReferenceValue (at 1 2 1) (at 1 3 2) empty empty) empty)
+
+a_value_before_any_marker-accepted : accepted (over (97 ∷ 98 ∷ [])) a_value_before_any_marker ≡ false
+unfolding is_utf8 chars encode slice fold caseless
+a_value_before_any_marker-accepted = refl
+
+a_value_before_any_marker-refused : refusal_of (compiled (over (97 ∷ 98 ∷ [])) (spell a_value_before_any_marker)) ≡ refusal (codes "reference-incomplete") 1 2 1
+unfolding is_utf8 chars encode slice fold caseless run enter_step exit_step leave
+a_value_before_any_marker-refused = refl
+
 abbrev a_line_ending_in_a_reference : Forest
 a_line_ending_in_a_reference = (span n.CharacterReference (at 1 1 0) (at 1 3 2) (span n.LineEnding (at 1 1 0) (at 1 2 1) empty empty) empty)
 

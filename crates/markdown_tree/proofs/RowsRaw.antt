@@ -206,3 +206,58 @@ a_pipe_in_code_behind_a_table-accepted = refl
 a_pipe_in_code_behind_a_table-means : only (meaning (over (96 ∷ 97 ∷ 92 ∷ 124 ∷ 98 ∷ 96 ∷ [])) a_pipe_in_code_behind_a_table) ≡ (node t.root (node (t.table ([])) (node t.table_row nothing (position 1 1 0 1 1 0) nothing) (position 1 1 0 1 1 0) (node (t.inline_code (97 ∷ 92 ∷ 124 ∷ 98 ∷ [])) nothing (position 1 1 0 1 7 6) nothing)) (position 1 1 0 1 7 6) nothing)
 unfolding is_utf8 chars encode slice fold caseless
 a_pipe_in_code_behind_a_table-means = refl
+
+abbrev line_endings_around_inline_code : Forest
+line_endings_around_inline_code = (span n.CodeText (at 1 1 0) (at 3 2 5) (span n.CodeTextSequence (at 1 1 0) (at 1 2 1) empty (span n.LineEnding (at 1 2 1) (at 2 1 2) empty (span n.CodeTextData (at 2 1 2) (at 2 2 3) empty (span n.LineEnding (at 2 2 3) (at 3 1 4) empty (span n.CodeTextSequence (at 3 1 4) (at 3 2 5) empty empty))))) empty)
+
+line_endings_around_inline_code-accepted : accepted (over (96 ∷ 10 ∷ 97 ∷ 10 ∷ 96 ∷ [])) line_endings_around_inline_code ≡ true
+unfolding is_utf8 chars encode slice fold caseless
+line_endings_around_inline_code-accepted = refl
+
+line_endings_around_inline_code-means : only (meaning (over (96 ∷ 10 ∷ 97 ∷ 10 ∷ 96 ∷ [])) line_endings_around_inline_code) ≡ (node t.root (node (t.inline_code (97 ∷ [])) nothing (position 1 1 0 3 2 5) nothing) (position 1 1 0 3 2 5) nothing)
+unfolding is_utf8 chars encode slice fold caseless
+line_endings_around_inline_code-means = refl
+
+abbrev a_line_ending_in_inline_code : Forest
+a_line_ending_in_inline_code = (span n.CodeText (at 1 1 0) (at 2 3 5) (span n.CodeTextSequence (at 1 1 0) (at 1 2 1) empty (span n.CodeTextData (at 1 2 1) (at 1 3 2) empty (span n.LineEnding (at 1 3 2) (at 2 1 3) empty (span n.CodeTextData (at 2 1 3) (at 2 2 4) empty (span n.CodeTextSequence (at 2 2 4) (at 2 3 5) empty empty))))) empty)
+
+a_line_ending_in_inline_code-accepted : accepted (over (96 ∷ 97 ∷ 10 ∷ 98 ∷ 96 ∷ [])) a_line_ending_in_inline_code ≡ true
+unfolding is_utf8 chars encode slice fold caseless
+a_line_ending_in_inline_code-accepted = refl
+
+a_line_ending_in_inline_code-means : only (meaning (over (96 ∷ 97 ∷ 10 ∷ 98 ∷ 96 ∷ [])) a_line_ending_in_inline_code) ≡ (node t.root (node (t.inline_code (97 ∷ 32 ∷ 98 ∷ [])) nothing (position 1 1 0 2 3 5) nothing) (position 1 1 0 2 3 5) nothing)
+unfolding is_utf8 chars encode slice fold caseless
+a_line_ending_in_inline_code-means = refl
+
+abbrev inline_code_of_two_line_endings : Forest
+inline_code_of_two_line_endings = (span n.CodeText (at 1 1 0) (at 3 2 4) (span n.CodeTextSequence (at 1 1 0) (at 1 2 1) empty (span n.LineEnding (at 1 2 1) (at 2 1 2) empty (span n.LineEnding (at 2 1 2) (at 3 1 3) empty (span n.CodeTextSequence (at 3 1 3) (at 3 2 4) empty empty)))) empty)
+
+inline_code_of_two_line_endings-accepted : accepted (over (96 ∷ 10 ∷ 10 ∷ 96 ∷ [])) inline_code_of_two_line_endings ≡ true
+unfolding is_utf8 chars encode slice fold caseless
+inline_code_of_two_line_endings-accepted = refl
+
+inline_code_of_two_line_endings-means : only (meaning (over (96 ∷ 10 ∷ 10 ∷ 96 ∷ [])) inline_code_of_two_line_endings) ≡ (node t.root (node (t.inline_code (32 ∷ 32 ∷ [])) nothing (position 1 1 0 3 2 4) nothing) (position 1 1 0 3 2 4) nothing)
+unfolding is_utf8 chars encode slice fold caseless
+inline_code_of_two_line_endings-means = refl
+
+abbrev inline_code_of_a_line_ending_of_two_bytes : Forest
+inline_code_of_a_line_ending_of_two_bytes = (span n.CodeText (at 1 1 0) (at 2 2 4) (span n.CodeTextSequence (at 1 1 0) (at 1 2 1) empty (span n.LineEnding (at 1 2 1) (at 2 1 3) empty (span n.CodeTextSequence (at 2 1 3) (at 2 2 4) empty empty))) empty)
+
+inline_code_of_a_line_ending_of_two_bytes-accepted : accepted (over (96 ∷ 13 ∷ 10 ∷ 96 ∷ [])) inline_code_of_a_line_ending_of_two_bytes ≡ true
+unfolding is_utf8 chars encode slice fold caseless
+inline_code_of_a_line_ending_of_two_bytes-accepted = refl
+
+inline_code_of_a_line_ending_of_two_bytes-means : only (meaning (over (96 ∷ 13 ∷ 10 ∷ 96 ∷ [])) inline_code_of_a_line_ending_of_two_bytes) ≡ (node t.root (node (t.inline_code (32 ∷ [])) nothing (position 1 1 0 2 2 4) nothing) (position 1 1 0 2 2 4) nothing)
+unfolding is_utf8 chars encode slice fold caseless
+inline_code_of_a_line_ending_of_two_bytes-means = refl
+
+abbrev line_endings_around_inline_math : Forest
+line_endings_around_inline_math = (span n.MathText (at 1 1 0) (at 3 2 5) (span n.MathTextSequence (at 1 1 0) (at 1 2 1) empty (span n.LineEnding (at 1 2 1) (at 2 1 2) empty (span n.MathTextData (at 2 1 2) (at 2 2 3) empty (span n.LineEnding (at 2 2 3) (at 3 1 4) empty (span n.MathTextSequence (at 3 1 4) (at 3 2 5) empty empty))))) empty)
+
+line_endings_around_inline_math-accepted : accepted (over (36 ∷ 10 ∷ 97 ∷ 10 ∷ 36 ∷ [])) line_endings_around_inline_math ≡ true
+unfolding is_utf8 chars encode slice fold caseless
+line_endings_around_inline_math-accepted = refl
+
+line_endings_around_inline_math-means : only (meaning (over (36 ∷ 10 ∷ 97 ∷ 10 ∷ 36 ∷ [])) line_endings_around_inline_math) ≡ (node t.root (node (t.inline_math (97 ∷ [])) nothing (position 1 1 0 3 2 5) nothing) (position 1 1 0 3 2 5) nothing)
+unfolding is_utf8 chars encode slice fold caseless
+line_endings_around_inline_math-means = refl

@@ -43,6 +43,17 @@ no_alignment_of_a_later_table-means : only (meaning (over ([])) no_alignment_of_
 unfolding is_utf8 chars encode slice fold caseless
 no_alignment_of_a_later_table-means = refl
 
+abbrev two_delimiter_rows : Forest
+two_delimiter_rows = (span n.GfmTable (at 1 1 0) (at 2 6 9) (span n.GfmTableDelimiterRow (at 1 1 0) (at 1 4 3) (span n.GfmTableDelimiterCellValue (at 1 2 1) (at 1 3 2) (span n.GfmTableDelimiterMarker (at 1 2 1) (at 1 3 2) empty empty) empty) (span n.LineEnding (at 1 4 3) (at 2 1 4) empty (span n.GfmTableDelimiterRow (at 2 1 4) (at 2 6 9) (span n.GfmTableDelimiterCellValue (at 2 2 5) (at 2 3 6) (span n.GfmTableDelimiterFiller (at 2 2 5) (at 2 3 6) empty empty) (span n.GfmTableDelimiterCellValue (at 2 4 7) (at 2 5 8) (span n.GfmTableDelimiterFiller (at 2 4 7) (at 2 5 8) empty empty) empty)) empty))) empty)
+
+two_delimiter_rows-accepted : accepted (over (124 ∷ 58 ∷ 124 ∷ 10 ∷ 124 ∷ 45 ∷ 124 ∷ 45 ∷ 124 ∷ [])) two_delimiter_rows ≡ true
+unfolding is_utf8 chars encode slice fold caseless
+two_delimiter_rows-accepted = refl
+
+two_delimiter_rows-means : only (meaning (over (124 ∷ 58 ∷ 124 ∷ 10 ∷ 124 ∷ 45 ∷ 124 ∷ 45 ∷ 124 ∷ [])) two_delimiter_rows) ≡ (node t.root (node (t.table (a.Center ∷ [])) nothing (position 1 1 0 2 6 9) nothing) (position 1 1 0 2 6 9) nothing)
+unfolding is_utf8 chars encode slice fold caseless
+two_delimiter_rows-means = refl
+
 abbrev a_table_in_a_cell : Forest
 a_table_in_a_cell = (span n.GfmTable (at 1 1 0) (at 1 1 0) (span n.GfmTableRow (at 1 1 0) (at 1 1 0) (span n.GfmTableCell (at 1 1 0) (at 1 1 0) (span n.GfmTable (at 1 1 0) (at 1 1 0) empty empty) empty) empty) empty)
 

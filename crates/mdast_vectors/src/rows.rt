@@ -550,7 +550,81 @@ doc 60615c7c6260
 +CodeTextSequence 1:6:5
 -CodeTextSequence 1:7:6
 -CodeText 1:7:6
-= Root { children: [Table { children: [TableRow { children: [], position: Some(1:1-1:1 (0-0)) }], position: Some(1:1-1:1 (0-0)), align: [] }, InlineCode { value: "a\\|b", position: Some(1:1-1:7 (0-6)) }], position: Some(1:1-1:7 (0-6)) }"#;
+= Root { children: [Table { children: [TableRow { children: [], position: Some(1:1-1:1 (0-0)) }], position: Some(1:1-1:1 (0-0)), align: [] }, InlineCode { value: "a\\|b", position: Some(1:1-1:7 (0-6)) }], position: Some(1:1-1:7 (0-6)) }
+
+case line-endings-around-inline-code
+doc 600a610a60
++CodeText 1:1:0
++CodeTextSequence 1:1:0
+-CodeTextSequence 1:2:1
++LineEnding 1:2:1
+-LineEnding 2:1:2
++CodeTextData 2:1:2
+-CodeTextData 2:2:3
++LineEnding 2:2:3
+-LineEnding 3:1:4
++CodeTextSequence 3:1:4
+-CodeTextSequence 3:2:5
+-CodeText 3:2:5
+= Root { children: [InlineCode { value: "a", position: Some(1:1-3:2 (0-5)) }], position: Some(1:1-3:2 (0-5)) }
+
+case a-line-ending-in-inline-code
+doc 60610a6260
++CodeText 1:1:0
++CodeTextSequence 1:1:0
+-CodeTextSequence 1:2:1
++CodeTextData 1:2:1
+-CodeTextData 1:3:2
++LineEnding 1:3:2
+-LineEnding 2:1:3
++CodeTextData 2:1:3
+-CodeTextData 2:2:4
++CodeTextSequence 2:2:4
+-CodeTextSequence 2:3:5
+-CodeText 2:3:5
+= Root { children: [InlineCode { value: "a b", position: Some(1:1-2:3 (0-5)) }], position: Some(1:1-2:3 (0-5)) }
+
+case inline-code-of-two-line-endings
+doc 600a0a60
++CodeText 1:1:0
++CodeTextSequence 1:1:0
+-CodeTextSequence 1:2:1
++LineEnding 1:2:1
+-LineEnding 2:1:2
++LineEnding 2:1:2
+-LineEnding 3:1:3
++CodeTextSequence 3:1:3
+-CodeTextSequence 3:2:4
+-CodeText 3:2:4
+= Root { children: [InlineCode { value: "  ", position: Some(1:1-3:2 (0-4)) }], position: Some(1:1-3:2 (0-4)) }
+
+case inline-code-of-a-line-ending-of-two-bytes
+doc 600d0a60
++CodeText 1:1:0
++CodeTextSequence 1:1:0
+-CodeTextSequence 1:2:1
++LineEnding 1:2:1
+-LineEnding 2:1:3
++CodeTextSequence 2:1:3
+-CodeTextSequence 2:2:4
+-CodeText 2:2:4
+= Root { children: [InlineCode { value: " ", position: Some(1:1-2:2 (0-4)) }], position: Some(1:1-2:2 (0-4)) }
+
+case line-endings-around-inline-math
+doc 240a610a24
++MathText 1:1:0
++MathTextSequence 1:1:0
+-MathTextSequence 1:2:1
++LineEnding 1:2:1
+-LineEnding 2:1:2
++MathTextData 2:1:2
+-MathTextData 2:2:3
++LineEnding 2:2:3
+-LineEnding 3:1:4
++MathTextSequence 3:1:4
+-MathTextSequence 3:2:5
+-MathText 3:2:5
+= Root { children: [InlineMath { value: "a", position: Some(1:1-3:2 (0-5)) }], position: Some(1:1-3:2 (0-5)) }"#;
 
 #[test]
 fn raw(rt: HostRuntime) -> Result<(), Fail> {
@@ -1158,6 +1232,30 @@ doc
 -GfmTable 1:1:0
 = Root { children: [Table { children: [TableRow { children: [], position: Some(1:1-1:1 (0-0)) }], position: Some(1:1-1:1 (0-0)), align: [] }, Table { children: [], position: Some(1:1-1:1 (0-0)), align: [None] }], position: Some(1:1-1:1 (0-0)) }
 
+case two-delimiter-rows
+doc 7c3a7c0a7c2d7c2d7c
++GfmTable 1:1:0
++GfmTableDelimiterRow 1:1:0
++GfmTableDelimiterCellValue 1:2:1
++GfmTableDelimiterMarker 1:2:1
+-GfmTableDelimiterMarker 1:3:2
+-GfmTableDelimiterCellValue 1:3:2
+-GfmTableDelimiterRow 1:4:3
++LineEnding 1:4:3
+-LineEnding 2:1:4
++GfmTableDelimiterRow 2:1:4
++GfmTableDelimiterCellValue 2:2:5
++GfmTableDelimiterFiller 2:2:5
+-GfmTableDelimiterFiller 2:3:6
+-GfmTableDelimiterCellValue 2:3:6
++GfmTableDelimiterCellValue 2:4:7
++GfmTableDelimiterFiller 2:4:7
+-GfmTableDelimiterFiller 2:5:8
+-GfmTableDelimiterCellValue 2:5:8
+-GfmTableDelimiterRow 2:6:9
+-GfmTable 2:6:9
+= Root { children: [Table { children: [], position: Some(1:1-2:6 (0-9)), align: [Center] }], position: Some(1:1-2:6 (0-9)) }
+
 case a-table-in-a-cell
 doc
 +GfmTable 1:1:0
@@ -1338,6 +1436,14 @@ doc 6162
 -CharacterReferenceMarker 1:2:1
 -CharacterReference 1:3:2
 ! reference-incomplete 1:3 (2)
+
+case a-value-before-any-marker
+doc 6162
++CharacterReference 1:1:0
++CharacterReferenceValue 1:2:1
+-CharacterReferenceValue 1:3:2
+-CharacterReference 1:3:2
+! reference-incomplete 1:2 (1)
 
 case a-line-ending-in-a-reference
 doc 6162
