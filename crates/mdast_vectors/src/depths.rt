@@ -33,7 +33,7 @@ fn spread(node: &Node) -> Option<bool> {
 }
 
 /// The first child of a node.
-fn first_child(node: &Node) -> Option<&Node> {
+pub fn first_child(node: &Node) -> Option<&Node> {
     node.children()?.first()
 }
 

@@ -7,13 +7,10 @@ use std::alloc::Global;
 use std::process::Abort;
 use std::test::Fail;
 
-/// Rows with more events are left out.
-const MOST_EVENTS: usize = 40;
-
-/// The small rows of a table that have a tree.
-fn small_rows(alloc: Global, table: &str) -> Result<Vec<Case<'_>>, Fail> {
+/// The rows of a table that have a tree.
+fn accepted_rows(alloc: Global, table: &str) -> Result<Vec<Case<'_>>, Fail> {
     let mut rows = cases(alloc, table)?;
-    rows.retain(|row| row.is_accepted() && row.events.len() <= MOST_EVENTS);
+    rows.retain(|row| row.is_accepted());
     Ok(rows)
 }
 
@@ -62,9 +59,11 @@ fn swaps(rt: &impl Abort, alloc: Global, row: &Case<'_>) -> Result<(), Fail> {
                 && second.kind == Kind::Exit
                 && !first.name.is(second.name)
             {
+                let behind = front.len().saturating_add(2);
                 let mut swapped = front.clone()?;
                 swapped.push(*second)?;
                 swapped.push(*first)?;
+                swapped.extend_from_slice(row.events.get(behind..).unwrap_or(&[]))?;
                 unbalanced(rt, alloc, row, swapped.as_slice(), second.point)?;
             }
             front.push(*first)?;
@@ -76,7 +75,7 @@ fn swaps(rt: &impl Abort, alloc: Global, row: &Case<'_>) -> Result<(), Fail> {
 #[test]
 fn fronts_and_swapped_exits_are_unbalanced(rt: HostRuntime) -> Result<(), Fail> {
     for table in rows::ALL {
-        for row in &small_rows(rt.alloc(), table)? {
+        for row in &accepted_rows(rt.alloc(), table)? {
             fronts(&rt, rt.alloc(), row)?;
             swaps(&rt, rt.alloc(), row)?;
         }

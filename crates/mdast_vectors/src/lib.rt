@@ -20,6 +20,8 @@ mod depths;
 #[cfg(test)]
 mod fronts;
 #[cfg(test)]
+mod labels;
+#[cfg(test)]
 mod memory;
 #[cfg(test)]
 mod names;
@@ -41,3 +43,5 @@ mod spans;
 mod spread;
 #[cfg(test)]
 mod texts;
+#[cfg(test)]
+mod unbalanced;

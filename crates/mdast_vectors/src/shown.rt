@@ -2,6 +2,7 @@
 
 use crate::alignment::{TABLES, table_align};
 use crate::cases::compiled;
+use crate::depths::first_child;
 use crate::outline::{enter, exit, spelled};
 use crate::spread::{LISTS, item_spread, list_spread};
 use markdown_nodes::event::{Event, Name};
@@ -23,10 +24,6 @@ fn placed(alloc: Global, outline: &[(usize, Name)]) -> Result<Vec<Event>, AllocE
     Ok(events)
 }
 
-fn first_child(node: &Node) -> Option<&Node> {
-    node.children()?.first()
-}
-
 /// The node of what was placed.
 fn shown(tree: &Node) -> Option<&Node> {
     first_child(tree)?.children()?.get(1)
@@ -40,12 +37,28 @@ fn shown_list(tree: &Node) -> Option<bool> {
     }
 }
 
-/// Whether the first item of the list that was placed is spread.
-fn shown_item(tree: &Node) -> Option<bool> {
-    match first_child(shown(tree)?)? {
-        Node::ListItem(item) => Some(item.spread),
-        _ => None,
+/// Whether each item of the list that was placed is spread, in order.
+fn shown_items(alloc: Global, tree: &Node) -> Result<Vec<bool>, AllocError> {
+    let mut items = Vec::new(alloc);
+    if let Some(Node::List(list)) = shown(tree) {
+        for child in &list.children {
+            if let Node::ListItem(item) = child {
+                items.push(item.spread)?;
+            }
+        }
     }
+    Ok(items)
+}
+
+/// Whether each list item that begins in the events is loose, in order.
+fn said_items(alloc: Global, events: &[Event]) -> Result<Vec<bool>, AllocError> {
+    let mut items = Vec::new(alloc);
+    for index in 0..events.len() {
+        if let Some(spread) = item_spread(alloc, events, index)? {
+            items.push(spread)?;
+        }
+    }
+    Ok(items)
 }
 
 /// How the columns of the table that was placed are aligned.
@@ -61,11 +74,11 @@ fn lists_and_items_show_what_is_said_of_events(rt: HostRuntime) -> Result<(), Fa
     for outline in LISTS {
         let events = placed(rt.alloc(), outline)?;
         let list = list_spread(rt.alloc(), events.as_slice(), BEGIN, false)?;
-        let item = item_spread(rt.alloc(), events.as_slice(), BEGIN + 1)?;
-        assert!(rt; list.is_some() && item.is_some());
+        let items = said_items(rt.alloc(), events.as_slice())?;
+        assert!(rt; list.is_some() && !items.is_empty());
         let tree = compiled(rt.alloc(), b"", events.as_slice())?;
         assert_eq!(rt; shown_list(&tree), list);
-        assert_eq!(rt; shown_item(&tree), item);
+        assert!(rt; shown_items(rt.alloc(), &tree)? == items);
     }
     Ok(())
 }
