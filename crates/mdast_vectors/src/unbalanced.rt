@@ -3,11 +3,21 @@
 use crate::cases::compiled;
 use crate::outline::event_at;
 use markdown_nodes::event::{Event, Kind, Name};
+use markdown_nodes::mdast::Node;
 use markdown_nodes::message::{Fault, Message, Place};
 use markdown_nodes::unist::Point;
-use std::alloc::Global;
+use std::alloc::{AllocError, Global};
 use std::process::Abort;
 use std::test::Fail;
+
+/// What is said of a list that has no tree.
+fn said(answer: Result<Node, Fault>) -> Result<Option<Message>, AllocError> {
+    match answer {
+        Ok(_) => Ok(None),
+        Err(Fault::Message(message)) => Ok(Some(message)),
+        Err(Fault::Memory(error)) => Err(error),
+    }
+}
 
 /// These events over `ab` are unbalanced at this point, and the message is whole.
 fn unbalanced(rt: &impl Abort, alloc: Global, events: &[Event], point: Point) -> Result<(), Fail> {
@@ -17,11 +27,7 @@ fn unbalanced(rt: &impl Abort, alloc: Global, events: &[Event], point: Point) ->
         rule_id: "events-unbalanced",
         source: "markdown-rs",
     };
-    let answer = compiled(alloc, b"ab", events);
-    assert!(rt;
-        matches!(&answer, Err(Fault::Message(message)) if *message == want),
-        "{answer:?}"
-    );
+    assert_eq!(rt; said(compiled(alloc, b"ab", events))?, Some(want));
     Ok(())
 }
 
