@@ -1,5 +1,5 @@
 -- What the nodes of the program are as trees: kind by kind, by their parts, and once a part is another.
-use Rattle.std.proofs.Common.{◌≡◌, Option, Some, Vec, Global, refl, sym, ap, ◌∙◌}
+use Rattle.std.proofs.Common.{◌≡◌, Vec, Global, refl, sym, ap, ◌∙◌}
 use Rattle.std.specs.Prelude.{option_map, string_bytes}
 use denote.Hole.Carrier
 use Rattle.markdown_nodes.specs.declared.mdast.Node.{Node, Row_of-Node, end_of-Node, more_of-Node, items-the_row-Node, items_hidden-the_row-Node-0, items_shown-the_row-Node-0}
@@ -37,8 +37,7 @@ use Rattle.markdown_nodes.specs.declared.mdast.Definition.{Definition}
 use Rattle.markdown_nodes.specs.declared.mdast.Paragraph.{Paragraph}
 use Rattle.markdown_nodes.specs.Tree.{Trees, nothing, before, root, paragraph, blockquote, emphasis, strong, delete, table_row, table_cell, thematic_break, «break», text, html, inline_code, inline_math, yaml, toml, heading, list, list_item, table, code, math, link, image, link_reference, image_reference, footnote_reference, footnote_definition, definition}
 use Rattle.markdown_nodes.specs.View.{view, row_view, views}
-use Rattle.markdown_events.specs.declared.unist.Position.{Position}
-use Rattle.markdown_nodes.specs.Access.{nodes_in, with_position, children_of, label_of, position_of, tree_of, with_children}
+use Rattle.markdown_nodes.specs.Access.{tree_of}
 
 -- the nodes that a `Vec` holds, as trees
 row_view-is : {m : _} (row : Row_of-Node m) → row_view row ≡ views (items-the_row-Node m row)
@@ -201,69 +200,3 @@ view-is (nodes.TableCell' shape row position) = ap (λ (ts : Trees). record { la
 view-is (nodes.ListItem' shape row position spread checked) = ap (λ (ts : Trees). record { label = list_item spread checked; children = ts; position = position }) (row_view-is row ∙ ap views (sym (items_shown-the_row-Node-0 shape row)))
 view-is (nodes.Definition x) = refl
 view-is (nodes.Paragraph' shape row position) = ap (λ (ts : Trees). record { label = paragraph; children = ts; position = position }) (row_view-is row ∙ ap views (sym (items_shown-the_row-Node-0 shape row)))
-
--- a parent as a tree, once its children are others
-pub view-with_children : (node : Node) (old children : Vec Node Global) → children_of node ≡ Some old → view (with_children node children) ≡ record { label = label_of node; children = views children.items; position = position_of node }
-unfolding out-Node denote.Hole.Carrier.out
-view-with_children (nodes.Root' shape row position) old children some = view-Root _
-view-with_children (nodes.Blockquote' shape row position) old children some = view-Blockquote _
-view-with_children (nodes.FootnoteDefinition' shape row position identifier label) old children some = view-FootnoteDefinition _
-view-with_children (nodes.List' shape row position ordered start spread) old children some = view-List _
-view-with_children (nodes.Toml x) old children some = cc
-view-with_children (nodes.Yaml x) old children some = cc
-view-with_children (nodes.Break x) old children some = cc
-view-with_children (nodes.InlineCode x) old children some = cc
-view-with_children (nodes.InlineMath x) old children some = cc
-view-with_children (nodes.Delete' shape row position) old children some = view-Delete _
-view-with_children (nodes.Emphasis' shape row position) old children some = view-Emphasis _
-view-with_children (nodes.FootnoteReference x) old children some = cc
-view-with_children (nodes.Html x) old children some = cc
-view-with_children (nodes.Image x) old children some = cc
-view-with_children (nodes.ImageReference x) old children some = cc
-view-with_children (nodes.Link' shape row position url title) old children some = view-Link _
-view-with_children (nodes.LinkReference' shape row position reference_kind identifier label) old children some = view-LinkReference _
-view-with_children (nodes.Strong' shape row position) old children some = view-Strong _
-view-with_children (nodes.Text x) old children some = cc
-view-with_children (nodes.Code x) old children some = cc
-view-with_children (nodes.Math x) old children some = cc
-view-with_children (nodes.Heading' shape row position depth) old children some = view-Heading _
-view-with_children (nodes.Table' shape row position align) old children some = view-Table _
-view-with_children (nodes.ThematicBreak x) old children some = cc
-view-with_children (nodes.TableRow' shape row position) old children some = view-TableRow _
-view-with_children (nodes.TableCell' shape row position) old children some = view-TableCell _
-view-with_children (nodes.ListItem' shape row position spread checked) old children some = view-ListItem _
-view-with_children (nodes.Definition x) old children some = cc
-view-with_children (nodes.Paragraph' shape row position) old children some = view-Paragraph _
-
--- a node as a tree, once its position is another
-pub view-with_position : (node : Node) (position : Option Position) → view (with_position node position) ≡ record { label = label_of node; children = views (nodes_in node); position = position }
-unfolding out-Node denote.Hole.Carrier.out
-view-with_position (nodes.Root' shape row position) there = view-Root _
-view-with_position (nodes.Blockquote' shape row position) there = view-Blockquote _
-view-with_position (nodes.FootnoteDefinition' shape row position identifier label) there = view-FootnoteDefinition _
-view-with_position (nodes.List' shape row position ordered start spread) there = view-List _
-view-with_position (nodes.Toml x) there = view-Toml _
-view-with_position (nodes.Yaml x) there = view-Yaml _
-view-with_position (nodes.Break x) there = view-Break _
-view-with_position (nodes.InlineCode x) there = view-InlineCode _
-view-with_position (nodes.InlineMath x) there = view-InlineMath _
-view-with_position (nodes.Delete' shape row position) there = view-Delete _
-view-with_position (nodes.Emphasis' shape row position) there = view-Emphasis _
-view-with_position (nodes.FootnoteReference x) there = view-FootnoteReference _
-view-with_position (nodes.Html x) there = view-Html _
-view-with_position (nodes.Image x) there = view-Image _
-view-with_position (nodes.ImageReference x) there = view-ImageReference _
-view-with_position (nodes.Link' shape row position url title) there = view-Link _
-view-with_position (nodes.LinkReference' shape row position reference_kind identifier label) there = view-LinkReference _
-view-with_position (nodes.Strong' shape row position) there = view-Strong _
-view-with_position (nodes.Text x) there = view-Text _
-view-with_position (nodes.Code x) there = view-Code _
-view-with_position (nodes.Math x) there = view-Math _
-view-with_position (nodes.Heading' shape row position depth) there = view-Heading _
-view-with_position (nodes.Table' shape row position align) there = view-Table _
-view-with_position (nodes.ThematicBreak x) there = view-ThematicBreak _
-view-with_position (nodes.TableRow' shape row position) there = view-TableRow _
-view-with_position (nodes.TableCell' shape row position) there = view-TableCell _
-view-with_position (nodes.ListItem' shape row position spread checked) there = view-ListItem _
-view-with_position (nodes.Definition x) there = view-Definition _
-view-with_position (nodes.Paragraph' shape row position) there = view-Paragraph _

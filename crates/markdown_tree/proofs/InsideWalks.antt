@@ -67,10 +67,6 @@ owed_at st es = owed_of st.top st.frames es
 
 -- ---- An enter and an exit make of what is owed
 
-grown-more : (made : ℕ) (o : Option ℕ) → grown (made + 1) o ≡ grown made (one_more o)
-grown-more made None = refl
-grown-more made (Some n) = omega arith
-
 grown-most : (small made : ℕ) (o : Option ℕ) → small ≤ made + 1 → grown small o ≤ grown made (one_more o)
 grown-most small made None h = omega arith
 grown-most small made (Some n) h = omega (arith, h)

@@ -1,5 +1,5 @@
 -- What is left of the nodes of an item with a mark.
-use Rattle.std.proofs.Common.{◌≡◌, ◌<◌, ℕ, ◌==◌, false, true, List, [], ◌∷◌, drop, length, slice_index_or, slice_set, Option, Some, None, option_map, string_bytes, unwrap_or, Bool, refl, sym, ap, ◌∙◌, arith}
+use Rattle.std.proofs.Common.{◌≡◌, ◌<◌, ℕ, ◌==◌, false, true, List, [], ◌∷◌, drop, length, slice_index_or, slice_set, Option, Some, None, option_map, string_bytes, Bool, refl, sym, ap, ◌∙◌, arith}
 use Rattle.std.proofs.lemmas.Bool.Decides.{nat_tests}
 use Rattle.markdown_nodes.specs.Access.{label_of}
 use Rattle.markdown_nodes.specs.declared.mdast.Node.{Node}
@@ -109,18 +109,6 @@ text_starts ns n first t lent new start count some at is same cut place left =
     kept (b ∷ bs) h = refl
 
 -- ---- The paragraph, and the nodes of the item
-
-pub paragraph_stays : (children new_children : Trees) (here : Option Position) (rest : Trees) → None ≡ first_cut children → new_children ≡ children → node paragraph new_children here rest ≡ task (node paragraph children here rest)
-paragraph_stays (node (text (b ∷ bs)) below (Some at) others) new_children here rest e same = cc
-paragraph_stays children new_children here rest e same = ap (λ (ts : Trees). node paragraph ts here rest) same
-
-pub paragraph_starts : (children new_children : Trees) (start : Point) (here : Option Position) (rest : Trees) → Some (new_children, start) ≡ first_cut children
-    → node paragraph new_children (from_point start here) rest ≡ task (node paragraph children here rest)
-paragraph_starts (node (text (b ∷ bs)) below (Some at) others) new_children start here rest e =
-    let cut : List ℕ × Point = after_blank (b ∷ bs) at.start in
-    let same : (new_children, start) ≡ (trimmed_text cut (Some at) others, cut.1) = ap (λ (o : Option (Trees × Point)). unwrap_or o (nothing, start)) e in
-    ap (λ (x : Trees × Point). node paragraph x.0 (from_point x.1 here) rest) same
-paragraph_starts children new_children start here rest e = cc
 
 -- a node that is no paragraph stays
 abbrev pub is_paragraph : Label → Bool

@@ -1,5 +1,5 @@
 -- What one exit walks over, and a run over a front of its events.
-use Rattle.std.proofs.Common.{◌≡◌, ◌≤◌, ℕ, ◌+◌, Bool, true, false, not, ◌&&◌, cond, List, [], ◌∷◌, ◌++◌, Option, None, Some, Result, Ok, Err, refl, ap, subst, arith}
+use Rattle.std.proofs.Common.{◌≡◌, ◌≤◌, ℕ, ◌+◌, Bool, true, false, not, ◌&&◌, cond, List, ◌∷◌, Option, None, Some, Result, Ok, refl, ap, subst, arith}
 use Rattle.std.specs.Prelude.{if◌then◌else◌}
 use Rattle.markdown_events.specs.declared.event.Event.{Event}
 use Rattle.markdown_events.specs.declared.role.Acting.{Acting}
@@ -45,11 +45,6 @@ exit-walks what i None old =
     let h = walks-new (is_buffer what) (is_part parts.LabelText what) (reads_label what) i.nodes (node_count i.label) (label-buffer what) in
     omega (arith, h)
 
--- behind a step
-behind-most : (r : Result State Rejection) (f g : State → ℕ) → ((z : State) → f z ≤ g z) → walks_behind r f ≤ walks_behind r g
-behind-most (Ok z) f g h = h z
-behind-most (Err e) f g h = omega arith
-
 -- the steps behind one that is taken
 pub taken-walks : (s : Source) (e : Event) (es : List Event) (st z : State) → step s e st ≡ Ok z → run_walks s (e ∷ es) st ≡ step_walks e st + run_walks s es z
 unfolding run_walks
@@ -59,11 +54,3 @@ taken-walks s e es st z h = ap (λ (r : Result State Rejection). step_walks e st
 pub first-walks : (s : Source) (e : Event) (es : List Event) (st : State) → step_walks e st ≤ run_walks s (e ∷ es) st
 unfolding run_walks
 first-walks s e es st = omega arith
-
--- a front of the events walks over no more than all of them
-pub front-walks : (s : Source) (front back : List Event) (st : State) → run_walks s front st ≤ run_walks s (front ++ back) st
-unfolding run_walks
-front-walks s [] back st = omega arith
-front-walks s (e ∷ front) back st =
-    let h = behind-most (step s e st) (run_walks s front) (run_walks s (front ++ back)) (λ z. front-walks s front back z) in
-    omega (arith, h)

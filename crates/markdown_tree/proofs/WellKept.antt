@@ -1,5 +1,5 @@
 -- Each step of a compilation leads from a state in which all open spans stand to such a state.
-use Rattle.std.proofs.Common.{◌≡◌, Bool, true, not, ◌&&◌, ◌||◌, List, [], ◌∷◌, Option, Some, None, Ok, refl, sym, ap, subst, ◌∙◌}
+use Rattle.std.proofs.Common.{◌≡◌, true, not, ◌||◌, List, [], ◌∷◌, Option, Some, None, Ok, refl, ap, subst, ◌∙◌}
 use Rattle.markdown_events.specs.Names.{role_of}
 use Rattle.markdown_events.specs.Spread.{Shown}
 use Rattle.markdown_events.specs.declared.event.Event.{Event}
@@ -8,25 +8,18 @@ use Rattle.markdown_events.specs.declared.event.Name.{Name}
 use Rattle.markdown_events.specs.declared.event.Point.{Point}
 use Rattle.markdown_events.specs.declared.role.Acting.{Acting}
 use Rattle.markdown_events.specs.declared.role.Role.{Role}
-use Rattle.markdown_tree.proofs.Allowed.{all_allow}
-use Rattle.markdown_tree.proofs.Booleans.{and-left, and-right}
+use Rattle.markdown_tree.proofs.Booleans.{and-left}
 use Rattle.markdown_tree.proofs.EventRuns.{left_is}
-use Rattle.markdown_tree.proofs.ItemSteps.{passes-rules}
-use Rattle.markdown_tree.proofs.TableSteps.{no-inner-table}
 use Rattle.markdown_tree.proofs.Outcomes.{bind_ok, checked_ok, checked_passes, ok_is}
 use Rattle.markdown_tree.specs.Around.{may_begin}
 use Rattle.markdown_tree.specs.Columns.{shown}
-use Rattle.markdown_tree.specs.Compiler.{closed, enter_as, enter_checks, enter_step, entered, exit_checks, Holds, leave, leave_to, Open, opened, opening, rule_checks, run, State, step, step_by}
-use Rattle.std.specs.Prelude.{is_some}
-use Rattle.markdown_tree.specs.Grammar.{rules}
-use Rattle.markdown_tree.specs.Kinds.{is_frontmatter, is_line_ending, is_table}
-use Rattle.markdown_tree.specs.Ranges.{byte_at}
-use Rattle.markdown_tree.specs.Rejections.{passes}
+use Rattle.markdown_tree.specs.Compiler.{closed, enter_as, enter_checks, enter_step, entered, exit_checks, Holds, leave, leave_to, Open, opened, opening, run, State, step, step_by}
+use Rattle.markdown_tree.specs.Kinds.{is_line_ending}
 use Rattle.markdown_tree.specs.Source.{Source}
 use Rattle.markdown_tree.specs.Well.{AllStand, Stands, Taken, Well, is_plain}
 use Rattle.markdown_events.specs.declared.event.Kind.TheVariants.{Enter, Exit}
 use Rattle.markdown_events.specs.declared.role.Role.TheVariants.{Plain as plain, Acting as acting}
-use Rattle.markdown_tree.specs.declared.refusal.Refusal.TheVariants.{Held, InvalidSlice, Misplaced}
+use Rattle.markdown_tree.specs.declared.refusal.Refusal.TheVariants.{Held}
 
 -- before the first event
 pub well-opening : (s : Source) → Well s opening
@@ -78,19 +71,6 @@ well-run s (e ∷ es) a z h well =
 
 -- ---- What it says of an open span
 
--- all rules of its holder allow it
-pub taken-allowed : (s : Source) (o : Open) (what : Acting) (own outer : Holds) → Taken s o what own outer → all_allow (rules outer.row) outer.inner what ≡ true
-taken-allowed s o what own outer t =
-    let no : Bool = not (outer.place.in_table && is_table what) in
-    let byte : Bool = not (is_frontmatter what) || is_some (byte_at s.bytes o.start) in
-    and-left (all_allow (rules outer.row) outer.inner what) (no && (byte && true))
-    (sym (passes-rules outer.row (rules outer.row) outer.inner what ((no, Misplaced) ∷ (byte, InvalidSlice) ∷ []))
-    ∙ and-right (not outer.waiting || is_line_ending what) (passes (rule_checks outer.row (rules outer.row) outer.inner what ((no, Misplaced) ∷ (byte, InvalidSlice) ∷ []))) t.passed)
-
 -- where a break waits for its line ending, it is one
 pub taken-awaited : (s : Source) (o : Open) (what : Acting) (own outer : Holds) → Taken s o what own outer → (not outer.waiting || is_line_ending what) ≡ true
 taken-awaited s o what own outer t = and-left (not outer.waiting || is_line_ending what) _ t.passed
-
--- it is no table in a table
-pub taken-apart : (s : Source) (o : Open) (what : Acting) (own outer : Holds) → Taken s o what own outer → not (outer.place.in_table && is_table what) ≡ true
-taken-apart s o what own outer t = no-inner-table s outer what o.start t.passed

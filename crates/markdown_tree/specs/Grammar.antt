@@ -25,11 +25,6 @@ addresses = parts.AutolinkEmail ∷ parts.AutolinkProtocol ∷ []
 abbrev pub targets : List Part
 targets = parts.Resource ∷ parts.Reference ∷ []
 
--- parts that stand at most once, each for itself
-abbrev pub each_once : List Part → List Rule → List Rule
-each_once [] rules = rules
-each_once (p ∷ ps) rules = once (p ∷ []) ∷ each_once ps rules
-
 -- a holder of line endings and of these parts
 abbrev pub parts_alone : List Part → Rule
 parts_alone ps = only (is_line_ending or is_one_of ps)

@@ -35,7 +35,7 @@ use Rattle.markdown_tree.specs.Kinds
 use Rattle.markdown_tree.specs.Place.{Place}
 use Rattle.markdown_tree.specs.Source.{Source}
 use Rattle.markdown_tree.specs.Grammar.{rules}
-use Rattle.markdown_tree.specs.Holders.{Holder, any_content, autolink, media, footnote_call, resource, leaf, reference, definition, character_reference, code_fence, math_fence, list_ordered, list_item, numbered_item, marked_item, marked_numbered_item, task_paragraph, marked_paragraph, footnote_definition, heading_atx, heading_text, heading_setext, code_fenced, math_flow, code_buffer, math_buffer, holder_behind}
+use Rattle.markdown_tree.specs.Holders.{Holder, any_content, autolink, media, footnote_call, resource, reference, definition, character_reference, code_fence, math_fence, list_ordered, list_item, numbered_item, marked_item, marked_numbered_item, task_paragraph, marked_paragraph, footnote_definition, heading_atx, heading_text, heading_setext, code_fenced, math_flow, code_buffer, math_buffer, holder_behind}
 use Rattle.markdown_tree.specs.Parts.{Path, identifier_of, words_of, itself, into, path_to, Kept, stood, count, words, named, address, Inner}
 
 -- ---- Rows of the grammar

@@ -130,14 +130,6 @@ pub record Reads (bytes : List ℕ) (events : List Event) (number : ℕ) (left :
   pub lines_so_far : lines bytes ≡ option_map (λ es. events ++ es) (events_of left)
   pub unread_so_far : unread_line bytes ≡ first_unread (number + 1) left
 
-same_option : {A : Type 0} (o : Option A) → o ≡ option_map (λ x. x) o
-same_option None = refl
-same_option (Some x) = refl
-
--- before the first line
-pub reads_start : (bytes : List ℕ) → Reads bytes [] 0 (pieces 10 bytes)
-reads_start bytes = record { lines_so_far = same_option (lines bytes); unread_so_far = refl }
-
 -- after an empty line
 pub reads_empty : (bytes : List ℕ) (events : List Event) (number : ℕ) (line : List ℕ) (left : List (List ℕ)) → Reads bytes events number (line ∷ left) → length line ≡ 0 → Reads bytes events (number + 1) left
 reads_empty bytes events number line left so_far h =
