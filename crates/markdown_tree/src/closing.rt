@@ -1,4 +1,4 @@
-//! The nodes that spans of content give at their exit.
+//! The nodes that spans of content give at their exit, in the order of `specs/Nodes.antt`.
 
 ghost use Rattle.std.specs.Prelude.{◌≡◌, ◌≤◌, ◌+◌, [], IfOk, Some, option_map, string_bytes, true, unwrap_or};
 ghost use Rattle.markdown_nodes.specs.Tree.{nothing};
@@ -57,6 +57,17 @@ pub fn parent(content: Content, children: Vec<Node>, position: Position) -> Node
     }
 }
 
+/// A table.
+pub fn table(children: Vec<Node>, position: Position, align: Vec<AlignKind>) -> Node
+    ensures { view result ≡ placed (tree.table align.items) (views children.items) position }
+{
+    Node::Table(Table {
+        children,
+        position: Some(position),
+        align,
+    })
+}
+
 /// A heading, of a depth from 1 to 6.
 pub fn heading(children: Vec<Node>, position: Position, depth: u8) -> Node
     ensures { view result ≡ placed (tree.heading depth) (views children.items) position }
@@ -104,14 +115,23 @@ pub fn list_item(
     })
 }
 
-/// A table.
-pub fn table(children: Vec<Node>, position: Position, align: Vec<AlignKind>) -> Node
-    ensures { view result ≡ placed (tree.table align.items) (views children.items) position }
+/// A definition. Without its label it names nothing, without its destination it leads to nothing.
+#[tactic(auto, unfolding(markdown_nodes::specs::View::view))]
+pub fn definition(alloc: Global, parts: DefinitionParts, position: Position) -> Node
+    ensures { view result ≡ placed (definition_label parts) nothing position }
 {
-    Node::Table(Table {
-        children,
+    let DefinitionParts {
+        label,
+        destination,
+        title,
+    } = parts;
+    let (identifier, label) = named(alloc, label);
+    Node::Definition(Definition {
         position: Some(position),
-        align,
+        url: destination.unwrap_or(String::new(alloc)),
+        title,
+        identifier,
+        label,
     })
 }
 
@@ -153,26 +173,6 @@ fn named(alloc: Global, label: Option<Identified>) -> (String, Option<String>)
         Some(Identified { identifier, label }) => (identifier, Some(label)),
         None => (String::new(alloc), None),
     }
-}
-
-/// A definition. Without its label it names nothing, without its destination it leads to nothing.
-#[tactic(auto, unfolding(markdown_nodes::specs::View::view))]
-pub fn definition(alloc: Global, parts: DefinitionParts, position: Position) -> Node
-    ensures { view result ≡ placed (definition_label parts) nothing position }
-{
-    let DefinitionParts {
-        label,
-        destination,
-        title,
-    } = parts;
-    let (identifier, label) = named(alloc, label);
-    Node::Definition(Definition {
-        position: Some(position),
-        url: destination.unwrap_or(String::new(alloc)),
-        title,
-        identifier,
-        label,
-    })
 }
 
 /// The identifier that a label gives.
@@ -226,6 +226,37 @@ fn label_nodes(alloc: Global, label: Option<Label<'_>>) -> Vec<Node>
         Some(label) => label.nodes,
         None => Vec::new(alloc),
     }
+}
+
+/// What a label names, where its text is at hand.
+fn same_text(alloc: Global, label: &Option<Label<'_>>, text: &str) -> Result<Identified, AllocError>
+    ensures identifier { IfOk result (λ made. string_bytes made.identifier ≡ identifier_of (label_kept label.now)) }
+    ensures label { IfOk result (λ made. string_bytes made.label ≡ text.now) }
+{
+    Ok(Identified {
+        identifier: label_identifier(alloc, label)?,
+        label: String::from_str(alloc, text)?,
+    })
+}
+
+/// A footnote call, which names what its label does.
+#[tactic(auto, unfolding(markdown_nodes::specs::View::view))]
+pub fn footnote_call(
+    alloc: Global,
+    steps: &mut Steps<'_>,
+    label: Option<Label<'_>>,
+    position: Position,
+) -> Result<Node, AllocError>
+    ensures node { IfOk result (λ node. view node ≡ placed (tree.footnote_reference (identifier_of (label_kept label.entry)) (Some (text_of (label_kept label.entry)))) nothing position) }
+    ensures list { steps.new.events ≡ steps.old.events }
+    ensures bound { steps.new.count ≤ steps.old.count + node_count (nodes_of_label label.entry) }
+{
+    let Identified { identifier, label } = identified(alloc, steps, &label)?;
+    Ok(Node::FootnoteReference(FootnoteReference {
+        position: Some(position),
+        identifier,
+        label: Some(label),
+    }))
 }
 
 /// A link, by where it leads.
@@ -294,6 +325,20 @@ pub fn link_node(
     }
 }
 
+/// An image, by where it is.
+#[tactic(auto, unfolding(markdown_nodes::specs::View::view))]
+fn image(alloc: Global, alt: String, position: Position, resource: ResourceParts) -> Node
+    ensures { view result ≡ placed (tree.image (string_bytes alt) (unwrap_or (option_map string_bytes resource.destination) []) (option_map string_bytes resource.title)) nothing position }
+{
+    let ResourceParts { destination, title } = resource;
+    Node::Image(Image {
+        position: Some(position),
+        alt,
+        url: destination.unwrap_or(String::new(alloc)),
+        title,
+    })
+}
+
 /// An image, by what it refers to.
 #[tactic(auto, unfolding(markdown_nodes::specs::View::view))]
 fn image_reference(
@@ -311,20 +356,6 @@ fn image_reference(
         reference_kind,
         identifier,
         label: Some(label),
-    })
-}
-
-/// An image, by where it is.
-#[tactic(auto, unfolding(markdown_nodes::specs::View::view))]
-fn image(alloc: Global, alt: String, position: Position, resource: ResourceParts) -> Node
-    ensures { view result ≡ placed (tree.image (string_bytes alt) (unwrap_or (option_map string_bytes resource.destination) []) (option_map string_bytes resource.title)) nothing position }
-{
-    let ResourceParts { destination, title } = resource;
-    Node::Image(Image {
-        position: Some(position),
-        alt,
-        url: destination.unwrap_or(String::new(alloc)),
-        title,
     })
 }
 
@@ -356,35 +387,4 @@ pub fn image_node(
             Ok(image_reference(alt, position, ReferenceKind::Full, named))
         }
     }
-}
-
-/// What a label names, where its text is at hand.
-fn same_text(alloc: Global, label: &Option<Label<'_>>, text: &str) -> Result<Identified, AllocError>
-    ensures identifier { IfOk result (λ made. string_bytes made.identifier ≡ identifier_of (label_kept label.now)) }
-    ensures label { IfOk result (λ made. string_bytes made.label ≡ text.now) }
-{
-    Ok(Identified {
-        identifier: label_identifier(alloc, label)?,
-        label: String::from_str(alloc, text)?,
-    })
-}
-
-/// A footnote call, which names what its label does.
-#[tactic(auto, unfolding(markdown_nodes::specs::View::view))]
-pub fn footnote_call(
-    alloc: Global,
-    steps: &mut Steps<'_>,
-    label: Option<Label<'_>>,
-    position: Position,
-) -> Result<Node, AllocError>
-    ensures node { IfOk result (λ node. view node ≡ placed (tree.footnote_reference (identifier_of (label_kept label.entry)) (Some (text_of (label_kept label.entry)))) nothing position) }
-    ensures list { steps.new.events ≡ steps.old.events }
-    ensures bound { steps.new.count ≤ steps.old.count + node_count (nodes_of_label label.entry) }
-{
-    let Identified { identifier, label } = identified(alloc, steps, &label)?;
-    Ok(Node::FootnoteReference(FootnoteReference {
-        position: Some(position),
-        identifier,
-        label: Some(label),
-    }))
 }

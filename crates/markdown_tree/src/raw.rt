@@ -24,6 +24,47 @@ use markdown_nodes::mdast::{Code, Html, InlineCode, InlineMath, Math, Node, Toml
 use markdown_nodes::unist::Position;
 use std::alloc::{AllocError, Global};
 
+/// A link to an address, with this text for its child. A scheme that the text leaves out stands
+/// before the address.
+#[tactic(auto, unfolding(markdown_nodes::specs::View::view))]
+pub fn linked(
+    alloc: Global,
+    scheme: &str,
+    value: &str,
+    position: Position,
+    place: Position,
+) -> Result<Node, AllocError>
+    ensures { IfOk result (λ node. view node ≡ placed (tree.link (scheme.now ++ value.now) None) (only (placed (tree.text value.now) nothing place)) position) }
+{
+    let mut children = Vec::new(alloc);
+    children.push(new_text(alloc, value, place)?)?;
+    let url = address(alloc, scheme, value)?;
+    Ok(link(children, position, url, None))
+}
+
+/// An autolink: a link to its address, or to nothing where it has none.
+pub fn autolink(
+    alloc: Global,
+    parts: AutolinkParts<'_>,
+    start: Point,
+    end: Point,
+) -> Result<Node, AllocError>
+    ensures { IfOk result (λ node. only (view node) ≡ autolink (email_kept parts.entry) (protocol_kept parts.entry) start end) }
+{
+    let position = position_of(start, end);
+    match parts {
+        AutolinkParts::Email(address) => {
+            let place = position_of(address.start, address.end);
+            linked(alloc, "mailto:", address.value, position, place)
+        }
+        AutolinkParts::Protocol(address) => {
+            let place = position_of(address.start, address.end);
+            linked(alloc, "", address.value, position, place)
+        }
+        AutolinkParts::Empty => Ok(link(Vec::new(alloc), position, String::new(alloc), None)),
+    }
+}
+
 /// Fenced code, without the line endings beside its fences.
 #[tactic(auto, unfolding(markdown_nodes::specs::View::view))]
 pub fn fenced_code(
@@ -44,27 +85,6 @@ pub fn fenced_code(
         position: Some(position),
         lang: info,
         meta,
-    }))
-}
-
-/// Indented code, without its last line ending.
-#[tactic(auto, unfolding(markdown_nodes::specs::View::view))]
-pub fn indented_code(
-    alloc: Global,
-    steps: &mut Steps<'_>,
-    nodes: &[Node],
-    position: Position,
-) -> Result<Node, AllocError>
-    ensures node { IfOk result (λ node. view node ≡ placed (tree.code (trim (plain_text (views nodes.now)) false true) None None) nothing position) }
-    ensures list { steps.new.events ≡ steps.old.events }
-    ensures bound { steps.new.count ≤ steps.old.count + node_count (views nodes.now) }
-{
-    let text = values_of(alloc, steps, nodes)?;
-    Ok(Node::Code(Code {
-        value: block_value(text, false),
-        position: Some(position),
-        lang: None,
-        meta: None,
     }))
 }
 
@@ -90,27 +110,25 @@ pub fn math(
     }))
 }
 
-/// Frontmatter: TOML where its fence is of plus signs, else YAML.
+/// Indented code, without its last line ending.
 #[tactic(auto, unfolding(markdown_nodes::specs::View::view))]
-pub fn frontmatter(
+pub fn indented_code(
     alloc: Global,
     steps: &mut Steps<'_>,
     nodes: &[Node],
     position: Position,
-    is_toml: bool,
 ) -> Result<Node, AllocError>
-    ensures node { IfOk result (λ node. view node ≡ placed (frontmatter is_toml (trim (plain_text (views nodes.now)) true true)) nothing position) }
+    ensures node { IfOk result (λ node. view node ≡ placed (tree.code (trim (plain_text (views nodes.now)) false true) None None) nothing position) }
     ensures list { steps.new.events ≡ steps.old.events }
     ensures bound { steps.new.count ≤ steps.old.count + node_count (views nodes.now) }
 {
     let text = values_of(alloc, steps, nodes)?;
-    let value = block_value(text, true);
-    let position = Some(position);
-    Ok(if is_toml {
-        Node::Toml(Toml { value, position })
-    } else {
-        Node::Yaml(Yaml { value, position })
-    })
+    Ok(Node::Code(Code {
+        value: block_value(text, false),
+        position: Some(position),
+        lang: None,
+        meta: None,
+    }))
 }
 
 /// Inline code.
@@ -171,43 +189,25 @@ pub fn html(
     }))
 }
 
-/// A link to an address, with this text for its child. A scheme that the text leaves out stands
-/// before the address.
+/// Frontmatter: TOML where its fence is of plus signs, else YAML.
 #[tactic(auto, unfolding(markdown_nodes::specs::View::view))]
-pub fn linked(
+pub fn frontmatter(
     alloc: Global,
-    scheme: &str,
-    value: &str,
+    steps: &mut Steps<'_>,
+    nodes: &[Node],
     position: Position,
-    place: Position,
+    is_toml: bool,
 ) -> Result<Node, AllocError>
-    ensures { IfOk result (λ node. view node ≡ placed (tree.link (scheme.now ++ value.now) None) (only (placed (tree.text value.now) nothing place)) position) }
+    ensures node { IfOk result (λ node. view node ≡ placed (frontmatter is_toml (trim (plain_text (views nodes.now)) true true)) nothing position) }
+    ensures list { steps.new.events ≡ steps.old.events }
+    ensures bound { steps.new.count ≤ steps.old.count + node_count (views nodes.now) }
 {
-    let mut children = Vec::new(alloc);
-    children.push(new_text(alloc, value, place)?)?;
-    let url = address(alloc, scheme, value)?;
-    Ok(link(children, position, url, None))
-}
-
-/// An autolink: a link to its address, or to nothing where it has none.
-pub fn autolink(
-    alloc: Global,
-    parts: AutolinkParts<'_>,
-    start: Point,
-    end: Point,
-) -> Result<Node, AllocError>
-    ensures { IfOk result (λ node. only (view node) ≡ autolink (email_kept parts.entry) (protocol_kept parts.entry) start end) }
-{
-    let position = position_of(start, end);
-    match parts {
-        AutolinkParts::Email(address) => {
-            let place = position_of(address.start, address.end);
-            linked(alloc, "mailto:", address.value, position, place)
-        }
-        AutolinkParts::Protocol(address) => {
-            let place = position_of(address.start, address.end);
-            linked(alloc, "", address.value, position, place)
-        }
-        AutolinkParts::Empty => Ok(link(Vec::new(alloc), position, String::new(alloc), None)),
-    }
+    let text = values_of(alloc, steps, nodes)?;
+    let value = block_value(text, true);
+    let position = Some(position);
+    Ok(if is_toml {
+        Node::Toml(Toml { value, position })
+    } else {
+        Node::Yaml(Yaml { value, position })
+    })
 }
