@@ -1,6 +1,5 @@
 -- What a span of the right shape does to the walk with a stack, and what the walk's end says.
-use Rattle.std.proofs.Common.{◌≡◌, ℕ, suc, ◌+◌, List, [], ◌∷◌, ◌++◌, Bool, true, false, cond, ◌&&◌, ◌||◌, not, Option, Some, None, length, refl, sym, ap, ◌∙◌, append_assoc, length-append, subst, arith, rules, ◌↔◌, drop, IsTrue, reverse}
-use Rattle.std.proofs.lemmas.List.{reverse-append}
+use Rattle.std.proofs.Common.{◌≡◌, ℕ, suc, ◌+◌, List, [], ◌∷◌, ◌++◌, Bool, true, false, cond, ◌&&◌, ◌||◌, not, Option, Some, None, length, refl, sym, ap, ◌∙◌, append_assoc, length-append, subst, arith, rules, ◌↔◌, drop, IsTrue}
 use Rattle.markdown_events.specs.Begins.{SpanAt}
 use Rattle.markdown_events.specs.declared.event.Kind.{Kind}
 use Rattle.markdown_events.specs.declared.event.Kind.TheVariants.{Enter, Exit}
@@ -321,32 +320,3 @@ found_none events i h last = (
   (λ e. absurd (let w : ⊥ = cc in w)),
   (λ s. let f = found events i last s in let e : None ≡ Some f.0 = sym h ∙ f.1 in absurd (let w : ⊥ = cc in w)),
 )
-
--- ---- The stack, which the code keeps the other way round
-
-or_move : (a b c : Bool) → ((a || b) || c) ≡ ((a || c) || b)
-or_move true b c = refl
-or_move false true true = refl
-or_move false true false = refl
-or_move false false true = refl
-or_move false false false = refl
-
-or_false : (b : Bool) → (b || false) ≡ b
-or_false true = refl
-or_false false = refl
-
-row_last : (xs : List Name) (n : Name) → some_row (xs ++ n ∷ []) ≡ (some_row xs || row_of n)
-row_last [] n = refl
-row_last (x ∷ xs) n = ap (λ b. b || row_of x) (row_last xs n) ∙ or_move (some_row xs) (row_of n) (row_of x)
-
-pub row_reverse : (xs : List Name) → some_row (reverse xs) ≡ some_row xs
-row_reverse [] = refl
-row_reverse (x ∷ xs) = ap some_row (reverse-append (x ∷ []) xs) ∙ row_last (reverse xs) x ∙ ap (λ b. b || row_of x) (row_reverse xs)
-
-cell_last : (xs : List Name) (n : Name) → some_cell (xs ++ n ∷ []) ≡ (some_cell xs || cell_of n)
-cell_last [] n = refl
-cell_last (x ∷ xs) n = ap (λ b. b || cell_of x) (cell_last xs n) ∙ or_move (some_cell xs) (cell_of n) (cell_of x)
-
-pub cell_reverse : (xs : List Name) → some_cell (reverse xs) ≡ some_cell xs
-cell_reverse [] = refl
-cell_reverse (x ∷ xs) = ap some_cell (reverse-append (x ∷ []) xs) ∙ cell_last (reverse xs) x ∙ ap (λ b. b || cell_of x) (cell_reverse xs)

@@ -8,3 +8,4 @@ pub mod TextWalks
 pub mod Spread
 pub mod Begins
 pub mod Walks
+pub mod OpenSpans

@@ -1,10 +1,9 @@
 //! Where spans begin and end in a list of events.
 
-ghost use Rattle.std.specs.Prelude.{ℕ, ◌≡◌, ◌↔◌, ◌≤◌, ◌<◌, ◌&&◌, [], length, reverse, Some, IfOk, IfSome};
-ghost use Rattle.markdown_events.specs.Names.{role_of};
-ghost use Rattle.markdown_events.specs.Forest.{is_delimiter_row, is_delimiter_cell_value};
+ghost use Rattle.std.specs.Prelude.{ℕ, ◌≡◌, ◌↔◌, ◌≤◌, ◌<◌, ◌∷◌, List, [], length, reverse, Some, IfOk, IfSome};
 ghost use Rattle.markdown_events.specs.Begins.{SpanAt};
-ghost use Rattle.markdown_events.specs.Walks.{holds_nothing_on_top, some_row, some_cell, can_enter, run};
+ghost use Rattle.markdown_events.specs.Walks.{run};
+ghost use Rattle.markdown_events.specs.OpenSpans.{AreOpen, IsOpen, names_of, opened_in};
 
 use super::{Event, Kind, Name};
 use std::alloc::{AllocError, Global};
@@ -38,12 +37,22 @@ pub fn span_begins(
     }
 }
 
+/// An open span, and what it stands in.
+#[derive(Clone, Copy)]
+struct Open {
+    name: Name,
+    /// Whether it is a delimiter row, or stands in one.
+    in_row: bool,
+    /// Whether it is a delimiter cell value, or stands in one.
+    in_value: bool,
+}
+
 /// Which event is the last of the span that these begin with.
 fn last_of_span(alloc: Global, events: &[Event]) -> Result<Option<usize>, AllocError>
     ensures run { IfOk result (λ found. found ≡ run events.now [] 0) }
     ensures within { IfOk result (λ found. IfSome found (λ last. last < length events.now)) }
 {
-    let mut names: Vec<Name> = Vec::new(alloc);
+    let mut spans: Vec<Open> = Vec::new(alloc);
     let mut passed = 0usize;
     let mut rest = events;
     loop {
@@ -51,18 +60,16 @@ fn last_of_span(alloc: Global, events: &[Event]) -> Result<Option<usize>, AllocE
             return Ok(None);
         };
         match event.kind {
-            Kind::Enter => {
-                if !can_enter(names.as_slice(), event.name) {
-                    return Ok(None);
-                }
-                names.push(event.name)?;
-            }
+            Kind::Enter => match opened(spans.as_slice(), event.name) {
+                Some(span) => spans.push(span)?,
+                None => return Ok(None),
+            },
             Kind::Exit => {
-                match names.pop() {
-                    Some(name) if name.is(event.name) => {}
+                match spans.pop() {
+                    Some(span) if span.name.is(event.name) => {}
                     _ => return Ok(None),
                 }
-                if names.is_empty() {
+                if spans.is_empty() {
                     return Ok(Some(passed));
                 }
             }
@@ -72,57 +79,36 @@ fn last_of_span(alloc: Global, events: &[Event]) -> Result<Option<usize>, AllocE
     }
 }
 
-/// Whether a span of this name can begin in the open ones, of which the last is innermost.
-fn can_enter(names: &[Name], name: Name) -> bool
-    ensures { result ≡ can_enter (reverse names.now) name }
+/// A span of this name in the open ones, of which the last is innermost, if it can begin there.
+fn opened(spans: &[Open], name: Name) -> Option<Open>
+    requires { AreOpen (reverse spans.now) }
+    ensures { result ≡ opened_in (names_of (reverse spans.now)) name }
 {
-    !holds_nothing_on_top(names) && !is_second_row(names, name) && !is_second_value(names, name)
-}
-
-/// Whether the innermost open span may hold nothing.
-fn holds_nothing_on_top(names: &[Name]) -> bool
-    ensures { result ≡ holds_nothing_on_top (reverse names.now) }
-{
-    match names.last() {
-        Some(name) => name.role().holds_nothing(),
-        None => false,
+    match spans.last() {
+        Some(around) => around.opened(name),
+        None => Some(Open {
+            name,
+            in_row: name.role().is_delimiter_row(),
+            in_value: name.role().is_delimiter_cell_value(),
+        }),
     }
 }
 
-/// Whether it is a delimiter row in another.
-fn is_second_row(names: &[Name], name: Name) -> bool
-    ensures { result ≡ (some_row (reverse names.now) && is_delimiter_row (role_of name)) }
-{
-    name.role().is_delimiter_row() && holds_row(names)
-}
-
-/// Whether it is a delimiter cell value in another.
-fn is_second_value(names: &[Name], name: Name) -> bool
-    ensures { result ≡ (some_cell (reverse names.now) && is_delimiter_cell_value (role_of name)) }
-{
-    name.role().is_delimiter_cell_value() && holds_value(names)
-}
-
-/// Whether one of them is a delimiter row.
-fn holds_row(names: &[Name]) -> bool
-    ensures { result ≡ some_row (reverse names.now) }
-{
-    for name in names {
-        if name.role().is_delimiter_row() {
-            return true;
+impl Open {
+    /// A span of this name in this one, if it can begin there.
+    fn opened(&self, name: Name) -> Option<Open>
+        ensures { (around : List Name) → IsOpen self.now around → result ≡ opened_in (self.now.name ∷ around) name }
+    {
+        let is_row = name.role().is_delimiter_row();
+        let is_value = name.role().is_delimiter_cell_value();
+        let is_second = self.in_row && is_row || self.in_value && is_value;
+        if is_second || self.name.role().holds_nothing() {
+            return None;
         }
+        Some(Open {
+            name,
+            in_row: self.in_row || is_row,
+            in_value: self.in_value || is_value,
+        })
     }
-    false
-}
-
-/// Whether one of them is a delimiter cell value.
-fn holds_value(names: &[Name]) -> bool
-    ensures { result ≡ some_cell (reverse names.now) }
-{
-    for name in names {
-        if name.role().is_delimiter_cell_value() {
-            return true;
-        }
-    }
-    false
 }
