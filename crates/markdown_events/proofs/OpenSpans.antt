@@ -6,8 +6,8 @@ use Rattle.markdown_events.specs.declared.event.Event.{Event}
 use Rattle.markdown_events.specs.declared.event.Kind.TheVariants.{Enter, Exit}
 use Rattle.markdown_events.specs.declared.event.Name.{Name}
 use Rattle.markdown_events.specs.declared.event.spans.Open.{Open}
-use Rattle.markdown_events.specs.OpenSpans.{AreOpen, IsOpen, names_of, opened_in}
-use Rattle.markdown_events.specs.Walks.{can_enter, exited, is_same_name, move, run, some_cell, some_row}
+use Rattle.markdown_events.specs.OpenSpans.{AreOpen, names_of, opened_in}
+use Rattle.markdown_events.specs.Walks.{around_of, can_enter, exited, is_same_name, move, run}
 
 -- the last of the spans is the innermost
 on_top : (spans before : List Open) (span : Open) → spans ≡ before ++ span ∷ [] → reverse spans ≡ span ∷ reverse before
@@ -27,20 +27,20 @@ pub stops : (e : Event) (es : List Event) (names : List Name) (passed : ℕ) →
 stops e es names passed enters none =
     (λ t. move (enters t) e.name names passed (run es))
     ∙ ap (λ (b : Bool). cond b (run es (e.name ∷ names) (passed + 1)) None)
-    (not_made (can_enter names e.name) (record { name = e.name; in_row = some_row (e.name ∷ names); in_value = some_cell (e.name ∷ names) }) none)
+    (not_made (can_enter names e.name) (record { name = e.name; inside = around_of (e.name ∷ names) }) none)
 
 -- where one begins, the walk goes on with it
 pub begun : (e : Event) (es : List Event) (spans new : List Open) (span : Open) (passed : ℕ) → e.kind ≡ Enter → Some span ≡ opened_in (names_of (reverse spans)) e.name → new ≡ spans ++ span ∷ [] → AreOpen (reverse spans)
     → (run (e ∷ es) (names_of (reverse spans)) passed ≡ run es (names_of (reverse new)) (passed + 1)) × AreOpen (reverse new)
 begun e es spans new span passed enters some grows are =
     let names : List Name = names_of (reverse spans) in
-    let one : Open = record { name = e.name; in_row = some_row (e.name ∷ names); in_value = some_cell (e.name ∷ names) } in
+    let one : Open = record { name = e.name; inside = around_of (e.name ∷ names) } in
     let both = made (can_enter names e.name) one span some in
     let top : reverse new ≡ span ∷ reverse spans = on_top new spans span grows in (
       (λ t. move (enters t) e.name names passed (run es))
           ∙ ap (λ (b : Bool). cond b (run es (e.name ∷ names) (passed + 1)) None) both.0
           ∙ sym (ap (λ (x : List Open). run es (names_of x) (passed + 1)) top ∙ ap (λ (x : Open). run es (x.name ∷ names) (passed + 1)) both.1),
-      subst AreOpen (sym top) (subst (λ (x : Open). IsOpen x names) (sym both.1) (refl, refl), are),
+      subst AreOpen (sym top) (subst (λ (x : Open). x.inside ≡ around_of (x.name ∷ names)) (sym both.1) refl, are),
     )
 
 -- where a span is still open behind an exit, the walk goes on

@@ -15,7 +15,8 @@ use Rattle.markdown_events.specs.declared.role.Content.TheVariants as contents
 use Rattle.markdown_events.specs.declared.role.Plain.TheVariants as plains
 use Rattle.markdown_events.specs.Names.{role_of}
 use Rattle.markdown_events.specs.Forest.{Forest, empty, span, spell, enter, exit, is_empty, lacks, may_hold, has_right_shape, is_delimiter_row, is_delimiter_cell_value}
-use Rattle.markdown_events.specs.Walks.{is_same_name, holds_nothing, run, move, can_enter, some_row, some_cell, holds_nothing_on_top}
+use Rattle.markdown_events.specs.Walks.{around_of, is_same_name, run, move, can_enter}
+use Rattle.markdown_events.specs.Around.{holds_nothing}
 use Rattle.markdown_events.proofs.Loose.{regroup}
 
 abbrev row_of : Name → Bool
@@ -150,7 +151,7 @@ opens n empty h e = refl
 opens n (span m s t d r) h e = absurd (let g : (not true || false) ≡ true = rw e at h in let w : ⊥ = cc in w)
 
 enters : (closed row cell a b : Bool) (x : Option ℕ) → closed ≡ false → not (row && a) ≡ true → not (cell && b) ≡ true
-    → cond (not closed && (not (row && a) && not (cell && b))) x None ≡ x
+    → cond ((not closed && not (row && a)) && not (cell && b)) x None ≡ x
 enters closed row cell a b x h i j = rw (h, i, j) refl
 
 inner : (m : Name) (c : Forest) (st : List Name) (k : ℕ) (more : List Event) → (not (holds_nothing (role_of m)) || is_empty c) ≡ true
@@ -169,12 +170,12 @@ counts : (k : ℕ) (c r : List Event) (x : Event) → ((k + 1) + length c) + 1 +
 counts k c r x = omega (arith, length-append c (x ∷ r))
 
 -- a forest of the right shape under an open span is walked over
-pub walks : (f : Forest) (n : Name) (st : List Name) (k : ℕ) (more : List Event) → holds_nothing (role_of n) ≡ false → fits (some_row (n ∷ st)) (some_cell (n ∷ st)) f ≡ true
+pub walks : (f : Forest) (n : Name) (st : List Name) (k : ℕ) (more : List Event) → holds_nothing (role_of n) ≡ false → fits (around_of (n ∷ st)).in_row (around_of (n ∷ st)).in_value f ≡ true
     → run (spell f ++ more) (n ∷ st) k ≡ run more (n ∷ st) (k + length (spell f))
 walks empty n st k more free h = let z : k ≡ k + 0 = omega arith in ap (λ x. run more (n ∷ st) x) z
 walks (span m s t c r) n st k more free h =
-    let row = some_row (n ∷ st) in
-    let cell = some_cell (n ∷ st) in
+    let row = (around_of (n ∷ st)).in_row in
+    let cell = (around_of (n ∷ st)).in_value in
     let x1 = and_left (not (row && row_of m)) _ h in
     let h2 = and_right (not (row && row_of m)) _ h in
     let x2 = and_left (not (cell && cell_of m)) _ h2 in
@@ -205,7 +206,7 @@ walked n a b c more h =
 -- ---- What the walk's end says
 
 abbrev pub Good : Name → List Name → Forest → Type 0
-Good n st c = (fits (some_row (n ∷ st)) (some_cell (n ∷ st)) c ≡ true) × ((not (holds_nothing (role_of n)) || is_empty c) ≡ true)
+Good n st c = (fits (around_of (n ∷ st)).in_row (around_of (n ∷ st)).in_value c ≡ true) × ((not (holds_nothing (role_of n)) || is_empty c) ≡ true)
 
 -- the events begin with what closes the open spans, the innermost first, in that many events
 abbrev pub Ends : List Name → List Event → ℕ → Type 0
@@ -230,15 +231,17 @@ nested c1 c2 x m m1 a1 a2 e f = omega (arith, length-append c1 (x ∷ c2))
 
 deeper : (m n : Name) (s : Point) (st : List Name) (es : List Event) (k : ℕ) → can_enter (n ∷ st) m ≡ true → Ends (m ∷ n ∷ st) es k → Ends (n ∷ st) (enter m s ∷ es) (suc k)
 deeper m n s st es k can (c1, p1, tail1, e1, good1, a1, k1, (c2, p2, tail2, e2, good2, a2, k2, rest)) =
-    let free : holds_nothing (role_of n) ≡ false = not_true _ (and_left _ (not (some_row (n ∷ st) && row_of m) && not (some_cell (n ∷ st) && cell_of m)) can) in
-    let right = and_right (not (holds_nothing_on_top (n ∷ st))) (not (some_row (n ∷ st) && row_of m) && not (some_cell (n ∷ st) && cell_of m)) can in
+    let row = not ((around_of (n ∷ st)).in_row && row_of m) in
+    let cell = not ((around_of (n ∷ st)).in_value && cell_of m) in
+    let before = and_left (not (closed_of n) && row) cell can in
+    let free : holds_nothing (role_of n) ≡ false = not_true _ (and_left (not (closed_of n)) row before) in
     let spelled : enter m s ∷ es ≡ spell (span m s p1 c1 c2) ++ (exit n p2 ∷ tail2) =
     ap (λ x. enter m s ∷ x) (e1 ∙ ap (λ x. spell c1 ++ (exit m p1 ∷ x)) e2 ∙ sym (append_assoc (spell c1) (exit m p1 ∷ spell c2) (exit n p2 ∷ tail2))) in (
       span m s p1 c1 c2,
       p2,
       tail2,
       spelled,
-      (all_of _ _ _ _ (and_left (not (some_row (n ∷ st) && row_of m)) _ right) (and_right (not (some_row (n ∷ st) && row_of m)) _ right) good1.1 good1.0 _ good2.0, open_any n (span m s p1 c1 c2) free),
+      (all_of _ _ _ _ (and_right (not (closed_of n)) row before) (and_right (not (closed_of n) && row) cell can) good1.1 good1.0 _ good2.0, open_any n (span m s p1 c1 c2) free),
       a2,
       nested (spell c1) (spell c2) (exit m p1) k k a1 a2 k1 k2,
       rest,

@@ -6,6 +6,7 @@ pub mod Forest
 pub mod Texts
 pub mod TextWalks
 pub mod Spread
+pub mod Around
 pub mod Begins
 pub mod Walks
 pub mod OpenSpans

@@ -10,10 +10,11 @@ use Rattle.markdown_events.specs.declared.event.Event.{Event}
 use Rattle.markdown_events.specs.declared.infer.Child.{Child}
 use Rattle.markdown_events.specs.declared.infer.Ends.{Ends}
 use Rattle.markdown_events.specs.declared.role.Role.{Role}
-use Rattle.markdown_events.specs.declared.role.Role.TheVariants.{Plain as plain, Acting as acting}
+use Rattle.markdown_events.specs.declared.role.Role.TheVariants.{Acting as acting}
 use Rattle.markdown_events.specs.declared.role.Acting.TheVariants.{Content as content}
 use Rattle.markdown_events.specs.declared.role.Content.TheVariants as contents
-use Rattle.markdown_events.specs.declared.role.Plain.TheVariants as plains
+use Rattle.markdown_events.specs.declared.around.Around.{Around}
+use Rattle.markdown_events.specs.Around.{in_the_open, may_begin, under}
 use Rattle.markdown_events.specs.Names.{role_of}
 use Rattle.markdown_events.specs.Forest.{is_delimiter_row, is_delimiter_cell_value}
 use Rattle.markdown_events.specs.Spread.{is_blank_line, is_space_or_tab, is_item_prefix, is_quote_prefix, is_delimiter_marker, align_kind_of}
@@ -22,13 +23,6 @@ use Rattle.markdown_events.specs.declared.infer.AlignKind.{AlignKind}
 -- whether two names are one
 abbrev pub is_same_name : Name → Name → Bool
 is_same_name = sameb the_type
-
--- the roles that may hold nothing
-abbrev pub holds_nothing : Role → Bool
-holds_nothing (acting (content contents.LineEnding)) = true
-holds_nothing (plain plains.BlankLineEnding) = true
-holds_nothing (plain plains.SpaceOrTab) = true
-holds_nothing _ = false
 
 abbrev pub is_list_item : Role → Bool
 is_list_item (acting (content contents.ListItem)) = true
@@ -40,21 +34,14 @@ is_block_quote _ = false
 
 -- ---- Open spans, by their names, the innermost first
 
-abbrev pub holds_nothing_on_top : List Name → Bool
-holds_nothing_on_top [] = false
-holds_nothing_on_top (inner ∷ names) = holds_nothing (role_of inner)
-
-abbrev pub some_row : List Name → Bool
-some_row [] = false
-some_row (inner ∷ names) = some_row names || is_delimiter_row (role_of inner)
-
-abbrev pub some_cell : List Name → Bool
-some_cell [] = false
-some_cell (inner ∷ names) = some_cell names || is_delimiter_cell_value (role_of inner)
+-- what is around the spans in them
+abbrev pub around_of : List Name → Around
+around_of [] = in_the_open
+around_of (inner ∷ names) = under (around_of names) (role_of inner)
 
 -- whether a span of that name can begin in them
 abbrev pub can_enter : List Name → Name → Bool
-can_enter names name = not (holds_nothing_on_top names) && (not (some_row names && is_delimiter_row (role_of name)) && not (some_cell names && is_delimiter_cell_value (role_of name)))
+can_enter names name = may_begin (around_of names) (role_of name)
 
 -- behind an exit: done, where none is open any more
 abbrev pub exited : List Name → ℕ → (List Name → ℕ → Option ℕ) → Option ℕ

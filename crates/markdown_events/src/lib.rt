@@ -4,6 +4,7 @@
 //! The crate `markdown_nodes` passes the modules on, each under its name, and the law among its own.
 #![tactic(auto)]
 
+pub mod around;
 pub mod event;
 pub mod infer;
 pub mod laws;

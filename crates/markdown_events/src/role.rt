@@ -6,7 +6,8 @@ ghost use Rattle.std.specs.Prelude.{◌≡◌};
 ghost use Rattle.markdown_events.specs.Names.{role_of};
 ghost use Rattle.markdown_events.specs.Forest.{is_delimiter_row, is_delimiter_cell_value};
 ghost use Rattle.markdown_events.specs.Spread.{is_blank_line, is_space_or_tab, is_item_prefix, is_quote_prefix, is_delimiter_marker};
-ghost use Rattle.markdown_events.specs.Walks.{holds_nothing, is_list_item, is_block_quote};
+ghost use Rattle.markdown_events.specs.Around.{holds_nothing};
+ghost use Rattle.markdown_events.specs.Walks.{is_list_item, is_block_quote};
 
 use crate::event::Name;
 

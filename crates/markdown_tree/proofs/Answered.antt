@@ -17,38 +17,38 @@ use Rattle.markdown_nodes.specs.declared.mdast.Node.{Node}
 use Rattle.markdown_nodes.specs.declared.mdast.Node.TheVariants as nodes
 use Rattle.markdown_nodes.specs.declared.mdast.Root.{Root as RootNode}
 use Rattle.markdown_nodes.proofs.Views.{view-Root}
-use Rattle.markdown_tree.specs.Accepted.{accepted}
-use Rattle.markdown_tree.specs.Buffers.{held, inside}
-use Rattle.markdown_tree.specs.Compiler.{Holds, State, compiled, fresh, is_shut, last_checks, opening, point_of, run, tree_of}
-use Rattle.markdown_tree.specs.Correct.{FailsRightly, IsMeaning, IsRefused, LeftOpen, StopsAt}
-use Rattle.markdown_tree.specs.Extents.{extent_of, last_event}
-use Rattle.markdown_tree.specs.Holders.{any_content, leaf}
+use Rattle.markdown_grammar.specs.Accepted.{accepted}
+use Rattle.markdown_grammar.specs.Buffers.{held, inside}
+use Rattle.markdown_grammar.specs.Compiler.{Holds, State, compiled, fresh, is_shut, last_checks, opening, point_of, run, tree_of}
+use Rattle.markdown_grammar.specs.Correct.{FailsRightly, IsMeaning, IsRefused, LeftOpen, StopsAt}
+use Rattle.markdown_grammar.specs.Extents.{extent_of, last_event}
+use Rattle.markdown_grammar.specs.Holders.{any_content, leaf}
 use Rattle.markdown_tree.specs.Holdings.{first_failing}
-use Rattle.markdown_tree.specs.Ordered.{IsOrdered, NeverGoesBack}
-use Rattle.markdown_tree.specs.Refusals.{IsFaultOf}
-use Rattle.markdown_tree.specs.Rejections.{Rejection, checked, refused, ◌>>=◌}
-use Rattle.markdown_tree.specs.Source.{Source}
+use Rattle.markdown_grammar.specs.Ordered.{IsOrdered, NeverGoesBack}
+use Rattle.markdown_grammar.specs.Refusals.{IsFaultOf}
+use Rattle.markdown_grammar.specs.Rejections.{Rejection, checked, refused, ◌>>=◌}
+use Rattle.markdown_grammar.specs.Source.{Source}
 use Rattle.markdown_tree.specs.States.{Completes, Fails, kept_top, leaf_holder, leaf_place, opens, state_of, top_of, with_break}
-use Rattle.markdown_tree.specs.Walked.{run_walks}
-use Rattle.markdown_tree.specs.Well.{AllStand}
+use Rattle.markdown_grammar.specs.Walked.{run_walks}
+use Rattle.markdown_grammar.specs.Well.{AllStand}
 use Rattle.markdown_tree.specs.declared.context.Context.{Context}
 use Rattle.markdown_tree.specs.declared.context.Frame.{Frame}
 use Rattle.markdown_tree.specs.declared.holding.Holding.{Holding}
-use Rattle.markdown_tree.specs.declared.refusal.Refusal.{Refusal}
-use Rattle.markdown_tree.specs.declared.refusal.Refusal.TheVariants.{Unbalanced, UnfinishedBreak}
-use Rattle.markdown_tree.specs.declared.refusal.Stop.TheVariants as stops
+use Rattle.markdown_grammar.specs.declared.refusal.Refusal.{Refusal}
+use Rattle.markdown_grammar.specs.declared.refusal.Refusal.TheVariants.{Unbalanced, UnfinishedBreak}
+use Rattle.markdown_grammar.specs.declared.refusal.Stop.TheVariants as stops
 use Rattle.markdown_tree.proofs.Beginnings.{checked_fails, checked_through}
-use Rattle.markdown_tree.proofs.Compiled.{sound}
-use Rattle.markdown_tree.proofs.Conditions.{conditions-accept, conditions-hold}
-use Rattle.markdown_tree.proofs.HeldWalks.{accepted-walks}
-use Rattle.markdown_tree.proofs.InsideWalks.{any-walks}
-use Rattle.markdown_tree.proofs.Outcomes.{ok_is}
-use Rattle.markdown_tree.proofs.Reasons.{explained}
-use Rattle.markdown_tree.proofs.Refused as refused_at
-use Rattle.markdown_tree.proofs.Refused.{refused-where, refuses}
-use Rattle.markdown_tree.proofs.SpanLaw.{span_law}
-use Rattle.markdown_tree.proofs.Unbalanced.{unbalanced}
-use Rattle.markdown_tree.proofs.WellKept.{well-opening, well-run}
+use Rattle.markdown_grammar.proofs.Compiled.{sound}
+use Rattle.markdown_grammar.proofs.Conditions.{conditions-accept, conditions-hold}
+use Rattle.markdown_grammar.proofs.HeldWalks.{accepted-walks}
+use Rattle.markdown_grammar.proofs.InsideWalks.{any-walks}
+use Rattle.markdown_grammar.proofs.Outcomes.{ok_is}
+use Rattle.markdown_grammar.proofs.Reasons.{explained}
+use Rattle.markdown_grammar.proofs.Refused as refused_at
+use Rattle.markdown_grammar.proofs.Refused.{refused-where, refuses}
+use Rattle.markdown_grammar.proofs.SpanLaw.{span_law}
+use Rattle.markdown_grammar.proofs.Unbalanced.{unbalanced}
+use Rattle.markdown_grammar.proofs.WellKept.{well-opening, well-run}
 
 -- ---- A tree, and a message
 

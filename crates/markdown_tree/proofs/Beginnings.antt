@@ -14,22 +14,22 @@ use Rattle.markdown_events.specs.declared.unist.Position.{Position}
 use Rattle.markdown_nodes.specs.View.{views}
 use Rattle.markdown_tree.specs.declared.holder.Holder.{Holder as OpenHolder}
 use Rattle.markdown_tree.specs.declared.holder.Holder.TheVariants as holders
-use Rattle.markdown_tree.specs.declared.refusal.Refusal.TheVariants.{Held, UnfinishedBreak}
-use Rattle.markdown_tree.specs.declared.refusal.Stop.{Stop}
-use Rattle.markdown_tree.specs.declared.refusal.Stop.TheVariants as stops
+use Rattle.markdown_grammar.specs.declared.refusal.Refusal.TheVariants.{Held, UnfinishedBreak}
+use Rattle.markdown_grammar.specs.declared.refusal.Stop.{Stop}
+use Rattle.markdown_grammar.specs.declared.refusal.Stop.TheVariants as stops
 use Rattle.markdown_tree.specs.declared.context.Context.{Context}
 use Rattle.markdown_tree.specs.declared.context.Frame.{Frame}
 use Rattle.markdown_tree.specs.declared.holding.Holding.{Holding}
-use Rattle.markdown_tree.specs.declared.refusal.Refusal.{Refusal}
-use Rattle.markdown_tree.specs.Compiler.{Holds, Open, State, enter_as, enter_step, enter_checks, entered, fresh, opened}
-use Rattle.markdown_tree.specs.Holders.{Holder, code_fenced, holder_of, leaf, list_ordered, math_flow}
+use Rattle.markdown_grammar.specs.declared.refusal.Refusal.{Refusal}
+use Rattle.markdown_grammar.specs.Compiler.{Holds, Open, State, enter_as, enter_step, enter_checks, entered, fresh, opened}
+use Rattle.markdown_grammar.specs.Holders.{Holder, code_fenced, holder_of, leaf, list_ordered, math_flow}
 use Rattle.markdown_tree.specs.Holdings.{IsFresh, first_failing, moved_of, row_of}
-use Rattle.markdown_tree.specs.Around.{may_begin, under}
-use Rattle.markdown_tree.specs.Columns.{columns_entered}
-use Rattle.markdown_tree.specs.Kinds.{is_line_ending, is_table}
-use Rattle.markdown_tree.specs.Place.{Place, line_ending_is_text}
-use Rattle.markdown_tree.specs.Rejections.{Rejection, checked, refused}
-use Rattle.markdown_tree.specs.Source.{Source}
+use Rattle.markdown_events.specs.Around.{may_begin, under}
+use Rattle.markdown_grammar.specs.Columns.{columns_entered}
+use Rattle.markdown_grammar.specs.Kinds.{is_line_ending, is_table}
+use Rattle.markdown_grammar.specs.Place.{Place, line_ending_is_text}
+use Rattle.markdown_grammar.specs.Rejections.{Rejection, checked, refused}
+use Rattle.markdown_grammar.specs.Source.{Source}
 use Rattle.markdown_tree.specs.States.{Begun, Opened, OpenedHolder, Stops, OpenedLeaf, columns_of, holdings_left, holds_of, kept_top, leaf_left, leaf_place, marks_of, opens, outer_of, state_of, top_of, with_break}
 
 -- tests that all pass, and a first one that fails

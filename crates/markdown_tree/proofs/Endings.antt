@@ -21,29 +21,29 @@ use Rattle.markdown_tree.specs.declared.context.Frame.{Frame}
 use Rattle.markdown_tree.specs.declared.holder.Holder.{Holder as OpenHolder}
 use Rattle.markdown_tree.specs.declared.holding.Holding.{Holding}
 use Rattle.markdown_tree.specs.declared.marks.Marks.{Marks as OpenMarks}
-use Rattle.markdown_tree.specs.declared.refusal.Refusal.{Refusal}
-use Rattle.markdown_tree.specs.declared.refusal.Refusal.TheVariants.{InvalidSlice, Misplaced, Unbalanced, UnfinishedBreak}
-use Rattle.markdown_tree.specs.declared.refusal.Stop.{Stop}
-use Rattle.markdown_tree.specs.declared.refusal.Stop.TheVariants as stops
-use Rattle.markdown_tree.specs.Columns.{columns_left, shown}
-use Rattle.markdown_tree.specs.Compiler.{Holds, Open, State, closed, enter_checks, exit_from, exit_step, fresh, lacking, leave, leave_to, rule_checks, shut, unread}
-use Rattle.markdown_tree.specs.Grammar.{is_complete, rules}
-use Rattle.markdown_tree.specs.Holders.{Holder, code_fenced, holder_of, leaf, list_item, list_ordered, marked_item, marked_numbered_item, math_flow, numbered_item}
+use Rattle.markdown_grammar.specs.declared.refusal.Refusal.{Refusal}
+use Rattle.markdown_grammar.specs.declared.refusal.Refusal.TheVariants.{InvalidSlice, Misplaced, Unbalanced, UnfinishedBreak}
+use Rattle.markdown_grammar.specs.declared.refusal.Stop.{Stop}
+use Rattle.markdown_grammar.specs.declared.refusal.Stop.TheVariants as stops
+use Rattle.markdown_grammar.specs.Columns.{columns_left, shown}
+use Rattle.markdown_grammar.specs.Compiler.{Holds, Open, State, closed, enter_checks, exit_from, exit_step, fresh, lacking, leave, leave_to, rule_checks, shut, unread}
+use Rattle.markdown_grammar.specs.Grammar.{is_complete, rules}
+use Rattle.markdown_grammar.specs.Holders.{Holder, code_fenced, holder_of, leaf, list_item, list_ordered, marked_item, marked_numbered_item, math_flow, numbered_item}
 use Rattle.markdown_tree.specs.Holdings.{first_failing, is_part_row, is_row_of, misfit_of, row_of}
-use Rattle.markdown_tree.specs.Kinds.{is_frontmatter, is_line_ending, is_table}
-use Rattle.markdown_tree.specs.Ranges.{byte_at}
-use Rattle.markdown_tree.specs.Reads.{is_read}
-use Rattle.markdown_tree.specs.Rejections.{Rejection, checked, passes, refused, ◌>>=◌}
-use Rattle.markdown_tree.specs.Siblings.{marks_with}
-use Rattle.markdown_tree.specs.Source.{Source}
+use Rattle.markdown_grammar.specs.Kinds.{is_frontmatter, is_line_ending, is_table}
+use Rattle.markdown_grammar.specs.Ranges.{byte_at}
+use Rattle.markdown_grammar.specs.Reads.{is_read}
+use Rattle.markdown_grammar.specs.Rejections.{Rejection, checked, passes, refused, ◌>>=◌}
+use Rattle.markdown_grammar.specs.Siblings.{marks_with}
+use Rattle.markdown_grammar.specs.Source.{Source}
 use Rattle.markdown_tree.specs.States.{Closed, Ends, EndsAs, Gives, HolderEnds, Stops, columns_of, holdings_left, holds_of, kept_top, leaf_holder, leaf_left, leaf_place, left_to, left_walks, inner_of_holding, marks_of, opens, outer_of, state_of, top_of}
-use Rattle.markdown_tree.specs.Walked.{exit_walks, walked, walked_by}
-use Rattle.markdown_tree.specs.Well.{AllStand, Stands, Well, is_plain}
+use Rattle.markdown_grammar.specs.Walked.{exit_walks, walked, walked_by}
+use Rattle.markdown_grammar.specs.Well.{AllStand, Stands, Well, is_plain}
 use Rattle.markdown_tree.proofs.Beginnings.{no_leaf_row, pushed}
-use Rattle.markdown_tree.proofs.Booleans.{and-right}
+use Rattle.markdown_grammar.proofs.Booleans.{and-right}
 use Rattle.markdown_tree.proofs.Misfits.{left_none, misfit_first, none_fails}
 use Rattle.markdown_tree.proofs.Stopping.{gives_same}
-use Rattle.markdown_tree.proofs.WellKept.{taken-awaited}
+use Rattle.markdown_grammar.proofs.WellKept.{taken-awaited}
 
 -- ---- What is known of a span that ends
 

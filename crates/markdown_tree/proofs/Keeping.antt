@@ -13,13 +13,13 @@ use Rattle.markdown_tree.specs.declared.holder.Holder.{Holder as Open}
 use Rattle.markdown_tree.specs.declared.holder.Holder.TheVariants as holders
 use Rattle.markdown_tree.specs.declared.holder.Target.{Target}
 use Rattle.markdown_tree.specs.declared.holder.Target.TheVariants as targets
-use Rattle.markdown_tree.specs.Compiler.{label_with, part_with}
-use Rattle.markdown_tree.specs.Gives.{mark_given, value_given}
-use Rattle.markdown_tree.specs.Holders.{Holder, holder_behind, list_item, numbered_item}
+use Rattle.markdown_grammar.specs.Compiler.{label_with, part_with}
+use Rattle.markdown_grammar.specs.Gives.{mark_given, value_given}
+use Rattle.markdown_grammar.specs.Holders.{Holder, holder_behind, list_item, numbered_item}
 use Rattle.markdown_tree.specs.Holdings.{Keeps, part_of, label_of, mark_of, value_of, moved_of, ending, nodes_of_label, label_kept, resource_of, reference_of, in_code_fence, in_math_fence, fence_of}
-use Rattle.markdown_tree.specs.Parts.{Path, Kept, Inner, itself, into, path_to}
-use Rattle.markdown_tree.specs.Place.{Place}
-use Rattle.markdown_tree.specs.Source.{Source}
+use Rattle.markdown_grammar.specs.Parts.{Path, Kept, Inner, itself, into, path_to}
+use Rattle.markdown_grammar.specs.Place.{Place}
+use Rattle.markdown_grammar.specs.Source.{Source}
 
 -- nothing stands below a part that is not there
 below_ending : (k : Option Kept) (way : Path) → k ≡ None → ending k way ≡ None

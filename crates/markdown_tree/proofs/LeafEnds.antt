@@ -14,22 +14,22 @@ use Rattle.markdown_events.specs.declared.role.Content.{Content}
 use Rattle.markdown_events.specs.declared.role.Content.TheVariants as contents
 use Rattle.markdown_tree.specs.declared.holder.Holder.{Holder as Open}
 use Rattle.markdown_tree.specs.declared.holding.Holding.{Holding}
-use Rattle.markdown_tree.specs.Compiler.{Holds, closed, fresh, leave, lengthened, nothing_yet, unread}
-use Rattle.markdown_tree.specs.Gives.{text_read}
-use Rattle.markdown_tree.specs.Holders.{leaf}
+use Rattle.markdown_grammar.specs.Compiler.{Holds, closed, fresh, leave, lengthened, nothing_yet, unread}
+use Rattle.markdown_grammar.specs.Gives.{text_read}
+use Rattle.markdown_grammar.specs.Holders.{leaf}
 use Rattle.markdown_tree.specs.Holdings.{Keeps, is_literal, moved_of}
-use Rattle.markdown_tree.specs.Kinds.{is_hard_break, is_line_ending}
-use Rattle.markdown_tree.specs.Nodes.{node_of}
-use Rattle.markdown_tree.specs.Parts.{Inner}
-use Rattle.markdown_tree.specs.Place.{Place, line_ending_is_text_behind}
-use Rattle.markdown_tree.specs.Reads.{is_read}
-use Rattle.markdown_tree.specs.Rejections.{Rejection, refused}
-use Rattle.markdown_tree.specs.Source.{Source}
+use Rattle.markdown_grammar.specs.Kinds.{is_hard_break, is_line_ending}
+use Rattle.markdown_grammar.specs.Nodes.{node_of}
+use Rattle.markdown_grammar.specs.Parts.{Inner}
+use Rattle.markdown_grammar.specs.Place.{Place, line_ending_is_text_behind}
+use Rattle.markdown_grammar.specs.Reads.{is_read}
+use Rattle.markdown_grammar.specs.Rejections.{Rejection, refused}
+use Rattle.markdown_grammar.specs.Source.{Source}
 use Rattle.markdown_tree.specs.States.{holds_of, place_of}
-use Rattle.markdown_tree.specs.TextNodes.{one_text}
-use Rattle.markdown_tree.specs.declared.refusal.Refusal.{Refusal}
-use Rattle.markdown_tree.specs.declared.refusal.Refusal.TheVariants.{InvalidSlice}
-use Rattle.markdown_tree.proofs.BreakEnds.{join-lengthened}
+use Rattle.markdown_grammar.specs.TextNodes.{one_text}
+use Rattle.markdown_grammar.specs.declared.refusal.Refusal.{Refusal}
+use Rattle.markdown_grammar.specs.declared.refusal.Refusal.TheVariants.{InvalidSlice}
+use Rattle.markdown_grammar.proofs.BreakEnds.{join-lengthened}
 use Rattle.markdown_tree.proofs.Keeping.{content_keeps}
 use Rattle.markdown_tree.proofs.SpanEnds.{closed_is}
 

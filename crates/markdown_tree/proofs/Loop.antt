@@ -7,17 +7,17 @@ use Rattle.markdown_events.specs.declared.event.Event.{Event}
 use Rattle.markdown_events.specs.declared.message.Fault.{Fault}
 use Rattle.markdown_events.specs.declared.message.Fault.TheVariants as faults
 use Rattle.markdown_events.specs.declared.event.Point.{Point}
-use Rattle.markdown_tree.specs.declared.refusal.Stop.{Stop}
-use Rattle.markdown_tree.specs.declared.refusal.Stop.TheVariants as stops
-use Rattle.markdown_tree.specs.Compiler.{State, opening, run, step}
-use Rattle.markdown_tree.specs.Rejections.{Rejection, ◌>>=◌}
-use Rattle.markdown_tree.specs.Refusals.{IsFaultOf}
-use Rattle.markdown_tree.specs.Source.{Source}
+use Rattle.markdown_grammar.specs.declared.refusal.Stop.{Stop}
+use Rattle.markdown_grammar.specs.declared.refusal.Stop.TheVariants as stops
+use Rattle.markdown_grammar.specs.Compiler.{State, opening, run, step}
+use Rattle.markdown_grammar.specs.Rejections.{Rejection, ◌>>=◌}
+use Rattle.markdown_grammar.specs.Refusals.{IsFaultOf}
+use Rattle.markdown_grammar.specs.Source.{Source}
 use Rattle.markdown_tree.specs.States.{Fails, Stops}
-use Rattle.markdown_tree.specs.Walked.{run_walks, step_walks}
-use Rattle.markdown_tree.specs.Well.{Well}
-use Rattle.markdown_tree.proofs.WalkCounts.{first-walks, taken-walks}
-use Rattle.markdown_tree.proofs.WellKept.{well-opening, well-step}
+use Rattle.markdown_grammar.specs.Walked.{run_walks, step_walks}
+use Rattle.markdown_grammar.specs.Well.{Well}
+use Rattle.markdown_grammar.proofs.WalkCounts.{first-walks, taken-walks}
+use Rattle.markdown_grammar.proofs.WellKept.{well-opening, well-step}
 
 -- an index at which there is no event is past the list
 pub past_end : (es : List Event) (i : ℕ) → None ≡ slice_get es i → length es ≤ i

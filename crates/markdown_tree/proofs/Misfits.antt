@@ -4,21 +4,21 @@ use Rattle.std.specs.Option.{option_or}
 use Rattle.markdown_events.specs.declared.role.Acting.{Acting}
 use Rattle.markdown_events.specs.declared.role.Part.{Part}
 use Rattle.markdown_tree.specs.declared.holder.Holder.{Holder as Open}
-use Rattle.markdown_tree.specs.declared.refusal.Refusal.{Refusal}
-use Rattle.markdown_tree.specs.Compiler.{allows, broken, enter_checks, fresh, has_one_of, rule_checks}
-use Rattle.markdown_tree.specs.Grammar.{has_part, rules}
-use Rattle.markdown_tree.specs.Holders.{Holder, leaf}
+use Rattle.markdown_grammar.specs.declared.refusal.Refusal.{Refusal}
+use Rattle.markdown_grammar.specs.Compiler.{allows, broken, enter_checks, fresh, has_one_of, rule_checks}
+use Rattle.markdown_grammar.specs.Grammar.{has_part, rules}
+use Rattle.markdown_grammar.specs.Holders.{Holder, leaf}
 use Rattle.markdown_tree.specs.Holdings.{empty_but, first_failing, misfit_of, part_of, row_of}
-use Rattle.markdown_tree.specs.Kinds.{is_frontmatter, is_line_ending, is_one_of, is_table}
+use Rattle.markdown_grammar.specs.Kinds.{is_frontmatter, is_line_ending, is_one_of, is_table}
 use Rattle.markdown_events.specs.declared.event.Point.{Point}
 use Rattle.markdown_tree.specs.declared.context.Context.{Context}
-use Rattle.markdown_tree.specs.declared.refusal.Refusal.TheVariants.{InvalidSlice, Misplaced, UnfinishedBreak}
-use Rattle.markdown_tree.specs.Ranges.{byte_at}
-use Rattle.markdown_tree.specs.Source.{Source}
+use Rattle.markdown_grammar.specs.declared.refusal.Refusal.TheVariants.{InvalidSlice, Misplaced, UnfinishedBreak}
+use Rattle.markdown_grammar.specs.Ranges.{byte_at}
+use Rattle.markdown_grammar.specs.Source.{Source}
 use Rattle.markdown_tree.specs.States.{kept_top, leaf_place, top_of}
-use Rattle.markdown_tree.specs.Parts.{Inner}
-use Rattle.markdown_tree.specs.Rejections.{passes}
-use Rattle.markdown_tree.specs.Rules.{Rule, only, once, never, only_before, only_behind}
+use Rattle.markdown_grammar.specs.Parts.{Inner}
+use Rattle.markdown_grammar.specs.Rejections.{passes}
+use Rattle.markdown_grammar.specs.Rules.{Rule, only, once, never, only_before, only_behind}
 
 -- a rule looks at nothing but the parts
 has_same : (ps : List Part) (i : Inner) → has_one_of ps i ≡ has_one_of ps (empty_but i.part)

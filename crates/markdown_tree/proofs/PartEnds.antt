@@ -16,21 +16,21 @@ use Rattle.markdown_events.specs.declared.role.Part.TheVariants as parts
 use Rattle.markdown_tree.specs.declared.holder.Holder.{Holder as Open}
 use Rattle.markdown_tree.specs.declared.holder.Holder.TheVariants as holders
 use Rattle.markdown_tree.specs.declared.holding.Holding.{Holding}
-use Rattle.markdown_tree.specs.Compiler.{fresh, leave, nothing_yet, part_with}
-use Rattle.markdown_tree.specs.Grammar.{addresses}
-use Rattle.markdown_tree.specs.Holders.{Holder, heading_atx, leaf, part_holder}
+use Rattle.markdown_grammar.specs.Compiler.{fresh, leave, nothing_yet, part_with}
+use Rattle.markdown_grammar.specs.Grammar.{addresses}
+use Rattle.markdown_grammar.specs.Holders.{Holder, heading_atx, leaf, part_holder}
 use Rattle.markdown_tree.specs.Holdings.{Keeps, misfit_of, moved_of, part_of}
-use Rattle.markdown_tree.specs.Kinds.{is_one_of}
-use Rattle.markdown_tree.specs.Nodes.{node_of}
-use Rattle.markdown_tree.specs.Numbers.{is_depth, is_item_number}
-use Rattle.markdown_tree.specs.Parts.{Path, decoded, into, itself}
-use Rattle.markdown_tree.specs.Place.{Place, line_ending_is_text_behind}
-use Rattle.markdown_tree.specs.Ranges.{length_between}
-use Rattle.markdown_tree.specs.Reads.{is_read}
-use Rattle.markdown_tree.specs.Rejections.{refused}
-use Rattle.markdown_tree.specs.Source.{Source}
+use Rattle.markdown_grammar.specs.Kinds.{is_one_of}
+use Rattle.markdown_grammar.specs.Nodes.{node_of}
+use Rattle.markdown_grammar.specs.Numbers.{is_depth, is_item_number}
+use Rattle.markdown_grammar.specs.Parts.{Path, decoded, into, itself}
+use Rattle.markdown_grammar.specs.Place.{Place, line_ending_is_text_behind}
+use Rattle.markdown_grammar.specs.Ranges.{length_between}
+use Rattle.markdown_grammar.specs.Reads.{is_read}
+use Rattle.markdown_grammar.specs.Rejections.{refused}
+use Rattle.markdown_grammar.specs.Source.{Source}
 use Rattle.markdown_tree.specs.States.{holds_of, place_of}
-use Rattle.markdown_tree.specs.declared.refusal.Refusal.TheVariants.{HeadingDepth, InvalidListValue, InvalidSlice, UnknownReference}
+use Rattle.markdown_grammar.specs.declared.refusal.Refusal.TheVariants.{HeadingDepth, InvalidListValue, InvalidSlice, UnknownReference}
 use Rattle.markdown_tree.proofs.LeafEnds.{leaf_in, leaf_unread}
 
 -- a part in which nothing stands gives no node

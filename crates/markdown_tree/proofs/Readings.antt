@@ -6,7 +6,7 @@ use Rattle.markdown_nodes.specs.Access.{children_of, items_in, label_of, nodes_i
 use Rattle.markdown_nodes.specs.Tree.{Tree, Trees, before, nothing}
 use Rattle.markdown_nodes.specs.View.{view, views}
 use Rattle.markdown_nodes.proofs.Views.{view-is}
-use Rattle.markdown_tree.specs.Buffers.{node_count}
+use Rattle.markdown_grammar.specs.Buffers.{node_count}
 use Rattle.markdown_tree.specs.Readings.{own_text, reading}
 use Rattle.markdown_tree.specs.declared.buffer.Form.{Form}
 use Rattle.markdown_tree.specs.declared.buffer.Form.TheVariants as forms

@@ -3,7 +3,7 @@ use Rattle.std.proofs.Common.{◌≡◌, ◌≢◌, ℕ, List, [], Bool, true, f
 use Rattle.std.specs.Prelude.{is_some, unwrap_or}
 use Rattle.markdown_events.specs.Slices.{between, slice}
 use Rattle.markdown_events.specs.Spread.{Shown}
-use Rattle.markdown_tree.specs.Gives.{text_read}
+use Rattle.markdown_grammar.specs.Gives.{text_read}
 use Rattle.markdown_nodes.specs.Tree.{Label, Tree, Trees, join, node, nothing, only}
 use Rattle.markdown_nodes.specs.Tree as tree
 use Rattle.markdown_nodes.specs.View.{views}
@@ -16,23 +16,24 @@ use Rattle.markdown_events.specs.declared.role.Part.{Part}
 use Rattle.markdown_nodes.proofs.Joining.{join-nothing}
 use Rattle.markdown_events.specs.declared.role.Part.TheVariants as parts
 use Rattle.markdown_tree.specs.declared.holding.Holding.{Holding}
-use Rattle.markdown_tree.specs.declared.refusal.Refusal.{Refusal}
-use Rattle.markdown_tree.specs.Compiler.{Holds, closed, lacking, leave, unread}
-use Rattle.markdown_tree.specs.Grammar.{is_complete}
-use Rattle.markdown_tree.specs.Holders.{Holder, any_content}
-use Rattle.markdown_tree.specs.Holdings.{Keeps, is_parent, is_row_of, is_text_part, moved_of, parent_label, placed, row_of}
-use Rattle.markdown_tree.specs.Kinds.{is_hard_break}
-use Rattle.markdown_tree.specs.Media.{Media, autolink, image_label, link_label}
-use Rattle.markdown_tree.specs.Nodes.{frontmatter, node_of}
-use Rattle.markdown_tree.specs.Parts.{Inner, Kept, address}
-use Rattle.markdown_tree.specs.Place.{Place, line_ending_is_text_behind}
-use Rattle.markdown_tree.specs.Reads.{is_read}
-use Rattle.markdown_tree.specs.Rejections.{Rejection, refused}
-use Rattle.markdown_tree.specs.Source.{Source}
-use Rattle.markdown_tree.specs.declared.refusal.Stop.{Stop}
-use Rattle.markdown_tree.specs.declared.refusal.Stop.TheVariants as stops
+use Rattle.markdown_grammar.specs.declared.refusal.Refusal.{Refusal}
+use Rattle.markdown_grammar.specs.declared.refusal.Refusal.TheVariants.{InvalidSlice}
+use Rattle.markdown_grammar.specs.Compiler.{Holds, closed, lacking, leave, unread}
+use Rattle.markdown_grammar.specs.Grammar.{is_complete}
+use Rattle.markdown_grammar.specs.Holders.{Holder, any_content}
+use Rattle.markdown_tree.specs.Holdings.{Keeps, is_label_string, is_parent, is_row_of, is_text_part, moved_of, parent_label, placed, row_of}
+use Rattle.markdown_grammar.specs.Kinds.{is_hard_break}
+use Rattle.markdown_grammar.specs.Media.{Media, autolink, image_label, link_label}
+use Rattle.markdown_grammar.specs.Nodes.{frontmatter, node_of}
+use Rattle.markdown_grammar.specs.Parts.{Inner, Kept, address}
+use Rattle.markdown_grammar.specs.Place.{Place, line_ending_is_text_behind}
+use Rattle.markdown_grammar.specs.Reads.{is_read}
+use Rattle.markdown_grammar.specs.Rejections.{Rejection, refused}
+use Rattle.markdown_grammar.specs.Source.{Source}
+use Rattle.markdown_grammar.specs.declared.refusal.Stop.{Stop}
+use Rattle.markdown_grammar.specs.declared.refusal.Stop.TheVariants as stops
 use Rattle.markdown_tree.specs.States.{Makes, Stops, ended_with, holds_of, inner_of_holding, place_of}
-use Rattle.markdown_tree.specs.TextNodes.{is_text}
+use Rattle.markdown_grammar.specs.TextNodes.{is_text}
 
 -- what one more item makes of a holder, where no break is before it and it is none
 pub closed_is : (s : Source) (in_table : Bool) (top new : Holding) (what : Acting) (a b : Point) (children : Shown) (i : Inner)
@@ -199,6 +200,29 @@ text_part_behind q before such = refl
 pub text_part_put : (s : Source) (p : Place) (q : Part) (a b : Point) (children : Shown) (i : Inner) (ts : Trees) → is_text_part q ≡ true → ts ≡ join ts (node_of s p (part q) a b children i)
 text_part_put s p parts.HeadingSetextText a b children i ts such = let z : ⊥ = cc in absurd z
 text_part_put s p q a b children i ts such = sym (join-nothing ts)
+
+-- the same of a label in itself
+pub label_string_read : (s : Source) (h : Holder) (p : Place) (q : Part) (a b : Point) → is_label_string q ≡ true → is_read s h p false (part q) a b ≡ is_some (slice s.bytes a b)
+label_string_read s h p parts.ReferenceString a b such = refl
+label_string_read s h p parts.DefinitionLabelString a b such = refl
+label_string_read s h p parts.FootnoteDefinitionLabelString a b such = refl
+label_string_read s h p q a b such = let z : ⊥ = cc in absurd z
+
+pub label_string_unread : (s : Source) (q : Part) (a b : Point) → is_label_string q ≡ true → unread s (part q) a b ≡ InvalidSlice
+label_string_unread s parts.CharacterReferenceValue a b such = let z : ⊥ = cc in absurd z
+label_string_unread s parts.ListItemValue a b such = let z : ⊥ = cc in absurd z
+label_string_unread s parts.HeadingAtxSequence a b such = let z : ⊥ = cc in absurd z
+label_string_unread s q a b such = refl
+
+pub label_string_behind : (q : Part) (before : Bool) → is_label_string q ≡ true → before ≡ line_ending_is_text_behind (part q) before
+label_string_behind parts.CodeFencedFence before such = let z : ⊥ = cc in absurd z
+label_string_behind parts.MathFlowFence before such = let z : ⊥ = cc in absurd z
+label_string_behind parts.HeadingSetextText before such = let z : ⊥ = cc in absurd z
+label_string_behind q before such = refl
+
+pub label_string_put : (s : Source) (p : Place) (q : Part) (a b : Point) (children : Shown) (i : Inner) (ts : Trees) → is_label_string q ≡ true → ts ≡ join ts (node_of s p (part q) a b children i)
+label_string_put s p parts.HeadingSetextText a b children i ts such = let z : ⊥ = cc in absurd z
+label_string_put s p q a b children i ts such = sym (join-nothing ts)
 
 -- the nodes stay where nothing is put
 pub none_put : (ts : Trees) → ts ≡ join ts nothing

@@ -2,10 +2,10 @@
 use Rattle.std.proofs.Common.{◌≡◌, Bool, true, false, Result, Ok, Err, sym, subst, ap, ◌∙◌}
 use Rattle.std.specs.Result.{IsErr, IsErrAnd, OnOk}
 use Rattle.markdown_events.specs.declared.event.Point.{Point}
-use Rattle.markdown_tree.specs.declared.refusal.Refusal.{Refusal}
-use Rattle.markdown_tree.specs.declared.refusal.Stop.{Stop}
-use Rattle.markdown_tree.specs.declared.refusal.Stop.TheVariants as stops
-use Rattle.markdown_tree.specs.Rejections.{Rejection, refused}
+use Rattle.markdown_grammar.specs.declared.refusal.Refusal.{Refusal}
+use Rattle.markdown_grammar.specs.declared.refusal.Stop.{Stop}
+use Rattle.markdown_grammar.specs.declared.refusal.Stop.TheVariants as stops
+use Rattle.markdown_grammar.specs.Rejections.{Rejection, refused}
 use Rattle.markdown_tree.specs.States.{Gives, Makes, Stops}
 
 -- a stop that is passed on

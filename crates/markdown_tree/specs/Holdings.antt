@@ -26,17 +26,17 @@ use Rattle.markdown_tree.specs.declared.holder.ResourceParts.{ResourceParts}
 use Rattle.markdown_tree.specs.declared.holder.Target.{Target}
 use Rattle.markdown_tree.specs.declared.holder.Target.TheVariants as targets
 use Rattle.markdown_events.specs.declared.role.Acting.{Acting}
-use Rattle.markdown_tree.specs.declared.refusal.Refusal.{Refusal}
+use Rattle.markdown_grammar.specs.declared.refusal.Refusal.{Refusal}
 use Rattle.std.specs.Option.{option_or}
 use Rattle.markdown_events.specs.declared.event.Point.{Point}
-use Rattle.markdown_tree.specs.Compiler.{label_with, part_with, rule_checks}
-use Rattle.markdown_tree.specs.Gives.{mark_given, value_given}
-use Rattle.markdown_tree.specs.Kinds
-use Rattle.markdown_tree.specs.Place.{Place}
-use Rattle.markdown_tree.specs.Source.{Source}
-use Rattle.markdown_tree.specs.Grammar.{rules}
-use Rattle.markdown_tree.specs.Holders.{Holder, any_content, autolink, media, footnote_call, resource, reference, definition, character_reference, code_fence, math_fence, list_ordered, list_item, numbered_item, marked_item, marked_numbered_item, task_paragraph, marked_paragraph, footnote_definition, heading_atx, heading_text, heading_setext, code_fenced, math_flow, code_buffer, math_buffer, holder_behind}
-use Rattle.markdown_tree.specs.Parts.{Path, identifier_of, words_of, itself, into, path_to, Kept, stood, count, words, named, address, Inner}
+use Rattle.markdown_grammar.specs.Compiler.{label_with, part_with, rule_checks}
+use Rattle.markdown_grammar.specs.Gives.{mark_given, value_given}
+use Rattle.markdown_grammar.specs.Kinds
+use Rattle.markdown_grammar.specs.Place.{Place}
+use Rattle.markdown_grammar.specs.Source.{Source}
+use Rattle.markdown_grammar.specs.Grammar.{rules}
+use Rattle.markdown_grammar.specs.Holders.{Holder, any_content, autolink, media, footnote_call, resource, reference, definition, character_reference, code_fence, math_fence, list_ordered, list_item, numbered_item, marked_item, marked_numbered_item, task_paragraph, marked_paragraph, footnote_definition, heading_atx, heading_text, heading_setext, code_fenced, math_flow, code_buffer, math_buffer, holder_behind}
+use Rattle.markdown_grammar.specs.Parts.{Path, identifier_of, words_of, itself, into, path_to, Kept, stood, count, words, named, address, Inner}
 
 -- ---- Rows of the grammar
 
@@ -295,6 +295,13 @@ is_text_part parts.CodeFencedFenceInfo = true
 is_text_part parts.CodeFencedFenceMeta = true
 is_text_part parts.MathFlowFenceMeta = true
 is_text_part _ = false
+
+-- a part that is a label in itself, and names a definition
+abbrev pub is_label_string : Part → Bool
+is_label_string parts.ReferenceString = true
+is_label_string parts.DefinitionLabelString = true
+is_label_string parts.FootnoteDefinitionLabelString = true
+is_label_string _ = false
 
 -- a part that says all by its name, and has no text that is read
 abbrev pub is_sign : Part → Bool

@@ -6,25 +6,25 @@ use Rattle.markdown_events.specs.declared.role.Role.{Role}
 use Rattle.markdown_events.specs.declared.role.Role.TheVariants.{Plain as plain, Acting as acting}
 use Rattle.markdown_events.specs.declared.message.Fault.{Fault}
 use Rattle.markdown_events.specs.declared.message.Fault.TheVariants as faults
-use Rattle.markdown_tree.specs.Refusals.{Says}
-use Rattle.markdown_tree.specs.Walked.{walked_by}
+use Rattle.markdown_grammar.specs.Refusals.{Says}
+use Rattle.markdown_grammar.specs.Walked.{walked_by}
 use Rattle.markdown_tree.specs.declared.context.Context.{Context}
 use Rattle.markdown_tree.specs.declared.context.Frame.{Frame}
 use Rattle.markdown_nodes.specs.View.{views}
 use Rattle.markdown_tree.specs.declared.holding.Holding.{Holding}
-use Rattle.markdown_tree.specs.declared.refusal.Refusal.{Refusal}
-use Rattle.markdown_tree.specs.declared.refusal.Stop.{Stop}
-use Rattle.markdown_tree.specs.declared.refusal.Stop.TheVariants as stops
+use Rattle.markdown_grammar.specs.declared.refusal.Refusal.{Refusal}
+use Rattle.markdown_grammar.specs.declared.refusal.Stop.{Stop}
+use Rattle.markdown_grammar.specs.declared.refusal.Stop.TheVariants as stops
 use Rattle.markdown_nodes.specs.Tree.{Trees, join, node, nothing, «break»}
 use Rattle.markdown_events.specs.declared.event.Point.{Point}
 use Rattle.markdown_events.specs.declared.unist.Position.{Position}
-use Rattle.markdown_tree.specs.Compiler.{Holds, Open, State, enter_checks, fresh, leave_to}
-use Rattle.markdown_tree.specs.Holders.{Holder, holder_of, leaf}
+use Rattle.markdown_grammar.specs.Compiler.{Holds, Open, State, enter_checks, fresh, leave_to}
+use Rattle.markdown_grammar.specs.Holders.{Holder, holder_of, leaf}
 use Rattle.markdown_tree.specs.Holdings.{IsFresh, first_failing, inner_with, marker_of, misfit_of, moved_of, row_of}
-use Rattle.markdown_tree.specs.Rejections.{Rejection, refused}
-use Rattle.markdown_tree.specs.Parts.{Inner}
-use Rattle.markdown_tree.specs.Place.{Place, line_ending_is_text}
-use Rattle.markdown_tree.specs.Source.{Source}
+use Rattle.markdown_grammar.specs.Rejections.{Rejection, refused}
+use Rattle.markdown_grammar.specs.Parts.{Inner}
+use Rattle.markdown_grammar.specs.Place.{Place, line_ending_is_text}
+use Rattle.markdown_grammar.specs.Source.{Source}
 use Rattle.markdown_tree.specs.declared.columns.Columns.{Columns as OpenColumns}
 use Rattle.markdown_tree.specs.declared.columns.Rows.{Rows as OpenRows}
 use Rattle.markdown_tree.specs.declared.columns.Rows.TheVariants as rows
@@ -34,10 +34,10 @@ use Rattle.markdown_tree.specs.declared.marks.Marks.{Marks as OpenMarks}
 use Rattle.markdown_tree.specs.declared.marks.Sibling.{Sibling as OpenSibling}
 use Rattle.markdown_tree.specs.declared.marks.Sibling.TheVariants as siblings
 use Rattle.markdown_events.specs.declared.event.Name.{Name}
-use Rattle.markdown_tree.specs.Around.{under}
-use Rattle.markdown_tree.specs.Columns.{Columns, Rows, columns_entered, columns_left, before, inside, behind, shown}
-use Rattle.markdown_tree.specs.Kinds.{is_line_ending}
-use Rattle.markdown_tree.specs.Siblings.{Marks, Sibling, no_marks, no_sibling}
+use Rattle.markdown_events.specs.Around.{under}
+use Rattle.markdown_grammar.specs.Columns.{Columns, Rows, columns_entered, columns_left, before, inside, behind, shown}
+use Rattle.markdown_grammar.specs.Kinds.{is_line_ending}
+use Rattle.markdown_grammar.specs.Siblings.{Marks, Sibling, no_marks, no_sibling}
 
 -- what a child says
 abbrev pub sibling_in : OpenSibling → Sibling

@@ -5,7 +5,7 @@ use Rattle.markdown_nodes.specs.View.{views}
 use Rattle.markdown_nodes.specs.declared.mdast.Paragraph.{Paragraph}
 use Rattle.markdown_events.specs.declared.unist.Point.{Point}
 use Rattle.markdown_events.specs.declared.unist.Position.{Position}
-use Rattle.markdown_tree.specs.Tasks.{after_blank, trimmed_text}
+use Rattle.markdown_grammar.specs.Tasks.{after_blank, trimmed_text}
 
 -- what is left of a text, and where it starts then, where it has characters and a position
 abbrev pub text_cut : List ℕ → Option Position → Option (List ℕ × Point)

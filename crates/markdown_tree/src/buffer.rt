@@ -4,7 +4,7 @@ ghost use Rattle.std.specs.Prelude.{◌≡◌, ◌≤◌, ◌+◌, ◌++◌, OnO
 ghost use Rattle.markdown_nodes.specs.Access;
 ghost use Rattle.markdown_nodes.specs.Tree.{plain_label, plain_text};
 ghost use Rattle.markdown_nodes.specs.View.{views};
-ghost use Rattle.markdown_tree.specs.Buffers.{node_count};
+ghost use Rattle.markdown_grammar.specs.Buffers.{node_count};
 ghost use Rattle.markdown_tree.specs.Readings.{own_text, reading};
 
 use crate::steps::Steps;

@@ -4,26 +4,26 @@ ghost use Rattle.std.specs.Prelude.{◌≡◌, ◌≤◌, ◌+◌, ◌||◌, [],
 ghost use Rattle.markdown_events.specs.Names.{role_of};
 ghost use Rattle.markdown_events.specs.declared.role.Acting.TheVariants as acting;
 ghost use Rattle.markdown_events.specs.declared.role.Role.TheVariants as roles;
-ghost use Rattle.markdown_tree.specs.Compiler;
-ghost use Rattle.markdown_tree.specs.Compiler.{enter_as, enter_checks, enter_step, exit_step, last_checks, opening};
+ghost use Rattle.markdown_grammar.specs.Compiler;
+ghost use Rattle.markdown_grammar.specs.Compiler.{enter_as, enter_checks, enter_step, exit_step, last_checks, opening};
 ghost use Rattle.markdown_tree.specs.Holdings.{first_failing, is_parent};
 ghost use Rattle.markdown_tree.specs.declared.holder.Holder.TheVariants as holders;
-ghost use Rattle.markdown_tree.specs.Kinds;
-ghost use Rattle.markdown_tree.specs.Source.{Source, source};
+ghost use Rattle.markdown_grammar.specs.Kinds;
+ghost use Rattle.markdown_grammar.specs.Source.{Source, source};
 ghost use Rattle.markdown_tree.specs.States.{Begun, Closed, Ends, Gives, HolderEnds, LeafEnds, Opened, left_to, left_walks, state_of, top_of};
-ghost use Rattle.markdown_tree.specs.Walked.{exit_walks, step_walks};
-ghost use Rattle.markdown_tree.specs.Well.{Well, is_plain};
+ghost use Rattle.markdown_grammar.specs.Walked.{exit_walks, step_walks};
+ghost use Rattle.markdown_grammar.specs.Well.{Well, is_plain};
 
-use crate::around::Around;
 use crate::closing::is_parent;
 use crate::columns::Columns;
 use crate::holder::Holder;
 use crate::holding::{Ending, Holding, has_line_endings};
 use crate::marks::Marks;
 use crate::references::References;
-use crate::refusal::{Refusal, Stop};
 use crate::slice::byte_at;
 use crate::steps::Steps;
+use markdown_grammar::refusal::{Refusal, Stop};
+use markdown_nodes::around::Around;
 use markdown_nodes::event::{Event, Kind, Name, Point};
 use markdown_nodes::role::{Acting, Content, Role};
 use markdown_nodes::unist::Position;
@@ -85,11 +85,7 @@ impl<'a> Context<'a> {
         Context {
             frames: Vec::new(alloc),
             holdings: Vec::new(alloc),
-            around: Around {
-                held: false,
-                in_row: false,
-                in_value: false,
-            },
+            around: Around::in_the_open(),
             is_leaf: false,
             in_table: false,
             marks: Marks::new(),

@@ -2,15 +2,15 @@
 
 ghost use Rattle.std.specs.Prelude.{◌≡◌, ◌≢◌, false, not, cond, Some, true};
 ghost use Rattle.markdown_events.specs.declared.role.Acting.TheVariants as acting;
-ghost use Rattle.markdown_tree.specs.Grammar.{task_marks};
-ghost use Rattle.markdown_tree.specs.Holders;
+ghost use Rattle.markdown_grammar.specs.Grammar.{task_marks};
+ghost use Rattle.markdown_grammar.specs.Holders;
 ghost use Rattle.markdown_tree.specs.Holdings.{IsFresh, misfit_of, moved_of, refusal_if};
 ghost use Rattle.markdown_events.specs.declared.role.Content.TheVariants as contents;
-ghost use Rattle.markdown_tree.specs.Kinds;
+ghost use Rattle.markdown_grammar.specs.Kinds;
 ghost use Rattle.markdown_tree.specs.declared.holder.Holder.TheVariants as holders;
-ghost use Rattle.markdown_tree.specs.declared.refusal.Refusal.TheVariants.{Misplaced, Repeated};
+ghost use Rattle.markdown_grammar.specs.declared.refusal.Refusal.TheVariants.{Misplaced, Repeated};
 
-use crate::refusal::Refusal;
+use markdown_grammar::refusal::Refusal;
 use markdown_nodes::event::Point;
 use markdown_nodes::mdast::Node;
 use markdown_nodes::role::{Acting, Content, Part};

@@ -7,26 +7,26 @@ ghost use Rattle.markdown_events.specs.Spread.{Shown};
 ghost use Rattle.markdown_nodes.specs.Tree as tree;
 ghost use Rattle.markdown_nodes.specs.Tree.{Trees, join, nothing, only, plain_text};
 ghost use Rattle.markdown_events.specs.Texts.{trim};
-ghost use Rattle.markdown_tree.specs.Parts.{count, count_of, path_to, text_of};
-ghost use Rattle.markdown_tree.specs.declared.refusal.Refusal.TheVariants.{HeadingDepth, MissingFence, MissingListValue};
+ghost use Rattle.markdown_grammar.specs.Parts.{count, count_of, path_to, text_of};
+ghost use Rattle.markdown_grammar.specs.declared.refusal.Refusal.TheVariants.{HeadingDepth, MissingFence, MissingListValue};
 ghost use Rattle.markdown_events.specs.declared.role.Content.TheVariants as contents;
-ghost use Rattle.markdown_tree.specs.Buffers.{node_count};
-ghost use Rattle.markdown_tree.specs.Compiler.{lacking, leave};
-ghost use Rattle.markdown_tree.specs.Grammar.{is_complete};
-ghost use Rattle.markdown_tree.specs.Tasks.{task_if};
+ghost use Rattle.markdown_grammar.specs.Buffers.{node_count};
+ghost use Rattle.markdown_grammar.specs.Compiler.{lacking, leave};
+ghost use Rattle.markdown_grammar.specs.Grammar.{is_complete};
+ghost use Rattle.markdown_grammar.specs.Tasks.{task_if};
 ghost use Rattle.markdown_nodes.specs.View.{view, views};
 ghost use Rattle.markdown_events.specs.declared.role.Acting.TheVariants as acting;
-ghost use Rattle.markdown_tree.specs.Columns.{columns_left, shown};
-ghost use Rattle.markdown_tree.specs.Holders;
+ghost use Rattle.markdown_grammar.specs.Columns.{columns_left, shown};
+ghost use Rattle.markdown_grammar.specs.Holders;
 ghost use Rattle.markdown_tree.specs.Holdings.{code_label, inner_with, is_parent, is_row_of, math_label, moved_of, nodes_of_label, placed, row_of};
 ghost use Rattle.markdown_events.specs.declared.role.Role.TheVariants as roles;
-ghost use Rattle.markdown_tree.specs.Nodes.{node_of};
+ghost use Rattle.markdown_grammar.specs.Nodes.{node_of};
 ghost use Rattle.markdown_tree.specs.declared.holder.Holder.TheVariants as holders;
-ghost use Rattle.markdown_tree.specs.Place.{Place, line_ending_is_text};
-ghost use Rattle.markdown_tree.specs.Source.{Source};
+ghost use Rattle.markdown_grammar.specs.Place.{Place, line_ending_is_text};
+ghost use Rattle.markdown_grammar.specs.Source.{Source};
 ghost use Rattle.markdown_tree.specs.States.{Gives, Makes, columns_of, holds_of, inner_of_holding, marks_of, place_with};
-ghost use Rattle.markdown_tree.specs.TextNodes.{one_text};
-ghost use Rattle.markdown_tree.specs.Walked.{walked};
+ghost use Rattle.markdown_grammar.specs.TextNodes.{one_text};
+ghost use Rattle.markdown_grammar.specs.Walked.{walked};
 
 use crate::closing::{
     definition, footnote_call, footnote_definition, heading, image_node, link_node, list,
@@ -39,10 +39,10 @@ use crate::marks::Marks;
 use crate::raw::{
     autolink, fenced_code, frontmatter, html, indented_code, inline_code, inline_math, math,
 };
-use crate::refusal::{Refusal, Stop};
 use crate::slice::{byte_at, position_of};
 use crate::steps::Steps;
 use crate::task;
+use markdown_grammar::refusal::{Refusal, Stop};
 use markdown_nodes::event::Point;
 use markdown_nodes::mdast::Node;
 use markdown_nodes::role::{Acting, Content, Part};

@@ -1,7 +1,6 @@
 //! From the events of a tokenizer to a syntax tree of mdast.
 #![tactic(auto)]
 
-mod around;
 mod buffer;
 mod closing;
 mod columns;
@@ -10,7 +9,6 @@ mod count;
 mod holder;
 mod holding;
 mod joining;
-pub mod laws;
 mod leaves;
 mod marks;
 mod number;
@@ -20,7 +18,6 @@ mod parts;
 mod pieces_tests;
 mod raw;
 mod references;
-mod refusal;
 mod slice;
 pub mod steps;
 mod task;
@@ -28,3 +25,5 @@ mod task;
 mod tests;
 mod texts;
 pub mod to_mdast;
+
+pub use markdown_grammar::laws;

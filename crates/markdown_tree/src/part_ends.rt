@@ -7,14 +7,14 @@ ghost use Rattle.markdown_events.specs.declared.role.Acting.TheVariants as actin
 ghost use Rattle.markdown_events.specs.declared.role.Part.TheVariants as parts;
 ghost use Rattle.markdown_nodes.specs.Tree.{Trees, plain_text};
 ghost use Rattle.markdown_nodes.specs.View.{views};
-ghost use Rattle.markdown_tree.specs.Buffers.{node_count};
-ghost use Rattle.markdown_tree.specs.Compiler.{leave};
-ghost use Rattle.markdown_tree.specs.Holders;
-ghost use Rattle.markdown_tree.specs.Holdings.{inner_with, is_part_row, is_text_part, misfit_of, moved_of, row_of};
-ghost use Rattle.markdown_tree.specs.Source.{Source};
+ghost use Rattle.markdown_grammar.specs.Buffers.{node_count};
+ghost use Rattle.markdown_grammar.specs.Compiler.{leave};
+ghost use Rattle.markdown_grammar.specs.Holders;
+ghost use Rattle.markdown_tree.specs.Holdings.{inner_with, is_label_string, is_part_row, is_text_part, misfit_of, moved_of, row_of};
+ghost use Rattle.markdown_grammar.specs.Source.{Source};
 ghost use Rattle.markdown_tree.specs.States.{Gives, ended_with, holds_of, inner_of_holding};
-ghost use Rattle.markdown_tree.specs.Walked.{walked};
-ghost use Rattle.markdown_tree.specs.Place.{Place};
+ghost use Rattle.markdown_grammar.specs.Walked.{walked};
+ghost use Rattle.markdown_grammar.specs.Place.{Place};
 ghost use Rattle.markdown_events.specs.declared.event.Point.{Point};
 ghost use Rattle.markdown_tree.specs.declared.holder.Holder.TheVariants as holders;
 
@@ -22,9 +22,9 @@ use crate::buffer::values_of;
 use crate::holder::{CodeFenceParts, Holder, Identified, Label, MathFenceParts, ResourceParts};
 use crate::holding::{Ending, Holding};
 use crate::joining::append;
-use crate::refusal::{Refusal, Stop};
 use crate::slice::text_of;
 use crate::steps::Steps;
+use markdown_grammar::refusal::{Refusal, Stop};
 use markdown_nodes::mdast::Node;
 use markdown_nodes::role::Part;
 use markdown_nodes::text::normalize_identifier;
@@ -115,17 +115,19 @@ impl<'a> Holding<'a> {
         self.line_endings = true;
     }
 
-    /// Takes the label of a reference.
-    fn take_reference_string(
+    /// Takes the label of a reference, a definition or a footnote definition.
+    fn take_identified(
         &mut self,
         alloc: Global,
         steps: &mut Steps<'_>,
         bytes: &[u8],
+        part: Part,
         nodes: &[Node],
         ending: Ending,
     ) -> Result<(), Stop>
-        requires { misfit_of self.old.holder (acting.Part parts.ReferenceString) ≡ None }
-        ensures left { (s : Source) (place : Place) (children : Shown) → s.bytes ≡ bytes.now → Gives (λ _. holds_of ending.in_table None self.new) ending.end result (leave s (acting.Part parts.ReferenceString) ending.start ending.end children (ended_with Holders.any_content place (inner_with holders.AnyContent (views nodes.now))) (holds_of ending.in_table None self.old)) }
+        requires fits { misfit_of self.old.holder (acting.Part part) ≡ None }
+        requires such { is_label_string part ≡ true }
+        ensures left { (s : Source) (place : Place) (children : Shown) → s.bytes ≡ bytes.now → Gives (λ _. holds_of ending.in_table None self.new) ending.end result (leave s (acting.Part part) ending.start ending.end children (ended_with Holders.any_content place (inner_with holders.AnyContent (views nodes.now))) (holds_of ending.in_table None self.old)) }
         ensures list { steps.new.events ≡ steps.old.events }
         ensures bound { steps.new.count ≤ steps.old.count + node_count (views nodes.now) }
     {
@@ -133,51 +135,7 @@ impl<'a> Holding<'a> {
             return Err(Stop::Refused(Refusal::InvalidSlice));
         };
         let string = identified(alloc, steps, slice, nodes)?;
-        self.holder.put_reference_string(string);
-        Ok(())
-    }
-
-    /// Takes the label of a definition.
-    fn take_definition_label(
-        &mut self,
-        alloc: Global,
-        steps: &mut Steps<'_>,
-        bytes: &[u8],
-        nodes: &[Node],
-        ending: Ending,
-    ) -> Result<(), Stop>
-        requires { misfit_of self.old.holder (acting.Part parts.DefinitionLabelString) ≡ None }
-        ensures left { (s : Source) (place : Place) (children : Shown) → s.bytes ≡ bytes.now → Gives (λ _. holds_of ending.in_table None self.new) ending.end result (leave s (acting.Part parts.DefinitionLabelString) ending.start ending.end children (ended_with Holders.any_content place (inner_with holders.AnyContent (views nodes.now))) (holds_of ending.in_table None self.old)) }
-        ensures list { steps.new.events ≡ steps.old.events }
-        ensures bound { steps.new.count ≤ steps.old.count + node_count (views nodes.now) }
-    {
-        let Some(slice) = text_of(bytes, ending.start, ending.end) else {
-            return Err(Stop::Refused(Refusal::InvalidSlice));
-        };
-        let string = identified(alloc, steps, slice, nodes)?;
-        self.holder.put_definition_label(string);
-        Ok(())
-    }
-
-    /// Takes the label of a footnote definition.
-    fn take_footnote_label(
-        &mut self,
-        alloc: Global,
-        steps: &mut Steps<'_>,
-        bytes: &[u8],
-        nodes: &[Node],
-        ending: Ending,
-    ) -> Result<(), Stop>
-        requires { misfit_of self.old.holder (acting.Part parts.FootnoteDefinitionLabelString) ≡ None }
-        ensures left { (s : Source) (place : Place) (children : Shown) → s.bytes ≡ bytes.now → Gives (λ _. holds_of ending.in_table None self.new) ending.end result (leave s (acting.Part parts.FootnoteDefinitionLabelString) ending.start ending.end children (ended_with Holders.any_content place (inner_with holders.AnyContent (views nodes.now))) (holds_of ending.in_table None self.old)) }
-        ensures list { steps.new.events ≡ steps.old.events }
-        ensures bound { steps.new.count ≤ steps.old.count + node_count (views nodes.now) }
-    {
-        let Some(slice) = text_of(bytes, ending.start, ending.end) else {
-            return Err(Stop::Refused(Refusal::InvalidSlice));
-        };
-        let string = identified(alloc, steps, slice, nodes)?;
-        self.holder.put_footnote_label(string);
+        self.holder.put_identified(part, string);
         Ok(())
     }
 
@@ -212,14 +170,10 @@ impl<'a> Holding<'a> {
         match part {
             Part::HeadingSetextText => Ok(self.take_heading_text(nodes)?),
             Part::LabelText => self.take_label(bytes, nodes, ending),
-            Part::ReferenceString => {
-                self.take_reference_string(alloc, steps, bytes, &nodes, ending)
-            }
-            Part::DefinitionLabelString => {
-                self.take_definition_label(alloc, steps, bytes, &nodes, ending)
-            }
-            Part::FootnoteDefinitionLabelString => {
-                self.take_footnote_label(alloc, steps, bytes, &nodes, ending)
+            Part::ReferenceString
+            | Part::DefinitionLabelString
+            | Part::FootnoteDefinitionLabelString => {
+                self.take_identified(alloc, steps, bytes, part, &nodes, ending)
             }
             text => Ok(self.take_text(alloc, steps, text, &nodes)?),
         }

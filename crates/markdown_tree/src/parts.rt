@@ -8,15 +8,15 @@ ghost use Rattle.markdown_events.specs.declared.event.Point.{Point};
 ghost use Rattle.markdown_events.specs.declared.role.Acting.TheVariants as acting;
 ghost use Rattle.markdown_events.specs.declared.role.Content.TheVariants as contents;
 ghost use Rattle.markdown_events.specs.declared.role.Part.TheVariants as parts;
-ghost use Rattle.markdown_tree.specs.Compiler.{nothing_yet};
-ghost use Rattle.markdown_tree.specs.Gives.{text_read};
-ghost use Rattle.markdown_tree.specs.Holders;
-ghost use Rattle.markdown_tree.specs.Holdings.{Keeps, inner_with, is_row_of, misfit_of, moved_of, row_of, part_of_marker, part_of_mark, is_text_part, marked};
-ghost use Rattle.markdown_tree.specs.Numbers.{number};
-ghost use Rattle.markdown_tree.specs.Parts.{decoded, is_byte};
-ghost use Rattle.markdown_tree.specs.Ranges.{length_between};
-ghost use Rattle.markdown_tree.specs.Place.{Place};
-ghost use Rattle.markdown_tree.specs.Source.{Source};
+ghost use Rattle.markdown_grammar.specs.Compiler.{nothing_yet};
+ghost use Rattle.markdown_grammar.specs.Gives.{text_read};
+ghost use Rattle.markdown_grammar.specs.Holders;
+ghost use Rattle.markdown_tree.specs.Holdings.{Keeps, inner_with, is_label_string, is_row_of, misfit_of, moved_of, row_of, part_of_marker, part_of_mark, is_text_part, marked};
+ghost use Rattle.markdown_grammar.specs.Numbers.{number};
+ghost use Rattle.markdown_grammar.specs.Parts.{decoded, is_byte};
+ghost use Rattle.markdown_grammar.specs.Ranges.{length_between};
+ghost use Rattle.markdown_grammar.specs.Place.{Place};
+ghost use Rattle.markdown_grammar.specs.Source.{Source};
 ghost use Rattle.markdown_tree.specs.declared.holder.Holder.TheVariants as holders;
 
 use crate::holder::{
@@ -38,35 +38,18 @@ impl<'a> Holder<'a> {
         }
     }
 
-    /// The label of a reference.
-    pub fn put_reference_string(&mut self, string: Identified)
-        requires { misfit_of self.old (acting.Part parts.ReferenceString) ≡ None }
-        ensures { (s : Source) (p : Place) (a b : Point) (ts : Trees) → string_bytes string.identifier ≡ fold (text_read s a b) → string_bytes string.label ≡ plain_text ts → Keeps s p (acting.Part parts.ReferenceString) a b (inner_with holders.AnyContent ts) self.old self.new }
+    /// The label of a reference, a definition or a footnote definition.
+    pub fn put_identified(&mut self, part: Part, string: Identified)
+        requires fits { misfit_of self.old (acting.Part part) ≡ None }
+        requires such { is_label_string part ≡ true }
+        ensures { (s : Source) (p : Place) (a b : Point) (ts : Trees) → string_bytes string.identifier ≡ fold (text_read s a b) → string_bytes string.label ≡ plain_text ts → Keeps s p (acting.Part part) a b (inner_with holders.AnyContent ts) self.old self.new }
     {
-        match self {
-            Holder::Reference(place) => *place = Some(string),
-            _ => unreachable!(),
-        }
-    }
-
-    /// The label of a definition.
-    pub fn put_definition_label(&mut self, string: Identified)
-        requires { misfit_of self.old (acting.Part parts.DefinitionLabelString) ≡ None }
-        ensures { (s : Source) (p : Place) (a b : Point) (ts : Trees) → string_bytes string.identifier ≡ fold (text_read s a b) → string_bytes string.label ≡ plain_text ts → Keeps s p (acting.Part parts.DefinitionLabelString) a b (inner_with holders.AnyContent ts) self.old self.new }
-    {
-        match self {
-            Holder::Definition(parts) => parts.label = Some(string),
-            _ => unreachable!(),
-        }
-    }
-
-    /// The label of a footnote definition.
-    pub fn put_footnote_label(&mut self, string: Identified)
-        requires { misfit_of self.old (acting.Part parts.FootnoteDefinitionLabelString) ≡ None }
-        ensures { (s : Source) (p : Place) (a b : Point) (ts : Trees) → string_bytes string.identifier ≡ fold (text_read s a b) → string_bytes string.label ≡ plain_text ts → Keeps s p (acting.Part parts.FootnoteDefinitionLabelString) a b (inner_with holders.AnyContent ts) self.old self.new }
-    {
-        match self {
-            Holder::FootnoteDefinition(place) => *place = Some(string),
+        match (self, part) {
+            (Holder::Reference(place), Part::ReferenceString) => *place = Some(string),
+            (Holder::Definition(parts), Part::DefinitionLabelString) => parts.label = Some(string),
+            (Holder::FootnoteDefinition(place), Part::FootnoteDefinitionLabelString) => {
+                *place = Some(string);
+            }
             _ => unreachable!(),
         }
     }

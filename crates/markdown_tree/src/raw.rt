@@ -7,10 +7,10 @@ ghost use Rattle.markdown_events.specs.Texts.{raw, spaces, trim};
 ghost use Rattle.markdown_nodes.specs.Tree as tree;
 ghost use Rattle.markdown_nodes.specs.Tree.{nothing, only, plain_text};
 ghost use Rattle.markdown_nodes.specs.View.{view, views};
-ghost use Rattle.markdown_tree.specs.Buffers.{node_count};
+ghost use Rattle.markdown_grammar.specs.Buffers.{node_count};
 ghost use Rattle.markdown_tree.specs.Holdings.{email_kept, placed, protocol_kept};
-ghost use Rattle.markdown_tree.specs.Media.{autolink, linked};
-ghost use Rattle.markdown_tree.specs.Nodes.{frontmatter};
+ghost use Rattle.markdown_grammar.specs.Media.{autolink, linked};
+ghost use Rattle.markdown_grammar.specs.Nodes.{frontmatter};
 
 use crate::buffer::values_of;
 use crate::closing::link;

@@ -2,8 +2,8 @@
 
 ghost use Rattle.std.specs.Prelude.{◌≡◌, ◌^◌, ◌<◌, Some, SomeIff, IfSome, is_some, option_copied};
 ghost use Rattle.markdown_events.specs.Slices.{edge, slice, between};
-ghost use Rattle.markdown_tree.specs.Numbers.{is_depth};
-ghost use Rattle.markdown_tree.specs.Ranges.{byte_at, length_between};
+ghost use Rattle.markdown_grammar.specs.Numbers.{is_depth};
+ghost use Rattle.markdown_grammar.specs.Ranges.{byte_at, length_between};
 
 use markdown_nodes::event::Point;
 use markdown_nodes::unist::Position;

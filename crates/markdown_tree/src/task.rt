@@ -5,7 +5,7 @@ ghost use Rattle.std.specs.Vec.{vec_len};
 ghost use Rattle.markdown_nodes.specs.Tree.{Trees};
 ghost use Rattle.markdown_nodes.specs.View.{views};
 ghost use Rattle.markdown_tree.specs.TaskWalks.{first_cut, paragraph_before, text_cut};
-ghost use Rattle.markdown_tree.specs.Tasks.{after_blank, from_point, on_next_line, one_on, task};
+ghost use Rattle.markdown_grammar.specs.Tasks.{after_blank, from_point, on_next_line, one_on, task};
 
 use crate::texts::remove_byte;
 use markdown_nodes::mdast::{Node, Paragraph, Text};

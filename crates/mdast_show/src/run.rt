@@ -4,7 +4,7 @@ ghost use Rattle.std.specs.Prelude.{◌≡◌, ◌≢◌, ◌⊎◌, ◌≤◌, 
 ghost use Rattle.std.specs.Io.KnownBytes.{IsAtEnd, Appends};
 ghost use Rattle.markdown_nodes.specs.declared.mdast.Node.{Node};
 ghost use Rattle.markdown_events.specs.declared.message.Message.{Message};
-ghost use Rattle.markdown_tree.specs.Correct.{IsMeaning, Refuses};
+ghost use Rattle.markdown_grammar.specs.Correct.{IsMeaning, Refuses};
 ghost use Rattle.mdast_show.specs.Lines.{lines};
 ghost use Rattle.mdast_show.specs.Run;
 ghost use Rattle.mdast_show.specs.Run.{IsAnswer, IsCompiled, IsLine, Prints, status_of, over};

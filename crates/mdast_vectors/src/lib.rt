@@ -34,6 +34,8 @@ mod outline;
 #[cfg(test)]
 mod pairs;
 #[cfg(test)]
+mod refusals;
+#[cfg(test)]
 mod rows;
 #[cfg(test)]
 mod shown;

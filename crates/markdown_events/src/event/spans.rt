@@ -1,11 +1,12 @@
 //! Where spans begin and end in a list of events.
 
-ghost use Rattle.std.specs.Prelude.{ℕ, ◌≡◌, ◌↔◌, ◌≤◌, ◌<◌, ◌∷◌, List, [], length, reverse, Some, IfOk, IfSome};
+ghost use Rattle.std.specs.Prelude.{ℕ, ◌≡◌, ◌↔◌, ◌≤◌, ◌<◌, [], length, reverse, Some, IfOk, IfSome};
 ghost use Rattle.markdown_events.specs.Begins.{SpanAt};
-ghost use Rattle.markdown_events.specs.Walks.{run};
-ghost use Rattle.markdown_events.specs.OpenSpans.{AreOpen, IsOpen, names_of, opened_in};
+ghost use Rattle.markdown_events.specs.Walks.{around_of, run};
+ghost use Rattle.markdown_events.specs.OpenSpans.{AreOpen, names_of, opened_in};
 
 use super::{Event, Kind, Name};
+use crate::around::Around;
 use std::alloc::{AllocError, Global};
 
 /// Where the span that begins at this index ends, if one of the right shape begins there.
@@ -37,14 +38,11 @@ pub fn span_begins(
     }
 }
 
-/// An open span, and what it stands in.
+/// An open span, and what is around the spans in it.
 #[derive(Clone, Copy)]
 struct Open {
     name: Name,
-    /// Whether it is a delimiter row, or stands in one.
-    in_row: bool,
-    /// Whether it is a delimiter cell value, or stands in one.
-    in_value: bool,
+    inside: Around,
 }
 
 /// Which event is the last of the span that these begin with.
@@ -84,31 +82,24 @@ fn opened(spans: &[Open], name: Name) -> Option<Open>
     requires { AreOpen (reverse spans.now) }
     ensures { result ≡ opened_in (names_of (reverse spans.now)) name }
 {
-    match spans.last() {
-        Some(around) => around.opened(name),
-        None => Some(Open {
-            name,
-            in_row: name.role().is_delimiter_row(),
-            in_value: name.role().is_delimiter_cell_value(),
-        }),
+    let around = innermost(spans);
+    let role = name.role();
+    if !around.allows(role) {
+        return None;
     }
+    Some(Open {
+        name,
+        inside: around.inside(role),
+    })
 }
 
-impl Open {
-    /// A span of this name in this one, if it can begin there.
-    fn opened(&self, name: Name) -> Option<Open>
-        ensures { (around : List Name) → IsOpen self.now around → result ≡ opened_in (self.now.name ∷ around) name }
-    {
-        let is_row = name.role().is_delimiter_row();
-        let is_value = name.role().is_delimiter_cell_value();
-        let is_second = self.in_row && is_row || self.in_value && is_value;
-        if is_second || self.name.role().holds_nothing() {
-            return None;
-        }
-        Some(Open {
-            name,
-            in_row: self.in_row || is_row,
-            in_value: self.in_value || is_value,
-        })
+/// What is around a span that begins in the open ones.
+fn innermost(spans: &[Open]) -> Around
+    requires { AreOpen (reverse spans.now) }
+    ensures { result ≡ around_of (names_of (reverse spans.now)) }
+{
+    match spans.last() {
+        Some(span) => span.inside,
+        None => Around::in_the_open(),
     }
 }

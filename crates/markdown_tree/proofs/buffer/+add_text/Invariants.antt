@@ -1,7 +1,7 @@
 -- What is written so far and the text of the nodes to come are the whole, and so are the steps.
 use Rattle.std.proofs.Common.{◌≡◌, ◌+◌, ◌++◌, drop, string_bytes}
 use Rattle.markdown_nodes.specs.View.{views}
-use Rattle.markdown_tree.specs.Buffers.{node_count}
+use Rattle.markdown_grammar.specs.Buffers.{node_count}
 use Rattle.markdown_tree.specs.Readings.{reading}
 use Rattle.markdown_tree.proofs.buffer.+add_text.Given as goal
 

@@ -2,7 +2,7 @@ use Rattle.std.proofs.Common.{◌≡◌, ℕ, List, Option, Some, None, Result, 
 use Rattle.std.specs.Prelude.{IfOk, IfSome, IsSomeAnd}
 use Rattle.std.specs.Io.KnownBytes.{IsAtEnd}
 use Rattle.markdown_events.specs.declared.event.Event.{Event}
-use Rattle.markdown_tree.specs.Correct.{IsMeaning, Refuses}
+use Rattle.markdown_grammar.specs.Correct.{IsMeaning, Refuses}
 use Rattle.mdast_show.specs.declared.run.Answer.{Answer}
 use Rattle.mdast_show.specs.declared.run.Answer.TheVariants as answers
 use Rattle.mdast_show.specs.Lines.{lines}

@@ -2,12 +2,12 @@ use Rattle.std.proofs.Common.{arith, Bool, None, refl, reverse, sym, ap, ◌∙�
 use Rattle.markdown_events.specs.Spread.{Shown}
 use Rattle.markdown_events.specs.declared.role.Acting.{Acting}
 use Rattle.markdown_tree.specs.declared.holding.Holding.{Holding}
-use Rattle.markdown_tree.specs.Columns.{shown}
-use Rattle.markdown_tree.specs.Compiler.{leave}
-use Rattle.markdown_tree.specs.Holders.{holder_of}
+use Rattle.markdown_grammar.specs.Columns.{shown}
+use Rattle.markdown_grammar.specs.Compiler.{leave}
+use Rattle.markdown_grammar.specs.Holders.{holder_of}
 use Rattle.markdown_tree.specs.Holdings.{moved_of, row_of}
 use Rattle.markdown_tree.specs.States.{columns_of, holds_of, inner_of_holding, marks_of}
-use Rattle.markdown_tree.specs.Walked.{walked}
+use Rattle.markdown_grammar.specs.Walked.{walked}
 use Rattle.markdown_tree.proofs.Endings.{content_row, holder_gives, holder_walks, part_row, popped}
 use Rattle.markdown_tree.proofs.Stopping.{gives_same}
 use Rattle.markdown_tree.proofs.context.Context.leave_any.Goals as goal

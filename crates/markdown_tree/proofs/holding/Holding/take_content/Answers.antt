@@ -4,15 +4,15 @@ use Rattle.markdown_nodes.specs.Tree.{Trees, join}
 use Rattle.markdown_nodes.specs.View.{views}
 use Rattle.markdown_events.specs.declared.role.Content.{Content}
 use Rattle.markdown_tree.specs.declared.holder.Holder.{Holder as Open}
-use Rattle.markdown_tree.specs.Columns.{shown}
-use Rattle.markdown_tree.specs.Compiler.{lacking}
-use Rattle.markdown_tree.specs.Grammar.{is_complete}
-use Rattle.markdown_tree.specs.Nodes.{node_of}
-use Rattle.markdown_tree.specs.Place.{Place}
+use Rattle.markdown_grammar.specs.Columns.{shown}
+use Rattle.markdown_grammar.specs.Compiler.{lacking}
+use Rattle.markdown_grammar.specs.Grammar.{is_complete}
+use Rattle.markdown_grammar.specs.Nodes.{node_of}
+use Rattle.markdown_grammar.specs.Place.{Place}
 use Rattle.markdown_tree.proofs.Stopping.{made_gives, nothing_on_err, passed_on}
 use Rattle.markdown_events.specs.declared.role.Acting.TheVariants.{Content as content}
 use Rattle.markdown_tree.specs.Holdings.{Keeps, marker_of, row_of}
-use Rattle.markdown_tree.specs.Source.{source}
+use Rattle.markdown_grammar.specs.Source.{source}
 use Rattle.markdown_tree.specs.States.{columns_of, inner_of_holding, marks_of, place_of, place_with}
 use Rattle.markdown_tree.proofs.SpanEnds.{content_lacks, content_left, made_no_text, unmade_stops}
 use Rattle.markdown_tree.proofs.holding.Holding.take_content.Goals as goal

@@ -3,9 +3,9 @@ use Rattle.std.specs.Prelude.{is_some}
 use Rattle.markdown_events.specs.Slices.{slice}
 use Rattle.markdown_events.specs.declared.role.Acting.TheVariants.{Content as content}
 use Rattle.markdown_events.specs.declared.role.Content.TheVariants as contents
-use Rattle.markdown_tree.specs.Source.{Source, source}
+use Rattle.markdown_grammar.specs.Source.{Source, source}
 use Rattle.markdown_tree.specs.declared.holding.Holding.{Holding}
-use Rattle.markdown_tree.specs.declared.refusal.Refusal.TheVariants.{InvalidSlice}
+use Rattle.markdown_grammar.specs.declared.refusal.Refusal.TheVariants.{InvalidSlice}
 use Rattle.markdown_tree.proofs.LeafEnds.{content_in, leaf_unread}
 use Rattle.markdown_tree.proofs.holding.Holding.take_data.Goals as goal
 use Rattle.markdown_tree.proofs.Stopping.{made_gives}

@@ -1,12 +1,12 @@
 use Rattle.std.proofs.Common.{ℕ, List, Option, refl, sym, ap, ◌∙◌}
 use Rattle.std.specs.Prelude.{[], unwrap_or}
 use Rattle.markdown_events.specs.declared.role.Part.TheVariants as parts
-use Rattle.markdown_tree.specs.Numbers.{number}
-use Rattle.markdown_tree.specs.Source.{source}
+use Rattle.markdown_grammar.specs.Numbers.{number}
+use Rattle.markdown_grammar.specs.Source.{source}
 use Rattle.markdown_tree.specs.States.{place_of}
 use Rattle.markdown_tree.proofs.PartEnds.{item_unread, item_wrong, part_in}
 use Rattle.markdown_tree.proofs.holding.Holding.take_item_value.Goals as goal
-use Rattle.markdown_tree.specs.Numbers.{is_item_number}
+use Rattle.markdown_grammar.specs.Numbers.{is_item_number}
 
 pub returns-in_default : goal.returns-in_default
 returns-in_default c text children place = item_unread (source c.args.bytes.now text) c.args.ending.in_table c.args.self.now c.args.ending.start c.args.ending.end children place c.in_default.ensures

@@ -5,9 +5,9 @@ use Rattle.markdown_events.specs.declared.unist.Point.{Point as UnistPoint}
 use Rattle.markdown_events.specs.declared.unist.Position.{Position}
 use Rattle.markdown_nodes.specs.Tree.{Tree, join, node, nothing, only, «break»}
 use Rattle.markdown_nodes.specs.View.{views}
-use Rattle.markdown_tree.specs.Source.{Source, source}
+use Rattle.markdown_grammar.specs.Source.{Source, source}
 use Rattle.markdown_tree.specs.declared.holding.Holding.{Holding}
-use Rattle.markdown_tree.specs.declared.refusal.Refusal.TheVariants.{InvalidSlice}
+use Rattle.markdown_grammar.specs.declared.refusal.Refusal.TheVariants.{InvalidSlice}
 use Rattle.markdown_tree.proofs.LeafEnds.{break_ends, known_in, known_unread, nothing_in, text_in, text_unread}
 use Rattle.markdown_tree.proofs.holding.Holding.take_line_ending.Goals as goal
 use Rattle.markdown_tree.proofs.Stopping.{made_gives}

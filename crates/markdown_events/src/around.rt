@@ -1,0 +1,75 @@
+//! What is around a span, as far as the right shape of a list asks.
+
+ghost use Rattle.std.specs.Prelude.{◌≡◌};
+ghost use Rattle.markdown_events.specs.Around.{in_the_open, may_begin, under};
+
+use crate::role::{Plain, Role};
+
+/// What is around a span, as far as its right shape asks (ours).
+///
+/// In a `GfmTableDelimiterRow`, `in_row` is true at any depth, and no other such row may begin.
+#[derive(Clone, Copy, PartialEq, Eq, Debug)]
+pub struct Around {
+    /// The innermost open span holds nothing.
+    pub held: bool,
+    /// A delimiter row is open.
+    pub in_row: bool,
+    /// A delimiter cell value is open.
+    pub in_value: bool,
+}
+
+impl Around {
+    /// Nothing is around: no span is open.
+    ///
+    /// A span of any role may begin there.
+    pub fn in_the_open() -> Around
+        ensures { result ≡ in_the_open }
+    {
+        Around {
+            held: false,
+            in_row: false,
+            in_value: false,
+        }
+    }
+
+    /// Whether a span of the role may begin here: not in what holds nothing, no delimiter row in a
+    /// delimiter row, and no delimiter cell value in a delimiter cell value.
+    ///
+    /// In a line ending, no span may.
+    #[inline(always)]
+    pub fn allows(self, role: Role) -> bool
+        ensures { result ≡ may_begin self role }
+    {
+        match role {
+            Role::Plain(Plain::DelimiterRow) => !self.held && !self.in_row,
+            Role::Plain(Plain::DelimiterCellValue) => !self.held && !self.in_value,
+            _ => !self.held,
+        }
+    }
+
+    /// What is around the spans in a span of the role that stands here.
+    ///
+    /// In a delimiter row outside others, `in_row` alone is true.
+    #[inline(always)]
+    pub fn inside(self, role: Role) -> Around
+        ensures { result ≡ under self role }
+    {
+        match role {
+            Role::Plain(Plain::DelimiterRow) => Around {
+                held: false,
+                in_row: true,
+                in_value: self.in_value,
+            },
+            Role::Plain(Plain::DelimiterCellValue) => Around {
+                held: false,
+                in_row: self.in_row,
+                in_value: true,
+            },
+            _ => Around {
+                held: role.holds_nothing(),
+                in_row: self.in_row,
+                in_value: self.in_value,
+            },
+        }
+    }
+}

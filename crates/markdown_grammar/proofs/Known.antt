@@ -1,0 +1,125 @@
+-- What a run knows of where it stands: the open spans and the innermost holder are what the definitions say of the events so far.
+use Rattle.std.proofs.Common.{◌≡◌, true, List, [], ◌∷◌, ◌++◌, Option, Some, None, Result, Ok, refl, sym, ap, subst, ◌∙◌}
+use Rattle.markdown_events.specs.Forest.{Forest, empty, enter, spell}
+use Rattle.markdown_events.specs.Names.{role_of}
+use Rattle.markdown_events.specs.declared.event.Event.{Event}
+use Rattle.markdown_events.specs.declared.role.Acting.{Acting}
+use Rattle.markdown_events.specs.declared.role.Role.{Role}
+use Rattle.markdown_grammar.proofs.Allowed.{takes-none}
+use Rattle.markdown_grammar.proofs.Compiled.{over-all, start}
+use Rattle.markdown_grammar.proofs.EventRuns.{at, opened_by, the_open, top_by}
+use Rattle.markdown_grammar.proofs.ForestSteps.{Reached, eval}
+use Rattle.markdown_grammar.proofs.Gathered.{holding}
+use Rattle.markdown_grammar.proofs.ItemSteps.{fresh-is}
+use Rattle.markdown_grammar.proofs.OpenSpans.{Trail, eval-reaches, in-span, trail-run}
+use Rattle.markdown_grammar.proofs.Outcomes.{bind_ok, done, ok_is}
+use Rattle.markdown_grammar.proofs.Shape.{shaped}
+use Rattle.markdown_grammar.proofs.SiblingMarks.{marks}
+use Rattle.markdown_events.specs.Around.{in_the_open, under}
+use Rattle.markdown_grammar.specs.Compiler.{Holds, Open, State, entered, opening, run}
+use Rattle.markdown_grammar.specs.Grammar.{takes}
+use Rattle.markdown_grammar.specs.Holders.{Holder, any_content}
+use Rattle.markdown_grammar.specs.Items.{Items, items, kinds, none, ◌then◌}
+use Rattle.markdown_grammar.specs.Place.{Place, root_place}
+use Rattle.markdown_grammar.specs.Source.{Source}
+use Rattle.markdown_grammar.specs.Spots.{Entered, Spot, around_of, spot_in, spot_of, told}
+use Rattle.markdown_events.specs.declared.around.Around.{Around}
+use Rattle.markdown_events.specs.declared.role.Role.TheVariants.{Plain as plain, Acting as acting}
+
+-- what the holder of a spot keeps
+abbrev pub kept_at_spot : Source → Spot → Holds
+kept_at_spot s spot = holding s spot.row spot.place spot.before
+
+-- what a span of a spot keeps of the holder around it
+abbrev pub outer_by : Source → Role → Spot → Option (Acting × Holds)
+outer_by s (plain k) spot = None
+outer_by s (acting what) spot = Some (what, kept_at_spot s spot)
+
+-- the frames are those of the open spans
+abbrev pub AreOpen : Source → List Open → Forest → List Entered → Type 0
+AreOpen s [] forest [] = Unit {0}
+AreOpen s (o ∷ os) forest (e ∷ path) = (o.name ≡ e.name) × (o.start ≡ e.start) × (o.outer ≡ outer_by s (role_of e.name) (spot_of forest path)) × AreOpen s os forest path
+AreOpen s [] forest (e ∷ path) = ⊥
+AreOpen s (o ∷ os) forest [] = ⊥
+
+-- what is in the open spans has the right shape
+abbrev pub AreShaped : List Entered → Type 0
+AreShaped [] = Unit {0}
+AreShaped (e ∷ path) = (shaped (around_of (e ∷ path)) e.inside ≡ true) × AreShaped path
+
+pub record Known (s : Source) (es : List Event) (st : State) : Type 0 where
+  pub forest : Forest
+  pub path : List Entered
+  pub told_is : told forest path ≡ es
+  pub frames : AreOpen s st.frames forest path
+  pub around : st.around ≡ around_of path
+  pub top : st.top ≡ kept_at_spot s (spot_of forest path)
+  pub right_shape : AreShaped path
+  pub taken : takes (spot_of forest path).row (kinds (spot_of forest path).before) ≡ true
+
+known-root : (s : Source) (f : Forest) (st : State) → run s (spell f) opening ≡ Ok st → Known s (spell f) st
+known-root s f st h =
+    let on : Reached → Result State _ = λ y. done (at [] in_the_open (marks f) y) in
+    let e = bind_ok (eval s in_the_open f start) on st (sym (over-all s f) ∙ h) in
+    let st_is : at [] in_the_open (marks f) e.0 ≡ st = ok_is (at [] in_the_open (marks f) e.0) st e.2 in
+    let r = eval-reaches s in_the_open f start e.0 any_content root_place none (fresh-is s any_content root_place) (takes-none any_content) e.1 in
+    record {
+      forest = f;
+      path = [];
+      told_is = refl;
+      frames = subst (λ (x : State). AreOpen s x.frames f []) st_is tt;
+      around = ap (λ (x : State). x.around) (sym st_is);
+      top = ap (λ (x : State). x.top) (sym st_is) ∙ r.0;
+      right_shape = tt;
+      taken = r.1;
+    }
+
+outer-known : (s : Source) (role : Role) (out : State) (spot : Spot) → out.top ≡ kept_at_spot s spot → opened_by role out ≡ outer_by s role spot
+outer-known s (plain k) out spot h = refl
+outer-known s (acting what) out spot h = ap (λ (x : Holds). Some (what, x)) h
+
+top-known : (s : Source) (role : Role) (out : State) (spot : Spot) (top : Holds) (f : Forest) → out.top ≡ kept_at_spot s spot → takes spot.row (kinds spot.before) ≡ true
+    → ((h : Holder) (p : Place) (xs : Items) → top_by role out ≡ holding s h p xs → takes h (kinds xs) ≡ true → (top ≡ holding s h p (xs then items f)) × (takes h (kinds (xs then items f)) ≡ true) × (shaped (under out.around role) f ≡ true))
+    → (top ≡ kept_at_spot s (spot_in role (items f) spot)) × (takes (spot_in role (items f) spot).row (kinds (spot_in role (items f) spot).before) ≡ true) × (shaped (under out.around role) f ≡ true)
+top-known s (plain k) out spot top f h t g = g spot.row spot.place spot.before h t
+top-known s (acting what) out spot top f h t g =
+    let inside : Spot = spot_in (acting what) none spot in
+    g inside.row inside.place none (ap (λ (x : Holds). entered x what) h ∙ fresh-is s inside.row inside.place) (takes-none inside.row)
+
+abbrev rest_of : List Open → List Open
+rest_of [] = []
+rest_of (o ∷ os) = os
+
+abbrev first_of : Open → List Open → Open
+first_of o [] = o
+first_of o (f ∷ fs) = f
+
+known-by : (s : Source) (fs : List Open) (es : List Event) (st : State) → st.frames ≡ fs → run s es opening ≡ Ok st → Trail fs es → Known s es st
+unfolding Trail
+known-by s [] es st at_frames h t = subst (λ (x : List Event). Known s x st) (sym t.1) (known-root s t.0 st (ap (λ (x : List Event). run s x opening) (sym t.1) ∙ h))
+known-by s (o ∷ os) es st at_frames h t =
+    let before : List Event = t.0 in
+    let c : Forest = t.1 in
+    let role : Role = role_of o.name in
+    let i = in-span s before o.name o.start c st (ap (λ (x : List Event). run s x opening) (sym t.2) ∙ h) in
+    let out : State = i.outer in
+    let both : o ∷ os ≡ the_open o.name o.start out.around out.marks (opened_by role out) ∷ out.frames = sym at_frames ∙ i.frames in
+    let k : Known s before out = known-by s os before out (ap rest_of (sym both)) i.ran_before t.3 in
+    let spot : Spot = spot_of k.forest k.path in
+    let r = top-known s role out spot st.top c k.top k.taken (λ h' p xs g taken. i.top h' p xs g taken) in
+    record {
+      forest = k.forest;
+      path = record { name = o.name; start = o.start; inside = c } ∷ k.path;
+      told_is = ap (λ (x : List Event). x ++ (enter o.name o.start ∷ spell c)) k.told_is ∙ sym t.2;
+      frames = subst (λ (x : List Open). AreOpen s x k.forest (record { name = o.name; start = o.start; inside = c } ∷ k.path)) (sym at_frames)
+          (refl, refl, ap (λ (x : List Open). (first_of o x).outer) both ∙ outer-known s role out spot k.top, subst (λ (x : List Open). AreOpen s x k.forest k.path) (ap rest_of (sym both)) k.frames);
+      around = i.around ∙ ap (λ (x : Around). under x role) k.around;
+      top = r.0;
+      right_shape = (ap (λ (x : Around). shaped (under x role) c) (sym k.around) ∙ r.2, k.right_shape);
+      taken = r.1;
+    }
+
+-- what a run from the first event on knows
+pub known : (s : Source) (es : List Event) (st : State) → run s es opening ≡ Ok st → Known s es st
+unfolding Trail
+known s es st h = known-by s st.frames es st refl h (trail-run s es opening st [] h (empty, refl))

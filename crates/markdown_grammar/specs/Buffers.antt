@@ -1,0 +1,90 @@
+-- Buffers, and what is counted in them: nodes of forests, and events of lists.
+use Rattle.std.specs.Prelude.{Bool, List, None, Option, Some, [], false, if◌then◌else◌, true, unwrap_or, ℕ, ◌+◌, ◌∷◌}
+use Rattle.markdown_events.specs.Forest.{Forest}
+use Rattle.markdown_events.specs.Names.{role_of}
+use Rattle.markdown_nodes.specs.Tree.{Trees, node, nothing}
+use Rattle.markdown_events.specs.Walks.{is_same_name}
+use Rattle.markdown_events.specs.declared.event.Event.{Event}
+use Rattle.markdown_events.specs.declared.event.Kind.{Kind}
+use Rattle.markdown_events.specs.declared.event.Name.{Name}
+use Rattle.markdown_events.specs.declared.role.Acting.{Acting}
+use Rattle.markdown_events.specs.declared.role.Role.{Role}
+use Rattle.markdown_grammar.specs.Items.{Items, item, items, none, ◌then◌}
+use Rattle.markdown_grammar.specs.Nodes.{nodes}
+use Rattle.markdown_grammar.specs.Parts.{itself}
+use Rattle.markdown_grammar.specs.Place.{Place, place_behind, place_inside, root_place}
+use Rattle.markdown_grammar.specs.Source.{Source}
+use Rattle.markdown_events.specs.declared.role.Content.TheVariants as contents
+use Rattle.markdown_events.specs.declared.role.Part.TheVariants as parts
+use Rattle.markdown_events.specs.declared.role.Role.TheVariants.{Plain as plain, Acting as acting}
+use Rattle.markdown_events.specs.declared.role.Acting.TheVariants.{Content as content, Part as part}
+use Rattle.markdown_events.specs.declared.event.Kind.TheVariants.{Enter, Exit}
+
+-- a span whose nodes are collected for a text
+abbrev pub is_buffer : Acting → Bool
+is_buffer (content contents.CodeText) = true
+is_buffer (content contents.MathText) = true
+is_buffer (content contents.Html) = true
+is_buffer (content contents.Frontmatter) = true
+is_buffer (content contents.CodeIndented) = true
+is_buffer (content contents.CodeFenced) = true
+is_buffer (content contents.MathFlow) = true
+is_buffer (part parts.CodeFencedFenceInfo) = true
+is_buffer (part parts.CodeFencedFenceMeta) = true
+is_buffer (part parts.DefinitionDestinationString) = true
+is_buffer (part parts.DefinitionLabelString) = true
+is_buffer (part parts.DefinitionTitleString) = true
+is_buffer (part parts.FootnoteDefinitionLabelString) = true
+is_buffer (part parts.LabelText) = true
+is_buffer (part parts.MathFlowFenceMeta) = true
+is_buffer (part parts.ReferenceString) = true
+is_buffer (part parts.ResourceDestinationString) = true
+is_buffer (part parts.ResourceTitleString) = true
+is_buffer _ = false
+
+-- how many nodes there are, at any depth
+abbrev pub node_count : Trees → ℕ
+node_count nothing = 0
+node_count (node _ children _ rest) = 1 + node_count children + node_count rest
+
+-- the nodes in each buffer, at any depth, over all buffers
+abbrev pub held_in : Source → Place → Items → ℕ
+held_in s p none = 0
+held_in s p (item what _ _ _ inner rest) =
+    (if is_buffer what then node_count (nodes s itself (place_inside what p) inner) else 0) + held_in s (place_inside what p) inner + held_in s (place_behind what p) rest
+
+-- the same of a forest
+abbrev pub held : Source → Forest → ℕ
+held s forest = held_in s root_place (items forest)
+
+-- a number, if there is one, and one more
+abbrev pub one_more : Option ℕ → Option ℕ
+one_more None = None
+one_more (Some n) = Some (n + 1)
+
+-- what an event makes of the names that are open, and then of the rest
+abbrev pub closing : Kind → Name → List Name → (List Name → Option ℕ) → Option ℕ
+closing Enter name names rest = one_more (rest (name ∷ names))
+closing Exit name [] rest = None
+closing Exit name (open_name ∷ []) rest = if is_same_name open_name name then Some 0 else None
+closing Exit name (open_name ∷ next ∷ names) rest = if is_same_name open_name name then one_more (rest (next ∷ names)) else None
+
+-- the events before the exit of the last open name, where each exit on the way is that of its enter
+abbrev pub until_closed : List Name → List Event → Option ℕ
+until_closed names [] = None
+until_closed names (event ∷ events) = closing event.kind event.name names (λ left. until_closed left events)
+
+-- the role of such a span
+abbrev pub is_buffer_role : Role → Bool
+is_buffer_role (plain _) = false
+is_buffer_role (acting what) = is_buffer what
+
+-- the events between the enter of a span with a buffer's name and its exit
+abbrev pub inside_from : Kind → Name → List Event → ℕ
+inside_from Enter name events = if is_buffer_role (role_of name) then unwrap_or (until_closed (name ∷ []) events) 0 else 0
+inside_from Exit name events = 0
+
+-- the same for each span with a buffer's name
+abbrev pub inside : List Event → ℕ
+inside [] = 0
+inside (event ∷ events) = inside_from event.kind event.name events + inside events

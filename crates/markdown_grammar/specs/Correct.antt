@@ -1,0 +1,59 @@
+-- What `compile` answers.
+use Rattle.std.specs.Prelude.{◌≡◌, ◌≢◌, ◌⊎◌, List, [], ◌∷◌, ◌++◌}
+use Rattle.markdown_events.specs.declared.event.Event.{Event}
+use Rattle.markdown_nodes.specs.declared.mdast.Node.{Node}
+use Rattle.markdown_events.specs.declared.message.Fault.{Fault}
+use Rattle.markdown_events.specs.declared.message.Fault.TheVariants as faults
+use Rattle.markdown_events.specs.declared.message.Message.{Message}
+use Rattle.markdown_events.specs.Forest.{Forest, spell}
+use Rattle.markdown_nodes.specs.View.{view}
+use Rattle.markdown_grammar.specs.declared.refusal.Refusal.TheVariants.{Unbalanced, UnfinishedBreak}
+use Rattle.markdown_grammar.specs.Accepted.{Accepted}
+use Rattle.markdown_grammar.specs.Meaning.{meaning}
+use Rattle.markdown_grammar.specs.Reasons.{EndsFor, StopsFor}
+use Rattle.markdown_grammar.specs.Refusals.{Says}
+use Rattle.markdown_grammar.specs.Rejections.{Rejection}
+use Rattle.markdown_grammar.specs.Source.{Source}
+
+-- the tree is the meaning of an accepted forest that the events spell
+pub record IsMeaning (tree : Node) (events : List Event) (s : Source) : Type 0 where
+  pub forest : Forest
+  pub spelled : spell forest ≡ events
+  pub accepted : Accepted s forest
+  pub is_meaning : view tree ≡ meaning s forest
+
+-- the point is an event's, and no list that begins with the events up to it is accepted
+pub record StopsAt (why : Rejection) (events : List Event) (s : Source) : Type 0 where
+  pub front : List Event
+  pub event : Event
+  pub back : List Event
+  pub parts : events ≡ front ++ (event ∷ back)
+  pub named : why.point ≡ event.point
+  pub none_accepted : (forest : Forest) (others : List Event) → spell forest ≡ front ++ (event ∷ others) → ¬ (Accepted s forest)
+
+-- spans are left open, or a break that waits for its line ending, and the point is the last event's
+pub record LeftOpen (why : Rejection) (events : List Event) : Type 0 where
+  pub front : List Event
+  pub event : Event
+  pub parts : events ≡ front ++ (event ∷ [])
+  pub named : why.point ≡ event.point
+  pub left : (why.refusal ≡ Unbalanced) ⊎ (why.refusal ≡ UnfinishedBreak)
+
+-- no accepted forest spells the events, and none at all where they are said to be unbalanced
+pub record IsRefused (why : Rejection) (events : List Event) (s : Source) : Type 0 where
+  pub none_accepted : (forest : Forest) → spell forest ≡ events → ¬ (Accepted s forest)
+  pub unbalanced : why.refusal ≡ Unbalanced → (forest : Forest) → spell forest ≢ events
+  pub place : StopsAt why events s ⊎ LeftOpen why events
+  -- what the grammar says is wrong there, the first such thing in the list
+  pub reason : StopsFor s events why ⊎ EndsFor events why
+
+-- the message says why, and where
+pub record Refuses (message : Message) (events : List Event) (s : Source) : Type 0 where
+  pub why : Rejection
+  pub says : Says message why.refusal why.point
+  pub is_refused : IsRefused why events s
+
+-- want of memory says nothing of the events
+abbrev pub FailsRightly : Fault → List Event → Source → Type 0
+FailsRightly (faults.Memory error) events s = Unit {0}
+FailsRightly (faults.Message message) events s = Refuses message events s

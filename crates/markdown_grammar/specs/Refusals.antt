@@ -1,0 +1,55 @@
+-- What a refusal says.
+use Rattle.std.specs.Prelude.{◌≡◌, ℕ, List, codes, Some}
+use Rattle.markdown_events.specs.declared.event.Point.{Point}
+use Rattle.markdown_events.specs.declared.message.Fault.{Fault}
+use Rattle.markdown_events.specs.declared.message.Fault.TheVariants as faults
+use Rattle.markdown_events.specs.declared.message.Message.{Message}
+use Rattle.markdown_events.specs.declared.message.Place.TheVariants as places
+use Rattle.markdown_events.specs.Slices.{to_unist}
+use Rattle.markdown_grammar.specs.declared.refusal.Refusal.{Refusal}
+use Rattle.markdown_grammar.specs.declared.refusal.Refusal.TheVariants.{Unbalanced, Misplaced, Repeated, Held, InvalidSlice, InvalidListValue, MissingListValue, UnknownReference, IncompleteReference, MissingFence, HeadingDepth, UnfinishedBreak}
+use Rattle.markdown_grammar.specs.declared.refusal.Stop.{Stop}
+use Rattle.markdown_grammar.specs.declared.refusal.Stop.TheVariants as stops
+
+-- the rule that a refusal names
+abbrev pub rule_of : Refusal → List ℕ
+rule_of Unbalanced = codes "events-unbalanced"
+rule_of Misplaced = codes "name-misplaced"
+rule_of Repeated = codes "part-repeated"
+rule_of Held = codes "span-held"
+rule_of InvalidSlice = codes "slice-invalid"
+rule_of InvalidListValue = codes "list-value-invalid"
+rule_of MissingListValue = codes "list-value-missing"
+rule_of UnknownReference = codes "reference-unknown"
+rule_of IncompleteReference = codes "reference-incomplete"
+rule_of MissingFence = codes "fence-missing"
+rule_of HeadingDepth = codes "heading-depth"
+rule_of UnfinishedBreak = codes "break-unfinished"
+
+-- the reason that a refusal gives
+abbrev pub reason_of : Refusal → List ℕ
+reason_of Unbalanced = codes "an exit does not match the open span, or a span is left open"
+reason_of Misplaced = codes "this name cannot stand here"
+reason_of Repeated = codes "this part may stand only once"
+reason_of Held = codes "a span stands inside one that cannot hold it"
+reason_of InvalidSlice = codes "the span is not a text of the document"
+reason_of InvalidListValue = codes "a list value is not a number up to 4294967295"
+reason_of MissingListValue = codes "an ordered list has no value"
+reason_of UnknownReference = codes "the decoder does not know this reference"
+reason_of IncompleteReference = codes "a character reference has no marker before its value or no value"
+reason_of MissingFence = codes "a raw block has no fence"
+reason_of HeadingDepth = codes "a heading has no depth from 1 to 6"
+reason_of UnfinishedBreak = codes "a hard break is not followed by its line ending"
+
+-- the message says that the event at this point is refused so
+pub record Says (message : Message) (refusal : Refusal) (point : Point) : Type 0 where
+  pub place : message.place ≡ Some (places.Point (to_unist point))
+  pub rule : message.rule_id.now ≡ rule_of refusal
+  pub reason : message.reason.now ≡ reason_of refusal
+  pub source : message.source.now ≡ codes "markdown-rs"
+
+-- the answer for an event that was not taken
+abbrev pub IsFaultOf : Stop → Point → Fault → Type 0
+IsFaultOf (stops.Refused refusal) point (faults.Message message) = Says message refusal point
+IsFaultOf (stops.Refused refusal) point (faults.Memory error) = ⊥
+IsFaultOf (stops.Memory error) point fault = fault ≡ faults.Memory error

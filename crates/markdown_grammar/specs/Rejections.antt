@@ -1,0 +1,29 @@
+-- What a step answers: what it gives, or why its event is refused, and the point of that.
+use Rattle.std.specs.Prelude.{Bool, List, Result, Ok, Err, [], cond, true, ◌&&◌, ◌∷◌}
+use Rattle.markdown_events.specs.declared.event.Point.{Point}
+use Rattle.markdown_grammar.specs.declared.refusal.Refusal.{Refusal}
+
+-- why an event is refused, and its point
+pub record Rejection : Type 0 where
+  pub refusal : Refusal
+  pub point : Point
+
+-- what goes on with what was given
+infixl 10 ◌>>=◌
+abbrev pub ◌>>=◌ : {A B : Type 0} → Result A Rejection → (A → Result B Rejection) → Result B Rejection
+(Ok x) >>= f = f x
+(Err e) >>= f = Err e
+
+-- an event at a point is refused
+abbrev pub refused : {A : Type 0} → Refusal → Point → Result A Rejection
+refused why point = Err (record { refusal = why; point = point })
+
+-- tests in their order, each with what it refuses by
+abbrev pub checked : {A : Type 0} → List (Bool × Refusal) → Point → Result A Rejection → Result A Rejection
+checked [] point result = result
+checked (test ∷ tests) point result = cond test.0 (checked tests point result) (refused test.1 point)
+
+-- all tests pass
+abbrev pub passes : List (Bool × Refusal) → Bool
+passes [] = true
+passes (test ∷ tests) = test.0 && passes tests

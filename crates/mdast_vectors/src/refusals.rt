@@ -1,0 +1,106 @@
+//! What each refusal says. The texts are those of the table in `docs/REFUSALS.md`.
+
+use markdown_grammar::refusal::{Refusal, Stop};
+use markdown_nodes::event::Point;
+use markdown_nodes::message::{Fault, Place};
+use markdown_nodes::unist;
+use std::alloc::AllocError;
+use std::test::Fail;
+
+/// Each refusal, with its rule and its reason.
+const REFUSALS: [(Refusal, &str, &str); 12] = [
+    (
+        Refusal::Unbalanced,
+        "events-unbalanced",
+        "an exit does not match the open span, or a span is left open",
+    ),
+    (
+        Refusal::Misplaced,
+        "name-misplaced",
+        "this name cannot stand here",
+    ),
+    (
+        Refusal::Repeated,
+        "part-repeated",
+        "this part may stand only once",
+    ),
+    (
+        Refusal::Held,
+        "span-held",
+        "a span stands inside one that cannot hold it",
+    ),
+    (
+        Refusal::InvalidSlice,
+        "slice-invalid",
+        "the span is not a text of the document",
+    ),
+    (
+        Refusal::InvalidListValue,
+        "list-value-invalid",
+        "a list value is not a number up to 4294967295",
+    ),
+    (
+        Refusal::MissingListValue,
+        "list-value-missing",
+        "an ordered list has no value",
+    ),
+    (
+        Refusal::UnknownReference,
+        "reference-unknown",
+        "the decoder does not know this reference",
+    ),
+    (
+        Refusal::IncompleteReference,
+        "reference-incomplete",
+        "a character reference has no marker before its value or no value",
+    ),
+    (
+        Refusal::MissingFence,
+        "fence-missing",
+        "a raw block has no fence",
+    ),
+    (
+        Refusal::HeadingDepth,
+        "heading-depth",
+        "a heading has no depth from 1 to 6",
+    ),
+    (
+        Refusal::UnfinishedBreak,
+        "break-unfinished",
+        "a hard break is not followed by its line ending",
+    ),
+];
+
+#[test]
+fn each_refusal_names_its_rule_and_its_event(rt: HostRuntime) {
+    let point = Point {
+        line: 3,
+        column: 5,
+        index: 17,
+        vs: 2,
+    };
+    for (refusal, rule_id, reason) in REFUSALS {
+        let fault = Stop::Refused(refusal).at(point);
+        assert!(rt;
+            matches!(
+            &fault,
+            Fault::Message(message) if message.rule_id == rule_id
+                && message.reason == reason
+                && message.source == "markdown-rs"
+                && message.place == Some(Place::Point(unist::Point::new(3, 5, 17)))
+        )
+        );
+    }
+}
+
+#[test]
+fn want_of_memory_names_no_event(rt: HostRuntime) {
+    let point = Point {
+        line: 1,
+        column: 1,
+        index: 0,
+        vs: 0,
+    };
+    let fault = Stop::Memory(AllocError).at(point);
+    assert!(rt; matches!(&fault, Fault::Memory(_)));
+}
