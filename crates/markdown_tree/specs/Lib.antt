@@ -5,3 +5,4 @@ pub mod Counted
 pub mod Steps
 pub mod Holdings
 pub mod States
+pub mod Takings

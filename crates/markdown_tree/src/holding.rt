@@ -24,7 +24,8 @@ ghost use Rattle.markdown_grammar.specs.Nodes.{node_of};
 ghost use Rattle.markdown_tree.specs.declared.holder.Holder.TheVariants as holders;
 ghost use Rattle.markdown_grammar.specs.Place.{Place, line_ending_is_text};
 ghost use Rattle.markdown_grammar.specs.Source.{Source};
-ghost use Rattle.markdown_tree.specs.States.{Gives, Makes, columns_of, holds_of, inner_of_holding, marks_of, place_with};
+ghost use Rattle.markdown_tree.specs.States.{Makes, columns_of, holds_of, inner_of_holding, marks_of};
+ghost use Rattle.markdown_tree.specs.Takings.{IsNodeOf, TakesHolding};
 ghost use Rattle.markdown_grammar.specs.TextNodes.{one_text};
 ghost use Rattle.markdown_grammar.specs.Walked.{walked};
 
@@ -112,7 +113,7 @@ fn any_content_node(
     ending: Ending,
 ) -> Result<Node, AllocError>
     requires { is_row_of content Holders.any_content ≡ true }
-    ensures node { IfOk result (λ node. (s : Source) (line_endings : Bool) (marker : Option ℕ) → s.bytes ≡ bytes.now → only (view node) ≡ node_of s (place_with line_endings ending.in_table marker) (acting.Content content) ending.start ending.end (shown (marks_of ending.marks) (columns_of columns.old)) (inner_with holders.AnyContent (views nodes.items))) }
+    ensures node { IfOk result (IsNodeOf bytes.now content ending columns.old (inner_with holders.AnyContent (views nodes.items))) }
     ensures columns { OnOk result (columns_of columns.new ≡ columns_left (roles.Acting (acting.Content content)) (marks_of ending.marks) (columns_of columns.old)) }
     ensures list { steps.new.events ≡ steps.old.events }
     ensures bound { steps.new.count ≤ steps.old.count + walked (acting.Content content) (inner_with holders.AnyContent (views nodes.items)) }
@@ -235,7 +236,7 @@ impl<'a> Holding<'a> {
     ) -> Result<Node, Stop>
         requires such { is_row_of content (row_of self.holder) ≡ true }
         requires other { content ≢ contents.CharacterReference }
-        ensures node { Makes result (is_complete (row_of self.entry.holder) (inner_of_holding self.entry)) (lacking (row_of self.entry.holder)) (λ node. (s : Source) (line_endings : Bool) (marker : Option ℕ) → s.bytes ≡ bytes.now → only (view node) ≡ node_of s (place_with line_endings ending.in_table marker) (acting.Content content) ending.start ending.end (shown (marks_of ending.marks) (columns_of columns.old)) (inner_of_holding self.entry)) }
+        ensures node { Makes result (is_complete (row_of self.entry.holder) (inner_of_holding self.entry)) (lacking (row_of self.entry.holder)) (IsNodeOf bytes.now content ending columns.old (inner_of_holding self.entry)) }
         ensures columns { OnOk result (columns_of columns.new ≡ columns_left (roles.Acting (acting.Content content)) (marks_of ending.marks) (columns_of columns.old)) }
         ensures list { steps.new.events ≡ steps.old.events }
         ensures bound { steps.new.count ≤ steps.old.count + walked (acting.Content content) (inner_of_holding self.entry) }
@@ -312,7 +313,7 @@ impl<'a> Holding<'a> {
     ) -> Result<(), Stop>
         requires row { row_of own.holder ≡ Holders.content_holder (moved_of self.old.holder) content }
         requires such { is_row_of content (row_of own.holder) ≡ true }
-        ensures left { (s : Source) (inner_table : Bool) → s.bytes ≡ bytes.now → Gives (λ _. holds_of ending.in_table None self.new) ending.end result (leave s (acting.Content content) ending.start ending.end (shown (marks_of ending.marks) (columns_of columns.old)) (holds_of inner_table None own.entry) (holds_of ending.in_table None self.old)) }
+        ensures left { TakesHolding bytes.now (acting.Content content) own.entry ending (shown (marks_of ending.marks) (columns_of columns.old)) self.old self.new result }
         ensures columns { OnOk result (columns_of columns.new ≡ columns_left (roles.Acting (acting.Content content)) (marks_of ending.marks) (columns_of columns.old)) }
         ensures list { steps.new.events ≡ steps.old.events }
         ensures bound { steps.new.count ≤ steps.old.count + walked (acting.Content content) (inner_of_holding own.entry) }

@@ -13,7 +13,7 @@ ghost use Rattle.markdown_events.specs.declared.role.Part.TheVariants as parts;
 ghost use Rattle.markdown_nodes.specs.Tree as tree;
 ghost use Rattle.markdown_nodes.specs.Tree.{join, nothing};
 ghost use Rattle.markdown_nodes.specs.View.{view, views};
-ghost use Rattle.markdown_grammar.specs.Compiler.{fresh, leave};
+ghost use Rattle.markdown_grammar.specs.Compiler.{nothing_yet};
 ghost use Rattle.markdown_grammar.specs.Gives.{text_read};
 ghost use Rattle.markdown_grammar.specs.Grammar.{addresses};
 ghost use Rattle.markdown_grammar.specs.Holders;
@@ -24,7 +24,8 @@ ghost use Rattle.markdown_grammar.specs.Nodes.{node_of};
 ghost use Rattle.markdown_grammar.specs.Parts.{Inner};
 ghost use Rattle.markdown_grammar.specs.Place.{Place};
 ghost use Rattle.markdown_grammar.specs.Source.{Source, source};
-ghost use Rattle.markdown_tree.specs.States.{Gives, Makes, holds_of};
+ghost use Rattle.markdown_tree.specs.States.{Makes};
+ghost use Rattle.markdown_tree.specs.Takings.{Takes, TakesLeaf};
 ghost use Rattle.markdown_grammar.specs.TextNodes.{one_text};
 ghost use Rattle.markdown_grammar.specs.declared.refusal.Refusal.TheVariants.{InvalidSlice};
 
@@ -56,7 +57,7 @@ impl<'a> Holding<'a> {
         requires leaf { Holders.holder_of (moved_of self.old.holder) what ≡ Holders.leaf }
         requires fits { misfit_of self.old.holder what ≡ None }
         requires waits { (not (is_some pending.old) || is_line_ending what) ≡ true }
-        ensures { (children : Shown) (place : Place) → Gives (λ _. holds_of ending.in_table pending.new self.new) ending.end result (leave (source bytes.now (R.text references.now)) what ending.start ending.end children (fresh Holders.leaf place) (holds_of ending.in_table pending.old self.old)) }
+        ensures { TakesLeaf (source bytes.now (R.text references.now)) what ending pending.old self.old pending.new self.new result }
     {
         match what {
             Acting::Content(content) => {
@@ -77,7 +78,7 @@ impl<'a> Holding<'a> {
     ) -> Result<(), Stop>
         requires leaf { Holders.content_holder (moved_of self.old.holder) content ≡ Holders.leaf }
         requires waits { (not (is_some pending.old) || is_line_ending (acting.Content content)) ≡ true }
-        ensures { (text : List ℕ → ℕ → Option (List ℕ)) (children : Shown) (place : Place) → Gives (λ _. holds_of ending.in_table pending.new self.new) ending.end result (leave (source bytes.now text) (acting.Content content) ending.start ending.end children (fresh Holders.leaf place) (holds_of ending.in_table pending.old self.old)) }
+        ensures { (text : List ℕ → ℕ → Option (List ℕ)) → TakesLeaf (source bytes.now text) (acting.Content content) ending pending.old self.old pending.new self.new result }
     {
         match content {
             Content::Data => self.take_data(alloc, bytes, ending),
@@ -105,7 +106,7 @@ impl<'a> Holding<'a> {
     ) -> Result<(), Stop>
         requires leaf { Holders.part_holder (moved_of self.old.holder) part ≡ Holders.leaf }
         requires fits { misfit_of self.old.holder (acting.Part part) ≡ None }
-        ensures { (children : Shown) (place : Place) → Gives (λ _. holds_of ending.in_table None self.new) ending.end result (leave (source bytes.now (R.text references.now)) (acting.Part part) ending.start ending.end children (fresh Holders.leaf place) (holds_of ending.in_table None self.old)) }
+        ensures { TakesLeaf (source bytes.now (R.text references.now)) (acting.Part part) ending None self.old None self.new result }
     {
         match part {
             Part::AutolinkEmail | Part::AutolinkProtocol => self.take_address(bytes, part, ending),
@@ -131,7 +132,7 @@ impl<'a> Holding<'a> {
 impl<'a> Holding<'a> {
     /// A run of characters: a text.
     fn take_data(&mut self, alloc: Global, bytes: &[u8], ending: Ending) -> Result<(), Stop>
-        ensures { (text : List ℕ → ℕ → Option (List ℕ)) (children : Shown) (place : Place) → Gives (λ _. holds_of ending.in_table None self.new) ending.end result (leave (source bytes.now text) (acting.Content contents.Data) ending.start ending.end children (fresh Holders.leaf place) (holds_of ending.in_table None self.old)) }
+        ensures { (text : List ℕ → ℕ → Option (List ℕ)) → TakesLeaf (source bytes.now text) (acting.Content contents.Data) ending None self.old None self.new result }
     {
         put_slice(alloc, &mut self.nodes, bytes, ending)
     }
@@ -145,7 +146,7 @@ impl<'a> Holding<'a> {
         ending: Ending,
     ) -> Result<(), Stop>
         requires { is_literal content ≡ true }
-        ensures { (text : List ℕ → ℕ → Option (List ℕ)) (children : Shown) (place : Place) → Gives (λ _. holds_of ending.in_table None self.new) ending.end result (leave (source bytes.now text) (acting.Content content) ending.start ending.end children (fresh Holders.leaf place) (holds_of ending.in_table None self.old)) }
+        ensures { (text : List ℕ → ℕ → Option (List ℕ)) → TakesLeaf (source bytes.now text) (acting.Content content) ending None self.old None self.new result }
     {
         let Some(value) = text_of(bytes, ending.start, ending.end) else {
             return Err(Stop::Refused(Refusal::InvalidSlice));
@@ -158,7 +159,7 @@ impl<'a> Holding<'a> {
 
     /// A thematic break (CommonMark): a node, whatever it is written with.
     fn take_thematic_break(&mut self, ending: Ending) -> Result<(), Stop>
-        ensures { (s : Source) (children : Shown) (place : Place) → Gives (λ _. holds_of ending.in_table None self.new) ending.end result (leave s (acting.Content contents.ThematicBreak) ending.start ending.end children (fresh Holders.leaf place) (holds_of ending.in_table None self.old)) }
+        ensures { (s : Source) → TakesLeaf s (acting.Content contents.ThematicBreak) ending None self.old None self.new result }
     {
         let position = position_of(ending.start, ending.end);
         put(&mut self.nodes, thematic_break(position))?;
@@ -174,7 +175,7 @@ impl<'a> Holding<'a> {
         bytes: &[u8],
         ending: Ending,
     ) -> Result<(), Stop>
-        ensures { (text : List ℕ → ℕ → Option (List ℕ)) (children : Shown) (place : Place) → Gives (λ _. holds_of ending.in_table pending.new self.new) ending.end result (leave (source bytes.now text) (acting.Content contents.LineEnding) ending.start ending.end children (fresh Holders.leaf place) (holds_of ending.in_table pending.old self.old)) }
+        ensures { (text : List ℕ → ℕ → Option (List ℕ)) → TakesLeaf (source bytes.now text) (acting.Content contents.LineEnding) ending pending.old self.old pending.new self.new result }
     {
         if let Some(position) = pending.take() {
             let position = Position {
@@ -196,7 +197,7 @@ impl<'a> Holding<'a> {
     fn take_address(&mut self, bytes: &'a [u8], part: Part, ending: Ending) -> Result<(), Stop>
         requires fits { misfit_of self.old.holder (acting.Part part) ≡ None }
         requires such { is_one_of addresses (acting.Part part) ≡ true }
-        ensures { (text : List ℕ → ℕ → Option (List ℕ)) (children : Shown) (place : Place) → Gives (λ _. holds_of ending.in_table None self.new) ending.end result (leave (source bytes.now text) (acting.Part part) ending.start ending.end children (fresh Holders.leaf place) (holds_of ending.in_table None self.old)) }
+        ensures { (text : List ℕ → ℕ → Option (List ℕ)) → TakesLeaf (source bytes.now text) (acting.Part part) ending None self.old None self.new result }
     {
         let Some(value) = text_of(bytes, ending.start, ending.end) else {
             return Err(Stop::Refused(Refusal::InvalidSlice));
@@ -220,7 +221,7 @@ impl<'a> Holding<'a> {
         requires leaf { Holders.part_holder (moved_of self.old.holder) part ≡ Holders.leaf }
         requires fits { misfit_of self.old.holder (acting.Part part) ≡ None }
         requires such { is_sign part ≡ true }
-        ensures { (s : Source) (in_table : Bool) (a b : Point) (children : Shown) (place : Place) → leave s (acting.Part part) a b children (fresh Holders.leaf place) (holds_of in_table None self.old) ≡ Ok (holds_of in_table None self.new) }
+        ensures { Takes (acting.Part part) Holders.leaf nothing_yet self.old self.new }
     {
         match part {
             Part::CharacterReferenceMarker => self.holder.put_marker(Marker::Named),
@@ -245,7 +246,7 @@ impl<'a> Holding<'a> {
         ending: Ending,
     ) -> Result<(), Stop>
         requires { misfit_of self.old.holder (acting.Part parts.CharacterReferenceValue) ≡ None }
-        ensures { (children : Shown) (place : Place) → Gives (λ _. holds_of ending.in_table None self.new) ending.end result (leave (source bytes.now (R.text references.now)) (acting.Part parts.CharacterReferenceValue) ending.start ending.end children (fresh Holders.leaf place) (holds_of ending.in_table None self.old)) }
+        ensures { TakesLeaf (source bytes.now (R.text references.now)) (acting.Part parts.CharacterReferenceValue) ending None self.old None self.new result }
     {
         let Some(value) = text_of(bytes, ending.start, ending.end) else {
             return Err(Stop::Refused(Refusal::InvalidSlice));
@@ -264,7 +265,7 @@ impl<'a> Holding<'a> {
     /// says nothing.
     fn take_sequence(&mut self, bytes: &[u8], ending: Ending) -> Result<(), Stop>
         requires { misfit_of self.old.holder (acting.Part parts.HeadingAtxSequence) ≡ None }
-        ensures { (text : List ℕ → ℕ → Option (List ℕ)) (children : Shown) (place : Place) → Gives (λ _. holds_of ending.in_table None self.new) ending.end result (leave (source bytes.now text) (acting.Part parts.HeadingAtxSequence) ending.start ending.end children (fresh Holders.leaf place) (holds_of ending.in_table None self.old)) }
+        ensures { (text : List ℕ → ℕ → Option (List ℕ)) → TakesLeaf (source bytes.now text) (acting.Part parts.HeadingAtxSequence) ending None self.old None self.new result }
     {
         let Holder::HeadingAtx(depth) = self.holder else {
             unreachable!()
@@ -278,7 +279,7 @@ impl<'a> Holding<'a> {
     /// The first sequence of an ATX heading: one byte for each step of depth.
     fn take_depth(&mut self, bytes: &[u8], ending: Ending) -> Result<(), Stop>
         requires { moved_of self.old.holder ≡ Holders.heading_atx }
-        ensures { (text : List ℕ → ℕ → Option (List ℕ)) (children : Shown) (place : Place) → Gives (λ _. holds_of ending.in_table None self.new) ending.end result (leave (source bytes.now text) (acting.Part parts.HeadingAtxSequence) ending.start ending.end children (fresh Holders.leaf place) (holds_of ending.in_table None self.old)) }
+        ensures { (text : List ℕ → ℕ → Option (List ℕ)) → TakesLeaf (source bytes.now text) (acting.Part parts.HeadingAtxSequence) ending None self.old None self.new result }
     {
         let Some(length) = length_between(bytes, ending.start, ending.end) else {
             return Err(Stop::Refused(Refusal::InvalidSlice));
@@ -293,7 +294,7 @@ impl<'a> Holding<'a> {
     /// The sequence under a setext heading (CommonMark): of hyphens its depth is two, else one.
     fn take_underline(&mut self, bytes: &[u8], ending: Ending) -> Result<(), Stop>
         requires { misfit_of self.old.holder (acting.Part parts.HeadingSetextUnderlineSequence) ≡ None }
-        ensures { (text : List ℕ → ℕ → Option (List ℕ)) (children : Shown) (place : Place) → Gives (λ _. holds_of ending.in_table None self.new) ending.end result (leave (source bytes.now text) (acting.Part parts.HeadingSetextUnderlineSequence) ending.start ending.end children (fresh Holders.leaf place) (holds_of ending.in_table None self.old)) }
+        ensures { (text : List ℕ → ℕ → Option (List ℕ)) → TakesLeaf (source bytes.now text) (acting.Part parts.HeadingSetextUnderlineSequence) ending None self.old None self.new result }
     {
         let Some(byte) = byte_at(bytes, ending.start) else {
             return Err(Stop::Refused(Refusal::InvalidSlice));
@@ -305,7 +306,7 @@ impl<'a> Holding<'a> {
     /// The number of an item of an ordered list (CommonMark).
     fn take_item_value(&mut self, bytes: &[u8], ending: Ending) -> Result<(), Stop>
         requires { misfit_of self.old.holder (acting.Part parts.ListItemValue) ≡ None }
-        ensures { (text : List ℕ → ℕ → Option (List ℕ)) (children : Shown) (place : Place) → Gives (λ _. holds_of ending.in_table None self.new) ending.end result (leave (source bytes.now text) (acting.Part parts.ListItemValue) ending.start ending.end children (fresh Holders.leaf place) (holds_of ending.in_table None self.old)) }
+        ensures { (text : List ℕ → ℕ → Option (List ℕ)) → TakesLeaf (source bytes.now text) (acting.Part parts.ListItemValue) ending None self.old None self.new result }
     {
         let Some(text) = text_of(bytes, ending.start, ending.end) else {
             return Err(Stop::Refused(Refusal::InvalidSlice));

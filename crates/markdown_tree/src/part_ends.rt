@@ -8,11 +8,11 @@ ghost use Rattle.markdown_events.specs.declared.role.Part.TheVariants as parts;
 ghost use Rattle.markdown_nodes.specs.Tree.{Trees, plain_text};
 ghost use Rattle.markdown_nodes.specs.View.{views};
 ghost use Rattle.markdown_grammar.specs.Buffers.{node_count};
-ghost use Rattle.markdown_grammar.specs.Compiler.{leave};
 ghost use Rattle.markdown_grammar.specs.Holders;
 ghost use Rattle.markdown_tree.specs.Holdings.{inner_with, is_label_string, is_part_row, is_text_part, misfit_of, moved_of, row_of};
 ghost use Rattle.markdown_grammar.specs.Source.{Source};
-ghost use Rattle.markdown_tree.specs.States.{Gives, ended_with, holds_of, inner_of_holding};
+ghost use Rattle.markdown_tree.specs.States.{inner_of_holding};
+ghost use Rattle.markdown_tree.specs.Takings.{Takes, TakesHolding, TakesString};
 ghost use Rattle.markdown_grammar.specs.Walked.{walked};
 ghost use Rattle.markdown_grammar.specs.Place.{Place};
 ghost use Rattle.markdown_events.specs.declared.event.Point.{Point};
@@ -53,7 +53,7 @@ impl<'a> Holding<'a> {
     /// it is asked for.
     fn take_label(&mut self, bytes: &'a [u8], nodes: Vec<Node>, ending: Ending) -> Result<(), Stop>
         requires { misfit_of self.old.holder (acting.Part parts.LabelText) ≡ None }
-        ensures { (s : Source) (place : Place) (children : Shown) → s.bytes ≡ bytes.now → Gives (λ _. holds_of ending.in_table None self.new) ending.end result (leave s (acting.Part parts.LabelText) ending.start ending.end children (ended_with Holders.any_content place (inner_with holders.AnyContent (views nodes.items))) (holds_of ending.in_table None self.old)) }
+        ensures { TakesString bytes.now parts.LabelText (views nodes.items) ending self.old self.new result }
     {
         let Some(slice) = text_of(bytes, ending.start, ending.end) else {
             return Err(Stop::Refused(Refusal::InvalidSlice));
@@ -72,7 +72,7 @@ impl<'a> Holding<'a> {
     ) -> Result<(), AllocError>
         requires fits { misfit_of self.old.holder (acting.Part part) ≡ None }
         requires such { is_text_part part ≡ true }
-        ensures left { OnOk result ((s : Source) (a b : Point) (in_table : Bool) (place : Place) (children : Shown) → leave s (acting.Part part) a b children (ended_with Holders.any_content place (inner_with holders.AnyContent (views nodes.now))) (holds_of in_table None self.old) ≡ Ok (holds_of in_table None self.new)) }
+        ensures left { OnOk result (Takes (acting.Part part) Holders.any_content (inner_with holders.AnyContent (views nodes.now)) self.old self.new) }
         ensures list { steps.new.events ≡ steps.old.events }
         ensures bound { steps.new.count ≤ steps.old.count + node_count (views nodes.now) }
     {
@@ -84,7 +84,7 @@ impl<'a> Holding<'a> {
     /// Takes the resource of a link or an image.
     fn take_resource(&mut self, resource: ResourceParts)
         requires { misfit_of self.old.holder (acting.Part parts.Resource) ≡ None }
-        ensures { (s : Source) (a b : Point) (in_table : Bool) (place : Place) (children : Shown) (ts : Trees) → leave s (acting.Part parts.Resource) a b children (ended_with Holders.resource place (inner_with (holders.Resource resource) ts)) (holds_of in_table None self.old) ≡ Ok (holds_of in_table None self.new) }
+        ensures { (ts : Trees) → Takes (acting.Part parts.Resource) Holders.resource (inner_with (holders.Resource resource) ts) self.old self.new }
     {
         self.holder.put_resource(resource);
     }
@@ -92,7 +92,7 @@ impl<'a> Holding<'a> {
     /// Takes the reference of a link or an image.
     fn take_reference_part(&mut self, string: Option<Identified>)
         requires { misfit_of self.old.holder (acting.Part parts.Reference) ≡ None }
-        ensures { (s : Source) (a b : Point) (in_table : Bool) (place : Place) (children : Shown) (ts : Trees) → leave s (acting.Part parts.Reference) a b children (ended_with Holders.reference place (inner_with (holders.Reference string) ts)) (holds_of in_table None self.old) ≡ Ok (holds_of in_table None self.new) }
+        ensures { (ts : Trees) → Takes (acting.Part parts.Reference) Holders.reference (inner_with (holders.Reference string) ts) self.old self.new }
     {
         self.holder.put_reference(string);
     }
@@ -100,7 +100,7 @@ impl<'a> Holding<'a> {
     /// Takes the first fence of a block of code. Behind it line endings are text.
     fn take_code_fence(&mut self, fence: CodeFenceParts)
         requires { moved_of self.old.holder ≡ Holders.code_fenced }
-        ensures { (s : Source) (a b : Point) (in_table : Bool) (place : Place) (children : Shown) (ts : Trees) → leave s (acting.Part parts.CodeFencedFence) a b children (ended_with Holders.code_fence place (inner_with (holders.CodeFence fence) ts)) (holds_of in_table None self.old) ≡ Ok (holds_of in_table None self.new) }
+        ensures { (ts : Trees) → Takes (acting.Part parts.CodeFencedFence) Holders.code_fence (inner_with (holders.CodeFence fence) ts) self.old self.new }
     {
         self.holder.put_code_fence(fence);
         self.line_endings = true;
@@ -109,7 +109,7 @@ impl<'a> Holding<'a> {
     /// Takes the first fence of a block of math. Behind it line endings are text.
     fn take_math_fence(&mut self, fence: MathFenceParts)
         requires { moved_of self.old.holder ≡ Holders.math_flow }
-        ensures { (s : Source) (a b : Point) (in_table : Bool) (place : Place) (children : Shown) (ts : Trees) → leave s (acting.Part parts.MathFlowFence) a b children (ended_with Holders.math_fence place (inner_with (holders.MathFence fence) ts)) (holds_of in_table None self.old) ≡ Ok (holds_of in_table None self.new) }
+        ensures { (ts : Trees) → Takes (acting.Part parts.MathFlowFence) Holders.math_fence (inner_with (holders.MathFence fence) ts) self.old self.new }
     {
         self.holder.put_math_fence(fence);
         self.line_endings = true;
@@ -127,7 +127,7 @@ impl<'a> Holding<'a> {
     ) -> Result<(), Stop>
         requires fits { misfit_of self.old.holder (acting.Part part) ≡ None }
         requires such { is_label_string part ≡ true }
-        ensures left { (s : Source) (place : Place) (children : Shown) → s.bytes ≡ bytes.now → Gives (λ _. holds_of ending.in_table None self.new) ending.end result (leave s (acting.Part part) ending.start ending.end children (ended_with Holders.any_content place (inner_with holders.AnyContent (views nodes.now))) (holds_of ending.in_table None self.old)) }
+        ensures left { TakesString bytes.now part (views nodes.now) ending self.old self.new result }
         ensures list { steps.new.events ≡ steps.old.events }
         ensures bound { steps.new.count ≤ steps.old.count + node_count (views nodes.now) }
     {
@@ -143,7 +143,7 @@ impl<'a> Holding<'a> {
     /// endings are no text.
     fn take_heading_text(&mut self, nodes: Vec<Node>) -> Result<(), AllocError>
         requires { misfit_of self.old.holder (acting.Part parts.HeadingSetextText) ≡ None }
-        ensures { OnOk result ((s : Source) (a b : Point) (in_table : Bool) (place : Place) (children : Shown) → leave s (acting.Part parts.HeadingSetextText) a b children (ended_with Holders.any_content place (inner_with holders.AnyContent (views nodes.items))) (holds_of in_table None self.old) ≡ Ok (holds_of in_table None self.new)) }
+        ensures { OnOk result (Takes (acting.Part parts.HeadingSetextText) Holders.any_content (inner_with holders.AnyContent (views nodes.items)) self.old self.new) }
     {
         self.holder.put_heading_text();
         append(&mut self.nodes, nodes)?;
@@ -163,7 +163,7 @@ impl<'a> Holding<'a> {
     ) -> Result<(), Stop>
         requires such { is_part_row part Holders.any_content ≡ true }
         requires fits { misfit_of self.old.holder (acting.Part part) ≡ None }
-        ensures left { (s : Source) (place : Place) (children : Shown) → s.bytes ≡ bytes.now → Gives (λ _. holds_of ending.in_table None self.new) ending.end result (leave s (acting.Part part) ending.start ending.end children (ended_with Holders.any_content place (inner_with holders.AnyContent (views nodes.items))) (holds_of ending.in_table None self.old)) }
+        ensures left { TakesString bytes.now part (views nodes.items) ending self.old self.new result }
         ensures list { steps.new.events ≡ steps.old.events }
         ensures bound { steps.new.count ≤ steps.old.count + walked (acting.Part part) (inner_with holders.AnyContent (views nodes.items)) }
     {
@@ -192,7 +192,7 @@ impl<'a> Holding<'a> {
         requires row { row_of own.holder ≡ Holders.part_holder (moved_of self.old.holder) part }
         requires such { is_part_row part (row_of own.holder) ≡ true }
         requires fits { misfit_of self.old.holder (acting.Part part) ≡ None }
-        ensures left { (s : Source) (inner_table : Bool) (children : Shown) → s.bytes ≡ bytes.now → Gives (λ _. holds_of ending.in_table None self.new) ending.end result (leave s (acting.Part part) ending.start ending.end children (holds_of inner_table None own.entry) (holds_of ending.in_table None self.old)) }
+        ensures left { (children : Shown) → TakesHolding bytes.now (acting.Part part) own.entry ending children self.old self.new result }
         ensures list { steps.new.events ≡ steps.old.events }
         ensures bound { steps.new.count ≤ steps.old.count + walked (acting.Part part) (inner_of_holding own.entry) }
     {

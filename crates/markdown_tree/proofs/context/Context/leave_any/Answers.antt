@@ -33,7 +33,7 @@ returns-in-Part-clause-gives c s same =
     c.requires.settled refl refl refl
     (gives_same (λ x. holds_of c.args.frame.in_table None c.take_part.new.self) c.args.end c.take_part.result _ _
     (λ t. leave s (c.in-Part.is t) c.args.frame.start c.args.end children (holds_of in_table None (sym c.replace-own.ensures.value t)) (holds_of c.args.frame.in_table None (sym c.replace-own.ensures.after t)))
-    (c.take_part.ensures.left s in_table children same))
+    (c.take_part.ensures.left children s in_table same))
 
 pub returns-in-Content-clause-bound : goal.returns-in-Content-clause-bound
 returns-in-Content-clause-bound c =

@@ -9,6 +9,6 @@ use Rattle.markdown_tree.proofs.SpanEnds.{none_put, part_left}
 use Rattle.markdown_tree.proofs.holding.Holding.take_code_fence.Goals as goal
 
 pub returns : goal.returns
-returns c s a b in_table place children ts =
+returns c ts s a b in_table place children =
     part_left s in_table c.args.self.now (record { holder = c.put_code_fence.new.self; line_endings = true; nodes = c.args.self.now.nodes }) Holders.code_fence place (inner_with (holders.CodeFence c.args.fence) ts) parts.CodeFencedFence a b children
     refl refl (c.put_code_fence.ensures s (place_of in_table c.args.self.now) a b ts) refl (none_put (views c.args.self.now.nodes.items))
