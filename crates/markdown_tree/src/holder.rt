@@ -4,8 +4,10 @@ ghost use Rattle.std.specs.Prelude.{◌≡◌, ◌≢◌, false, not, cond, Some
 ghost use Rattle.markdown_events.specs.declared.role.Acting.TheVariants as acting;
 ghost use Rattle.markdown_grammar.specs.Grammar.{task_marks};
 ghost use Rattle.markdown_grammar.specs.Holders;
+ghost use Rattle.markdown_grammar.specs.Holders.{Holder as Row};
 ghost use Rattle.markdown_tree.specs.Holdings.{IsFresh, misfit_of, moved_of, refusal_if};
 ghost use Rattle.markdown_events.specs.declared.role.Content.TheVariants as contents;
+ghost use Rattle.markdown_events.specs.declared.role.Part.TheVariants as parts;
 ghost use Rattle.markdown_grammar.specs.Kinds;
 ghost use Rattle.markdown_tree.specs.declared.holder.Holder.TheVariants as holders;
 ghost use Rattle.markdown_grammar.specs.declared.refusal.Refusal.TheVariants.{Misplaced, Repeated};
@@ -361,16 +363,7 @@ impl<'a> Holder<'a> {
         ensures holder { result ≡ false → Holders.holder_of (moved_of self.now) what ≢ Holders.leaf }
     {
         match what {
-            Acting::Content(content) => matches!(
-                content,
-                Content::Data
-                    | Content::AutolinkLiteralEmail
-                    | Content::AutolinkLiteralWww
-                    | Content::AutolinkLiteralWhole
-                    | Content::ThematicBreak
-                    | Content::HardBreak
-                    | Content::LineEnding
-            ),
+            Acting::Content(content) => is_leaf(content),
             Acting::Part(part) => self.has_leaf_part(part),
         }
     }
@@ -381,20 +374,9 @@ impl<'a> Holder<'a> {
         ensures holder { result ≡ false → Holders.part_holder (moved_of self.now) part ≢ Holders.leaf }
     {
         match part {
-            Part::AutolinkEmail
-            | Part::AutolinkProtocol
-            | Part::CharacterReferenceMarker
-            | Part::CharacterReferenceMarkerNumeric
-            | Part::CharacterReferenceMarkerHexadecimal
-            | Part::CharacterReferenceValue
-            | Part::TaskMarkChecked
-            | Part::TaskMarkUnchecked
-            | Part::HeadingAtxSequence
-            | Part::HeadingSetextUnderlineSequence
-            | Part::ListItemValue => true,
             Part::CodeFencedFence => !matches!(self, Holder::CodeFenced(None)),
             Part::MathFlowFence => !matches!(self, Holder::MathFlow(None)),
-            _ => false,
+            other => is_leaf_part(other),
         }
     }
 
@@ -441,7 +423,8 @@ impl<'a> Holder<'a> {
             }),
             Content::CodeFenced => Holder::CodeFenced(None),
             Content::MathFlow => Holder::MathFlow(None),
-            _ => Holder::AnyContent,
+            other if !is_leaf(other) => Holder::AnyContent,
+            _ => unreachable!(),
         }
     }
 
@@ -492,9 +475,48 @@ impl<'a> Holder<'a> {
                 title: None,
             }),
             Part::Reference => Holder::Reference(None),
-            _ => Holder::AnyContent,
+            other if !is_leaf_part(other) => Holder::AnyContent,
+            _ => unreachable!(),
         }
     }
+}
+
+/// Whether content is a leaf, which it is in each holder or in none.
+fn is_leaf(content: Content) -> bool
+    ensures leaf { result ≡ true → (h : Row) → Holders.content_holder h content ≡ Holders.leaf }
+    ensures holder { result ≡ false → (h : Row) → Holders.content_holder h content ≢ Holders.leaf }
+{
+    matches!(
+        content,
+        Content::Data
+            | Content::AutolinkLiteralEmail
+            | Content::AutolinkLiteralWww
+            | Content::AutolinkLiteralWhole
+            | Content::ThematicBreak
+            | Content::HardBreak
+            | Content::LineEnding
+    )
+}
+
+/// Whether a part is a leaf. Of a fence its holder says that.
+fn is_leaf_part(part: Part) -> bool
+    ensures leaf { result ≡ true → (h : Row) → Holders.part_holder h part ≡ Holders.leaf }
+    ensures holder { result ≡ false → part ≢ parts.CodeFencedFence → part ≢ parts.MathFlowFence → (h : Row) → Holders.part_holder h part ≢ Holders.leaf }
+{
+    matches!(
+        part,
+        Part::AutolinkEmail
+            | Part::AutolinkProtocol
+            | Part::CharacterReferenceMarker
+            | Part::CharacterReferenceMarkerNumeric
+            | Part::CharacterReferenceMarkerHexadecimal
+            | Part::CharacterReferenceValue
+            | Part::TaskMarkChecked
+            | Part::TaskMarkUnchecked
+            | Part::HeadingAtxSequence
+            | Part::HeadingSetextUnderlineSequence
+            | Part::ListItemValue
+    )
 }
 
 /// Why a part may not stand where one part may, and once, if it may not.
