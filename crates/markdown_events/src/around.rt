@@ -36,7 +36,7 @@ impl Around {
     /// delimiter row, and no delimiter cell value in a delimiter cell value.
     ///
     /// In a line ending, no span may.
-    #[inline(always)]
+    #[inline]
     pub fn allows(self, role: Role) -> bool
         ensures { result ≡ may_begin self role }
     {
@@ -50,7 +50,7 @@ impl Around {
     /// What is around the spans in a span of the role that stands here.
     ///
     /// In a delimiter row outside others, `in_row` alone is true.
-    #[inline(always)]
+    #[inline]
     pub fn inside(self, role: Role) -> Around
         ensures { result ≡ under self role }
     {

@@ -1,6 +1,7 @@
 //! Where the span that begins at an event ends.
 
 use crate::outline::{enter, exit, spelled};
+use markdown_nodes::around::Around;
 use markdown_nodes::event::{Event, Name, span_begins};
 use std::alloc::Global;
 use std::process::Abort;
@@ -52,4 +53,25 @@ fn a_line_ending_holds_nothing(rt: HostRuntime) -> Result<(), Fail> {
     let events = spelled(alloc, &[(0, Name::LineEnding), (1, Name::Data)])?;
     let cases = [(0, None), (1, Some(2))];
     found(&rt, alloc, events.as_slice(), &cases)
+}
+
+#[test]
+fn delimiter_rows_and_cell_values_do_not_nest(rt: HostRuntime) {
+    let row = Name::GfmTableDelimiterRow.role();
+    let value = Name::GfmTableDelimiterCellValue.role();
+    let in_row = Around::in_the_open().inside(row);
+    let in_value = in_row.inside(value);
+    let cases = [
+        (Around::in_the_open(), row, true),
+        (Around::in_the_open(), value, true),
+        (in_row, row, false),
+        (in_row, value, true),
+        (in_value, row, false),
+        (in_value, value, false),
+        (in_value, Name::Data.role(), true),
+        (in_row.inside(Name::SpaceOrTab.role()), value, false),
+    ];
+    for (around, role, want) in cases {
+        assert_eq!(rt; around.allows(role), want);
+    }
 }
