@@ -1,5 +1,5 @@
 -- What the holders of the program keep, behind items that give them nothing.
-use Rattle.std.proofs.Common.{◌≡◌, ℕ, Bool, Option, None, Some, refl, sym, ap, ◌∙◌}
+use Rattle.std.proofs.Common.{◌≡◌, ℕ, Bool, true, false, Option, None, Some, refl, sym, ap, ◌∙◌}
 use Rattle.std.specs.Prelude.{is_some}
 use Rattle.std.specs.Option.{option_or}
 use Rattle.markdown_nodes.specs.Tree.{Trees, nothing}
@@ -16,7 +16,7 @@ use Rattle.markdown_tree.specs.declared.holder.Target.TheVariants as targets
 use Rattle.markdown_grammar.specs.Compiler.{label_with, part_with}
 use Rattle.markdown_grammar.specs.Gives.{mark_given, value_given}
 use Rattle.markdown_grammar.specs.Holders.{Holder, holder_behind, list_item, numbered_item}
-use Rattle.markdown_tree.specs.Holdings.{Keeps, part_of, label_of, mark_of, value_of, moved_of, ending, nodes_of_label, label_kept, resource_of, reference_of, in_code_fence, in_math_fence, fence_of}
+use Rattle.markdown_tree.specs.Holdings.{Keeps, inner_with, is_parent, part_of, label_of, mark_of, value_of, moved_of, ending, nodes_of_label, label_kept, resource_of, reference_of, in_code_fence, in_math_fence, fence_of}
 use Rattle.markdown_grammar.specs.Parts.{Path, Kept, Inner, itself, into, path_to}
 use Rattle.markdown_grammar.specs.Place.{Place}
 use Rattle.markdown_grammar.specs.Source.{Source}
@@ -119,6 +119,31 @@ no_mark c m other = refl
 no_value : (s : Source) (c : Content) (a b : Point) (v : Option ℕ) → (c ≡ contents.ListItem → ⊥) → value_given s (content c) a b v ≡ None
 no_value s contents.ListItem a b v other = absurd (other refl)
 no_value s c a b v other = refl
+
+-- a parent of which nothing but nodes is kept gives its holder nothing else
+unmarked_behind : (h : Holder) (c : Content) → holder_behind h (content c) false ≡ h
+unmarked_behind list_item contents.Paragraph = refl
+unmarked_behind numbered_item contents.Paragraph = refl
+unmarked_behind h c = refl
+
+no_mark_given : (c : Content) → mark_given (content c) None ≡ None
+no_mark_given contents.Paragraph = refl
+no_mark_given c = refl
+
+parent_value : (s : Source) (c : Content) (a b : Point) → is_parent c ≡ true → value_given s (content c) a b None ≡ None
+parent_value s contents.ListItem a b such = let z : ⊥ = cc in absurd z
+parent_value s c a b such = refl
+
+pub parent_keeps : (s : Source) (p : Place) (c : Content) (a b : Point) (ts : Trees) (h : Open) → is_parent c ≡ true → Keeps s p (content c) a b (inner_with holders.AnyContent ts) h h
+parent_keeps s p c a b ts h such = record {
+  row = refl;
+  moved = sym (unmarked_behind (moved_of h) c);
+  marker = refl;
+  kept = content_parts s p c a b (inner_with holders.AnyContent ts) h;
+  label = same_label (part_of h (path_to parts.LabelText)) (label_of h) ts (no_label h) c;
+  mark = sym (ap (option_or (mark_of h)) (no_mark_given c) ∙ or_none (mark_of h));
+  value = sym (ap (option_or (value_of h)) (parent_value s c a b such) ∙ or_none (value_of h));
+}
 
 -- content that is no paragraph and no item gives its holder nothing but nodes
 pub content_keeps : (s : Source) (p : Place) (c : Content) (a b : Point) (i : Inner) (h : Open) → (c ≡ contents.Paragraph → ⊥) → (c ≡ contents.ListItem → ⊥) → Keeps s p (content c) a b i h h

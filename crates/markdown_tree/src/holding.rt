@@ -286,15 +286,11 @@ impl Holding<'_> {
         start: Point,
         end: Point,
     ) -> Result<(), AllocError>
-        requires row { Holders.any_content ≡ Holders.content_holder (moved_of self.old.holder) content }
-        requires such { is_parent content ≡ true }
+        requires { is_parent content ≡ true }
         ensures { OnOk result ((s : Source) (in_table inner_table line_endings : Bool) (children : Shown) → leave s (acting.Content content) start end children (holds_of inner_table None (record { holder = holders.AnyContent; line_endings = line_endings; nodes = nodes })) (holds_of in_table None self.old) ≡ Ok (holds_of in_table None self.new)) }
     {
-        self.holder.put_content(content, &Holder::AnyContent);
-        put(
-            &mut self.nodes,
-            parent(content, nodes, position_of(start, end)),
-        )?;
+        let node = parent(content, nodes, position_of(start, end));
+        put(&mut self.nodes, node)?;
         Ok(())
     }
 }
