@@ -5,10 +5,7 @@
 //! ```text
 //! case a-text-in-a-paragraph
 //! doc 4869
-//! +Paragraph 1:1:0
-//! +Data 1:1:0
-//! -Data 1:3:2
-//! -Paragraph 1:3:2
+//! +Paragraph 1:1:0, +Data 1:1:0, -Data 1:3:2, -Paragraph 1:3:2
 //! = Root { .. }
 //! ```
 //!
@@ -122,7 +119,9 @@ fn add_line<'a>(alloc: Global, case: &mut Case<'a>, line: &'a str) -> Result<(),
     } else if line.starts_with("= ") || line.starts_with("! ") {
         case.want = line;
     } else {
-        case.events.push(event(line).ok_or(Unread)?)?;
+        for text in line.split(", ") {
+            case.events.push(event(text).ok_or(Unread)?)?;
+        }
     }
     Ok(())
 }
@@ -146,9 +145,9 @@ fn byte(pair: &[u8]) -> Option<u8> {
     u8::try_from(high.checked_mul(16)?.checked_add(low)?).ok()
 }
 
-/// The event of a line.
-fn event(line: &str) -> Option<Event> {
-    let (head, numbers) = line.split_once(' ')?;
+/// An event of a line.
+fn event(text: &str) -> Option<Event> {
+    let (head, numbers) = text.split_once(' ')?;
     let (kind, name) = match head.strip_prefix('+') {
         Some(name) => (Kind::Enter, name),
         None => (Kind::Exit, head.strip_prefix('-')?),
