@@ -1,5 +1,5 @@
 -- What a conjunction says.
-use Rattle.std.proofs.Common.{◌≡◌, Bool, true, false, ◌&&◌, refl}
+use Rattle.std.proofs.Common.{◌≡◌, Bool, true, false, ◌&&◌, refl, sym, ◌∙◌}
 
 pub and-left : (a b : Bool) → (a && b) ≡ true → a ≡ true
 and-left true b h = refl
@@ -29,3 +29,7 @@ third-of a b c h = and-right (a && b) c h
 
 pub all-three : (a b c : Bool) → a ≡ true → b ≡ true → c ≡ true → (a && b && c) ≡ true
 all-three a b c h k l = and-both (a && b) c (and-both a b h k) l
+
+-- one and the same is not both
+pub not-both : {b : Bool} → b ≡ true → b ≡ false → ⊥
+not-both h k = let z : true ≡ false = sym h ∙ k in absurd cc

@@ -17,7 +17,8 @@ use Rattle.markdown_grammar.proofs.Outcomes.{bind_ok, checked_ok, checked_passes
 use Rattle.markdown_grammar.proofs.RuleLists.{and-assoc}
 use Rattle.markdown_grammar.proofs.Shape.{shaped-is}
 use Rattle.markdown_grammar.proofs.SiblingMarks.{marks}
-use Rattle.markdown_grammar.specs.Accepted.{accepted, ends_with_break, fits}
+use Rattle.markdown_grammar.specs.Accepted.{ends_with_break}
+use Rattle.markdown_grammar.specs.OneTest.{accepted, fits}
 use Rattle.markdown_events.specs.Around.{in_the_open}
 use Rattle.markdown_grammar.specs.Columns.{no_columns}
 use Rattle.markdown_grammar.specs.Compiler.{Holds, Open, State, compiled, fresh, is_shut, last_checks, opening, point_of, run, tree_of}

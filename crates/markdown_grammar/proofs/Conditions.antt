@@ -3,7 +3,8 @@ use Rattle.std.proofs.Common.{◌≡◌, Bool, true, false, ◌&&◌, not, refl}
 use Rattle.std.specs.Prelude.{is_some}
 use Rattle.markdown_events.specs.Forest.{Forest, has_right_shape}
 use Rattle.markdown_grammar.proofs.Booleans.{and-left, and-right, and-both, first-of, second-of, third-of, all-three}
-use Rattle.markdown_grammar.specs.Accepted.{Accepted, Occurrence, accepted, all_pass, ends_a_break, ends_with_break, fits, has_its_byte, has_its_parts, has_its_value, holds_no_open_break, is_no_inner_table, known, may_begin, may_end, takes_its_items}
+use Rattle.markdown_grammar.specs.Accepted.{Accepted, Occurrence, all_pass, ends_a_break, ends_with_break, has_its_byte, has_its_parts, has_its_value, holds_no_open_break, is_no_inner_table, known, takes_its_items}
+use Rattle.markdown_grammar.specs.OneTest.{accepted, fits, item_may_begin, item_may_end}
 use Rattle.markdown_grammar.specs.Gives.{mark}
 use Rattle.markdown_grammar.specs.Grammar.{takes}
 use Rattle.markdown_grammar.specs.Holders.{Holder, any_content, holder_behind, holder_of}
@@ -24,9 +25,9 @@ pub record Conditions (s : Source) (h : Holder) (p : Place) (waiting : Bool) (xs
 
 -- what the walk asks at an item
 pub record AtItem (s : Source) (x : Occurrence) : Type 0 where
-  pub begins : may_begin s x.place x.behind_break x.what x.start ≡ true
+  pub begins : item_may_begin s x.place x.behind_break x.what x.start ≡ true
   pub taken : takes_its_items x ≡ true
-  pub ends : may_end s x.holder x.place x.behind_break x.what x.start x.end (ends_with_break x.inner) (holder_of x.holder x.what) (known s x) ≡ true
+  pub ends : item_may_end s x.holder x.place x.behind_break x.what x.start x.end (ends_with_break x.inner) (holder_of x.holder x.what) (known s x) ≡ true
 
 -- and the same, test by test
 pub record Tests (s : Source) (x : Occurrence) : Type 0 where
@@ -68,9 +69,9 @@ pub walk-tells : (s : Source) (h : Holder) (p : Place) (w : Bool) (xs : Items) �
 walk-tells s h p w none k = record { rows = refl; inside = refl; breaks = refl; tables = refl; parts = refl; bytes = refl; values = refl }
 walk-tells s h p w (item what a b d inner rest) k =
     let x : Occurrence = record { holder = h; place = p; behind_break = w; what = what; start = a; end = b; inner = inner } in
-    let begins : Bool = may_begin s p w what a in
+    let begins : Bool = item_may_begin s p w what a in
     let below : Bool = fits s (holder_of h what) (place_inside what p) false inner in
-    let ends : Bool = may_end s h p w what a b (ends_with_break inner) (holder_of h what) (known s x) in
+    let ends : Bool = item_may_end s h p w what a b (ends_with_break inner) (holder_of h what) (known s x) in
     let behind : Bool = fits s (holder_behind h what (is_some (mark inner))) (place_behind what p) (is_hard_break what) rest in
     let here : (begins && (takes_its_items x && below) && ends) ≡ true = and-left (begins && (takes_its_items x && below) && ends) behind k in
     let inside : (takes_its_items x && below) ≡ true = second-of begins (takes_its_items x && below) ends here in
@@ -118,9 +119,9 @@ told-walk s h p w (item what a b d inner rest) c =
     record { rows = rows.below; inside = inside.below; breaks = breaks.below; tables = tables.below; parts = parts.below; bytes = bytes.below; values = values.below } in
     let r : Conditions s (holder_behind h what (is_some (mark inner))) (place_behind what p) (is_hard_break what) rest =
     record { rows = rows.behind; inside = inside.behind; breaks = breaks.behind; tables = tables.behind; parts = parts.behind; bytes = bytes.behind; values = values.behind } in
-    let begins : Bool = may_begin s p w what a in
+    let begins : Bool = item_may_begin s p w what a in
     let below : Bool = fits s (holder_of h what) (place_inside what p) false inner in
-    let ends : Bool = may_end s h p w what a b (ends_with_break inner) (holder_of h what) (known s x) in
+    let ends : Bool = item_may_end s h p w what a b (ends_with_break inner) (holder_of h what) (known s x) in
     let behind : Bool = fits s (holder_behind h what (is_some (mark inner))) (place_behind what p) (is_hard_break what) rest in
     and-both (begins && (takes_its_items x && below) && ends) behind
     (all-three begins (takes_its_items x && below) ends at.begins (and-both (takes_its_items x) below at.taken (told-walk s (holder_of h what) (place_inside what p) false inner i)) at.ends)

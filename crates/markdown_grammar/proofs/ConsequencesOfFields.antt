@@ -9,9 +9,9 @@ use Rattle.markdown_nodes.specs.Tree.{Label, Trees, only}
 use Rattle.markdown_events.specs.declared.role.Acting.{Acting}
 use Rattle.markdown_events.specs.declared.unist.Position.{Position}
 use Rattle.markdown_grammar.proofs.Booleans.{and-left, and-right}
-use Rattle.markdown_grammar.proofs.Conditions.{conditions-hold, passing}
+use Rattle.markdown_grammar.proofs.Conditions.{passing}
 use Rattle.markdown_grammar.proofs.Consequences.{At, IfAsked, OwnNodes, asked_label, everywhere-then, inner_from, is_asked_of, meaning-everywhere}
-use Rattle.markdown_grammar.specs.Accepted.{Accepted, Occurrence, accepted, all_pass, has_its_parts, has_its_value}
+use Rattle.markdown_grammar.specs.Accepted.{Accepted, Occurrence, all_pass, has_its_parts, has_its_value}
 use Rattle.markdown_grammar.specs.Consequences.{Everywhere, HasDepthToSix, HasPosition, HasStartIfOrdered}
 use Rattle.markdown_grammar.specs.Grammar.{is_complete}
 use Rattle.markdown_grammar.specs.Holders.{Holder, any_content, heading_atx, holder_behind, holder_of}
@@ -82,10 +82,10 @@ at-start l None k = absurd k
 at-start l (Some at) k = k
 
 -- a list has a start exactly when it is ordered
-pub starts : (s : Source) (f : Forest) → accepted s f ≡ true → Everywhere HasStartIfOrdered (only (meaning s f))
-starts s f k =
+pub starts : (s : Source) (f : Forest) → Accepted s f → Everywhere HasStartIfOrdered (only (meaning s f))
+starts s f holds =
     everywhere-then (At StartFits) HasStartIfOrdered at-start (only (meaning s f))
-    (meaning-everywhere StartFits start-unasked s f (starts-own s any_content root_place false (items f) (conditions-hold s f k).parts))
+    (meaning-everywhere StartFits start-unasked s f (starts-own s any_content root_place false (items f) holds.parts))
 
 -- ---- Depths of headings
 
@@ -163,8 +163,7 @@ at-depth l None k = absurd k
 at-depth l (Some at) k = k
 
 -- every heading has a depth from 1 to 6
-pub depths : (s : Source) (f : Forest) → accepted s f ≡ true → Everywhere HasDepthToSix (only (meaning s f))
-depths s f k =
-    let holds : Accepted s f = conditions-hold s f k in
+pub depths : (s : Source) (f : Forest) → Accepted s f → Everywhere HasDepthToSix (only (meaning s f))
+depths s f holds =
     everywhere-then (At DepthFits) HasDepthToSix at-depth (only (meaning s f))
     (meaning-everywhere DepthFits depth-unasked s f (depths-own s any_content root_place false (items f) holds.parts holds.values))

@@ -15,7 +15,7 @@ use Rattle.markdown_events.specs.declared.unist.Position.{Position}
 use Rattle.markdown_grammar.proofs.Booleans.{first-of, second-of, third-of}
 use Rattle.markdown_grammar.proofs.Conditions.{conditions-hold}
 use Rattle.markdown_grammar.proofs.Consequences.{At, IfAsked, OwnNodes, asked_label, everywhere-then, inner_from, is_asked_of, meaning-everywhere}
-use Rattle.markdown_grammar.specs.Accepted.{accepted}
+use Rattle.markdown_grammar.specs.Accepted.{Accepted}
 use Rattle.markdown_grammar.specs.Consequences.{DeclaresColumns, Everywhere, HasColumnsOf, SomeSpan, cell_values, cell_values_in_row}
 use Rattle.markdown_grammar.specs.Items.{Items, item, items, none, place_items, ◌then◌}
 use Rattle.markdown_grammar.specs.Meaning.{meaning}
@@ -133,7 +133,7 @@ at-columns forest l None k = absurd k
 at-columns forest l (Some at) k = k
 
 -- every table has the columns that its span declares
-pub columns : (s : Source) (f : Forest) → accepted s f ≡ true → Everywhere (HasColumnsOf f) (only (meaning s f))
-columns s f k =
+pub columns : (s : Source) (f : Forest) → Accepted s f → Everywhere (HasColumnsOf f) (only (meaning s f))
+columns s f holds =
     everywhere-then (At (ColumnsFit f)) (HasColumnsOf f) (at-columns f) (only (meaning s f))
-    (meaning-everywhere (ColumnsFit f) (columns-unasked f) s f (columns-own f s f (conditions-hold s f k).shape (λ alignments at found. found) root_place))
+    (meaning-everywhere (ColumnsFit f) (columns-unasked f) s f (columns-own f s f holds.shape (λ alignments at found. found) root_place))

@@ -25,19 +25,6 @@ last-of e es =
     let count : length (e ∷ es) - 1 ≡ length es = omega arith in
     (last_or e es, ap (slice_get (e ∷ es)) count ∙ last_at e es)
 
-pub has_last : (es : List Event) → 0 < length es → None ≡ slice_get es (length es - 1) → ⊥
-has_last [] h none = omega (arith, h)
-has_last (e ∷ es) h none = let some = last-of e es in let wrong : None ≡ Some some.0 = none ∙ some.1 in cc
-
--- from the first of them to the last
-pub extent_to_last : (es : List Event) (first : Event) → Some first ≡ slice_get es 0 → extent_of es ≡ between first.point (point_of (last_event es))
-extent_to_last [] first h = absurd cc
-extent_to_last (e ∷ es) first h =
-    let some = last-of e es in
-    ap (λ (o : Option Event). extent_between o (last_event (e ∷ es))) (sym h)
-    ∙ ap (λ (o : Option Event). extent_between (Some first) o) some.1
-    ∙ sym (ap (λ (o : Option Event). between first.point (point_of o)) some.1)
-
 last_after : (e d : Event) (es fs : List Event) → last_or e (es ++ (d ∷ fs)) ≡ last_or d fs
 unfolding last_or
 last_after e d [] fs = refl

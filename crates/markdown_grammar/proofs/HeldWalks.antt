@@ -23,7 +23,8 @@ use Rattle.markdown_grammar.proofs.RuleLists.{and-assoc}
 use Rattle.markdown_grammar.proofs.Shape.{shaped}
 use Rattle.markdown_grammar.proofs.SiblingMarks.{marks, marks_onto}
 use Rattle.markdown_grammar.proofs.WalkCounts.{exit-walks}
-use Rattle.markdown_grammar.specs.Accepted.{accepted, ends_with_break, fits}
+use Rattle.markdown_grammar.specs.Accepted.{ends_with_break}
+use Rattle.markdown_grammar.specs.OneTest.{accepted, fits}
 use Rattle.markdown_events.specs.Around.{in_the_open, may_begin, under}
 use Rattle.markdown_grammar.specs.Buffers.{held, held_in, is_buffer, node_count}
 use Rattle.markdown_grammar.specs.Columns.{Columns, shown}

@@ -10,7 +10,8 @@ use Rattle.markdown_grammar.proofs.Gathered.{break-snoc, closed-is, holder-snoc,
 use Rattle.markdown_grammar.proofs.ItemLists.{then-assoc}
 use Rattle.markdown_grammar.proofs.Outcomes.{when}
 use Rattle.markdown_grammar.proofs.RuleLists.{and-assoc}
-use Rattle.markdown_grammar.specs.Accepted.{ends_with_break, fits}
+use Rattle.markdown_grammar.specs.Accepted.{ends_with_break}
+use Rattle.markdown_grammar.specs.OneTest.{fits}
 use Rattle.markdown_grammar.specs.Compiler.{Holds, allows, closed, enter_checks, entered, exit_checks, fresh, rule_checks}
 use Rattle.markdown_grammar.specs.Gives.{mark}
 use Rattle.markdown_grammar.specs.Grammar.{is_complete, rules, takes}

@@ -47,26 +47,21 @@ abbrev pub AreShaped : List Entered → Type 0
 AreShaped [] = Unit {0}
 AreShaped (e ∷ path) = (shaped (around_of (e ∷ path)) e.inside ≡ true) × AreShaped path
 
-pub record Known (s : Source) (es : List Event) (st : State) : Type 0 where
-  pub forest : Forest
-  pub path : List Entered
-  pub told_is : told forest path ≡ es
+-- a state behind closed spans, and open ones behind them
+pub record Stands (s : Source) (forest : Forest) (path : List Entered) (st : State) : Type 0 where
   pub frames : AreOpen s st.frames forest path
   pub around : st.around ≡ around_of path
   pub top : st.top ≡ kept_at_spot s (spot_of forest path)
   pub right_shape : AreShaped path
   pub taken : takes (spot_of forest path).row (kinds (spot_of forest path).before) ≡ true
 
-known-root : (s : Source) (f : Forest) (st : State) → run s (spell f) opening ≡ Ok st → Known s (spell f) st
-known-root s f st h =
+stands-root : (s : Source) (f : Forest) (st : State) → run s (spell f) opening ≡ Ok st → Stands s f [] st
+stands-root s f st h =
     let on : Reached → Result State _ = λ y. done (at [] in_the_open (marks f) y) in
     let e = bind_ok (eval s in_the_open f start) on st (sym (over-all s f) ∙ h) in
     let st_is : at [] in_the_open (marks f) e.0 ≡ st = ok_is (at [] in_the_open (marks f) e.0) st e.2 in
     let r = eval-reaches s in_the_open f start e.0 any_content root_place none (fresh-is s any_content root_place) (takes-none any_content) e.1 in
     record {
-      forest = f;
-      path = [];
-      told_is = refl;
       frames = subst (λ (x : State). AreOpen s x.frames f []) st_is tt;
       around = ap (λ (x : State). x.around) (sym st_is);
       top = ap (λ (x : State). x.top) (sym st_is) ∙ r.0;
@@ -86,40 +81,40 @@ top-known s (acting what) out spot top f h t g =
     let inside : Spot = spot_in (acting what) none spot in
     g inside.row inside.place none (ap (λ (x : Holds). entered x what) h ∙ fresh-is s inside.row inside.place) (takes-none inside.row)
 
-abbrev rest_of : List Open → List Open
-rest_of [] = []
-rest_of (o ∷ os) = os
-
-abbrev first_of : Open → List Open → Open
-first_of o [] = o
-first_of o (f ∷ fs) = f
-
-known-by : (s : Source) (fs : List Open) (es : List Event) (st : State) → st.frames ≡ fs → run s es opening ≡ Ok st → Trail fs es → Known s es st
-unfolding Trail
-known-by s [] es st at_frames h t = subst (λ (x : List Event). Known s x st) (sym t.1) (known-root s t.0 st (ap (λ (x : List Event). run s x opening) (sym t.1) ∙ h))
-known-by s (o ∷ os) es st at_frames h t =
-    let before : List Event = t.0 in
-    let c : Forest = t.1 in
-    let role : Role = role_of o.name in
-    let i = in-span s before o.name o.start c st (ap (λ (x : List Event). run s x opening) (sym t.2) ∙ h) in
+-- where a run over their events ends
+pub stands : (s : Source) (f : Forest) (path : List Entered) (st : State) → run s (told f path) opening ≡ Ok st → Stands s f path st
+stands s f [] st h = stands-root s f st h
+stands s f (e ∷ path) st h =
+    let role : Role = role_of e.name in
+    let i = in-span s (told f path) e.name e.start e.inside st h in
     let out : State = i.outer in
-    let both : o ∷ os ≡ the_open o.name o.start out.around out.marks (opened_by role out) ∷ out.frames = sym at_frames ∙ i.frames in
-    let k : Known s before out = known-by s os before out (ap rest_of (sym both)) i.ran_before t.3 in
-    let spot : Spot = spot_of k.forest k.path in
-    let r = top-known s role out spot st.top c k.top k.taken (λ h' p xs g taken. i.top h' p xs g taken) in
+    let k : Stands s f path out = stands s f path out i.ran_before in
+    let spot : Spot = spot_of f path in
+    let r = top-known s role out spot st.top e.inside k.top k.taken (λ h' p xs g taken. i.top h' p xs g taken) in
     record {
-      forest = k.forest;
-      path = record { name = o.name; start = o.start; inside = c } ∷ k.path;
-      told_is = ap (λ (x : List Event). x ++ (enter o.name o.start ∷ spell c)) k.told_is ∙ sym t.2;
-      frames = subst (λ (x : List Open). AreOpen s x k.forest (record { name = o.name; start = o.start; inside = c } ∷ k.path)) (sym at_frames)
-          (refl, refl, ap (λ (x : List Open). (first_of o x).outer) both ∙ outer-known s role out spot k.top, subst (λ (x : List Open). AreOpen s x k.forest k.path) (ap rest_of (sym both)) k.frames);
+      frames = subst (λ (x : List Open). AreOpen s x f (e ∷ path)) (sym i.frames) (refl, refl, outer-known s role out spot k.top, k.frames);
       around = i.around ∙ ap (λ (x : Around). under x role) k.around;
       top = r.0;
-      right_shape = (ap (λ (x : Around). shaped (under x role) c) (sym k.around) ∙ r.2, k.right_shape);
+      right_shape = (ap (λ (x : Around). shaped (under x role) e.inside) (sym k.around) ∙ r.2, k.right_shape);
       taken = r.1;
     }
 
+path-of : (fs : List Open) (es : List Event) → Trail fs es → (forest : Forest) × (path : List Entered) × (told forest path ≡ es)
+unfolding Trail
+path-of [] es t = (t.0, [], sym t.1)
+path-of (o ∷ os) es t =
+    let k = path-of os t.0 t.3 in
+    (k.0, record { name = o.name; start = o.start; inside = t.1 } ∷ k.1, ap (λ (x : List Event). x ++ (enter o.name o.start ∷ spell t.1)) k.2 ∙ sym t.2)
+
 -- what a run from the first event on knows
+pub record Known (s : Source) (es : List Event) (st : State) : Type 0 where
+  pub forest : Forest
+  pub path : List Entered
+  pub told_is : told forest path ≡ es
+  pub at_path : Stands s forest path st
+
 pub known : (s : Source) (es : List Event) (st : State) → run s es opening ≡ Ok st → Known s es st
 unfolding Trail
-known s es st h = known-by s st.frames es st refl h (trail-run s es opening st [] h (empty, refl))
+known s es st h =
+    let k = path-of st.frames es (trail-run s es opening st [] h (empty, refl)) in
+    record { forest = k.0; path = k.1; told_is = k.2; at_path = stands s k.0 k.1 st (ap (λ (x : List Event). run s x opening) k.2 ∙ h) }

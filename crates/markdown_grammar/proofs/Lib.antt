@@ -23,8 +23,8 @@ pub mod Refused
 pub mod Unbalanced
 pub mod WellKept
 mod OpenSpans
-pub mod LastEvents
 pub mod Known
+mod Fine
 pub mod Reasons
 pub mod Sayings
 pub mod Merged

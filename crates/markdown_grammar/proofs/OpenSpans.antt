@@ -21,7 +21,8 @@ use Rattle.markdown_events.specs.Around.{under}
 use Rattle.markdown_grammar.specs.Columns.{Columns}
 use Rattle.markdown_grammar.specs.Compiler.{Holds, Open, State, enter_step, opened, opening, run, step, step_by}
 use Rattle.markdown_grammar.specs.Holders.{Holder}
-use Rattle.markdown_grammar.specs.Accepted.{ends_with_break, fits}
+use Rattle.markdown_grammar.specs.Accepted.{ends_with_break}
+use Rattle.markdown_grammar.specs.OneTest.{fits}
 use Rattle.markdown_grammar.specs.Grammar.{takes}
 use Rattle.markdown_grammar.specs.Items.{Items, items, kinds, ◌then◌}
 use Rattle.markdown_grammar.specs.Spots.{holder_past, place_past}

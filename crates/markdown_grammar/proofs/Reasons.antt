@@ -15,11 +15,11 @@ use Rattle.markdown_events.specs.declared.role.Role.{Role}
 use Rattle.markdown_grammar.proofs.Allowed.{lets-is}
 use Rattle.markdown_grammar.proofs.Booleans.{and-both, and-left, and-right}
 use Rattle.markdown_grammar.proofs.Gathered.{inner_at}
-use Rattle.markdown_grammar.proofs.Known.{AreOpen, AreShaped, Known, kept_at_spot, known, outer_by}
+use Rattle.markdown_grammar.proofs.Known.{AreOpen, AreShaped, Stands, kept_at_spot, known, outer_by}
 use Rattle.markdown_grammar.proofs.OpenSpans.{FailsFirst, checked_why, no_err}
 use Rattle.markdown_grammar.proofs.Outcomes.{done, err_is, same_name_is}
-use Rattle.markdown_grammar.proofs.Refused.{step_point, stopped, stops-last}
-use Rattle.markdown_grammar.proofs.RuleLists.{keeps-snoc}
+use Rattle.markdown_grammar.proofs.Refused.{none-begins, step_point, stopped, stops-last}
+use Rattle.markdown_grammar.proofs.Fine.{keeps-now, taken-so-far}
 use Rattle.markdown_grammar.proofs.Shape.{shaped}
 use Rattle.markdown_grammar.specs.Accepted.{Occurrence, ends_with_break, has_its_byte, is_no_inner_table}
 use Rattle.markdown_events.specs.Around.{may_begin, under}
@@ -30,7 +30,7 @@ use Rattle.markdown_grammar.specs.Grammar.{rules, takes}
 use Rattle.markdown_grammar.specs.Holders.{Holder}
 use Rattle.markdown_grammar.specs.Items.{Items, items, kinds}
 use Rattle.markdown_grammar.specs.Place.{Place}
-use Rattle.markdown_grammar.specs.Reasons.{BreaksFirst, EndsFor, IsWrong, IsWrongAtEnter, IsWrongAtExit, IsHeld, StopsFor, in_what_holds_nothing, row_in_a_row, value_in_a_value, against_a_rule, beginning, behind_a_break, break_is_last, enters, exits, held, table_in_a_table, unmatched, without_its_byte, without_its_parts, without_its_value}
+use Rattle.markdown_grammar.specs.Reasons.{BreaksFirst, EndsFor, IsWrong, NothingIsWrong, IsWrongAtEnter, IsWrongAtExit, IsHeld, StopsFor, in_what_holds_nothing, row_in_a_row, value_in_a_value, against_a_rule, beginning, behind_a_break, break_is_last, enters, exits, held, table_in_a_table, unmatched, without_its_byte, without_its_parts, without_its_value}
 use Rattle.markdown_grammar.specs.Rejections.{Rejection, checked, refused, ◌>>=◌}
 use Rattle.markdown_grammar.specs.Rules.{Rule, keeps}
 use Rattle.markdown_grammar.specs.Source.{Source}
@@ -42,10 +42,6 @@ use Rattle.markdown_events.specs.declared.role.Role.TheVariants.{Plain as plain,
 use Rattle.markdown_grammar.specs.declared.refusal.Refusal.TheVariants.{Held, InvalidSlice, Misplaced, Unbalanced, UnfinishedBreak}
 
 -- ---- Enters
-
--- one more item keeps a rule where what is kept allows it
-keeps-now : (s : Source) (p : Place) (xs : Items) (r : Rule) (what : Acting) → keeps r (kinds xs) ≡ true → keeps r (kinds xs ++ what ∷ []) ≡ allows r (inner_at s p xs) what
-keeps-now s p xs r what h = keeps-snoc r (kinds xs) what ∙ (λ t. h t && lets-is r s p xs what t)
 
 rules-fail : (s : Source) (h : Holder) (p : Place) (xs : Items) (rs : List Rule) (what : Acting) (cs : List (Bool × Refusal)) (why : Refusal) → list_all (λ r. keeps r (kinds xs)) rs ≡ true
     → FailsFirst (rule_checks h rs (inner_at s p xs) what cs) why → BreaksFirst h rs (kinds xs ++ what ∷ []) why ⊎ ((list_all (λ r. keeps r (kinds xs ++ what ∷ [])) rs ≡ true) × FailsFirst cs why)
@@ -114,15 +110,15 @@ held-so role path t e = elim (begin-bools (around_of path).held (around_of path)
   | inr (inr h) ↦ value_in_a_value h.0 h.1
 ]
 
-enter-reason : (s : Source) (front : List Event) (n : Name) (p : Point) (st : State) (m : Rejection) (k : Known s front st) → enter_step s n p st ≡ Err m → IsWrong s k.forest k.path (record { kind = Enter; name = n; point = p }) m.refusal
+enter-reason : (s : Source) (n : Name) (p : Point) (st : State) (m : Rejection) (forest : Forest) (path : List Entered) → Stands s forest path st → enter_step s n p st ≡ Err m → IsWrong s forest path (record { kind = Enter; name = n; point = p }) m.refusal
 unfolding enter_step FailsFirst
-enter-reason s front n p st m k h =
-    let around : may_begin st.around (role_of n) ≡ may_begin (around_of k.path) (role_of n) = ap (λ (a : Around). may_begin a (role_of n)) k.around in
+enter-reason s n p st m forest path k h =
+    let around : may_begin st.around (role_of n) ≡ may_begin (around_of path) (role_of n) = ap (λ (a : Around). may_begin a (role_of n)) k.around in
     elim (checked_why ((may_begin st.around (role_of n), Held) ∷ []) p (enter_as s (role_of n) n p st) m h) [
       | inl e ↦
-          let w = enter-as-wrong s (role_of n) n p st m (spot_of k.forest k.path) k.top k.taken e.1 in
+          let w = enter-as-wrong s (role_of n) n p st m (spot_of forest path) k.top k.taken e.1 in
           enters w.0 refl (sym around ∙ and-left (may_begin st.around (role_of n)) true e.0) w.1 k.taken w.2
-      | inr (inl f) ↦ held refl (held-so (role_of n) k.path k.right_shape (sym around ∙ f.0)) (sym f.1)
+      | inr (inl f) ↦ held refl (held-so (role_of n) path k.right_shape (sym around ∙ f.0)) (sym f.1)
       | inr (inr f) ↦ absurd f.1
     ]
 
@@ -178,11 +174,11 @@ exit-by s n p st m (f ∷ fs) forest (e ∷ outer) open_spans top h = exit-open 
 exit-by s n p st m [] forest (e ∷ outer) open_spans top h = absurd open_spans
 exit-by s n p st m (f ∷ fs) forest [] open_spans top h = absurd open_spans
 
-step-reason : (kind : Kind) (s : Source) (front : List Event) (n : Name) (p : Point) (st : State) (m : Rejection) (k : Known s front st) → step_by kind s n p st ≡ Err m
-    → IsWrong s k.forest k.path (record { kind = kind; name = n; point = p }) m.refusal
+step-reason : (kind : Kind) (s : Source) (n : Name) (p : Point) (st : State) (m : Rejection) (forest : Forest) (path : List Entered) → Stands s forest path st → step_by kind s n p st ≡ Err m
+    → IsWrong s forest path (record { kind = kind; name = n; point = p }) m.refusal
 unfolding exit_step
-step-reason Enter s front n p st m k h = enter-reason s front n p st m k h
-step-reason Exit s front n p st m k h = exit-by s n p st m st.frames k.forest k.path k.frames k.top h
+step-reason Enter s n p st m forest path k h = enter-reason s n p st m forest path k h
+step-reason Exit s n p st m forest path k h = exit-by s n p st m st.frames forest path k.frames k.top h
 
 -- ---- The end of the list
 
@@ -205,7 +201,7 @@ ends-by s (f ∷ fs) forest [] top why open_spans is w = absurd open_spans
 -- ---- The whole
 
 explained-by : (r : Result State Rejection) (s : Source) (es : List Event) (m : Rejection) → run s es opening ≡ r
-    → (r >>= λ st. checked (last_checks st) (point_of (last_event es)) (done (tree_of es st))) ≡ Err m → StopsFor s es m ⊎ EndsFor es m
+    → (r >>= λ st. checked (last_checks st) (point_of (last_event es)) (done (tree_of es st))) ≡ Err m → StopsFor s es m ⊎ EndsFor s es m
 explained-by (Ok st) s es m one h =
     let k = known s es st one in
     let l = stops-last s es st m one h in
@@ -213,11 +209,12 @@ explained-by (Ok st) s es m one h =
       forest = k.forest;
       path = k.path;
       parts = sym k.told_is;
+      fine = taken-so-far s es st one;
       front = l.front;
       event = l.event;
       last = l.parts;
       named = l.named;
-      wrong = ends-by s st.frames k.forest k.path st.top m.refusal k.frames k.top (last-wrong (is_shut st.frames) st.top.waiting (point_of (last_event es)) (tree_of es st) m h);
+      wrong = ends-by s st.frames k.forest k.path st.top m.refusal k.at_path.frames k.at_path.top (last-wrong (is_shut st.frames) st.top.waiting (point_of (last_event es)) (tree_of es st) m h);
     })
 explained-by (Err j) s es m one h =
     let stop = stopped s es opening m (one ∙ ap (λ (x : Rejection). Err x) (err_is {A = Tree} j m h)) in
@@ -229,9 +226,11 @@ explained-by (Err j) s es m one h =
       back = stop.back;
       parts = stop.parts ∙ ap (λ (x : List Event). x ++ (stop.event ∷ stop.back)) (sym k.told_is);
       named = step_point stop.event.kind s stop.event.name stop.event.point stop.reached m stop.failed;
-      wrong = step-reason stop.event.kind s stop.front stop.event.name stop.event.point stop.reached m k stop.failed;
+      wrong = step-reason stop.event.kind s stop.event.name stop.event.point stop.reached m k.forest k.path k.at_path stop.failed;
+      fine_before = subst (NothingIsWrong s) (sym k.told_is) (taken-so-far s stop.front stop.reached stop.ran_front);
+      none_accepted = λ other others e a. none-begins s es m stop other others (e ∙ ap (λ (x : List Event). x ++ (stop.event ∷ others)) k.told_is) a;
     })
 
--- a list is refused for the first thing that is wrong in it
-pub explained : (s : Source) (es : List Event) (m : Rejection) → compiled s es ≡ Err m → StopsFor s es m ⊎ EndsFor es m
+-- a list is refused for the first event at which something is wrong, or for what is left open at the last
+pub explained : (s : Source) (es : List Event) (m : Rejection) → compiled s es ≡ Err m → StopsFor s es m ⊎ EndsFor s es m
 explained s es m h = explained-by (run s es opening) s es m refl h

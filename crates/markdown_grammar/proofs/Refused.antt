@@ -12,11 +12,13 @@ use Rattle.markdown_events.specs.declared.event.Point.{Point}
 use Rattle.markdown_events.specs.declared.role.Acting.{Acting}
 use Rattle.markdown_events.specs.declared.role.Role.{Role}
 use Rattle.markdown_grammar.proofs.Compiled.{accepted-runs, complete, finish}
+use Rattle.markdown_grammar.proofs.Conditions.{conditions-accept}
 use Rattle.markdown_grammar.proofs.EventRuns.{at}
 use Rattle.markdown_grammar.proofs.Extents.{last-of, last_part}
 use Rattle.markdown_grammar.proofs.Outcomes.{bind_bind, bind_point, bind_same, checked_point, done, done_point, err_clash, err_is}
 use Rattle.markdown_grammar.proofs.SiblingMarks.{marks}
-use Rattle.markdown_grammar.specs.Accepted.{accepted}
+use Rattle.markdown_grammar.specs.Accepted.{Accepted}
+use Rattle.markdown_grammar.specs.OneTest.{accepted}
 use Rattle.markdown_events.specs.Around.{in_the_open, may_begin}
 use Rattle.markdown_grammar.specs.Columns.{shown}
 use Rattle.markdown_grammar.specs.Compiler.{Holds, Open, State, closed, compiled, enter_as, enter_checks, enter_step, entered, exit_checks, exit_from, exit_step, is_shut, last_checks, leave, leave_to, opened, opening, point_of, run, shut, step, step_by, tree_of}
@@ -100,34 +102,23 @@ always s es st m stop others =
     ∙ ap (λ (x : Result State Rejection). x >>= run s (stop.event ∷ others)) stop.ran_front
     ∙ ap (λ (x : Result State Rejection). x >>= run s others) stop.failed
 
--- ---- Where a list is refused
+-- and no accepted list begins so
+pub none-begins : (s : Source) (es : List Event) (m : Rejection) (stop : Stop s es opening m) (f : Forest) (others : List Event) → spell f ≡ stop.front ++ (stop.event ∷ others) → Accepted s f → ⊥
+none-begins s es m stop f others e a =
+    err_clash (run s (stop.front ++ (stop.event ∷ others)) opening) (at [] in_the_open (marks f) (finish s f)) m
+    (ap (λ (x : List Event). run s x opening) (sym e) ∙ accepted-runs s f (conditions-accept s f a)) (always s es opening m stop others)
 
--- the point is an event's, and no accepted list begins with the events up to it
-pub record StopsAt (s : Source) (es : List Event) (m : Rejection) : Type 0 where
-  pub front : List Event
-  pub event : Event
-  pub back : List Event
-  pub parts : es ≡ front ++ (event ∷ back)
-  pub named : m.point ≡ event.point
-  pub none_accepted : (forest : Forest) (others : List Event) → spell forest ≡ front ++ (event ∷ others) → accepted s forest ≢ true
+-- ---- A list that is refused behind its last event
 
--- all events were taken; the point is the last one's, and spans are open or a break waits
+-- the point is the last event's
 pub record StopsLast (es : List Event) (m : Rejection) : Type 0 where
   pub front : List Event
   pub event : Event
   pub parts : es ≡ front ++ (event ∷ [])
   pub named : m.point ≡ event.point
-  pub left : (m.refusal ≡ Unbalanced) ⊎ (m.refusal ≡ UnfinishedBreak)
 
-last-why : (a b : Bool) (p : Point) (t : Tree) (m : Rejection) → checked ((a, Unbalanced) ∷ (b, UnfinishedBreak) ∷ []) p (done t) ≡ Err m
-    → (m.point ≡ p) × ((m.refusal ≡ Unbalanced) ⊎ (m.refusal ≡ UnfinishedBreak))
-last-why false b p t m h =
-    let e : record { refusal = Unbalanced; point = p } ≡ m = err_is {A = Tree} (record { refusal = Unbalanced; point = p }) m h in
-    (ap (λ (k : Rejection). k.point) (sym e), inl (ap (λ (k : Rejection). k.refusal) (sym e)))
-last-why true false p t m h =
-    let e : record { refusal = UnfinishedBreak; point = p } ≡ m = err_is {A = Tree} (record { refusal = UnfinishedBreak; point = p }) m h in
-    (ap (λ (k : Rejection). k.point) (sym e), inr (ap (λ (k : Rejection). k.refusal) (sym e)))
-last-why true true p t m h = absurd cc
+last-point : (a b : Bool) (p : Point) (t : Tree) (m : Rejection) → checked ((a, Unbalanced) ∷ (b, UnfinishedBreak) ∷ []) p (done t) ≡ Err m → m.point ≡ p
+last-point a b p t m h = checked_point ((a, Unbalanced) ∷ (b, UnfinishedBreak) ∷ []) p (done t) m (done_point t m p) h
 
 pub stops-last : (s : Source) (es : List Event) (st : State) (m : Rejection) → run s es opening ≡ Ok st → checked (last_checks st) (point_of (last_event es)) (done (tree_of es st)) ≡ Err m → StopsLast es m
 unfolding run
@@ -137,23 +128,5 @@ stops-last s [] st m one h =
 stops-last s (d ∷ es) st m one h =
     let l = last-of d es in
     let p = last_part (d ∷ es) l.0 l.1 in
-    let w = last-why (is_shut st.frames) (not st.top.waiting) (point_of (last_event (d ∷ es))) (tree_of (d ∷ es) st) m h in
-    record { front = p.0; event = l.0; parts = p.1; named = w.0 ∙ ap point_of l.1; left = w.1 }
-
-refused-at : (r : Result State Rejection) (s : Source) (es : List Event) (m : Rejection) → run s es opening ≡ r
-    → (r >>= λ st. checked (last_checks st) (point_of (last_event es)) (Ok (tree_of es st))) ≡ Err m → StopsAt s es m ⊎ StopsLast es m
-refused-at (Ok st) s es m one h = inr (stops-last s es st m one h)
-refused-at (Err k) s es m one h =
-    let stop = stopped s es opening m (one ∙ ap (λ (x : Rejection). Err x) (err_is {A = Tree} k m h)) in
-    inl (record {
-      front = stop.front;
-      event = stop.event;
-      back = stop.back;
-      parts = stop.parts;
-      named = step_point stop.event.kind s stop.event.name stop.event.point stop.reached m stop.failed;
-      none_accepted = λ f others e a. err_clash (run s (stop.front ++ (stop.event ∷ others)) opening) (at [] in_the_open (marks f) (finish s f)) m
-          (ap (λ (x : List Event). run s x opening) (sym e) ∙ accepted-runs s f a) (always s es opening m stop others);
-    })
-
-pub refused-where : (s : Source) (es : List Event) (m : Rejection) → compiled s es ≡ Err m → StopsAt s es m ⊎ StopsLast es m
-refused-where s es m h = refused-at (run s es opening) s es m refl h
+    let w = last-point (is_shut st.frames) (not st.top.waiting) (point_of (last_event (d ∷ es))) (tree_of (d ∷ es) st) m h in
+    record { front = p.0; event = l.0; parts = p.1; named = w ∙ ap point_of l.1 }

@@ -8,7 +8,7 @@ use Rattle.markdown_events.specs.declared.event.Name.TheVariants as n
 use Rattle.markdown_events.specs.Forest.{Forest, empty, span, spell}
 use Rattle.markdown_events.specs.Slices.{slice}
 use Rattle.markdown_events.specs.Texts.{fold}
-use Rattle.markdown_grammar.specs.Accepted.{accepted}
+use Rattle.markdown_grammar.specs.OneTest.{accepted}
 use Rattle.markdown_grammar.specs.Compiler.{compiled, enter_step, exit_step, leave, run}
 use Rattle.markdown_grammar.proofs.RowWords.{at, at_spaces, over, refusal, refusal_of}
 

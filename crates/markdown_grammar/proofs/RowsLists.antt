@@ -10,7 +10,7 @@ use Rattle.markdown_events.specs.Slices.{slice}
 use Rattle.markdown_events.specs.Texts.{fold}
 use Rattle.markdown_nodes.specs.Tree.{node, nothing, only}
 use Rattle.markdown_nodes.specs.Tree as t
-use Rattle.markdown_grammar.specs.Accepted.{accepted}
+use Rattle.markdown_grammar.specs.OneTest.{accepted}
 use Rattle.markdown_grammar.specs.Compiler.{compiled, enter_step, exit_step, leave, run}
 use Rattle.markdown_grammar.specs.Meaning.{meaning}
 use Rattle.markdown_grammar.proofs.Orderly.{ordered}

@@ -7,9 +7,9 @@ use Rattle.markdown_events.specs.declared.event.Point.{Point}
 use Rattle.markdown_events.specs.declared.role.Acting.{Acting}
 use Rattle.markdown_events.specs.declared.role.Part.{Part}
 use Rattle.markdown_grammar.specs.Accepted.{Occurrence, ends_with_break, has_its_parts, known}
-use Rattle.markdown_grammar.specs.Compiler.{broken, lacking, unread}
+use Rattle.markdown_grammar.specs.Refusals.{broken, lacking, unread}
 use Rattle.markdown_grammar.specs.Gives.{value}
-use Rattle.markdown_grammar.proofs.Booleans.{and-left, and-right}
+use Rattle.markdown_grammar.proofs.Booleans.{and-left, and-right, not-both}
 use Rattle.markdown_grammar.proofs.Gathered.{is-that-part}
 use Rattle.markdown_grammar.proofs.RuleLists.{keeps-snoc, lets}
 use Rattle.markdown_grammar.specs.Grammar.{is_complete, markers, rules, takes}
@@ -55,9 +55,6 @@ complete-part math_flow parts.MathFlowFence i = refl
 complete-part h parts.CodeFencedFence i = refl
 complete-part h parts.MathFlowFence i = refl
 complete-part h q i = refl
-
-not-both : {b : Bool} → b ≡ true → b ≡ false → ⊥
-not-both h k = let z : true ≡ false = sym h ∙ k in absurd cc
 
 -- an item of these ends without what must stand in it
 abbrev of : Holder → Place → Bool → Acting → Point → Point → Items → Occurrence
@@ -121,15 +118,15 @@ not-false true h = refl
 not-false false h = sym h
 
 -- what is wrong at an exit is what the refusal says
-pub exit-says : (s : Source) (x : Occurrence) (why : Refusal) → IsWrongAtExit s x why → ExitSays s x why
-exit-says s x why (break_is_last e w) = subst (λ (r : Refusal). ExitSays s x r) (sym w) (not-false (ends_with_break x.inner) e)
-exit-says s x why (without_its_parts b e w) = subst (λ (r : Refusal). ExitSays s x r) (sym w) (parts-say s x.holder x.place x.behind_break x.what x.start x.end x.inner e)
-exit-says s x why (without_its_value b k e w) = subst (λ (r : Refusal). ExitSays s x r) (sym w) (value-says s x.holder x.place x.behind_break x.what x.start x.end x.inner e)
+pub exit_says : (s : Source) (x : Occurrence) (why : Refusal) → IsWrongAtExit s x why → ExitSays s x why
+exit_says s x why (break_is_last e w) = subst (λ (r : Refusal). ExitSays s x r) (sym w) (not-false (ends_with_break x.inner) e)
+exit_says s x why (without_its_parts b e w) = subst (λ (r : Refusal). ExitSays s x r) (sym w) (parts-say s x.holder x.place x.behind_break x.what x.start x.end x.inner e)
+exit_says s x why (without_its_value b k e w) = subst (λ (r : Refusal). ExitSays s x r) (sym w) (value-says s x.holder x.place x.behind_break x.what x.start x.end x.inner e)
 
 -- ---- Enters
 
 -- a rule that is broken is one of the row's
-breaks-takes : (h : Holder) (rs : List Rule) (xs : List Acting) (why : Refusal) → BreaksFirst h rs xs why → list_all (λ r. keeps r xs) rs ≡ false
+pub breaks-takes : (h : Holder) (rs : List Rule) (xs : List Acting) (why : Refusal) → BreaksFirst h rs xs why → list_all (λ r. keeps r xs) rs ≡ false
 breaks-takes h [] xs why b = absurd b
 breaks-takes h (r ∷ rs) xs why (inl b) = ap (λ k. k && list_all (λ r'. keeps r' xs) rs) b.0
 breaks-takes h (r ∷ rs) xs why (inr b) = (λ t. b.0 t && breaks-takes h rs xs why b.1 t)
@@ -197,8 +194,8 @@ byte-says s (content c) a h = absurd cc
 byte-says s (part q) a h = absurd cc
 
 -- what is wrong at an enter is what the refusal says
-pub enter-says : (s : Source) (spot : Spot) (what : Acting) (a : Point) (why : Refusal) → takes spot.row (kinds spot.before) ≡ true → IsWrongAtEnter s spot what a why → EnterSays s spot what a why
-enter-says s spot what a why taken (behind_a_break e w) = subst (λ (r : Refusal). EnterSays s spot what a r) (sym w) (break-bools (ends_with_break spot.before) (is_line_ending what) e)
-enter-says s spot what a why taken (against_a_rule k b) = breaks-enter s spot what a why taken b (breaks-say spot.row (rules spot.row) (kinds spot.before ++ what ∷ []) why b)
-enter-says s spot what a why taken (table_in_a_table k l e w) = subst (λ (r : Refusal). EnterSays s spot what a r) (sym w) (inr e)
-enter-says s spot what a why taken (without_its_byte k l m e w) = subst (λ (r : Refusal). EnterSays s spot what a r) (sym w) (byte-says s what a e)
+pub enter_says : (s : Source) (spot : Spot) (what : Acting) (a : Point) (why : Refusal) → takes spot.row (kinds spot.before) ≡ true → IsWrongAtEnter s spot what a why → EnterSays s spot what a why
+enter_says s spot what a why taken (behind_a_break e w) = subst (λ (r : Refusal). EnterSays s spot what a r) (sym w) (break-bools (ends_with_break spot.before) (is_line_ending what) e)
+enter_says s spot what a why taken (against_a_rule k b) = breaks-enter s spot what a why taken b (breaks-say spot.row (rules spot.row) (kinds spot.before ++ what ∷ []) why b)
+enter_says s spot what a why taken (table_in_a_table k l e w) = subst (λ (r : Refusal). EnterSays s spot what a r) (sym w) (inr e)
+enter_says s spot what a why taken (without_its_byte k l m e w) = subst (λ (r : Refusal). EnterSays s spot what a r) (sym w) (byte-says s what a e)

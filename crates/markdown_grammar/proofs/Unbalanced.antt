@@ -17,7 +17,8 @@ use Rattle.markdown_grammar.proofs.Outcomes.{done, err_is}
 use Rattle.markdown_grammar.proofs.SiblingMarks.{marks}
 use Rattle.markdown_events.specs.Around.{in_the_open, may_begin, under}
 use Rattle.markdown_grammar.specs.Columns.{shown}
-use Rattle.markdown_grammar.specs.Compiler.{Holds, State, broken, closed, compiled, enter_checks, entered, exit_checks, lacking, last_checks, leave, point_of, rule_checks, tree_of, unread}
+use Rattle.markdown_grammar.specs.Compiler.{Holds, State, closed, compiled, enter_checks, entered, exit_checks, last_checks, leave, point_of, rule_checks, tree_of}
+use Rattle.markdown_grammar.specs.Refusals.{broken, lacking, unread}
 use Rattle.markdown_grammar.specs.Extents.{last_event}
 use Rattle.markdown_grammar.specs.Grammar.{rules}
 use Rattle.markdown_grammar.specs.Holders.{Holder, character_reference, leaf}

@@ -92,26 +92,3 @@ pub record Accepted (s : Source) (forest : Forest) : Type 0 where
   -- what is read can be read
   pub bytes : IsTrue (each_item (has_its_byte s) forest)
   pub values : IsTrue (each_item (has_its_value s) forest)
-
--- ---- The same as one test, in one walk
-
--- a break waits for a line ending, a table is in no table, a Frontmatter has its byte
-abbrev pub may_begin : Source → Place → Bool → Acting → Point → Bool
-may_begin s p waiting what start = (not waiting || is_line_ending what) && not (p.in_table && is_table what) && (not (is_frontmatter what) || is_some (byte_at s.bytes start))
-
--- no break is last in it, what it wants stands in it, and its value can be read
-abbrev pub may_end : Source → Holder → Place → Bool → Acting → Point → Point → Bool → Holder → Inner → Bool
-may_end s h p waiting what start end broken own i = not broken && is_complete own i && is_read s h p waiting what start end
-
--- all items, at any depth, are what their holders take, and have what is asked
-abbrev pub fits : Source → Holder → Place → Bool → Items → Bool
-fits s h p waiting none = true
-fits s h p waiting (item what start end _ inner rest) =
-    (may_begin s p waiting what start
-    && (takes (holder_of h what) (kinds inner) && fits s (holder_of h what) (place_inside what p) false inner)
-    && may_end s h p waiting what start end (ends_with_break inner) (holder_of h what) (inner_of s (place_inside what p) inner (λ which. nodes s which (place_inside what p) inner)))
-    && fits s (holder_behind h what (is_some (mark inner))) (place_behind what p) (is_hard_break what) rest
-
--- the same as one test
-abbrev pub accepted : Source → Forest → Bool
-accepted s forest = has_right_shape forest && takes any_content (kinds (items forest)) && fits s any_content root_place false (items forest) && not (ends_with_break (items forest))

@@ -27,6 +27,7 @@ use Rattle.markdown_grammar.specs.Parts.{Inner, Kept, Path, into, itself, kept_f
 use Rattle.markdown_grammar.specs.Place.{Place, place_behind, place_inside, root_place}
 use Rattle.markdown_grammar.specs.Ranges.{byte_at, length_between}
 use Rattle.markdown_grammar.specs.Reads.{is_read}
+use Rattle.markdown_grammar.specs.Refusals.{broken, lacking, unread}
 use Rattle.markdown_grammar.specs.Rejections.{Rejection, checked, refused, ◌>>=◌}
 use Rattle.markdown_grammar.specs.Rules.{Rule, never, once, only, only_before, only_behind}
 use Rattle.markdown_grammar.specs.Siblings.{Marks, marks_with, no_marks}
@@ -79,13 +80,6 @@ allows (never ps) i what = not (is_one_of ps what)
 allows (only_behind ps test) i what = not (has_one_of ps i) || test what
 allows (only_before ps test) i what = has_one_of ps i || (is_one_of ps what || test what)
 
--- why an item that breaks a rule of a holder is refused
-abbrev pub broken : Holder → Rule → Refusal
-broken h (once ps) = Repeated
-broken h (never ps) = Repeated
-broken character_reference (only_before ps test) = IncompleteReference
-broken h rule = Misplaced
-
 -- the tests of these rules, before others
 abbrev pub rule_checks : Holder → List Rule → Inner → Acting → List (Bool × Refusal) → List (Bool × Refusal)
 rule_checks h [] i what others = others
@@ -100,21 +94,6 @@ enter_checks s top what start =
     ∷ (not (is_frontmatter what) || is_some (byte_at s.bytes start), InvalidSlice) ∷ [])
 
 -- ---- Tests at an exit
-
--- why a holder is refused that lacks what must stand in it
-abbrev pub lacking : Holder → Refusal
-lacking character_reference = IncompleteReference
-lacking code_fenced = MissingFence
-lacking math_flow = MissingFence
-lacking list_ordered = MissingListValue
-lacking h = HeadingDepth
-
--- why an item is refused that cannot be read
-abbrev pub unread : Source → Acting → Point → Point → Refusal
-unread s (part parts.CharacterReferenceValue) a b = if is_some (slice s.bytes a b) then UnknownReference else InvalidSlice
-unread s (part parts.ListItemValue) a b = if is_some (slice s.bytes a b) then InvalidListValue else InvalidSlice
-unread s (part parts.HeadingAtxSequence) a b = if is_some (length_between s.bytes a b) then HeadingDepth else InvalidSlice
-unread s what a b = InvalidSlice
 
 -- what is asked of an item where it ends
 abbrev pub exit_checks : Source → Holds → Acting → Point → Point → Holds → List (Bool × Refusal)

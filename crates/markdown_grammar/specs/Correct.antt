@@ -22,30 +22,12 @@ pub record IsMeaning (tree : Node) (events : List Event) (s : Source) : Type 0 w
   pub accepted : Accepted s forest
   pub is_meaning : view tree ≡ meaning s forest
 
--- the point is an event's, and no list that begins with the events up to it is accepted
-pub record StopsAt (why : Rejection) (events : List Event) (s : Source) : Type 0 where
-  pub front : List Event
-  pub event : Event
-  pub back : List Event
-  pub parts : events ≡ front ++ (event ∷ back)
-  pub named : why.point ≡ event.point
-  pub none_accepted : (forest : Forest) (others : List Event) → spell forest ≡ front ++ (event ∷ others) → ¬ (Accepted s forest)
-
--- spans are left open, or a break that waits for its line ending, and the point is the last event's
-pub record LeftOpen (why : Rejection) (events : List Event) : Type 0 where
-  pub front : List Event
-  pub event : Event
-  pub parts : events ≡ front ++ (event ∷ [])
-  pub named : why.point ≡ event.point
-  pub left : (why.refusal ≡ Unbalanced) ⊎ (why.refusal ≡ UnfinishedBreak)
-
 -- no accepted forest spells the events, and none at all where they are said to be unbalanced
 pub record IsRefused (why : Rejection) (events : List Event) (s : Source) : Type 0 where
   pub none_accepted : (forest : Forest) → spell forest ≡ events → ¬ (Accepted s forest)
   pub unbalanced : why.refusal ≡ Unbalanced → (forest : Forest) → spell forest ≢ events
-  pub place : StopsAt why events s ⊎ LeftOpen why events
-  -- what the grammar says is wrong there, the first such thing in the list
-  pub reason : StopsFor s events why ⊎ EndsFor events why
+  -- it is for the first event at which something is wrong, or for what is left open at the last
+  pub reason : StopsFor s events why ⊎ EndsFor s events why
 
 -- the message says why, and where
 pub record Refuses (message : Message) (events : List Event) (s : Source) : Type 0 where

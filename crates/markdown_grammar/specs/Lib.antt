@@ -16,6 +16,7 @@ pub mod Holders
 pub mod Grammar
 pub mod Reads
 pub mod Accepted
+pub mod OneTest
 pub mod Ordered
 pub mod Buffers
 pub mod TextNodes

@@ -32,10 +32,11 @@ pub data Path : Type 0 where
   itself : Path
   into : Part → Path → Path
 
--- a part of the items, and a part of a part
+-- a part of the items
 abbrev pub path_to : Part → Path
 path_to p = into p itself
 
+-- a part of a part
 abbrev pub path_through : Part → Part → Path
 path_through q p = into q (into p itself)
 
@@ -52,7 +53,7 @@ is_byte s b p = elim (byte_at s.bytes p) [ Some c ↦ b == c | None ↦ false ]
 -- what a part gives to the span that holds it
 pub data Kept : Type 0 where
   stood : Kept
-  -- a depth or a list's number
+  -- the depth of a heading
   count : ℕ → Kept
   -- the text of its items, or what the decoder says of it
   words : List ℕ → Kept
@@ -106,7 +107,7 @@ abbrev pub identifier_of : Option Kept → List ℕ
 identifier_of (Some (named i w)) = i
 identifier_of _ = []
 
--- the number that a part gives, 0 where there is none
+-- the depth that a part gives, 0 where there is none
 abbrev pub count_of : Option Kept → ℕ
 count_of (Some (count n)) = n
 count_of _ = 0

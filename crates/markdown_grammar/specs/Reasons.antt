@@ -1,6 +1,6 @@
 -- Why a list of events is refused, in the words of the grammar.
 use Rattle.std.specs.Prelude.{Bool, List, None, [], false, true, ◌++◌, ◌≡◌, ◌≢◌, ◌⊎◌, ◌∷◌}
-use Rattle.markdown_events.specs.Forest.{Forest, empty, is_delimiter_cell_value, is_delimiter_row}
+use Rattle.markdown_events.specs.Forest.{Forest, empty, is_delimiter_cell_value, is_delimiter_row, spell}
 use Rattle.markdown_events.specs.Names.{role_of}
 use Rattle.markdown_events.specs.Walks.{is_same_name}
 use Rattle.markdown_events.specs.declared.event.Event.{Event}
@@ -8,9 +8,9 @@ use Rattle.markdown_events.specs.declared.event.Name.{Name}
 use Rattle.markdown_events.specs.declared.event.Point.{Point}
 use Rattle.markdown_events.specs.declared.role.Acting.{Acting}
 use Rattle.markdown_events.specs.declared.role.Role.{Role}
-use Rattle.markdown_grammar.specs.Accepted.{Occurrence, ends_a_break, ends_with_break, has_its_byte, has_its_parts, has_its_value, holds_no_open_break, is_no_inner_table, known}
+use Rattle.markdown_grammar.specs.Accepted.{Accepted, Occurrence, ends_a_break, ends_with_break, has_its_byte, has_its_parts, has_its_value, holds_no_open_break, is_no_inner_table, known}
 use Rattle.markdown_events.specs.Around.{holds_nothing, may_begin}
-use Rattle.markdown_grammar.specs.Compiler.{broken, lacking, unread}
+use Rattle.markdown_grammar.specs.Refusals.{broken, lacking, unread}
 use Rattle.markdown_events.specs.Slices.{slice}
 use Rattle.markdown_events.specs.declared.role.Part.{Part}
 use Rattle.markdown_grammar.specs.Gives.{value}
@@ -111,7 +111,11 @@ pub data IsWrong (s : Source) (forest : Forest) (path : List Entered) (event : E
   exits : (e : Entered) (outer : List Entered) (what : Acting) → event.kind ≡ Exit → path ≡ e ∷ outer → e.name ≡ event.name → role_of e.name ≡ acting what
       → IsWrongAtExit s (occurrence (spot_of forest outer) what e.start event.point (items e.inside)) why → IsWrong s forest path event why
 
--- the point is that of an event at which something is wrong
+-- at none of these events anything is wrong
+abbrev pub NothingIsWrong : Source → List Event → Type 0
+NothingIsWrong s events = (forest : Forest) (path : List Entered) (event : Event) (back : List Event) (why : Refusal) → events ≡ told forest path ++ (event ∷ back) → ¬ (IsWrong s forest path event why)
+
+-- the point is that of the first event at which something is wrong, and no list that begins with the events up to it is accepted
 pub record StopsFor (s : Source) (events : List Event) (m : Rejection) : Type 0 where
   pub forest : Forest
   pub path : List Entered
@@ -120,12 +124,15 @@ pub record StopsFor (s : Source) (events : List Event) (m : Rejection) : Type 0 
   pub parts : events ≡ told forest path ++ (event ∷ back)
   pub named : m.point ≡ event.point
   pub wrong : IsWrong s forest path event m.refusal
+  pub fine_before : NothingIsWrong s (told forest path)
+  pub none_accepted : (other : Forest) (others : List Event) → spell other ≡ told forest path ++ (event ∷ others) → ¬ (Accepted s other)
 
--- at the end spans are open, or a break is the root's last item, and the point is the last event's
-pub record EndsFor (events : List Event) (m : Rejection) : Type 0 where
+-- nothing is wrong at an event, but at the end spans are open, or a break is the root's last item, and the point is the last event's
+pub record EndsFor (s : Source) (events : List Event) (m : Rejection) : Type 0 where
   pub forest : Forest
   pub path : List Entered
   pub parts : events ≡ told forest path
+  pub fine : NothingIsWrong s events
   pub front : List Event
   pub event : Event
   pub last : events ≡ front ++ (event ∷ [])

@@ -1,11 +1,18 @@
 -- What a refusal says.
-use Rattle.std.specs.Prelude.{◌≡◌, ℕ, List, codes, Some}
+use Rattle.std.specs.Prelude.{◌≡◌, ℕ, List, codes, Some, if◌then◌else◌, is_some}
 use Rattle.markdown_events.specs.declared.event.Point.{Point}
 use Rattle.markdown_events.specs.declared.message.Fault.{Fault}
 use Rattle.markdown_events.specs.declared.message.Fault.TheVariants as faults
 use Rattle.markdown_events.specs.declared.message.Message.{Message}
 use Rattle.markdown_events.specs.declared.message.Place.TheVariants as places
-use Rattle.markdown_events.specs.Slices.{to_unist}
+use Rattle.markdown_events.specs.Slices.{slice, to_unist}
+use Rattle.markdown_events.specs.declared.role.Acting.{Acting}
+use Rattle.markdown_events.specs.declared.role.Acting.TheVariants.{Part as part}
+use Rattle.markdown_events.specs.declared.role.Part.TheVariants as parts
+use Rattle.markdown_grammar.specs.Holders.{Holder, character_reference, code_fenced, list_ordered, math_flow}
+use Rattle.markdown_grammar.specs.Ranges.{length_between}
+use Rattle.markdown_grammar.specs.Rules.{Rule, never, once, only, only_before, only_behind}
+use Rattle.markdown_grammar.specs.Source.{Source}
 use Rattle.markdown_grammar.specs.declared.refusal.Refusal.{Refusal}
 use Rattle.markdown_grammar.specs.declared.refusal.Refusal.TheVariants.{Unbalanced, Misplaced, Repeated, Held, InvalidSlice, InvalidListValue, MissingListValue, UnknownReference, IncompleteReference, MissingFence, HeadingDepth, UnfinishedBreak}
 use Rattle.markdown_grammar.specs.declared.refusal.Stop.{Stop}
@@ -40,6 +47,32 @@ reason_of IncompleteReference = codes "a character reference has no marker befor
 reason_of MissingFence = codes "a raw block has no fence"
 reason_of HeadingDepth = codes "a heading has no depth from 1 to 6"
 reason_of UnfinishedBreak = codes "a hard break is not followed by its line ending"
+
+-- ---- Which refusal belongs to what is wrong
+
+-- why an item that breaks a rule of a holder is refused
+abbrev pub broken : Holder → Rule → Refusal
+broken h (once ps) = Repeated
+broken h (never ps) = Repeated
+broken character_reference (only_before ps test) = IncompleteReference
+broken h rule = Misplaced
+
+-- why a holder is refused that lacks what must stand in it
+abbrev pub lacking : Holder → Refusal
+lacking character_reference = IncompleteReference
+lacking code_fenced = MissingFence
+lacking math_flow = MissingFence
+lacking list_ordered = MissingListValue
+lacking h = HeadingDepth
+
+-- why an item is refused that cannot be read
+abbrev pub unread : Source → Acting → Point → Point → Refusal
+unread s (part parts.CharacterReferenceValue) a b = if is_some (slice s.bytes a b) then UnknownReference else InvalidSlice
+unread s (part parts.ListItemValue) a b = if is_some (slice s.bytes a b) then InvalidListValue else InvalidSlice
+unread s (part parts.HeadingAtxSequence) a b = if is_some (length_between s.bytes a b) then HeadingDepth else InvalidSlice
+unread s what a b = InvalidSlice
+
+-- ---- What the message says
 
 -- the message says that the event at this point is refused so
 pub record Says (message : Message) (refusal : Refusal) (point : Point) : Type 0 where

@@ -8,10 +8,11 @@ use Rattle.markdown_events.specs.declared.unist.Position.{Position}
 abbrev pub capped_sum : ℕ → ℕ → ℕ
 capped_sum m n = min (m + n) (2 ^ 64 - 1)
 
--- behind n bytes of the same line, and behind a line ending of n bytes
+-- behind one byte of the same line
 abbrev pub one_on : Point → Point
 one_on p = record p { column = capped_sum p.column 1; offset = capped_sum p.offset 1 }
 
+-- behind a line ending of n bytes
 abbrev pub on_next_line : ℕ → Point → Point
 on_next_line n p = record { line = capped_sum p.line 1; column = 1; offset = capped_sum p.offset n }
 

@@ -1,22 +1,27 @@
-//! What holds of every tree, whatever the document: laws of the meaning, each the contract of a
-//! function that takes and gives nothing.
+//! What holds of every tree and of every refusal, whatever the document: laws, each the contract of
+//! a function that takes and gives nothing.
 //!
-//! A tree that `compile` gives is the meaning of an accepted forest that the events spell, so each
-//! law here is one about the trees that it gives.
+//! A tree that `compile` gives is the meaning of an accepted forest that the events spell, and with
+//! a message something is wrong at an event, or left open at the last. So each law here is one about
+//! what it answers.
 
-ghost use Rattle.std.specs.Prelude.{◌≡◌, true};
+ghost use Rattle.std.specs.Prelude.{◌≡◌, ◌++◌, ◌∷◌, [], true};
 ghost use Rattle.markdown_events.specs.Forest.{Forest};
 ghost use Rattle.markdown_events.specs.declared.event.Point.{Point};
 ghost use Rattle.markdown_events.specs.declared.role.Acting.{Acting};
 ghost use Rattle.markdown_nodes.specs.Tree.{only};
-ghost use Rattle.markdown_grammar.specs.Accepted.{accepted};
+ghost use Rattle.markdown_grammar.specs.Accepted.{Accepted, Occurrence};
 ghost use Rattle.markdown_grammar.specs.Consequences.{Everywhere, HasColumnsOf, HasDepthToSix, HasPosition, HasStartIfOrdered, IsLinkBefore, NoTextBehindText, is_autolink};
-ghost use Rattle.markdown_grammar.specs.Items.{Items, item};
+ghost use Rattle.markdown_grammar.specs.Grammar.{takes};
+ghost use Rattle.markdown_grammar.specs.Items.{Items, item, kinds};
 ghost use Rattle.markdown_grammar.specs.Meaning.{meaning};
 ghost use Rattle.markdown_grammar.specs.Nodes.{nodes};
 ghost use Rattle.markdown_grammar.specs.Parts.{itself};
 ghost use Rattle.markdown_grammar.specs.Place.{Place, place_behind};
+ghost use Rattle.markdown_grammar.specs.Reasons.{EnterSays, ExitSays, IsWrongAtEnter, IsWrongAtExit};
 ghost use Rattle.markdown_grammar.specs.Source.{Source};
+ghost use Rattle.markdown_grammar.specs.Spots.{Spot};
+ghost use Rattle.markdown_grammar.specs.declared.refusal.Refusal.{Refusal};
 
 /// No Text stands directly behind a Text among siblings, at any depth.
 ///
@@ -55,7 +60,7 @@ pub fn every_node_has_a_position()
 /// `### a` gives a Heading of depth 3, and `a` above `---` one of depth 2.
 #[tactic(auto, using(crate::proofs::ConsequencesOfFields::depths))]
 pub fn heading_depths_are_one_to_six()
-    ensures { (s : Source) (f : Forest) → accepted s f ≡ true → Everywhere HasDepthToSix (only (meaning s f)) }
+    ensures { (s : Source) (f : Forest) → Accepted s f → Everywhere HasDepthToSix (only (meaning s f)) }
 {}
 
 /// A List has a `start` exactly when it is ordered.
@@ -68,7 +73,7 @@ pub fn heading_depths_are_one_to_six()
 /// `3. a` gives a List with the `start` 3, and `* a` one without.
 #[tactic(auto, using(crate::proofs::ConsequencesOfFields::starts))]
 pub fn lists_have_a_start_when_ordered()
-    ensures { (s : Source) (f : Forest) → accepted s f ≡ true → Everywhere HasStartIfOrdered (only (meaning s f)) }
+    ensures { (s : Source) (f : Forest) → Accepted s f → Everywhere HasStartIfOrdered (only (meaning s f)) }
 {}
 
 /// Every Table lies where a table of the events lies, and has one alignment for each cell value of
@@ -83,7 +88,7 @@ pub fn lists_have_a_start_when_ordered()
 /// In a forest that is not accepted a cell value may stand in another, and has no entry there.
 #[tactic(auto, using(crate::proofs::ConsequencesOfTables::columns))]
 pub fn tables_have_an_alignment_for_each_column()
-    ensures { (s : Source) (f : Forest) → accepted s f ≡ true → Everywhere (HasColumnsOf f) (only (meaning s f)) }
+    ensures { (s : Source) (f : Forest) → Accepted s f → Everywhere (HasColumnsOf f) (only (meaning s f)) }
 {}
 
 /// An autolink gives a Link, from its start to its end, before the nodes of what stands behind it.
@@ -98,4 +103,33 @@ pub fn tables_have_an_alignment_for_each_column()
 pub fn autolinks_give_links()
     ensures { (s : Source) (p : Place) (what : Acting) (start end : Point) (children : Forest) (inner rest : Items) → is_autolink what ≡ true
         → IsLinkBefore (nodes s itself p (item what start end children inner rest)) start end (nodes s itself (place_behind what p) rest) }
+{}
+
+/// A span that acts and is refused where it begins has what the refusal's reason says.
+///
+/// Behind a hard break stands no line ending (`break-unfinished`). The holder does not take the
+/// span behind what stands in it (`part-repeated`, `name-misplaced`), or the span is a table in a
+/// table (`name-misplaced`). The value of a character reference has no marker before it
+/// (`reference-incomplete`). A Frontmatter begins at no byte of the document (`slice-invalid`). No
+/// other refusal comes there. The reasons are ours.
+///
+/// A second `LabelText` in a Link is refused by `part-repeated`.
+#[tactic(auto, using(crate::proofs::Sayings::enter_says))]
+pub fn refused_enters_are_as_said()
+    ensures { (s : Source) (spot : Spot) (what : Acting) (start : Point) (why : Refusal) → takes spot.row (kinds spot.before) ≡ true → IsWrongAtEnter s spot what start why → EnterSays s spot what start why }
+{}
+
+/// A span that acts and is refused where it ends has what the refusal's reason says.
+///
+/// Its last item is a hard break (`break-unfinished`). It lacks a value (`reference-incomplete`,
+/// `list-value-missing`), a fence (`fence-missing`) or the sequence that sets its depth
+/// (`heading-depth`). Its slice, range or byte is not there (`slice-invalid`), or is no number up to
+/// 4294967295 (`list-value-invalid`), nothing that the decoder knows (`reference-unknown`), or no
+/// sequence of one to six bytes (`heading-depth`). No other refusal comes there. The reasons are
+/// ours.
+///
+/// An ordered list in which no item has a value is refused by `list-value-missing`.
+#[tactic(auto, using(crate::proofs::Sayings::exit_says))]
+pub fn refused_exits_are_as_said()
+    ensures { (s : Source) (x : Occurrence) (why : Refusal) → IsWrongAtExit s x why → ExitSays s x why }
 {}

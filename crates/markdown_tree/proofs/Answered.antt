@@ -17,10 +17,10 @@ use Rattle.markdown_nodes.specs.declared.mdast.Node.{Node}
 use Rattle.markdown_nodes.specs.declared.mdast.Node.TheVariants as nodes
 use Rattle.markdown_nodes.specs.declared.mdast.Root.{Root as RootNode}
 use Rattle.markdown_nodes.proofs.Views.{view-Root}
-use Rattle.markdown_grammar.specs.Accepted.{accepted}
+use Rattle.markdown_grammar.specs.OneTest.{accepted}
 use Rattle.markdown_grammar.specs.Buffers.{held, inside}
 use Rattle.markdown_grammar.specs.Compiler.{Holds, State, compiled, fresh, is_shut, last_checks, opening, point_of, run, tree_of}
-use Rattle.markdown_grammar.specs.Correct.{FailsRightly, IsMeaning, IsRefused, LeftOpen, StopsAt}
+use Rattle.markdown_grammar.specs.Correct.{FailsRightly, IsMeaning, IsRefused}
 use Rattle.markdown_grammar.specs.Extents.{extent_of, last_event}
 use Rattle.markdown_grammar.specs.Holders.{any_content, leaf}
 use Rattle.markdown_tree.specs.Holdings.{first_failing}
@@ -44,8 +44,7 @@ use Rattle.markdown_grammar.proofs.HeldWalks.{accepted-walks}
 use Rattle.markdown_grammar.proofs.InsideWalks.{any-walks}
 use Rattle.markdown_grammar.proofs.Outcomes.{ok_is}
 use Rattle.markdown_grammar.proofs.Reasons.{explained}
-use Rattle.markdown_grammar.proofs.Refused as refused_at
-use Rattle.markdown_grammar.proofs.Refused.{refused-where, refuses}
+use Rattle.markdown_grammar.proofs.Refused.{refuses}
 use Rattle.markdown_grammar.proofs.SpanLaw.{span_law}
 use Rattle.markdown_grammar.proofs.Unbalanced.{unbalanced}
 use Rattle.markdown_grammar.proofs.WellKept.{well-opening, well-run}
@@ -62,24 +61,11 @@ means s es tree h =
 is_ordered : (s : Source) (es : List Event) (tree : Node) → IsMeaning tree es s → NeverGoesBack es → IsOrdered (only (view tree))
 is_ordered s es tree m rises = subst (λ (t : Tree). IsOrdered (only t)) (sym m.is_meaning) (span_law s m.forest (subst NeverGoesBack (sym m.spelled) rises))
 
--- where it is refused
-place_named : (s : Source) (es : List Event) (m : Rejection) → refused_at.StopsAt s es m ⊎ refused_at.StopsLast es m → StopsAt m es s ⊎ LeftOpen m es
-place_named s es m (inl p) = inl (record {
-  front = p.front;
-  event = p.event;
-  back = p.back;
-  parts = p.parts;
-  named = p.named;
-  none_accepted = λ f others e a. p.none_accepted f others e (conditions-accept s f a);
-})
-place_named s es m (inr p) = inr (record { front = p.front; event = p.event; parts = p.parts; named = p.named; left = p.left })
-
 -- what the steps refuse, no accepted forest spells
 pub is_refused : (s : Source) (es : List Event) (m : Rejection) → compiled s es ≡ Err m → IsRefused m es s
 is_refused s es m h = record {
   none_accepted = λ f e a. refuses s es m h f e (conditions-accept s f a);
   unbalanced = unbalanced s es m h;
-  place = place_named s es m (refused-where s es m h);
   reason = explained s es m h;
 }
 

@@ -26,7 +26,8 @@ use Rattle.markdown_grammar.specs.declared.refusal.Refusal.TheVariants.{InvalidS
 use Rattle.markdown_grammar.specs.declared.refusal.Stop.{Stop}
 use Rattle.markdown_grammar.specs.declared.refusal.Stop.TheVariants as stops
 use Rattle.markdown_grammar.specs.Columns.{columns_left, shown}
-use Rattle.markdown_grammar.specs.Compiler.{Holds, Open, State, closed, enter_checks, exit_from, exit_step, fresh, lacking, leave, leave_to, rule_checks, shut, unread}
+use Rattle.markdown_grammar.specs.Compiler.{Holds, Open, State, closed, enter_checks, exit_from, exit_step, fresh, leave, leave_to, rule_checks, shut}
+use Rattle.markdown_grammar.specs.Refusals.{lacking, unread}
 use Rattle.markdown_grammar.specs.Grammar.{is_complete, rules}
 use Rattle.markdown_grammar.specs.Holders.{Holder, code_fenced, holder_of, leaf, list_item, list_ordered, marked_item, marked_numbered_item, math_flow, numbered_item}
 use Rattle.markdown_tree.specs.Holdings.{first_failing, is_part_row, is_row_of, misfit_of, row_of}

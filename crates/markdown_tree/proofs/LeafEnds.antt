@@ -14,7 +14,8 @@ use Rattle.markdown_events.specs.declared.role.Content.{Content}
 use Rattle.markdown_events.specs.declared.role.Content.TheVariants as contents
 use Rattle.markdown_tree.specs.declared.holder.Holder.{Holder as Open}
 use Rattle.markdown_tree.specs.declared.holding.Holding.{Holding}
-use Rattle.markdown_grammar.specs.Compiler.{Holds, closed, fresh, leave, lengthened, nothing_yet, unread}
+use Rattle.markdown_grammar.specs.Compiler.{Holds, closed, fresh, leave, lengthened, nothing_yet}
+use Rattle.markdown_grammar.specs.Refusals.{unread}
 use Rattle.markdown_grammar.specs.Gives.{text_read}
 use Rattle.markdown_grammar.specs.Holders.{leaf}
 use Rattle.markdown_tree.specs.Holdings.{Keeps, is_literal, moved_of}

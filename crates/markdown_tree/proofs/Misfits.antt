@@ -5,7 +5,8 @@ use Rattle.markdown_events.specs.declared.role.Acting.{Acting}
 use Rattle.markdown_events.specs.declared.role.Part.{Part}
 use Rattle.markdown_tree.specs.declared.holder.Holder.{Holder as Open}
 use Rattle.markdown_grammar.specs.declared.refusal.Refusal.{Refusal}
-use Rattle.markdown_grammar.specs.Compiler.{allows, broken, enter_checks, fresh, has_one_of, rule_checks}
+use Rattle.markdown_grammar.specs.Compiler.{allows, enter_checks, fresh, has_one_of, rule_checks}
+use Rattle.markdown_grammar.specs.Refusals.{broken}
 use Rattle.markdown_grammar.specs.Grammar.{has_part, rules}
 use Rattle.markdown_grammar.specs.Holders.{Holder, leaf}
 use Rattle.markdown_tree.specs.Holdings.{empty_but, first_failing, misfit_of, part_of, row_of}

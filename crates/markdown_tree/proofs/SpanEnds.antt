@@ -18,7 +18,8 @@ use Rattle.markdown_events.specs.declared.role.Part.TheVariants as parts
 use Rattle.markdown_tree.specs.declared.holding.Holding.{Holding}
 use Rattle.markdown_grammar.specs.declared.refusal.Refusal.{Refusal}
 use Rattle.markdown_grammar.specs.declared.refusal.Refusal.TheVariants.{InvalidSlice}
-use Rattle.markdown_grammar.specs.Compiler.{Holds, closed, lacking, leave, unread}
+use Rattle.markdown_grammar.specs.Compiler.{Holds, closed, leave}
+use Rattle.markdown_grammar.specs.Refusals.{lacking, unread}
 use Rattle.markdown_grammar.specs.Grammar.{is_complete}
 use Rattle.markdown_grammar.specs.Holders.{Holder, any_content}
 use Rattle.markdown_tree.specs.Holdings.{Keeps, is_label_string, is_parent, is_row_of, is_text_part, moved_of, parent_label, placed, row_of}

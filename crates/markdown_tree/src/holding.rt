@@ -11,7 +11,8 @@ ghost use Rattle.markdown_grammar.specs.Parts.{count, count_of, path_to, text_of
 ghost use Rattle.markdown_grammar.specs.declared.refusal.Refusal.TheVariants.{HeadingDepth, MissingFence, MissingListValue};
 ghost use Rattle.markdown_events.specs.declared.role.Content.TheVariants as contents;
 ghost use Rattle.markdown_grammar.specs.Buffers.{node_count};
-ghost use Rattle.markdown_grammar.specs.Compiler.{lacking, leave};
+ghost use Rattle.markdown_grammar.specs.Compiler.{leave};
+ghost use Rattle.markdown_grammar.specs.Refusals.{lacking};
 ghost use Rattle.markdown_grammar.specs.Grammar.{is_complete};
 ghost use Rattle.markdown_grammar.specs.Tasks.{task_if};
 ghost use Rattle.markdown_nodes.specs.View.{view, views};

@@ -5,7 +5,7 @@ use Rattle.markdown_nodes.specs.View.{views}
 use Rattle.markdown_events.specs.declared.role.Content.{Content}
 use Rattle.markdown_tree.specs.declared.holder.Holder.{Holder as Open}
 use Rattle.markdown_grammar.specs.Columns.{shown}
-use Rattle.markdown_grammar.specs.Compiler.{lacking}
+use Rattle.markdown_grammar.specs.Refusals.{lacking}
 use Rattle.markdown_grammar.specs.Grammar.{is_complete}
 use Rattle.markdown_grammar.specs.Nodes.{node_of}
 use Rattle.markdown_grammar.specs.Place.{Place}
