@@ -5,7 +5,12 @@ use Rattle.std.specs.Str.{IsUtf8}
 use lib.Utf8.{scalar, scalars}
 use Rattle.markdown_events.specs.declared.text.Blanks.{Blanks}
 use Rattle.markdown_events.specs.Texts.{is_blank, starts_with_blank, without_trailing_blanks, without_first_space, collapsed}
-use Rattle.markdown_events.specs.TextWalks.{collapse_walk}
+use Rattle.markdown_events.specs.TextWalks.{blanks_after, collapsed_part}
+
+-- what is written for these characters behind those blanks
+abbrev pub collapse_walk : List ℕ → Blanks → List ℕ
+collapse_walk [] before = []
+collapse_walk (c ∷ cs) before = collapsed_part before c ++ collapse_walk cs (blanks_after before c)
 
 -- one character more, in a loop over characters whose walk over all is known as far as it has come
 pub carried : (W : List ℕ → List ℕ) (text text' part ys rest tail : List ℕ) (c : ℕ) → text' ≡ text ++ encode_utf8_all part

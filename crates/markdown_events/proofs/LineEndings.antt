@@ -5,7 +5,12 @@ use Rattle.std.proofs.lemmas.List.{append-nil}
 use Rattle.std.proofs.lemmas.Str.{encode_ascii, inside_one, length-encode, len_utf8_bounds}
 use lib.Utf8.{encode}
 use Rattle.markdown_events.specs.Texts.{spaces}
-use Rattle.markdown_events.specs.TextWalks.{space_walk}
+use Rattle.markdown_events.specs.TextWalks.{spaced_part}
+
+-- what is written for these characters, by whether a CR stands before them
+abbrev pub space_walk : List ℕ → Bool → List ℕ
+space_walk [] after_return = []
+space_walk (c ∷ cs) after_return = spaced_part after_return c ++ space_walk cs (c == 13)
 
 abbrev without_line_feed : List ℕ → List ℕ
 without_line_feed [] = []

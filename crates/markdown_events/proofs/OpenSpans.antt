@@ -7,7 +7,8 @@ use Rattle.markdown_events.specs.declared.event.Kind.TheVariants.{Enter, Exit}
 use Rattle.markdown_events.specs.declared.event.Name.{Name}
 use Rattle.markdown_events.specs.declared.event.spans.Open.{Open}
 use Rattle.markdown_events.specs.OpenSpans.{AreOpen, names_of, opened_in}
-use Rattle.markdown_events.specs.Walks.{around_of, can_enter, exited, is_same_name, move, run}
+use Rattle.markdown_events.specs.Walks.{around_of, can_enter, exited, move, run}
+use Rattle.markdown_events.specs.Names.{is_same_name}
 
 -- the last of the spans is the innermost
 on_top : (spans before : List Open) (span : Open) → spans ≡ before ++ span ∷ [] → reverse spans ≡ span ∷ reverse before

@@ -13,9 +13,9 @@ use Rattle.markdown_events.specs.declared.role.Role.TheVariants.{Plain as plain,
 use Rattle.markdown_events.specs.declared.role.Acting.TheVariants.{Content as content}
 use Rattle.markdown_events.specs.declared.role.Content.TheVariants as contents
 use Rattle.markdown_events.specs.declared.role.Plain.TheVariants as plains
-use Rattle.markdown_events.specs.Names.{role_of}
+use Rattle.markdown_events.specs.Names.{is_same_name, role_of}
 use Rattle.markdown_events.specs.Forest.{Forest, empty, span, spell, enter, exit, is_empty, lacks, may_hold, has_right_shape, is_delimiter_row, is_delimiter_cell_value}
-use Rattle.markdown_events.specs.Walks.{around_of, is_same_name, run, move, can_enter}
+use Rattle.markdown_events.specs.Walks.{around_of, run, move, can_enter}
 use Rattle.markdown_events.specs.Around.{holds_nothing}
 use Rattle.markdown_events.proofs.Loose.{regroup}
 

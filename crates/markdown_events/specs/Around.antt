@@ -8,7 +8,7 @@ use Rattle.markdown_events.specs.declared.role.Plain.TheVariants as plains
 use Rattle.markdown_events.specs.declared.role.Role.{Role}
 use Rattle.markdown_events.specs.declared.role.Role.TheVariants.{Plain as plain, Acting as acting}
 
--- the roles that may hold nothing
+-- the roles whose spans may not hold any span
 abbrev pub holds_nothing : Role → Bool
 holds_nothing (acting (content contents.LineEnding)) = true
 holds_nothing (plain plains.BlankLineEnding) = true

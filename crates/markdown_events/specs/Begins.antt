@@ -34,12 +34,14 @@ BeginsWith events index children =
 abbrev pub IsNameAt : List Event → ℕ → Name → Type 0
 IsNameAt events index name = option_map (λ (event : Event). event.name) (slice_get events index) ≡ Some name
 
--- what the functions that tell looseness and alignment ask for
+-- the event there has the name of an item
 abbrev pub IsItemAt : List Event → ℕ → Type 0
 IsItemAt events index = IsNameAt events index names.ListItem
 
+-- the event there has a list's name
 abbrev pub IsListAt : List Event → ℕ → Type 0
 IsListAt events index = IsNameAt events index names.ListOrdered ⊎ IsNameAt events index names.ListUnordered
 
+-- the event there has a table's name
 abbrev pub IsTableAt : List Event → ℕ → Type 0
 IsTableAt events index = IsNameAt events index names.GfmTable

@@ -16,9 +16,11 @@ pub data Forest : Type 0 where
   empty : Forest
   span : (name : Name) (start end : Point) (children rest : Forest) → Forest
 
+-- the event that enters a span
 abbrev pub enter : Name → Point → Event
 enter name point = record { kind = Enter; name = name; point = point }
 
+-- the event that exits it
 abbrev pub exit : Name → Point → Event
 exit name point = record { kind = Exit; name = name; point = point }
 
@@ -27,6 +29,7 @@ abbrev pub spell : Forest → List Event
 spell empty = []
 spell (span name start end children rest) = enter name start ∷ (spell children ++ (exit name end ∷ spell rest))
 
+-- no span
 abbrev pub is_empty : Forest → Bool
 is_empty empty = true
 is_empty (span _ _ _ _ _) = false
@@ -36,10 +39,12 @@ abbrev pub lacks : (Role → Bool) → Forest → Bool
 lacks test empty = true
 lacks test (span name _ _ children rest) = not (test (role_of name)) && lacks test children && lacks test rest
 
+-- the delimiter row of a table
 abbrev pub is_delimiter_row : Role → Bool
 is_delimiter_row (plain plains.DelimiterRow) = true
 is_delimiter_row _ = false
 
+-- the value of a cell in a delimiter row
 abbrev pub is_delimiter_cell_value : Role → Bool
 is_delimiter_cell_value (plain plains.DelimiterCellValue) = true
 is_delimiter_cell_value _ = false
@@ -53,6 +58,7 @@ may_hold (plain plains.DelimiterRow) children = lacks is_delimiter_row children
 may_hold (plain plains.DelimiterCellValue) children = lacks is_delimiter_cell_value children
 may_hold _ children = true
 
+-- each span holds only what it may
 abbrev pub has_right_shape : Forest → Bool
 has_right_shape empty = true
 has_right_shape (span name _ _ children rest) = may_hold (role_of name) children && has_right_shape children && has_right_shape rest

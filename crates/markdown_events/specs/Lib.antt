@@ -3,10 +3,10 @@ pub mod Spelling
 pub mod Places
 pub mod Slices
 pub mod Forest
+pub mod Around
 pub mod Texts
 pub mod TextWalks
 pub mod Spread
-pub mod Around
 pub mod Begins
 pub mod Walks
 pub mod OpenSpans

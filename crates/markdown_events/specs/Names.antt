@@ -1,4 +1,7 @@
 -- What each name is to the tree.
+use Rattle.std.specs.Prelude.{Bool}
+use denote.Enum.Bare.{sameb}
+use Rattle.markdown_events.specs.contracts.event.Name.{the_type}
 use Rattle.markdown_events.specs.declared.event.Name.{Name}
 use Rattle.markdown_events.specs.declared.event.Name.TheVariants as name
 use Rattle.markdown_events.specs.declared.role.Role.{Role}
@@ -91,3 +94,7 @@ role_of name.GfmTableDelimiterRow = plain plains.DelimiterRow
 role_of name.GfmTableDelimiterCellValue = plain plains.DelimiterCellValue
 role_of name.GfmTableDelimiterMarker = plain plains.DelimiterMarker
 role_of _ = plain plains.Other
+
+-- whether two names are one
+abbrev pub is_same_name : Name → Name → Bool
+is_same_name = sameb the_type

@@ -9,6 +9,7 @@ use Rattle.markdown_events.specs.declared.unist.Position.{Position}
 abbrev pub to_unist : Point → Place
 to_unist p = record { line = p.line; column = p.column; offset = p.index }
 
+-- from one point to another, as places in the tree
 abbrev pub between : Point → Point → Position
 between start end = record { start = to_unist start; end = to_unist end }
 

@@ -11,22 +11,27 @@ use Rattle.markdown_events.specs.declared.role.Plain.TheVariants as plains
 use Rattle.markdown_events.specs.Names.{role_of}
 use Rattle.markdown_events.specs.Forest.{Forest, empty, span}
 
+-- the ending of a blank line
 abbrev pub is_blank_line : Role → Bool
 is_blank_line (plain plains.BlankLineEnding) = true
 is_blank_line _ = false
 
+-- white space in a line
 abbrev pub is_space_or_tab : Role → Bool
 is_space_or_tab (plain plains.SpaceOrTab) = true
 is_space_or_tab _ = false
 
+-- the marker of an item and the white space around it
 abbrev pub is_item_prefix : Role → Bool
 is_item_prefix (plain plains.ListItemPrefix) = true
 is_item_prefix _ = false
 
+-- the marker of a block quote and the white space behind it
 abbrev pub is_quote_prefix : Role → Bool
 is_quote_prefix (plain plains.BlockQuotePrefix) = true
 is_quote_prefix _ = false
 
+-- the colon of a delimiter cell value
 abbrev pub is_delimiter_marker : Role → Bool
 is_delimiter_marker (plain plains.DelimiterMarker) = true
 is_delimiter_marker _ = false
@@ -115,5 +120,6 @@ pub record Shown : Type 0 where
   pub loose_item : Bool
   pub align : List AlignKind
 
+-- all of that, read off the children
 abbrev pub shown_of : Forest → Shown
 shown_of children = record { loose_list = loose children false; loose_item = loose_item children; align = align children }

@@ -15,21 +15,14 @@ before_last c [] = None
 before_last c (b ∷ []) = if b == c then Some [] else None
 before_last c (b ∷ d ∷ bs) = option_map (λ front. b ∷ front) (before_last c (d ∷ bs))
 
--- one character of a text whose blanks are collapsed: what is kept of the blanks so far, and what is written
+-- what is kept of the blanks so far behind one character
 abbrev pub blanks_after : Blanks → ℕ → Blanks
 blanks_after before c = if is_blank c then (record { started = before.started; pending = before.started }) else (record { started = true; pending = false })
 
+-- what is written for one character behind those blanks
 abbrev pub collapsed_part : Blanks → ℕ → List ℕ
 collapsed_part before c = if is_blank c then [] else (if before.pending then 32 ∷ c ∷ [] else c ∷ [])
-
-abbrev pub collapse_walk : List ℕ → Blanks → List ℕ
-collapse_walk [] before = []
-collapse_walk (c ∷ cs) before = collapsed_part before c ++ collapse_walk cs (blanks_after before c)
 
 -- what one character is, where line endings become spaces, by whether a CR stands before it
 abbrev pub spaced_part : Bool → ℕ → List ℕ
 spaced_part after_return c = if c == 13 then 32 ∷ [] else (if c == 10 then (if after_return then [] else 32 ∷ []) else c ∷ [])
-
-abbrev pub space_walk : List ℕ → Bool → List ℕ
-space_walk [] after_return = []
-space_walk (c ∷ cs) after_return = spaced_part after_return c ++ space_walk cs (c == 13)

@@ -7,6 +7,7 @@ use Rattle.caseless.specs.Caseless.{default_case_fold}
 abbrev pub is_line_ending : ℕ → Bool
 is_line_ending b = b == 13 || b == 10
 
+-- a space
 abbrev pub is_space : ℕ → Bool
 is_space b = b == 32
 

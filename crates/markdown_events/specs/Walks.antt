@@ -4,8 +4,6 @@ use Rattle.markdown_events.specs.declared.event.Kind.{Kind}
 use Rattle.markdown_events.specs.declared.event.Kind.TheVariants.{Enter, Exit}
 use Rattle.markdown_events.specs.declared.event.Name.{Name}
 use Rattle.markdown_events.specs.declared.event.Name.TheVariants as variants
-use denote.Enum.Bare.{sameb}
-use Rattle.markdown_events.specs.contracts.event.Name.{the_type}
 use Rattle.markdown_events.specs.declared.event.Event.{Event}
 use Rattle.markdown_events.specs.declared.infer.Child.{Child}
 use Rattle.markdown_events.specs.declared.infer.Ends.{Ends}
@@ -15,19 +13,17 @@ use Rattle.markdown_events.specs.declared.role.Acting.TheVariants.{Content as co
 use Rattle.markdown_events.specs.declared.role.Content.TheVariants as contents
 use Rattle.markdown_events.specs.declared.around.Around.{Around}
 use Rattle.markdown_events.specs.Around.{in_the_open, may_begin, under}
-use Rattle.markdown_events.specs.Names.{role_of}
+use Rattle.markdown_events.specs.Names.{is_same_name, role_of}
 use Rattle.markdown_events.specs.Forest.{is_delimiter_row, is_delimiter_cell_value}
 use Rattle.markdown_events.specs.Spread.{is_blank_line, is_space_or_tab, is_item_prefix, is_quote_prefix, is_delimiter_marker, align_kind_of}
 use Rattle.markdown_events.specs.declared.infer.AlignKind.{AlignKind}
 
--- whether two names are one
-abbrev pub is_same_name : Name → Name → Bool
-is_same_name = sameb the_type
-
+-- an item of a list
 abbrev pub is_list_item : Role → Bool
 is_list_item (acting (content contents.ListItem)) = true
 is_list_item _ = false
 
+-- a block quote
 abbrev pub is_block_quote : Role → Bool
 is_block_quote (acting (content contents.BlockQuote)) = true
 is_block_quote _ = false
@@ -48,6 +44,7 @@ abbrev pub exited : List Name → ℕ → (List Name → ℕ → Option ℕ) →
 exited [] passed next = Some passed
 exited (inner ∷ names) passed next = next (inner ∷ names) (passed + 1)
 
+-- one event more: which spans are open behind it and how many events have passed, if it fits
 abbrev pub move : Kind → Name → List Name → ℕ → (List Name → ℕ → Option ℕ) → Option ℕ
 move Enter name names passed next = if can_enter names name then next (name ∷ names) (passed + 1) else None
 move Exit name [] passed next = None
@@ -60,12 +57,15 @@ run (event ∷ events) names passed = move event.kind event.name names passed (r
 
 -- ---- Blank lines in an item
 
+-- no child has ended yet
 abbrev pub no_child : Child
 no_child = record { direct = false; skipped = false }
 
+-- behind a child: whether it is of that kind, white space in a line passed over or not
 abbrev pub child_exited : Child → Bool → Name → Child
 child_exited before is_it name = record { direct = is_it; skipped = (if is_space_or_tab (role_of name) then before.direct else is_it) }
 
+-- one event more, at that depth in the item, by the last child
 abbrev pub item_step : Kind → Name → ℕ → Child → (ℕ → Child → Bool) → Bool
 item_step Enter name depth last next = if (depth == 0) && (is_blank_line (role_of name) && not last.skipped) then true else next (depth + 1) last
 item_step Exit name depth last next = if depth == 0 then false else (if depth == 1 then next 0 (child_exited last (is_item_prefix (role_of name)) name) else next (depth - 1) last)
@@ -77,6 +77,7 @@ item_walk (event ∷ events) depth last = item_step event.kind event.name depth 
 
 -- ---- Blank lines in a list
 
+-- nothing in the list has ended yet
 abbrev pub no_ends : Ends
 no_ends = record { bare = false; counts = false; prefix = no_child; inner = no_child; quote = false }
 
@@ -84,11 +85,13 @@ no_ends = record { bare = false; counts = false; prefix = no_child; inner = no_c
 abbrev pub counts_blank : Ends → ℕ → Bool
 counts_blank ends depth = if depth == 0 then not ends.bare else ((depth == 1) && (ends.counts && not ends.prefix.skipped))
 
+-- behind an enter at that depth in the list
 abbrev pub list_entered : Ends → ℕ → Bool → Name → Ends
 list_entered ends depth include_items name =
     if depth == 0 then (record { bare = ends.bare; counts = include_items && is_list_item (role_of name); prefix = ends.prefix; inner = ends.inner; quote = ends.quote })
     else ends
 
+-- behind an exit to that depth in the list
 abbrev pub list_exited : Ends → ℕ → Name → Ends
 list_exited ends depth name =
     if depth == 0 then (record { bare = is_list_item (role_of name) && ends.inner.skipped; counts = false; prefix = no_child; inner = no_child; quote = false })
@@ -102,6 +105,7 @@ list_exited ends depth name =
     else (if depth == 2 then (record { bare = ends.bare; counts = ends.counts; prefix = ends.prefix; inner = ends.inner; quote = is_quote_prefix (role_of name) })
     else ends))
 
+-- one event more, at that depth in the list, by what ended last
 abbrev pub list_step : Bool → Kind → Name → ℕ → Ends → (ℕ → Ends → Bool) → Bool
 list_step include_items Enter name depth ends next = if counts_blank ends depth && is_blank_line (role_of name) then true else next (depth + 1) (list_entered ends depth include_items name)
 list_step include_items Exit name depth ends next = if depth == 0 then false else next (depth - 1) (list_exited ends (depth - 1) name)
@@ -113,9 +117,11 @@ list_walk include_items (event ∷ events) depth ends = list_step include_items 
 
 -- ---- Delimiter rows
 
+-- whether the last cell value began with a marker, behind one event more
 abbrev pub first_after : Name → Bool → Name → Bool
 first_after before first name = if is_delimiter_cell_value (role_of before) then is_delimiter_marker (role_of name) else first
 
+-- one event more of the row: the kind of a cell value that ends, and nothing behind the row's exit
 abbrev pub cells_step : Kind → Name → Name → Bool → (Name → Bool → List AlignKind) → List AlignKind
 cells_step Enter name before first next = next name first
 cells_step Exit name before first next =
@@ -126,6 +132,7 @@ abbrev pub cells_walk : List Event → Name → Bool → List AlignKind
 cells_walk [] before first = []
 cells_walk (event ∷ events) before first = cells_step event.kind event.name before (first_after before first event.name) (cells_walk events)
 
+-- one event more, at that depth in the table: a row that begins gives all entries
 abbrev pub table_step : Kind → Name → ℕ → List Event → (ℕ → List AlignKind) → List AlignKind
 table_step Enter name depth events next = if is_delimiter_row (role_of name) then cells_walk events variants.GfmTableDelimiterRow false else next (depth + 1)
 table_step Exit name depth events next = if depth == 0 then [] else next (depth - 1)

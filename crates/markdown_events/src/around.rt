@@ -10,7 +10,7 @@ use crate::role::{Plain, Role};
 /// In a `GfmTableDelimiterRow`, `in_row` is true at any depth, and no other such row may begin.
 #[derive(Clone, Copy, PartialEq, Eq, Debug)]
 pub struct Around {
-    /// The innermost open span holds nothing.
+    /// The innermost open span may not hold any span.
     pub held: bool,
     /// A delimiter row is open.
     pub in_row: bool,

@@ -3,7 +3,7 @@
 ghost use Rattle.std.specs.Prelude.{◌≡◌, ◌↔◌, IsTrue, Some, map};
 ghost use Rattle.markdown_events.specs.Spelling.{spelling, first_spelled, name_of_length, name_of};
 ghost use Rattle.markdown_events.specs.Slices.{to_unist};
-ghost use Rattle.markdown_events.specs.Walks.{is_same_name};
+ghost use Rattle.markdown_events.specs.Names.{is_same_name};
 ghost use Rattle.markdown_events.specs.declared.event.Name.{Name};
 
 use crate::unist;

@@ -69,10 +69,10 @@ pub fn list_item_loose(events: &[Event], index: usize) -> bool
 /// How the columns of the table that begins at this index are aligned.
 ///
 /// Each delimiter cell value in the table's first delimiter row, at any depth, gives one entry, in
-/// order: `Center` where its first and its last child are colons, also a lone one, `Left` where its first alone is
-/// one, `Right` where its last alone is one, and otherwise `None` (GFM). A table without such a
-/// row has no entry. The only error is that memory ran out, and a table without entries takes
-/// none.
+/// order: `Center` where its first and its last child are colons, also a lone one, `Left` where its
+/// first alone is one, `Right` where its last alone is one, and otherwise `None` (GFM). A table
+/// without such a row has no entry. The only error is that memory ran out, and a table without
+/// entries takes none.
 ///
 /// A table with the delimiter row `| :-- | - |` gives `[AlignKind::Left, AlignKind::None]`.
 pub fn gfm_table_align(

@@ -290,6 +290,7 @@ impl Name {
             Name::GfmTableDelimiterRow => Role::Plain(Plain::DelimiterRow),
             Name::GfmTableDelimiterCellValue => Role::Plain(Plain::DelimiterCellValue),
             Name::GfmTableDelimiterMarker => Role::Plain(Plain::DelimiterMarker),
+            // Four arms with one body: the prover takes no more than sixteen names of an arm apart.
             Name::AttentionSequence
             | Name::AutolinkMarker
             | Name::BlockQuoteMarker
@@ -356,8 +357,8 @@ impl Name {
 }
 
 impl Role {
-    /// Whether a span of this role may have no span in it: a line ending, the ending of a blank
-    /// line, and white space in a line (ours: micromark has none in them).
+    /// Whether a span of this role may not hold any span: a line ending, the ending of a blank line,
+    /// and white space in a line (ours: micromark has none in them).
     ///
     /// `Name::LineEnding.role().holds_nothing()` is true.
     pub fn holds_nothing(self) -> bool

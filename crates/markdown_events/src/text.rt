@@ -11,7 +11,7 @@ use std::alloc::{AllocError, Global};
 /// The value without one line ending at its start, where that is asked, and then without one at
 /// the end of what is left, where that is asked.
 ///
-/// Frontmatter, code and math lose the line endings beside their fences so. A line ending is a
+/// Frontmatter, code and math lose the line endings beside their fences so. A line ending is an
 /// LF, a CR or a CRLF (CommonMark); the order is ours, so that a lone line ending goes once. This
 /// cannot fail, and takes no memory.
 ///

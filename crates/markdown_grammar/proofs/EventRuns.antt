@@ -1,8 +1,7 @@
 -- Runs over the spelling of a forest, and what a run spells that ends with no span open.
 use Rattle.std.proofs.Common.{◌≡◌, List, [], ◌∷◌, ◌++◌, Option, Some, None, Result, Ok, refl, sym, ap, subst, ◌∙◌, append_assoc}
 use Rattle.markdown_events.specs.Forest.{Forest, empty, enter, exit, span, spell}
-use Rattle.markdown_events.specs.Names.{role_of}
-use Rattle.markdown_events.specs.Walks.{is_same_name}
+use Rattle.markdown_events.specs.Names.{is_same_name, role_of}
 use Rattle.markdown_events.specs.declared.event.Event.{Event}
 use Rattle.markdown_events.specs.declared.event.Kind.{Kind}
 use Rattle.markdown_events.specs.declared.event.Name.{Name}

@@ -3,9 +3,8 @@ use Rattle.std.proofs.Common.{◌≡◌, inl, inr, Bool, true, false, not, ◌&&
 use Rattle.std.specs.List.{list_all}
 use Rattle.markdown_events.specs.Around.{holds_nothing, may_begin}
 use Rattle.markdown_events.specs.Forest.{Forest, is_delimiter_cell_value, is_delimiter_row}
-use Rattle.markdown_events.specs.Names.{role_of}
+use Rattle.markdown_events.specs.Names.{is_same_name, role_of}
 use Rattle.markdown_events.specs.Spread.{Shown}
-use Rattle.markdown_events.specs.Walks.{is_same_name}
 use Rattle.markdown_events.specs.declared.around.Around.{Around}
 use Rattle.markdown_events.specs.declared.event.Event.{Event}
 use Rattle.markdown_events.specs.declared.event.Kind.{Kind}

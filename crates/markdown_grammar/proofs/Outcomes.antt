@@ -3,7 +3,7 @@ use Rattle.std.proofs.Common.{◌≡◌, Bool, true, false, ◌&&◌, cond, List
 use Rattle.std.specs.Option.{option_and_then}
 use denote.Enum.Bare.{same_true, true_same}
 use Rattle.markdown_events.specs.contracts.event.Name.{the_type}
-use Rattle.markdown_events.specs.Walks.{is_same_name}
+use Rattle.markdown_events.specs.Names.{is_same_name}
 use Rattle.markdown_events.specs.declared.event.Name.{Name}
 use Rattle.markdown_events.specs.declared.event.Point.{Point}
 use Rattle.markdown_grammar.proofs.Booleans.{and-both}

@@ -2,10 +2,9 @@
 use Rattle.std.proofs.Common.{◌≡◌, ◌≢◌, ◌⊎◌, inl, inr, Bool, true, false, not, ◌&&◌, cond, List, [], ◌∷◌, ◌++◌, Some, None, Result, Ok, Err, refl, sym, ap, subst, ◌∙◌}
 use Rattle.std.specs.List.{list_all}
 use Rattle.markdown_events.specs.Forest.{Forest, empty, is_delimiter_cell_value, is_delimiter_row, span}
-use Rattle.markdown_events.specs.Names.{role_of}
+use Rattle.markdown_events.specs.Names.{is_same_name, role_of}
 use Rattle.markdown_events.specs.Spread.{Shown}
 use Rattle.markdown_nodes.specs.Tree.{Tree}
-use Rattle.markdown_events.specs.Walks.{is_same_name}
 use Rattle.markdown_events.specs.declared.event.Event.{Event}
 use Rattle.markdown_events.specs.declared.event.Kind.{Kind}
 use Rattle.markdown_events.specs.declared.event.Name.{Name}

@@ -1,9 +1,8 @@
 -- Buffers, and what is counted in them: nodes of forests, and events of lists.
 use Rattle.std.specs.Prelude.{Bool, List, None, Option, Some, [], false, if◌then◌else◌, true, unwrap_or, ℕ, ◌+◌, ◌∷◌}
 use Rattle.markdown_events.specs.Forest.{Forest}
-use Rattle.markdown_events.specs.Names.{role_of}
+use Rattle.markdown_events.specs.Names.{is_same_name, role_of}
 use Rattle.markdown_nodes.specs.Tree.{Trees, node, nothing}
-use Rattle.markdown_events.specs.Walks.{is_same_name}
 use Rattle.markdown_events.specs.declared.event.Event.{Event}
 use Rattle.markdown_events.specs.declared.event.Kind.{Kind}
 use Rattle.markdown_events.specs.declared.event.Name.{Name}

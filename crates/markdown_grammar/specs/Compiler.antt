@@ -1,11 +1,10 @@
 -- The steps of a compilation on values: what a holder keeps, what goes down to a span at its enter, and what comes up at its exit.
 use Rattle.std.specs.Prelude.{Bool, List, None, Ok, Option, Result, Some, [], cond, false, if◌then◌else◌, is_some, not, true, ◌&&◌, ◌||◌, ◌∷◌}
 use Rattle.std.specs.Option.{option_or}
-use Rattle.markdown_events.specs.Names.{role_of}
+use Rattle.markdown_events.specs.Names.{is_same_name, role_of}
 use Rattle.markdown_events.specs.Slices.{slice, to_unist}
 use Rattle.markdown_events.specs.Spread.{Shown}
 use Rattle.markdown_nodes.specs.Tree.{Tree, Trees, join, node, nothing, root}
-use Rattle.markdown_events.specs.Walks.{is_same_name}
 use Rattle.markdown_events.specs.declared.event.Event.{Event}
 use Rattle.markdown_events.specs.declared.event.Kind.{Kind}
 use Rattle.markdown_events.specs.declared.event.Name.{Name}

@@ -1,8 +1,7 @@
 -- Why a list of events is refused, in the words of the grammar.
 use Rattle.std.specs.Prelude.{Bool, List, None, [], false, true, ◌++◌, ◌≡◌, ◌≢◌, ◌⊎◌, ◌∷◌}
 use Rattle.markdown_events.specs.Forest.{Forest, empty, is_delimiter_cell_value, is_delimiter_row, spell}
-use Rattle.markdown_events.specs.Names.{role_of}
-use Rattle.markdown_events.specs.Walks.{is_same_name}
+use Rattle.markdown_events.specs.Names.{is_same_name, role_of}
 use Rattle.markdown_events.specs.declared.event.Event.{Event}
 use Rattle.markdown_events.specs.declared.event.Name.{Name}
 use Rattle.markdown_events.specs.declared.event.Point.{Point}

@@ -1,6 +1,6 @@
 -- The nodes that a compilation walks over where the text of a buffer is made.
 use Rattle.std.specs.Prelude.{Bool, Err, List, None, Ok, Option, Result, Some, [], false, if◌then◌else◌, not, true, ℕ, ◌&&◌, ◌+◌, ◌∷◌}
-use Rattle.markdown_events.specs.Walks.{is_same_name}
+use Rattle.markdown_events.specs.Names.{is_same_name}
 use Rattle.markdown_events.specs.declared.event.Event.{Event}
 use Rattle.markdown_events.specs.declared.event.Kind.{Kind}
 use Rattle.markdown_events.specs.declared.event.Name.{Name}

@@ -2,35 +2,23 @@
 use Rattle.std.specs.Prelude.{◌≡◌, ◌↔◌, IsTrue, ℕ, Bool, true, false, ◌&&◌, bytes_eq, nat_eq}
 use Rattle.std.specs.Option.{option_eq}
 use lib.Pointwise.{pointwise}
+use denote.Enum.Bare.{sameb}
 use mathlib.Core.Bool.{beq}
 use Rattle.markdown_events.specs.declared.infer.AlignKind.{AlignKind}
-use Rattle.markdown_events.specs.declared.infer.AlignKind.TheVariants as align
+use Rattle.markdown_events.specs.contracts.infer.AlignKind.{the_type as align_type}
 use Rattle.markdown_nodes.specs.declared.mdast.ReferenceKind.{ReferenceKind}
-use Rattle.markdown_nodes.specs.declared.mdast.ReferenceKind.TheVariants as reference
+use Rattle.markdown_nodes.specs.contracts.mdast.ReferenceKind.{the_type as reference_type}
 use Rattle.markdown_events.specs.declared.unist.Point.{Point}
 use Rattle.markdown_events.specs.declared.unist.Position.{Position}
 use Rattle.markdown_nodes.specs.Tree.{Label, Tree, Trees, node, nothing, root, paragraph, blockquote, emphasis, strong, delete, table_row, table_cell, thematic_break, «break», text, html, inline_code, inline_math, yaml, toml, heading, list, list_item, table, code, math, link, image, link_reference, image_reference, footnote_reference, footnote_definition, definition}
 
--- a number for each way to align
-abbrev pub align_number : AlignKind → ℕ
-align_number align.Left = 0
-align_number align.Right = 1
-align_number align.Center = 2
-align_number align.None = 3
-
 -- whether two columns are aligned alike
 abbrev pub same_align_kind : AlignKind → AlignKind → Bool
-same_align_kind first second = nat_eq (align_number first) (align_number second)
-
--- a number for each way to write a reference
-abbrev pub reference_number : ReferenceKind → ℕ
-reference_number reference.Shortcut = 0
-reference_number reference.Collapsed = 1
-reference_number reference.Full = 2
+same_align_kind = sameb align_type
 
 -- whether two references were written alike
 abbrev pub same_reference_kind : ReferenceKind → ReferenceKind → Bool
-same_reference_kind first second = nat_eq (reference_number first) (reference_number second)
+same_reference_kind = sameb reference_type
 
 -- whether two places are the same
 abbrev pub same_point : Point → Point → Bool

@@ -1,5 +1,4 @@
--- The test whether two trees are equal tells exactly that.
-use Prim.Native.Nat.{zero, suc}
+-- The test whether two trees are equal tells exactly that. The impl of PartialEq for Node names its laws, so they stand here and not in proofs/.
 use Rattle.std.proofs.Common.{◌≡◌, ℕ, Bool, true, false, ◌&&◌, List, Option, Some, None, refl, sym, ap, ◌∙◌, true≢false, eqb-true, eq-eqb}
 use Rattle.std.specs.Bool.{Decides}
 use Rattle.std.specs.Option.{option_eq}
@@ -7,15 +6,16 @@ use Rattle.std.specs.Cmp.{IsEquivalence, booleans_Decides, decided}
 use Rattle.std.specs.Cmp.Lexicographic.{bytes_decides, pointwise, pointwise_decides}
 use Rattle.std.proofs.lemmas.Bool.Decides.{Decides-and, Decides-eqb}
 use Rattle.std.specs.Prelude.{bytes_eq, nat_eq}
+use denote.Enum.Bare.{same_true, sameb, true_same}
 use mathlib.Core.Bool.{beq}
 use Rattle.markdown_events.specs.declared.infer.AlignKind.{AlignKind}
-use Rattle.markdown_events.specs.declared.infer.AlignKind.TheVariants as align
+use Rattle.markdown_events.specs.contracts.infer.AlignKind.{the_type as align_type}
 use Rattle.markdown_nodes.specs.declared.mdast.ReferenceKind.{ReferenceKind}
-use Rattle.markdown_nodes.specs.declared.mdast.ReferenceKind.TheVariants as reference
+use Rattle.markdown_nodes.specs.contracts.mdast.ReferenceKind.{the_type as reference_type}
 use Rattle.markdown_events.specs.declared.unist.Point.{Point}
 use Rattle.markdown_events.specs.declared.unist.Position.{Position}
 use Rattle.markdown_nodes.specs.Tree.{Label, Tree, Trees, node, nothing, root, paragraph, blockquote, emphasis, strong, delete, table_row, table_cell, thematic_break, «break», text, html, inline_code, inline_math, yaml, toml, heading, list, list_item, table, code, math, link, image, link_reference, image_reference, footnote_reference, footnote_definition, definition}
-use Rattle.markdown_nodes.specs.Equality.{align_number, reference_number, same_align_kind, same_label, same_point, same_position, same_reference_kind, same_tree, same_trees}
+use Rattle.markdown_nodes.specs.Equality.{same_align_kind, same_label, same_point, same_position, same_reference_kind, same_tree, same_trees}
 
 -- where a test decides, so does the test of values that may be there
 option_true : {X : Type 0} (test : X → X → Bool) → ((x y : X) → Decides (test x y) (x ≡ y)) → (o p : Option X) → option_eq test o p ≡ true → o ≡ p
@@ -49,38 +49,17 @@ starts_decide = option_decides nat_eq Decides-eqb
 pub checks_decide : (x y : Option Bool) → Decides (option_eq beq x y) (x ≡ y)
 checks_decide = option_decides beq booleans_Decides
 
--- the way to align that has a number
-align_at : ℕ → AlignKind
-align_at n = elim n [ zero ↦ align.Left | suc m ↦ elim m [ zero ↦ align.Right | suc k ↦ elim k [ zero ↦ align.Center | suc j ↦ align.None ] ] ]
-
-align_at-number : (x : AlignKind) → align_at (align_number x) ≡ x
-unfolding align_at
-align_at-number align.Left = refl
-align_at-number align.Right = refl
-align_at-number align.Center = refl
-align_at-number align.None = refl
-
 -- the test of a column
 align_kind_decides : (x y : AlignKind) → Decides (same_align_kind x y) (x ≡ y)
-align_kind_decides x y = (λ e. sym (align_at-number x) ∙ ap align_at (eqb-true _ _ e) ∙ align_at-number y, λ e. eq-eqb _ _ (ap align_number e))
+align_kind_decides x y = (λ e. same_true align_type tt x y e, λ e. true_same align_type x y e)
 
 -- the test of all columns
 aligns_decide : (xs ys : List AlignKind) → Decides (pointwise same_align_kind xs ys) (xs ≡ ys)
 aligns_decide = pointwise_decides align_kind_decides
 
--- the way to write a reference that has a number
-reference_at : ℕ → ReferenceKind
-reference_at n = elim n [ zero ↦ reference.Shortcut | suc m ↦ elim m [ zero ↦ reference.Collapsed | suc k ↦ reference.Full ] ]
-
-reference_at-number : (x : ReferenceKind) → reference_at (reference_number x) ≡ x
-unfolding reference_at
-reference_at-number reference.Shortcut = refl
-reference_at-number reference.Collapsed = refl
-reference_at-number reference.Full = refl
-
 -- the test of the way that a reference was written
 reference_kind_decides : (x y : ReferenceKind) → Decides (same_reference_kind x y) (x ≡ y)
-reference_kind_decides x y = (λ e. sym (reference_at-number x) ∙ ap reference_at (eqb-true _ _ e) ∙ reference_at-number y, λ e. eq-eqb _ _ (ap reference_number e))
+reference_kind_decides x y = (λ e. same_true reference_type tt x y e, λ e. true_same reference_type x y e)
 
 -- both parts of a test that passes pass
 pub and_true : (a b : Bool) → (a && b) ≡ true → (a ≡ true) × (b ≡ true)

@@ -1,8 +1,7 @@
 -- What the exit of a span makes of the state, in the program and in the steps.
 use Rattle.std.proofs.Common.{◌≡◌, ◌<◌, ℕ, arith, length, Bool, true, false, ◌||◌, ◌&&◌, not, is_some, List, [], ◌∷◌, ◌++◌, Option, None, Some, Result, Ok, Vec, Global, refl, sym, ap, ◌∙◌, cond, reverse, subst}
 use Rattle.std.specs.Prelude.{if◌then◌else◌}
-use Rattle.markdown_events.specs.Names.{role_of}
-use Rattle.markdown_events.specs.Walks.{is_same_name}
+use Rattle.markdown_events.specs.Names.{is_same_name, role_of}
 use Rattle.markdown_events.specs.declared.event.Name.{Name}
 use Rattle.markdown_events.specs.declared.event.Point.{Point}
 use Rattle.std.proofs.lemmas.List.{reverse-append}

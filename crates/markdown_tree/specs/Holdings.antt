@@ -89,19 +89,24 @@ abbrev pub ending : Option Kept → Path → Option Kept
 ending kept itself = kept
 ending kept (into p way) = None
 
+-- what a label gives: the folded slice and its text
 abbrev pub label_kept : Option Label → Option Kept
 label_kept x = option_map (λ (l : Label). named (fold l.slice.now) (plain_label (views l.nodes.items))) x
 
+-- an identifier and its text
 abbrev pub identified_kept : Option Identified → Option Kept
 identified_kept x = option_map (λ (i : Identified). named (string_bytes i.identifier) (string_bytes i.label)) x
 
+-- an address, and where it stands
 abbrev pub address_kept : Address → Option Kept
 address_kept x = Some (address x.start x.end x.value.now)
 
+-- the address of an autolink, where it is one of mail
 abbrev pub email_kept : AutolinkParts → Option Kept
 email_kept (autolinks.Email x) = address_kept x
 email_kept _ = None
 
+-- the address of an autolink, where it has a protocol
 abbrev pub protocol_kept : AutolinkParts → Option Kept
 protocol_kept (autolinks.Protocol x) = address_kept x
 protocol_kept _ = None
@@ -135,6 +140,7 @@ in_code_fence f (into parts.CodeFencedFenceInfo way) = ending (option_map words 
 in_code_fence f (into parts.CodeFencedFenceMeta way) = ending (option_map words (option_map string_bytes f.meta)) way
 in_code_fence f way = None
 
+-- the parts of a first fence of math
 abbrev pub in_math_fence : MathFenceParts → Path → Option Kept
 in_math_fence f (into parts.MathFlowFenceMeta way) = ending (option_map words (option_map string_bytes f.meta)) way
 in_math_fence f way = None
@@ -205,6 +211,7 @@ byte_of markers.Named = 38
 byte_of markers.Decimal = 35
 byte_of markers.Hexadecimal = 120
 
+-- the byte of the last marker of a character reference
 abbrev pub marker_of : Open → Option ℕ
 marker_of (holders.CharacterReference x) = option_map (λ (m : Markers). byte_of m.last) x.markers
 marker_of _ = None
@@ -227,6 +234,7 @@ abbrev pub nodes_of_label : Option Label → Trees
 nodes_of_label None = nothing
 nodes_of_label (Some l) = views l.nodes.items
 
+-- the nodes of the label of a holder that has one
 abbrev pub label_of : Open → Trees
 label_of (holders.Media x) = nodes_of_label x.label
 label_of (holders.FootnoteCall x) = nodes_of_label x
@@ -276,11 +284,13 @@ pub record Keeps (s : Source) (p : Place) (what : Acting) (a b : Point) (i : Inn
 
 -- ---- Parts by what the program knows of them
 
+-- the part that a marker is
 abbrev pub part_of_marker : Marker → Part
 part_of_marker markers.Named = parts.CharacterReferenceMarker
 part_of_marker markers.Decimal = parts.CharacterReferenceMarkerNumeric
 part_of_marker markers.Hexadecimal = parts.CharacterReferenceMarkerHexadecimal
 
+-- the part that a mark is
 abbrev pub part_of_mark : Bool → Part
 part_of_mark true = parts.TaskMarkChecked
 part_of_mark false = parts.TaskMarkUnchecked
@@ -341,6 +351,7 @@ is_parent contents.TableRow = true
 is_parent contents.TableCell = true
 is_parent _ = false
 
+-- the kind of a parent
 abbrev pub parent_label : Content → TreeLabel
 parent_label contents.BlockQuote = tree.blockquote
 parent_label contents.Emphasis = tree.emphasis
@@ -399,11 +410,12 @@ is_row_of contents.MathText any_content = true
 is_row_of contents.Strong any_content = true
 is_row_of _ _ = false
 
--- a block of code by its first fence, and a block of math
+-- a block of code by its first fence
 abbrev pub code_label : Option CodeFenceParts → List ℕ → TreeLabel
 code_label None value = tree.code value None None
 code_label (Some x) value = tree.code value (option_map string_bytes x.info) (option_map string_bytes x.meta)
 
+-- a block of math by its first fence
 abbrev pub math_label : Option MathFenceParts → List ℕ → TreeLabel
 math_label None value = tree.math value None
 math_label (Some x) value = tree.math value (option_map string_bytes x.meta)

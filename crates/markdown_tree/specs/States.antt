@@ -140,6 +140,7 @@ abbrev pub leaf_left : Role → Option Holds → Option Holds
 leaf_left (plain k) held = held
 leaf_left (acting what) held = None
 
+-- the holdings that are left for the spans outside
 abbrev pub holdings_left : Role → Option Holds → List Holding → List Holding
 holdings_left (acting what) None (h ∷ hs) = hs
 holdings_left role held hs = hs
@@ -155,16 +156,19 @@ opens (f ∷ fs) held hs = record {
   outer = outer_of (role_of f.name) f.in_table held hs;
 } ∷ opens fs (leaf_left (role_of f.name) held) (holdings_left (role_of f.name) held hs)
 
--- the innermost holder that the program keeps, and the holding of the innermost acting span: a leaf has none of its own
+-- the innermost holder that the program keeps: a leaf has none of its own
 abbrev pub kept_top : Context → Holds
 kept_top c = holds_of c.in_table c.pending c.top
 
+-- the place of the items in a leaf, of which it has none
 abbrev pub leaf_place : Bool → Place
 leaf_place in_table = place_with true in_table None
 
+-- the innermost holder: a leaf has kept nothing
 abbrev pub top_of : Context → Holds
 top_of c = cond c.is_leaf (fresh leaf (leaf_place c.in_table)) (kept_top c)
 
+-- the holder around a leaf
 abbrev pub leaf_holder : Context → Option Holds
 leaf_holder c = cond c.is_leaf (Some (kept_top c)) None
 
@@ -230,6 +234,7 @@ EndsAs leaves (plain k) c = Unit {0}
 EndsAs true (acting what) c = LeafEnds what c
 EndsAs false (acting what) c = HolderEnds what c
 
+-- the innermost span may end, by its role
 abbrev pub Ends : Role → Context → Type 0
 Ends role c = EndsAs c.is_leaf role c
 

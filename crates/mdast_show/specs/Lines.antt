@@ -39,6 +39,7 @@ abbrev pub spaces_of : Option (List ℕ) → Option ℕ
 spaces_of None = Some 0
 spaces_of (Some digits) = number_of digits
 
+-- what goes on with what was found
 infixl 10 ◌>>=◌
 abbrev pub ◌>>=◌ : {A B : Type 0} → Option A → (A → Option B) → Option B
 found >>= next = option_and_then next found

@@ -61,6 +61,7 @@ Prints (answers.Refused message) text = text ≡ message_line message
 Prints (answers.UnreadLine number) text = text ≡ codes "mdast_show: event line " ++ decimal number ++ codes " cannot be read\n"
 Prints answers.UnreadEvents text = text ≡ codes "mdast_show: cannot read the events\n"
 
+-- the exit status of an answer
 abbrev pub status_of : Answer → ℕ
 status_of (answers.Tree tree) = 0
 status_of (answers.Refused message) = 1

@@ -2,8 +2,8 @@ use Rattle.std.proofs.Common.{[], ◌++◌, ◌∷◌, string_bytes, encode_utf8
 use Rattle.std.proofs.lemmas.List.{append-nil}
 use Rattle.std.proofs.lemmas.Iterator.{YieldsList-from_chars}
 use Rattle.std.proofs.lemmas.Iterator.Consumers.{YieldsList-end}
-use Rattle.markdown_events.specs.TextWalks.{collapse_walk, collapsed_part, blanks_after}
-use Rattle.markdown_events.proofs.Collapsing.{collapses, before_all, carried}
+use Rattle.markdown_events.specs.TextWalks.{collapsed_part, blanks_after}
+use Rattle.markdown_events.proofs.Collapsing.{before_all, carried, collapse_walk, collapses}
 use Rattle.markdown_events.proofs.text.collapsed.Goals as goal
 
 pub returns : goal.returns

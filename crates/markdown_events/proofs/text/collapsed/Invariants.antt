@@ -1,5 +1,5 @@
 use Rattle.std.proofs.Common.{◌≡◌, ℕ, List, ◌++◌, string_bytes, encode_utf8_all, false}
-use Rattle.markdown_events.specs.TextWalks.{collapse_walk}
+use Rattle.markdown_events.proofs.Collapsing.{collapse_walk}
 use Rattle.markdown_events.proofs.text.collapsed.Given as goal
 
 abbrev pub invariant-loop-c : goal.invariant-loop-c

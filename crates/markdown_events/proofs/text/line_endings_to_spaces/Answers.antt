@@ -4,8 +4,7 @@ use Rattle.std.proofs.lemmas.Iterator.{YieldsList-from_chars}
 use Rattle.std.proofs.lemmas.Iterator.Consumers.{YieldsList-end}
 use Rattle.std.proofs.lemmas.Str.{encodes-chars}
 use Rattle.markdown_events.specs.Texts.{spaces}
-use Rattle.markdown_events.specs.TextWalks.{space_walk}
-use Rattle.markdown_events.proofs.LineEndings.{space_walk-bytes}
+use Rattle.markdown_events.proofs.LineEndings.{space_walk, space_walk-bytes}
 use Rattle.markdown_events.proofs.text.line_endings_to_spaces.Goals as goal
 
 pub returns : goal.returns

@@ -1,5 +1,5 @@
 use Rattle.std.proofs.Common.{◌≡◌, ℕ, List, ◌++◌, string_bytes, encode_utf8_all, false}
-use Rattle.markdown_events.specs.TextWalks.{space_walk}
+use Rattle.markdown_events.proofs.LineEndings.{space_walk}
 use Rattle.markdown_events.proofs.text.line_endings_to_spaces.Given as goal
 
 abbrev pub invariant-loop-c : goal.invariant-loop-c
