@@ -30,7 +30,10 @@ impl From<AllocError> for ReadError {
 /// All bytes of an input.
 ///
 /// It reads at most 1,048,576 times, 4,096 bytes at most each time. An interrupted read is made
-/// again, and counts.
+/// again, and counts. The error is `Failed` where another read fails or none of them meets the end,
+/// and `Memory` where memory runs out. The bound is ours.
+///
+/// An input that gives `H`, then `i`, and then its end gives `Hi`.
 pub fn read_all<R: Read>(alloc: Global, input: &mut R) -> Result<Vec<u8>, ReadError>
     ensures bytes { IfOk result (λ text. IfSome (R.remaining input.old) (λ all. text.items ≡ all)) }
     ensures end { OnOk result (IsAtEnd (R.remaining input.new)) }

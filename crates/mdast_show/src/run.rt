@@ -74,7 +74,7 @@ pub fn run<I: Read, O: Write>(alloc: Global, doc: &[u8], input: &mut I, output: 
     // The events were read to their end.
     ensures end { result ≤ 1 → IsAtEnd (I.remaining input.new) }
 
-    // They are events with a tree, and a line is written.
+    // They are events with a tree, and a text that ends with a line feed is written.
     ensures tree { result ≡ 0 → IfSome (I.remaining input.old) (λ all. IsSomeAnd (lines all) (λ events. (tree : Node) × IsMeaning tree events (over doc.now))) }
     ensures line { result ≡ 0 → (line : List ℕ) × IsLine line × Appends (O.contents output.old) (O.contents output.new) line }
 
