@@ -1,6 +1,6 @@
 //! From events to a tree.
 
-ghost use Rattle.std.specs.Prelude.{◌≡◌, ◌<◌, ◌≤◌, ◌+◌, ◌*◌, length, IfOk, IfErr};
+ghost use Rattle.std.specs.Prelude.{◌≡◌, ◌<◌, ◌≤◌, ◌+◌, ◌*◌, [], length, IsOk, IfOk, IfErr};
 ghost use Rattle.markdown_events.specs.Forest.{Forest, spell};
 ghost use Rattle.markdown_nodes.specs.Tree.{only};
 ghost use Rattle.markdown_nodes.specs.View.{view};
@@ -65,6 +65,8 @@ pub fn compile<R: References>(
     // Where the offsets never go back, spans nest and siblings stand in order, but for the starts in
     // the first paragraphs of task items.
     ensures ordered { IfOk result (λ tree. NeverGoesBack events.now → IsOrdered (only (view tree))) }
+    // Without events a tree comes, whatever the allocator does.
+    ensures empty { events.now ≡ [] → IsOk result }
 {
     compile_counted(alloc, &mut Steps::new(events), bytes, references)
 }
@@ -91,6 +93,8 @@ pub fn compile_counted<R: References>(
     // Where the offsets never go back, spans nest and siblings stand in order, but for the starts in
     // the first paragraphs of task items.
     ensures ordered { IfOk result (λ tree. NeverGoesBack steps.old.events → IsOrdered (only (view tree))) }
+    // Without events a tree comes, whatever the allocator does.
+    ensures empty { steps.old.events ≡ [] → IsOk result }
     // The list is kept.
     ensures list { steps.new.events ≡ steps.old.events }
     // Each event takes at most four steps, and each node in a buffer one.
@@ -109,6 +113,7 @@ fn compile_list<R: References>(
     references: &R,
 ) -> Result<Node, Fault>
     ensures gives { Completes view result (compiled (source bytes.now (R.text references.now)) steps.old.events) }
+    ensures empty { steps.old.events ≡ [] → IsOk result }
     ensures list { steps.new.events ≡ steps.old.events }
     ensures bound { steps.new.count ≤ steps.old.count + 4 * length steps.old.events + run_walks (source bytes.now (R.text references.now)) steps.old.events opening }
 {
@@ -139,6 +144,7 @@ fn take_all<'a, R: References>(
     references: &R,
 ) -> Result<Taken<'a>, Fault>
     ensures gives { Completes (λ taken. state_of taken.context) result (run (source bytes.now (R.text references.now)) steps.old.events opening) }
+    ensures empty { steps.old.events ≡ [] → IsOk result }
     ensures length { IfOk result (λ taken. taken.length ≡ length steps.old.events) }
     ensures list { steps.new.events ≡ steps.old.events }
     ensures bound { steps.new.count ≤ steps.old.count + length steps.old.events + run_walks (source bytes.now (R.text references.now)) steps.old.events opening }

@@ -1,4 +1,4 @@
-use Rattle.std.proofs.Common.{List, Some, arith, ap, sym, ◌∙◌}
+use Rattle.std.proofs.Common.{List, Some, arith, ap, length, sym, ◌∙◌}
 use Rattle.markdown_events.specs.declared.event.Event.{Event}
 use Rattle.markdown_events.specs.declared.unist.Position.{Position}
 use Rattle.markdown_grammar.specs.Compiler.{point_of}
@@ -22,6 +22,13 @@ returns-in-Some-clause-gives g c =
     left_fails c.at.result (source c.args.bytes.now (g.R.References.text c.args.references.now)) c.args.steps.now.events (state_of c.in_ok-context.field-0.context) c.in-Some.refusal c.last_point.result
     c.in_ok-context.ensures.gives (sym c.unfinished.ensures ∙ c.in-Some.is)
     (c.last_point.ensures.point ∙ ap (λ (es : List Event). point_of (last_event es)) c.take_all.ensures.list) c.at.ensures
+
+pub returns-in-Some-clause-empty : goal.returns-in-Some-clause-empty
+returns-in-Some-clause-empty g c none =
+    let some = some_event (source c.args.bytes.now (g.R.References.text c.args.references.now)) c.args.steps.now.events (state_of c.in_ok-context.field-0.context) c.in-Some.refusal c.in_ok-context.ensures.gives (sym c.unfinished.ensures ∙ c.in-Some.is) in
+    let gone = ap (λ (es : List Event). length es) none in
+    let z : ⊥ = omega (arith, some, gone) in
+    absurd z
 
 pub returns-in-Some-clause-bound : goal.returns-in-Some-clause-bound
 returns-in-Some-clause-bound g c =
