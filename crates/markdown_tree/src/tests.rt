@@ -1,4 +1,4 @@
-use crate::to_mdast::{References, compile};
+use crate::to_mdast::{References, Steps, compile, compile_counted};
 use markdown_nodes::event::{Event, Kind, Name, Point};
 use markdown_nodes::message::{Fault, Place};
 use std::alloc::{AllocError, Global};
@@ -77,6 +77,25 @@ fn a_paragraph_holds_its_text(rt: HostRuntime) -> Result<(), Fail> {
         answer(rt.alloc(), &events, b"Hi")?.as_str(),
         "Root { children: [Paragraph { children: [Text { value: \"Hi\", position: Some(1:1-1:3 (0-2)) }], position: Some(1:1-1:3 (0-2)) }], position: Some(1:1-1:3 (0-2)) }"
     );
+    Ok(())
+}
+
+#[test]
+fn a_counted_compilation_gives_the_same_tree(rt: HostRuntime) -> Result<(), Fail> {
+    let events = [
+        enter(Name::Paragraph, 0),
+        enter(Name::Data, 0),
+        exit(Name::Data, 2),
+        exit(Name::Paragraph, 2),
+    ];
+    let tree = compile(rt.alloc(), &events, b"Hi", &NoReferences)?;
+    let mut steps = Steps::new(&events);
+    let counted = compile_counted(rt.alloc(), &mut steps, b"Hi", &NoReferences)?;
+    assert!(rt; counted == tree);
+    let tree = compile(rt.alloc(), &[], b"", &NoReferences)?;
+    let mut steps = Steps::new(&[]);
+    let counted = compile_counted(rt.alloc(), &mut steps, b"", &NoReferences)?;
+    assert!(rt; counted == tree);
     Ok(())
 }
 

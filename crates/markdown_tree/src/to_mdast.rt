@@ -18,7 +18,7 @@ use crate::context::Context;
 use crate::holding::Holding;
 pub use crate::references::References;
 use crate::slice::position_of;
-use crate::steps::Steps;
+pub use crate::steps::Steps;
 use markdown_grammar::refusal::Stop;
 use markdown_nodes::event::{Event, Point};
 use markdown_nodes::mdast::{Node, Root};
