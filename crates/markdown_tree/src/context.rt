@@ -415,6 +415,7 @@ impl<'a> Context<'a> {
         requires open { self.old.is_leaf ≡ false }
         requires ends { HolderEnds what self.old }
         requires settled { is_some self.old.pending ≡ false }
+        requires no_parent { (content : Content) → what ≡ acting.Content content → self.old.top.holder ≡ holders.AnyContent → is_parent content ≡ false }
         ensures gives { (s : Source) → s.bytes ≡ bytes.now → Gives (λ _. top_of self.new) end result (left_to s (roles.Acting what) frame end self.old) }
         ensures closed { OnOk result (Closed (roles.Acting what) self.old self.new) }
         ensures list { steps.new.events ≡ steps.old.events }

@@ -1,6 +1,6 @@
 //! An open acting span with the nodes made in it so far, and what it makes of its items.
 
-ghost use Rattle.std.specs.Prelude.{◌≡◌, ◌≢◌, ◌≤◌, ◌+◌, Bool, IfOk, None, Ok, OnOk, Option, is_some, option_map, true, ℕ};
+ghost use Rattle.std.specs.Prelude.{◌≡◌, ◌≢◌, ◌≤◌, ◌+◌, Bool, IfOk, None, Ok, OnOk, Option, false, is_some, option_map, true, ℕ};
 ghost use Rattle.markdown_events.specs.declared.role.Part.TheVariants as parts;
 ghost use Rattle.markdown_events.specs.Slices.{between};
 ghost use Rattle.markdown_events.specs.Spread.{Shown};
@@ -102,7 +102,7 @@ pub fn has_line_endings(what: Acting) -> bool
     }
 }
 
-/// The node of content in which any content may stand.
+/// The node of content in which any content may stand, and which is no parent.
 #[tactic(auto, unfolding(markdown_nodes::specs::View::view))]
 fn any_content_node(
     alloc: Global,
@@ -113,7 +113,8 @@ fn any_content_node(
     nodes: Vec<Node>,
     ending: Ending,
 ) -> Result<Node, AllocError>
-    requires { is_row_of content Holders.any_content ≡ true }
+    requires such { is_row_of content Holders.any_content ≡ true }
+    requires no_parent { is_parent content ≡ false }
     ensures node { IfOk result (IsNodeOf bytes.now content ending columns.old (inner_with holders.AnyContent (views nodes.items))) }
     ensures columns { OnOk result (columns_of columns.new ≡ columns_left (roles.Acting (acting.Content content)) (marks_of ending.marks) (columns_of columns.old)) }
     ensures list { steps.new.events ≡ steps.old.events }
@@ -131,7 +132,7 @@ fn any_content_node(
             let is_toml = byte_at(bytes, ending.start) == Some(b'+');
             frontmatter(alloc, steps, &nodes, position, is_toml)
         }
-        other => Ok(parent(other, nodes, position)),
+        _ => unreachable!(),
     }
 }
 
@@ -237,6 +238,7 @@ impl<'a> Holding<'a> {
     ) -> Result<Node, Stop>
         requires such { is_row_of content (row_of self.holder) ≡ true }
         requires other { content ≢ contents.CharacterReference }
+        requires no_parent { self.holder ≡ holders.AnyContent → is_parent content ≡ false }
         ensures node { Makes result (is_complete (row_of self.entry.holder) (inner_of_holding self.entry)) (lacking (row_of self.entry.holder)) (IsNodeOf bytes.now content ending columns.old (inner_of_holding self.entry)) }
         ensures columns { OnOk result (columns_of columns.new ≡ columns_left (roles.Acting (acting.Content content)) (marks_of ending.marks) (columns_of columns.old)) }
         ensures list { steps.new.events ≡ steps.old.events }
@@ -310,6 +312,7 @@ impl<'a> Holding<'a> {
     ) -> Result<(), Stop>
         requires row { row_of own.holder ≡ Holders.content_holder (moved_of self.old.holder) content }
         requires such { is_row_of content (row_of own.holder) ≡ true }
+        requires no_parent { own.holder ≡ holders.AnyContent → is_parent content ≡ false }
         ensures left { TakesHolding bytes.now (acting.Content content) own.entry ending (shown (marks_of ending.marks) (columns_of columns.old)) self.old self.new result }
         ensures columns { OnOk result (columns_of columns.new ≡ columns_left (roles.Acting (acting.Content content)) (marks_of ending.marks) (columns_of columns.old)) }
         ensures list { steps.new.events ≡ steps.old.events }
