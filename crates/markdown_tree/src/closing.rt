@@ -1,4 +1,4 @@
-//! The nodes that spans of content give at their exit, in the order of `specs/Nodes.antt`.
+//! The nodes that spans of content give at their exit, in the order of `markdown_grammar/specs/Nodes.antt`.
 
 ghost use Rattle.std.specs.Prelude.{◌≡◌, ◌≤◌, ◌+◌, [], IfOk, Some, option_map, string_bytes, true, unwrap_or};
 ghost use Rattle.markdown_nodes.specs.Tree.{nothing};

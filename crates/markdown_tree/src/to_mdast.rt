@@ -32,7 +32,8 @@ use std::alloc::Global;
 /// the meaning of `references`, and it is that forest's meaning. Where the offsets of the events
 /// never go back, its spans nest and siblings stand in order, but for the starts in the first
 /// paragraphs of task items. Every other list is refused by a message with one of these rules, at
-/// the point of an event of the list:
+/// the point of the first event at which something is wrong, or of the last event where something
+/// is left open:
 ///
 /// - `events-unbalanced`: an exit is not that of the open span, or a span is open at the end;
 /// - `span-held`: a span stands in one that holds nothing, or a delimiter row or delimiter cell
@@ -49,7 +50,8 @@ use std::alloc::Global;
 /// - `break-unfinished`: a hard break is not followed by its line ending.
 ///
 /// `Fault::Memory` comes only where the allocator or the decoder had no memory. A refusal hands out
-/// no tree. For no events the tree is an empty root, and no memory is asked for.
+/// no tree. For no events the tree is an empty root, and no memory is asked for. Which lists have a
+/// tree is ours to say; what the nodes are is mdast's, and what they say CommonMark's and GFM's.
 ///
 /// The events of `Hi`, a paragraph with one data span, give a root with a paragraph with a text.
 pub fn compile<R: References>(
