@@ -148,9 +148,7 @@ impl<'a> Holding<'a> {
         requires { is_literal content ≡ true }
         ensures { (text : List ℕ → ℕ → Option (List ℕ)) → TakesLeaf (source bytes.now text) (acting.Content content) ending None self.old None self.new result }
     {
-        let Some(value) = text_of(bytes, ending.start, ending.end) else {
-            return Err(Stop::Refused(Refusal::InvalidSlice));
-        };
+        let value = text_of(bytes, ending.start, ending.end)?;
         let position = position_of(ending.start, ending.end);
         let node = linked(alloc, scheme_of(content), value, position, position)?;
         put(&mut self.nodes, node)?;
@@ -199,9 +197,7 @@ impl<'a> Holding<'a> {
         requires such { is_one_of addresses (acting.Part part) ≡ true }
         ensures { (text : List ℕ → ℕ → Option (List ℕ)) → TakesLeaf (source bytes.now text) (acting.Part part) ending None self.old None self.new result }
     {
-        let Some(value) = text_of(bytes, ending.start, ending.end) else {
-            return Err(Stop::Refused(Refusal::InvalidSlice));
-        };
+        let value = text_of(bytes, ending.start, ending.end)?;
         let address = Address {
             start: ending.start,
             end: ending.end,
@@ -248,9 +244,7 @@ impl<'a> Holding<'a> {
         requires { misfit_of self.old.holder (acting.Part parts.CharacterReferenceValue) ≡ None }
         ensures { TakesLeaf (source bytes.now (R.text references.now)) (acting.Part parts.CharacterReferenceValue) ending None self.old None self.new result }
     {
-        let Some(value) = text_of(bytes, ending.start, ending.end) else {
-            return Err(Stop::Refused(Refusal::InvalidSlice));
-        };
+        let value = text_of(bytes, ending.start, ending.end)?;
         let marker = self.holder.last_marker().byte();
         match references.decode(alloc, value, marker)? {
             Some(text) => {
@@ -308,9 +302,7 @@ impl<'a> Holding<'a> {
         requires { misfit_of self.old.holder (acting.Part parts.ListItemValue) ≡ None }
         ensures { (text : List ℕ → ℕ → Option (List ℕ)) → TakesLeaf (source bytes.now text) (acting.Part parts.ListItemValue) ending None self.old None self.new result }
     {
-        let Some(text) = text_of(bytes, ending.start, ending.end) else {
-            return Err(Stop::Refused(Refusal::InvalidSlice));
-        };
+        let text = text_of(bytes, ending.start, ending.end)?;
         let Some(value) = item_number(text) else {
             return Err(Stop::Refused(Refusal::InvalidListValue));
         };
@@ -352,9 +344,7 @@ impl Marker {
 fn put_slice(alloc: Global, nodes: &mut Vec<Node>, bytes: &[u8], ending: Ending) -> Result<(), Stop>
     ensures { Makes result (is_some (slice bytes.now ending.start ending.end)) InvalidSlice (λ _. views nodes.new.items ≡ join (views nodes.old.items) (one_text (unwrap_or (slice bytes.now ending.start ending.end) []) (between ending.start ending.end))) }
 {
-    let Some(value) = text_of(bytes, ending.start, ending.end) else {
-        return Err(Stop::Refused(Refusal::InvalidSlice));
-    };
+    let value = text_of(bytes, ending.start, ending.end)?;
     put_text(alloc, nodes, value, position_of(ending.start, ending.end))?;
     Ok(())
 }

@@ -24,7 +24,7 @@ use crate::holding::{Ending, Holding};
 use crate::joining::append;
 use crate::slice::text_of;
 use crate::steps::Steps;
-use markdown_grammar::refusal::{Refusal, Stop};
+use markdown_grammar::refusal::Stop;
 use markdown_nodes::mdast::Node;
 use markdown_nodes::role::Part;
 use markdown_nodes::text::normalize_identifier;
@@ -55,9 +55,7 @@ impl<'a> Holding<'a> {
         requires { misfit_of self.old.holder (acting.Part parts.LabelText) ≡ None }
         ensures { TakesString bytes.now parts.LabelText (views nodes.items) ending self.old self.new result }
     {
-        let Some(slice) = text_of(bytes, ending.start, ending.end) else {
-            return Err(Stop::Refused(Refusal::InvalidSlice));
-        };
+        let slice = text_of(bytes, ending.start, ending.end)?;
         self.holder.put_label(Label { slice, nodes });
         Ok(())
     }
@@ -131,9 +129,7 @@ impl<'a> Holding<'a> {
         ensures list { steps.new.events ≡ steps.old.events }
         ensures bound { steps.new.count ≤ steps.old.count + node_count (views nodes.now) }
     {
-        let Some(slice) = text_of(bytes, ending.start, ending.end) else {
-            return Err(Stop::Refused(Refusal::InvalidSlice));
-        };
+        let slice = text_of(bytes, ending.start, ending.end)?;
         let string = identified(alloc, steps, slice, nodes)?;
         self.holder.put_identified(part, string);
         Ok(())

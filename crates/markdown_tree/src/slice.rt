@@ -1,10 +1,14 @@
 //! What a span says in the document: its text, and its position.
 
-ghost use Rattle.std.specs.Prelude.{◌≡◌, ◌^◌, ◌<◌, Some, SomeIff, IfSome, is_some, option_copied};
+ghost use Rattle.std.specs.Prelude.{◌≡◌, ◌^◌, ◌<◌, IfErr, Some, SomeIff, IfSome, is_some, option_copied};
+ghost use Rattle.std.specs.Result.{result_ok};
 ghost use Rattle.markdown_events.specs.Slices.{edge, slice, between};
 ghost use Rattle.markdown_grammar.specs.Numbers.{is_depth};
 ghost use Rattle.markdown_grammar.specs.Ranges.{byte_at, length_between};
+ghost use Rattle.markdown_grammar.specs.declared.refusal.Refusal.TheVariants.{InvalidSlice};
+ghost use Rattle.markdown_grammar.specs.declared.refusal.Stop.TheVariants.{Refused};
 
+use markdown_grammar::refusal::{Refusal, Stop};
 use markdown_nodes::event::Point;
 use markdown_nodes::unist::Position;
 
@@ -19,9 +23,17 @@ fn edge_of(point: Point) -> Option<usize>
     }
 }
 
+/// The text of a span, without which the list is refused.
+pub fn text_of<'a>(bytes: &'a [u8], start: Point, end: Point) -> Result<&'a str, Stop>
+    ensures text { option_copied (result_ok result) ≡ slice bytes.now start end }
+    ensures refused { IfErr result (λ stop. stop ≡ Refused InvalidSlice) }
+{
+    slice_of(bytes, start, end).ok_or(Stop::Refused(Refusal::InvalidSlice))
+}
+
 /// The text of a span, if its ends are in order and in the document, and what is between is UTF-8.
 #[tactic(auto, unfolding(markdown_events::specs::Slices::slice))]
-pub fn text_of<'a>(bytes: &'a [u8], start: Point, end: Point) -> Option<&'a str>
+fn slice_of<'a>(bytes: &'a [u8], start: Point, end: Point) -> Option<&'a str>
     ensures { option_copied result ≡ slice bytes.now start end }
 {
     let from = edge_of(start)?;

@@ -12,16 +12,18 @@ use Rattle.markdown_grammar.specs.Source.{Source, source}
 use Rattle.markdown_tree.specs.States.{place_of}
 use Rattle.markdown_tree.specs.declared.holding.Holding.{Holding}
 use Rattle.markdown_tree.proofs.LeafEnds.{content_in, leaf_unread, literal_alone, literal_read}
+use Rattle.markdown_tree.proofs.Stopping.{refused_on}
 use Rattle.markdown_tree.proofs.holding.Holding.take_literal.Goals as goal
 use Rattle.std.proofs.Common.{◌++◌}
 use Rattle.markdown_nodes.specs.Tree as tree
 
-pub returns-in_default : goal.returns-in_default
-returns-in_default c text children place =
+pub returns-in_err-value : goal.returns-in_err-value
+returns-in_err-value c text children place =
     let s : Source = (source c.args.bytes.now text) in
     let top : Holding = c.args.self.now in
-    leaf_unread s c.args.ending.in_table None top (content c.args.content) c.args.ending.start c.args.ending.end children place
-    (literal_read s (moved_of top.holder) (place_of c.args.ending.in_table top) false c.args.content c.args.ending.start c.args.ending.end c.requires ∙ ap is_some (sym c.in_default.ensures))
+    refused_on _ c.args.ending.end c.from_residual.result _ _ _ c.from_residual.ensures c.in_err-value.ensures.refused
+    (leaf_unread s c.args.ending.in_table None top (content c.args.content) c.args.ending.start c.args.ending.end children place
+    (literal_read s (moved_of top.holder) (place_of c.args.ending.in_table top) false c.args.content c.args.ending.start c.args.ending.end c.requires ∙ ap is_some (sym c.in_err-value.ensures.text)))
 
 pub returns : goal.returns
 returns c text children place =
@@ -31,8 +33,8 @@ returns c text children place =
     content_in s c.args.ending.in_table top (record { holder = top.holder; line_endings = c.args.self.now.line_endings; nodes = c.put.new.nodes }) c.args.content c.args.ending.start c.args.ending.end children place (literal_alone c.args.content c.requires).0 refl refl
     (c.in_ok-put.ensures ∙ ap (join (views top.nodes.items))
     (ap only c.in_ok-node.ensures
-    ∙ ap (λ (x : Position). only (placed (tree.link (c.scheme_of.result.now ++ c.in-Some.value.now) None) (only (placed (tree.text c.in-Some.value.now) nothing x)) x)) c.position_of-position.ensures
-    ∙ ap (λ (o : Option (List ℕ)). linked c.scheme_of.result.now (unwrap_or o []) c.args.ending.start c.args.ending.end c.args.ending.start c.args.ending.end) c.in-Some.ensures
+    ∙ ap (λ (x : Position). only (placed (tree.link (c.scheme_of.result.now ++ c.in_ok-value.value.now) None) (only (placed (tree.text c.in_ok-value.value.now) nothing x)) x)) c.position_of-position.ensures
+    ∙ ap (λ (o : Option (List ℕ)). linked c.scheme_of.result.now (unwrap_or o []) c.args.ending.start c.args.ending.end c.args.ending.start c.args.ending.end) c.in_ok-value.ensures.text
     ∙ sym (c.scheme_of.ensures s p c.args.ending.start c.args.ending.end children nothing_yet)))
     (literal_alone c.args.content c.requires).1
-    (literal_read s (moved_of top.holder) p false c.args.content c.args.ending.start c.args.ending.end c.requires ∙ sym (ap is_some c.in-Some.ensures))
+    (literal_read s (moved_of top.holder) p false c.args.content c.args.ending.start c.args.ending.end c.requires ∙ sym (ap is_some c.in_ok-value.ensures.text))

@@ -2,7 +2,7 @@ use Rattle.std.proofs.Common.{ap, ◌∙◌}
 use Rattle.std.specs.Prelude.{option_copied}
 use Rattle.markdown_events.specs.Slices.{slice}
 use Rattle.markdown_tree.proofs.SliceReads.{read_is}
-use Rattle.markdown_tree.proofs.slice.text_of.Goals as goal
+use Rattle.markdown_tree.proofs.slice.slice_of.Goals as goal
 
 pub returns : goal.returns
 unfolding slice
