@@ -1,5 +1,5 @@
 -- What the private functions of `text` give, for the proofs of its public ones.
-use Rattle.std.specs.Prelude.{ℕ, ◌==◌, Bool, true, false, List, [], ◌∷◌, ◌++◌, Option, Some, None, if◌then◌else◌}
+use Rattle.std.specs.Prelude.{ℕ, ◌==◌, Bool, true, false, List, [], ◌∷◌, Option, Some, None, if◌then◌else◌}
 use Rattle.std.specs.Option.{option_map}
 use Rattle.markdown_events.specs.declared.text.Blanks.{Blanks}
 use Rattle.markdown_events.specs.Texts.{is_blank}

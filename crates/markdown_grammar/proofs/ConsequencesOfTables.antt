@@ -13,7 +13,6 @@ use Rattle.markdown_events.specs.declared.role.Acting.{Acting}
 use Rattle.markdown_events.specs.declared.role.Role.{Role}
 use Rattle.markdown_events.specs.declared.unist.Position.{Position}
 use Rattle.markdown_grammar.proofs.Booleans.{first-of, second-of, third-of}
-use Rattle.markdown_grammar.proofs.Conditions.{conditions-hold}
 use Rattle.markdown_grammar.proofs.Consequences.{At, IfAsked, OwnNodes, asked_label, everywhere-then, inner_from, is_asked_of, meaning-everywhere}
 use Rattle.markdown_grammar.specs.Accepted.{Accepted}
 use Rattle.markdown_grammar.specs.Consequences.{DeclaresColumns, Everywhere, HasColumnsOf, SomeSpan, cell_values, cell_values_in_row}

@@ -1,12 +1,11 @@
 -- From the first event to the last: of a spelling as of its forest.
-use Rattle.std.proofs.Common.{◌≡◌, ℕ, ◌-◌, ◌<◌, List, [], ◌∷◌, ◌++◌, length, Option, None, Some, arith, refl, sym, ap, ◌∙◌}
+use Rattle.std.proofs.Common.{◌≡◌, ℕ, ◌-◌, List, [], ◌∷◌, ◌++◌, length, Option, Some, arith, refl, sym, ap, ◌∙◌}
 use Rattle.std.specs.Prelude.{slice_get}
 use Rattle.markdown_events.specs.Forest.{Forest, empty, enter, exit, span, spell}
 use Rattle.markdown_events.specs.Slices.{between}
 use Rattle.markdown_events.specs.declared.event.Event.{Event}
 use Rattle.markdown_events.specs.declared.event.Name.{Name}
 use Rattle.markdown_events.specs.declared.event.Point.{Point}
-use Rattle.markdown_grammar.specs.Compiler.{point_of}
 use Rattle.markdown_grammar.specs.Extents.{extent_between, extent_of, last_event}
 use Rattle.markdown_grammar.specs.Meaning.{extent, last_end}
 

@@ -1,5 +1,5 @@
 -- With an event that a step takes nothing is wrong, in the words of the grammar.
-use Rattle.std.proofs.Common.{◌≡◌, inl, inr, Bool, true, false, not, ◌&&◌, cond, List, [], ◌∷◌, ◌++◌, Option, Some, None, Result, Ok, Err, refl, sym, ap, subst, ◌∙◌}
+use Rattle.std.proofs.Common.{◌≡◌, Bool, true, false, not, ◌&&◌, List, [], ◌∷◌, ◌++◌, Some, Ok, Err, refl, sym, ap, subst, ◌∙◌}
 use Rattle.std.specs.List.{list_all}
 use Rattle.markdown_events.specs.Around.{holds_nothing, may_begin}
 use Rattle.markdown_events.specs.Forest.{Forest, is_delimiter_cell_value, is_delimiter_row}
@@ -13,7 +13,7 @@ use Rattle.markdown_events.specs.declared.event.Name.{Name}
 use Rattle.markdown_events.specs.declared.event.Point.{Point}
 use Rattle.markdown_events.specs.declared.role.Acting.{Acting}
 use Rattle.markdown_events.specs.declared.role.Role.{Role}
-use Rattle.markdown_events.specs.declared.role.Role.TheVariants.{Plain as plain, Acting as acting}
+use Rattle.markdown_events.specs.declared.role.Role.TheVariants.{Acting as acting}
 use Rattle.markdown_grammar.proofs.Allowed.{lets-is}
 use Rattle.markdown_grammar.proofs.Booleans.{and-both, and-left, and-right, not-both}
 use Rattle.markdown_grammar.proofs.Gathered.{inner_at}
@@ -29,8 +29,8 @@ use Rattle.markdown_grammar.specs.Grammar.{rules, takes}
 use Rattle.markdown_grammar.specs.Holders.{Holder}
 use Rattle.markdown_grammar.specs.Items.{Items, items, kinds}
 use Rattle.markdown_grammar.specs.Place.{Place}
-use Rattle.markdown_grammar.specs.Reasons.{BreaksFirst, IsHeld, IsWrong, IsWrongAtEnter, IsWrongAtExit, NothingIsWrong, against_a_rule, beginning, behind_a_break, break_is_last, closes, enters, exits, held, in_what_holds_nothing, row_in_a_row, table_in_a_table, unmatched, value_in_a_value, without_its_byte, without_its_parts, without_its_value}
-use Rattle.markdown_grammar.specs.Rejections.{Rejection, passes, ◌>>=◌}
+use Rattle.markdown_grammar.specs.Reasons.{IsHeld, IsWrong, IsWrongAtEnter, IsWrongAtExit, NothingIsWrong, against_a_rule, beginning, behind_a_break, break_is_last, closes, enters, exits, held, in_what_holds_nothing, row_in_a_row, table_in_a_table, unmatched, value_in_a_value, without_its_byte, without_its_parts, without_its_value}
+use Rattle.markdown_grammar.specs.Rejections.{passes, ◌>>=◌}
 use Rattle.markdown_grammar.specs.Rules.{Rule, keeps}
 use Rattle.markdown_grammar.specs.Source.{Source}
 use Rattle.markdown_grammar.specs.Spots.{Entered, Spot, around_of, occurrence, spot_in, spot_of, told}

@@ -7,7 +7,7 @@ use Rattle.markdown_events.specs.declared.role.Acting.{Acting}
 use Rattle.markdown_events.specs.declared.role.Role.{Role}
 use Rattle.markdown_grammar.proofs.Allowed.{takes-none}
 use Rattle.markdown_grammar.proofs.Compiled.{over-all, start}
-use Rattle.markdown_grammar.proofs.EventRuns.{at, opened_by, the_open, top_by}
+use Rattle.markdown_grammar.proofs.EventRuns.{at, opened_by, top_by}
 use Rattle.markdown_grammar.proofs.ForestSteps.{Reached, eval}
 use Rattle.markdown_grammar.proofs.Gathered.{holding}
 use Rattle.markdown_grammar.proofs.ItemSteps.{fresh-is}

@@ -11,7 +11,6 @@ use Rattle.markdown_events.specs.declared.event.Name.{Name}
 use Rattle.markdown_events.specs.declared.event.Point.{Point}
 use Rattle.markdown_events.specs.declared.role.Acting.{Acting}
 use Rattle.markdown_events.specs.declared.role.Role.{Role}
-use Rattle.markdown_grammar.proofs.Allowed.{lets-is}
 use Rattle.markdown_grammar.proofs.Booleans.{and-both, and-left, and-right}
 use Rattle.markdown_grammar.proofs.Gathered.{inner_at}
 use Rattle.markdown_grammar.proofs.Known.{AreOpen, AreShaped, Stands, kept_at_spot, known, outer_by}
@@ -23,7 +22,7 @@ use Rattle.markdown_grammar.proofs.Shape.{shaped}
 use Rattle.markdown_grammar.specs.Accepted.{Occurrence, ends_with_break, has_its_byte, is_no_inner_table}
 use Rattle.markdown_events.specs.Around.{may_begin, under}
 use Rattle.markdown_grammar.specs.Columns.{shown}
-use Rattle.markdown_grammar.specs.Compiler.{Holds, Open, State, allows, closed, compiled, enter_as, enter_checks, enter_step, entered, exit_checks, exit_from, exit_step, is_shut, last_checks, leave, leave_to, opened, opening, point_of, rule_checks, run, shut, step_by, tree_of}
+use Rattle.markdown_grammar.specs.Compiler.{Holds, Open, State, closed, compiled, enter_as, enter_checks, enter_step, entered, exit_checks, exit_from, exit_step, is_shut, last_checks, leave, leave_to, opened, opening, point_of, rule_checks, run, shut, step_by, tree_of}
 use Rattle.markdown_grammar.specs.Extents.{last_event}
 use Rattle.markdown_grammar.specs.Grammar.{rules, takes}
 use Rattle.markdown_grammar.specs.Holders.{Holder}

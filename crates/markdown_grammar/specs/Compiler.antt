@@ -1,8 +1,8 @@
 -- The steps of a compilation on values: what a holder keeps, what goes down to a span at its enter, and what comes up at its exit.
-use Rattle.std.specs.Prelude.{Bool, List, None, Ok, Option, Result, Some, [], cond, false, if◌then◌else◌, is_some, not, true, ◌&&◌, ◌||◌, ◌∷◌}
+use Rattle.std.specs.Prelude.{Bool, List, None, Ok, Option, Result, Some, [], cond, false, is_some, not, true, ◌&&◌, ◌||◌, ◌∷◌}
 use Rattle.std.specs.Option.{option_or}
 use Rattle.markdown_events.specs.Names.{is_same_name, role_of}
-use Rattle.markdown_events.specs.Slices.{slice, to_unist}
+use Rattle.markdown_events.specs.Slices.{to_unist}
 use Rattle.markdown_events.specs.Spread.{Shown}
 use Rattle.markdown_nodes.specs.Tree.{Tree, Trees, join, node, nothing, root}
 use Rattle.markdown_events.specs.declared.event.Event.{Event}
@@ -19,12 +19,12 @@ use Rattle.markdown_grammar.specs.Columns.{Columns, columns_entered, columns_lef
 use Rattle.markdown_grammar.specs.Extents.{extent_of, last_event}
 use Rattle.markdown_grammar.specs.Gives.{mark_given, value_given}
 use Rattle.markdown_grammar.specs.Grammar.{has_part, is_complete, rules}
-use Rattle.markdown_grammar.specs.Holders.{Holder, any_content, character_reference, code_fenced, holder_behind, holder_of, list_ordered, math_flow}
+use Rattle.markdown_grammar.specs.Holders.{Holder, any_content, holder_behind, holder_of}
 use Rattle.markdown_grammar.specs.Kinds.{is_frontmatter, is_hard_break, is_line_ending, is_one_of, is_part, is_table}
 use Rattle.markdown_grammar.specs.Nodes.{node_of}
 use Rattle.markdown_grammar.specs.Parts.{Inner, Kept, Path, into, itself, kept_from, path_to}
 use Rattle.markdown_grammar.specs.Place.{Place, place_behind, place_inside, root_place}
-use Rattle.markdown_grammar.specs.Ranges.{byte_at, length_between}
+use Rattle.markdown_grammar.specs.Ranges.{byte_at}
 use Rattle.markdown_grammar.specs.Reads.{is_read}
 use Rattle.markdown_grammar.specs.Refusals.{broken, lacking, unread}
 use Rattle.markdown_grammar.specs.Rejections.{Rejection, checked, refused, ◌>>=◌}
@@ -34,10 +34,9 @@ use Rattle.markdown_grammar.specs.Source.{Source}
 use Rattle.markdown_events.specs.declared.around.Around.{Around}
 use Rattle.markdown_grammar.specs.declared.refusal.Refusal.{Refusal}
 use Rattle.markdown_events.specs.declared.event.Kind.TheVariants.{Enter, Exit}
-use Rattle.markdown_events.specs.declared.role.Acting.TheVariants.{Part as part}
 use Rattle.markdown_events.specs.declared.role.Part.TheVariants as parts
 use Rattle.markdown_events.specs.declared.role.Role.TheVariants.{Plain as plain, Acting as acting}
-use Rattle.markdown_grammar.specs.declared.refusal.Refusal.TheVariants.{Unbalanced, Misplaced, Repeated, Held, InvalidSlice, InvalidListValue, MissingListValue, UnknownReference, IncompleteReference, MissingFence, HeadingDepth, UnfinishedBreak}
+use Rattle.markdown_grammar.specs.declared.refusal.Refusal.TheVariants.{Unbalanced, Misplaced, Held, InvalidSlice, UnfinishedBreak}
 
 -- ---- What a holder keeps
 

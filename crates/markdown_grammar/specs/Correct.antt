@@ -1,5 +1,5 @@
 -- What `compile` answers.
-use Rattle.std.specs.Prelude.{◌≡◌, ◌≢◌, ◌⊎◌, List, [], ◌∷◌, ◌++◌}
+use Rattle.std.specs.Prelude.{◌≡◌, ◌≢◌, ◌⊎◌, List}
 use Rattle.markdown_events.specs.declared.event.Event.{Event}
 use Rattle.markdown_nodes.specs.declared.mdast.Node.{Node}
 use Rattle.markdown_events.specs.declared.message.Fault.{Fault}
@@ -7,7 +7,7 @@ use Rattle.markdown_events.specs.declared.message.Fault.TheVariants as faults
 use Rattle.markdown_events.specs.declared.message.Message.{Message}
 use Rattle.markdown_events.specs.Forest.{Forest, spell}
 use Rattle.markdown_nodes.specs.View.{view}
-use Rattle.markdown_grammar.specs.declared.refusal.Refusal.TheVariants.{Unbalanced, UnfinishedBreak}
+use Rattle.markdown_grammar.specs.declared.refusal.Refusal.TheVariants.{Unbalanced}
 use Rattle.markdown_grammar.specs.Accepted.{Accepted}
 use Rattle.markdown_grammar.specs.Meaning.{meaning}
 use Rattle.markdown_grammar.specs.Reasons.{EndsFor, StopsFor}

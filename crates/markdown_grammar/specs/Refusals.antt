@@ -11,7 +11,7 @@ use Rattle.markdown_events.specs.declared.role.Acting.TheVariants.{Part as part}
 use Rattle.markdown_events.specs.declared.role.Part.TheVariants as parts
 use Rattle.markdown_grammar.specs.Holders.{Holder, character_reference, code_fenced, list_ordered, math_flow}
 use Rattle.markdown_grammar.specs.Ranges.{length_between}
-use Rattle.markdown_grammar.specs.Rules.{Rule, never, once, only, only_before, only_behind}
+use Rattle.markdown_grammar.specs.Rules.{Rule, never, once, only_before}
 use Rattle.markdown_grammar.specs.Source.{Source}
 use Rattle.markdown_grammar.specs.declared.refusal.Refusal.{Refusal}
 use Rattle.markdown_grammar.specs.declared.refusal.Refusal.TheVariants.{Unbalanced, Misplaced, Repeated, Held, InvalidSlice, InvalidListValue, MissingListValue, UnknownReference, IncompleteReference, MissingFence, HeadingDepth, UnfinishedBreak}

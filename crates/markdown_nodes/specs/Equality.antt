@@ -1,5 +1,5 @@
 -- The test whether two trees are equal.
-use Rattle.std.specs.Prelude.{◌≡◌, ◌↔◌, IsTrue, ℕ, Bool, true, false, ◌&&◌, bytes_eq, nat_eq}
+use Rattle.std.specs.Prelude.{◌≡◌, ◌↔◌, IsTrue, Bool, true, false, ◌&&◌, bytes_eq, nat_eq}
 use Rattle.std.specs.Option.{option_eq}
 use lib.Pointwise.{pointwise}
 use denote.Enum.Bare.{sameb}

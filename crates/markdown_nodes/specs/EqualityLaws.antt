@@ -1,12 +1,12 @@
 -- The test whether two trees are equal tells exactly that. The impl of PartialEq for Node names its laws, so they stand here and not in proofs/.
-use Rattle.std.proofs.Common.{◌≡◌, ℕ, Bool, true, false, ◌&&◌, List, Option, Some, None, refl, sym, ap, ◌∙◌, true≢false, eqb-true, eq-eqb}
+use Rattle.std.proofs.Common.{◌≡◌, ℕ, Bool, true, false, ◌&&◌, List, Option, Some, None, refl, sym, ap, ◌∙◌, true≢false}
 use Rattle.std.specs.Bool.{Decides}
 use Rattle.std.specs.Option.{option_eq}
 use Rattle.std.specs.Cmp.{IsEquivalence, booleans_Decides, decided}
 use Rattle.std.specs.Cmp.Lexicographic.{bytes_decides, pointwise, pointwise_decides}
 use Rattle.std.proofs.lemmas.Bool.Decides.{Decides-and, Decides-eqb}
 use Rattle.std.specs.Prelude.{bytes_eq, nat_eq}
-use denote.Enum.Bare.{same_true, sameb, true_same}
+use denote.Enum.Bare.{same_true, true_same}
 use mathlib.Core.Bool.{beq}
 use Rattle.markdown_events.specs.declared.infer.AlignKind.{AlignKind}
 use Rattle.markdown_events.specs.contracts.infer.AlignKind.{the_type as align_type}
