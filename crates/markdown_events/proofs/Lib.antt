@@ -3,6 +3,7 @@ pub mod Unique
 pub mod Loose
 pub mod Lists
 pub mod Spans
+mod GhostWalks
 pub mod OpenSpans
 pub mod Aligns
 pub mod Cuts

@@ -7,6 +7,8 @@ pub mod Around
 pub mod Texts
 pub mod TextWalks
 pub mod Spread
+pub mod Counted
+pub mod Steps
 pub mod Begins
 pub mod Walks
 pub mod OpenSpans

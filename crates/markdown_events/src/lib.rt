@@ -1,14 +1,17 @@
 //! The events of a tokenizer, and what is read from them without the grammar: names and what each is
-//! to the tree, points, spans of a flat list, spread and alignment, texts, and messages.
+//! to the tree, points, spans of a flat list, spread and alignment, texts, and messages; and the one
+//! reader of a list, which counts.
 //!
 //! The crate `markdown_nodes` passes the modules on, each under its name, and the law among its own.
 #![tactic(auto)]
 
 pub mod around;
+mod count;
 pub mod event;
 pub mod infer;
 pub mod laws;
 pub mod message;
 pub mod role;
+pub mod steps;
 pub mod text;
 pub mod unist;

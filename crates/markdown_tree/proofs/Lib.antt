@@ -1,4 +1,3 @@
-mod GhostWalks
 pub mod Digits
 pub mod Readings
 pub mod Joins

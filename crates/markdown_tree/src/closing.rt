@@ -12,13 +12,13 @@ ghost use Rattle.markdown_tree.specs.declared.holder.Holder.TheVariants as holde
 
 use crate::buffer::label_of;
 use crate::holder::{DefinitionParts, Identified, Label, MediaParts, ResourceParts, Target};
-use crate::steps::Steps;
 use markdown_nodes::mdast::{
     AlignKind, Blockquote, Definition, Delete, Emphasis, FootnoteDefinition, FootnoteReference,
     Heading, Image, ImageReference, Link, LinkReference, List, ListItem, Node, Paragraph,
     ReferenceKind, Strong, Table, TableCell, TableRow,
 };
 use markdown_nodes::role::Content;
+use markdown_nodes::steps::Steps;
 use markdown_nodes::text::normalize_identifier;
 use markdown_nodes::unist::Position;
 use std::alloc::{AllocError, Global};

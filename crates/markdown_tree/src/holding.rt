@@ -42,12 +42,12 @@ use crate::raw::{
     autolink, fenced_code, frontmatter, html, indented_code, inline_code, inline_math, math,
 };
 use crate::slice::{byte_at, position_of};
-use crate::steps::Steps;
 use crate::task;
 use markdown_grammar::refusal::{Refusal, Stop};
 use markdown_nodes::event::Point;
 use markdown_nodes::mdast::Node;
 use markdown_nodes::role::{Acting, Content, Part};
+use markdown_nodes::steps::Steps;
 use markdown_nodes::unist::Position;
 use std::alloc::{AllocError, Global};
 

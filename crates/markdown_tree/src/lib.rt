@@ -5,7 +5,6 @@ mod buffer;
 mod closing;
 mod columns;
 mod context;
-mod count;
 mod holder;
 mod holding;
 mod joining;
@@ -19,7 +18,6 @@ mod pieces_tests;
 mod raw;
 mod references;
 mod slice;
-pub mod steps;
 mod task;
 #[cfg(test)]
 mod tests;

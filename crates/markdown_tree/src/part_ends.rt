@@ -23,10 +23,10 @@ use crate::holder::{CodeFenceParts, Holder, Identified, Label, MathFenceParts, R
 use crate::holding::{Ending, Holding};
 use crate::joining::append;
 use crate::slice::text_of;
-use crate::steps::Steps;
 use markdown_grammar::refusal::Stop;
 use markdown_nodes::mdast::Node;
 use markdown_nodes::role::Part;
+use markdown_nodes::steps::Steps;
 use markdown_nodes::text::normalize_identifier;
 use std::alloc::{AllocError, Global};
 

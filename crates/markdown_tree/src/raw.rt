@@ -17,10 +17,10 @@ use crate::closing::link;
 use crate::holder::{AutolinkParts, CodeFenceParts, MathFenceParts};
 use crate::joining::new_text;
 use crate::slice::position_of;
-use crate::steps::Steps;
 use crate::texts::{address, block_value, inline_value};
 use markdown_nodes::event::Point;
 use markdown_nodes::mdast::{Code, Html, InlineCode, InlineMath, Math, Node, Toml, Yaml};
+use markdown_nodes::steps::Steps;
 use markdown_nodes::unist::Position;
 use std::alloc::{AllocError, Global};
 

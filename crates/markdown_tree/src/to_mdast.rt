@@ -11,18 +11,18 @@ ghost use Rattle.markdown_grammar.specs.Extents.{extent_of, last_event};
 ghost use Rattle.markdown_grammar.specs.Ordered.{IsOrdered, NeverGoesBack};
 ghost use Rattle.markdown_grammar.specs.Source.{source};
 ghost use Rattle.markdown_tree.specs.States.{Completes, state_of};
-ghost use Rattle.markdown_tree.specs.Steps.{events_in};
+ghost use Rattle.markdown_events.specs.Steps.{events_in};
 ghost use Rattle.markdown_grammar.specs.Walked.{run_walks};
 
 use crate::context::Context;
 use crate::holding::Holding;
 pub use crate::references::References;
 use crate::slice::position_of;
-pub use crate::steps::Steps;
 use markdown_grammar::refusal::Stop;
 use markdown_nodes::event::{Event, Point};
 use markdown_nodes::mdast::{Node, Root};
 use markdown_nodes::message::Fault;
+pub use markdown_nodes::steps::Steps;
 use markdown_nodes::unist::Position;
 use std::alloc::Global;
 

@@ -1,10 +1,10 @@
 //! The one reader of a list of events, which counts what the compiler does.
 
 ghost use Rattle.std.specs.Prelude.{◌≡◌, ℕ, ◌+◌, ◌^◌, ◌<◌, slice_get, IfSome};
-ghost use Rattle.markdown_tree.specs.Steps.{steps_of};
+ghost use Rattle.markdown_events.specs.Steps.{steps_of};
 
 use crate::count::Count;
-use markdown_nodes::event::Event;
+use crate::event::Event;
 use std::marker::Model;
 
 /// A list of events, and how many steps were taken over it (ours).
@@ -21,7 +21,7 @@ pub struct Steps<'a> {
 }
 
 impl<'a> Model for Steps<'a> {
-    ghost use Rattle.markdown_tree.specs.Counted.{Counted};
+    ghost use Rattle.markdown_events.specs.Counted.{Counted};
 
     ghost Value = { Counted };
 
