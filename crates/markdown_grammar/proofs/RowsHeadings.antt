@@ -53,6 +53,28 @@ a_sequence_of_seven-refused : refusal_of (compiled (over (35 ∷ 35 ∷ 35 ∷ 3
 unfolding is_utf8 chars encode slice fold caseless run enter_step exit_step leave
 a_sequence_of_seven-refused = refl
 
+abbrev a_sequence_that_cuts_a_character : Forest
+a_sequence_that_cuts_a_character = (span n.HeadingAtx (at 1 1 0) (at 1 3 2) (span n.HeadingAtxSequence (at 1 1 0) (at 1 2 1) empty empty) empty)
+
+a_sequence_that_cuts_a_character-accepted : accepted (over (195 ∷ 169 ∷ [])) a_sequence_that_cuts_a_character ≡ true
+unfolding is_utf8 chars encode slice fold caseless
+a_sequence_that_cuts_a_character-accepted = refl
+
+a_sequence_that_cuts_a_character-means : only (meaning (over (195 ∷ 169 ∷ [])) a_sequence_that_cuts_a_character) ≡ (node t.root (node (t.heading 1) nothing (position 1 1 0 1 3 2) nothing) (position 1 1 0 1 3 2) nothing)
+unfolding is_utf8 chars encode slice fold caseless
+a_sequence_that_cuts_a_character-means = refl
+
+abbrev a_reversed_sequence : Forest
+a_reversed_sequence = (span n.HeadingAtx (at 1 1 0) (at 1 3 2) (span n.HeadingAtxSequence (at 1 3 2) (at 1 2 1) empty empty) empty)
+
+a_reversed_sequence-accepted : accepted (over (35 ∷ 35 ∷ [])) a_reversed_sequence ≡ false
+unfolding is_utf8 chars encode slice fold caseless
+a_reversed_sequence-accepted = refl
+
+a_reversed_sequence-refused : refusal_of (compiled (over (35 ∷ 35 ∷ [])) (spell a_reversed_sequence)) ≡ refusal (codes "slice-invalid") 1 2 1
+unfolding is_utf8 chars encode slice fold caseless run enter_step exit_step leave
+a_reversed_sequence-refused = refl
+
 abbrev no_sequence : Forest
 no_sequence = (span n.HeadingAtx (at 1 1 0) (at 1 8 7) empty empty)
 

@@ -34,6 +34,17 @@ a_delimiter_row_in_another-refused : refusal_of (compiled (over (97 ∷ 98 ∷ [
 unfolding is_utf8 chars encode slice fold caseless run enter_step exit_step leave
 a_delimiter_row_in_another-refused = refl
 
+abbrev a_cell_value_in_another : Forest
+a_cell_value_in_another = (span n.GfmTableDelimiterCellValue (at 1 1 0) (at 1 3 2) (span n.GfmTableDelimiterRow (at 1 1 0) (at 1 3 2) (span n.GfmTableDelimiterCellValue (at 1 2 1) (at 1 3 2) empty empty) empty) empty)
+
+a_cell_value_in_another-accepted : accepted (over (97 ∷ 98 ∷ [])) a_cell_value_in_another ≡ false
+unfolding is_utf8 chars encode slice fold caseless
+a_cell_value_in_another-accepted = refl
+
+a_cell_value_in_another-refused : refusal_of (compiled (over (97 ∷ 98 ∷ [])) (spell a_cell_value_in_another)) ≡ refusal (codes "span-held") 1 2 1
+unfolding is_utf8 chars encode slice fold caseless run enter_step exit_step leave
+a_cell_value_in_another-refused = refl
+
 abbrev two_labels_in_an_image : Forest
 two_labels_in_an_image = (span n.Image (at 1 1 0) (at 1 3 2) (span n.LabelText (at 1 1 0) (at 1 2 1) empty (span n.LabelText (at 1 2 1) (at 1 3 2) empty empty)) empty)
 

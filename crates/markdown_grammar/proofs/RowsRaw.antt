@@ -31,6 +31,17 @@ fenced_code_with_info_and_meta-ordered : ordered (only (meaning (over (126 ∷ 1
 unfolding is_utf8 chars encode slice fold caseless
 fenced_code_with_info_and_meta-ordered = refl
 
+abbrev fenced_code_loses_one_line_ending_at_each_end : Forest
+fenced_code_loses_one_line_ending_at_each_end = (span n.CodeFenced (at 1 1 0) (at 4 4 11) (span n.CodeFencedFence (at 1 1 0) (at 1 4 3) empty (span n.LineEnding (at 1 4 3) (at 2 1 5) empty (span n.CodeFlowChunk (at 2 1 5) (at 2 2 6) empty (span n.LineEnding (at 2 2 6) (at 3 1 7) empty (span n.LineEnding (at 3 1 7) (at 4 1 8) empty (span n.CodeFencedFence (at 4 1 8) (at 4 4 11) empty empty)))))) empty)
+
+fenced_code_loses_one_line_ending_at_each_end-accepted : accepted (over (126 ∷ 126 ∷ 126 ∷ 13 ∷ 10 ∷ 97 ∷ 10 ∷ 10 ∷ 126 ∷ 126 ∷ 126 ∷ [])) fenced_code_loses_one_line_ending_at_each_end ≡ true
+unfolding is_utf8 chars encode slice fold caseless
+fenced_code_loses_one_line_ending_at_each_end-accepted = refl
+
+fenced_code_loses_one_line_ending_at_each_end-means : only (meaning (over (126 ∷ 126 ∷ 126 ∷ 13 ∷ 10 ∷ 97 ∷ 10 ∷ 10 ∷ 126 ∷ 126 ∷ 126 ∷ [])) fenced_code_loses_one_line_ending_at_each_end) ≡ (node t.root (node (t.code (97 ∷ 10 ∷ []) None None) nothing (position 1 1 0 4 4 11) nothing) (position 1 1 0 4 4 11) nothing)
+unfolding is_utf8 chars encode slice fold caseless
+fenced_code_loses_one_line_ending_at_each_end-means = refl
+
 abbrev an_open_fence : Forest
 an_open_fence = (span n.CodeFenced (at 1 1 0) (at 2 1 4) (span n.CodeFencedFence (at 1 1 0) (at 1 4 3) empty (span n.LineEnding (at 1 4 3) (at 2 1 4) empty empty)) empty)
 
@@ -119,6 +130,17 @@ indented_code_keeps_its_first_line_ending-means : only (meaning (over (10 ∷ 97
 unfolding is_utf8 chars encode slice fold caseless
 indented_code_keeps_its_first_line_ending-means = refl
 
+abbrev indented_code_loses_its_last_line_ending_of_two_bytes : Forest
+indented_code_loses_its_last_line_ending_of_two_bytes = (span n.CodeIndented (at 1 1 0) (at 2 1 7) (span n.SpaceOrTab (at 1 1 0) (at 1 5 4) empty (span n.CodeFlowChunk (at 1 5 4) (at 1 6 5) empty (span n.LineEnding (at 1 6 5) (at 2 1 7) empty empty))) empty)
+
+indented_code_loses_its_last_line_ending_of_two_bytes-accepted : accepted (over (32 ∷ 32 ∷ 32 ∷ 32 ∷ 97 ∷ 13 ∷ 10 ∷ [])) indented_code_loses_its_last_line_ending_of_two_bytes ≡ true
+unfolding is_utf8 chars encode slice fold caseless
+indented_code_loses_its_last_line_ending_of_two_bytes-accepted = refl
+
+indented_code_loses_its_last_line_ending_of_two_bytes-means : only (meaning (over (32 ∷ 32 ∷ 32 ∷ 32 ∷ 97 ∷ 13 ∷ 10 ∷ [])) indented_code_loses_its_last_line_ending_of_two_bytes) ≡ (node t.root (node (t.code (97 ∷ []) None None) nothing (position 1 1 0 2 1 7) nothing) (position 1 1 0 2 1 7) nothing)
+unfolding is_utf8 chars encode slice fold caseless
+indented_code_loses_its_last_line_ending_of_two_bytes-means = refl
+
 abbrev math : Forest
 math = (span n.MathFlow (at 1 1 0) (at 3 3 7) (span n.MathFlowFence (at 1 1 0) (at 1 3 2) empty (span n.LineEnding (at 1 3 2) (at 2 1 3) empty (span n.MathFlowChunk (at 2 1 3) (at 2 2 4) empty (span n.LineEnding (at 2 2 4) (at 3 1 5) empty (span n.MathFlowFence (at 3 1 5) (at 3 3 7) empty empty))))) empty)
 
@@ -195,6 +217,17 @@ a_pipe_in_code_in_emphasis_in_a_table-accepted = refl
 a_pipe_in_code_in_emphasis_in_a_table-means : only (meaning (over (96 ∷ 97 ∷ 92 ∷ 124 ∷ 98 ∷ 96 ∷ [])) a_pipe_in_code_in_emphasis_in_a_table) ≡ (node t.root (node (t.table ([])) (node t.table_row (node t.table_cell (node t.emphasis (node (t.inline_code (97 ∷ 124 ∷ 98 ∷ [])) nothing (position 1 1 0 1 7 6) nothing) (position 1 1 0 1 7 6) nothing) (position 1 1 0 1 7 6) nothing) (position 1 1 0 1 7 6) nothing) (position 1 1 0 1 7 6) nothing) (position 1 1 0 1 7 6) nothing)
 unfolding is_utf8 chars encode slice fold caseless
 a_pipe_in_code_in_emphasis_in_a_table-means = refl
+
+abbrev a_pipe_between_line_endings_in_code_in_a_table : Forest
+a_pipe_between_line_endings_in_code_in_a_table = (span n.GfmTable (at 1 1 0) (at 3 2 9) (span n.GfmTableRow (at 1 1 0) (at 3 2 9) (span n.GfmTableCell (at 1 1 0) (at 3 2 9) (span n.CodeText (at 1 1 0) (at 3 2 9) (span n.CodeTextSequence (at 1 1 0) (at 1 2 1) empty (span n.LineEnding (at 1 2 1) (at 2 1 2) empty (span n.CodeTextData (at 2 1 2) (at 2 5 6) empty (span n.LineEnding (at 2 5 6) (at 3 1 8) empty (span n.CodeTextSequence (at 3 1 8) (at 3 2 9) empty empty))))) empty) empty) empty) empty)
+
+a_pipe_between_line_endings_in_code_in_a_table-accepted : accepted (over (96 ∷ 10 ∷ 97 ∷ 92 ∷ 124 ∷ 98 ∷ 13 ∷ 10 ∷ 96 ∷ [])) a_pipe_between_line_endings_in_code_in_a_table ≡ true
+unfolding is_utf8 chars encode slice fold caseless
+a_pipe_between_line_endings_in_code_in_a_table-accepted = refl
+
+a_pipe_between_line_endings_in_code_in_a_table-means : only (meaning (over (96 ∷ 10 ∷ 97 ∷ 92 ∷ 124 ∷ 98 ∷ 13 ∷ 10 ∷ 96 ∷ [])) a_pipe_between_line_endings_in_code_in_a_table) ≡ (node t.root (node (t.table ([])) (node t.table_row (node t.table_cell (node (t.inline_code (97 ∷ 124 ∷ 98 ∷ [])) nothing (position 1 1 0 3 2 9) nothing) (position 1 1 0 3 2 9) nothing) (position 1 1 0 3 2 9) nothing) (position 1 1 0 3 2 9) nothing) (position 1 1 0 3 2 9) nothing)
+unfolding is_utf8 chars encode slice fold caseless
+a_pipe_between_line_endings_in_code_in_a_table-means = refl
 
 abbrev a_pipe_in_code_behind_a_table : Forest
 a_pipe_in_code_behind_a_table = (span n.GfmTable (at 1 1 0) (at 1 1 0) (span n.GfmTableRow (at 1 1 0) (at 1 1 0) empty empty) (span n.CodeText (at 1 1 0) (at 1 7 6) (span n.CodeTextSequence (at 1 1 0) (at 1 2 1) empty (span n.CodeTextData (at 1 2 1) (at 1 6 5) empty (span n.CodeTextSequence (at 1 6 5) (at 1 7 6) empty empty))) empty))

@@ -89,6 +89,21 @@ a_text_that_becomes_empty-ordered : ordered (only (meaning (over (42 ∷ 32 ∷ 
 unfolding is_utf8 chars encode slice fold caseless
 a_text_that_becomes_empty-ordered = refl
 
+abbrev a_mark_and_a_space_alone : Forest
+a_mark_and_a_space_alone = (span n.ListUnordered (at 1 1 0) (at 1 7 6) (span n.ListItem (at 1 1 0) (at 1 7 6) (span n.ListItemPrefix (at 1 1 0) (at 1 3 2) empty (span n.Paragraph (at 1 3 2) (at 1 7 6) (span n.GfmTaskListItemCheck (at 1 3 2) (at 1 6 5) (span n.GfmTaskListItemValueChecked (at 1 4 3) (at 1 5 4) empty empty) (span n.Data (at 1 6 5) (at 1 7 6) empty empty)) empty)) empty) empty)
+
+a_mark_and_a_space_alone-accepted : accepted (over (42 ∷ 32 ∷ 91 ∷ 120 ∷ 93 ∷ 32 ∷ [])) a_mark_and_a_space_alone ≡ true
+unfolding is_utf8 chars encode slice fold caseless
+a_mark_and_a_space_alone-accepted = refl
+
+a_mark_and_a_space_alone-means : only (meaning (over (42 ∷ 32 ∷ 91 ∷ 120 ∷ 93 ∷ 32 ∷ [])) a_mark_and_a_space_alone) ≡ (node t.root (node (t.list false None false) (node (t.list_item false (Some true)) (node t.paragraph nothing (position 1 7 6 1 7 6) nothing) (position 1 1 0 1 7 6) nothing) (position 1 1 0 1 7 6) nothing) (position 1 1 0 1 7 6) nothing)
+unfolding is_utf8 chars encode slice fold caseless
+a_mark_and_a_space_alone-means = refl
+
+a_mark_and_a_space_alone-ordered : ordered (only (meaning (over (42 ∷ 32 ∷ 91 ∷ 120 ∷ 93 ∷ 32 ∷ [])) a_mark_and_a_space_alone)) ≡ true
+unfolding is_utf8 chars encode slice fold caseless
+a_mark_and_a_space_alone-ordered = refl
+
 abbrev a_mark_in_a_later_paragraph : Forest
 a_mark_in_a_later_paragraph = (span n.ListUnordered (at 1 1 0) (at 2 8 16) (span n.ListItem (at 1 1 0) (at 2 8 16) (span n.ListItemPrefix (at 1 1 0) (at 1 3 2) empty (span n.Definition (at 1 3 2) (at 1 9 8) (span n.DefinitionLabelString (at 1 4 3) (at 1 5 4) (span n.Data (at 1 4 3) (at 1 5 4) empty empty) (span n.DefinitionDestinationString (at 1 8 7) (at 1 9 8) (span n.Data (at 1 8 7) (at 1 9 8) empty empty) empty)) (span n.LineEnding (at 1 9 8) (at 2 1 9) empty (span n.Paragraph (at 2 3 11) (at 2 8 16) (span n.GfmTaskListItemCheck (at 2 3 11) (at 2 6 14) (span n.GfmTaskListItemValueChecked (at 2 4 12) (at 2 5 13) empty empty) (span n.Data (at 2 6 14) (at 2 8 16) empty empty)) empty)))) empty) empty)
 

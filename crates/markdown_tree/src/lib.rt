@@ -13,14 +13,10 @@ mod marks;
 mod number;
 mod part_ends;
 mod parts;
-#[cfg(test)]
-mod pieces_tests;
 mod raw;
 mod references;
 mod slice;
 mod task;
-#[cfg(test)]
-mod tests;
 mod texts;
 pub mod to_mdast;
 

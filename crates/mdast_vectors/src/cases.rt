@@ -44,11 +44,17 @@ impl Case<'_> {
 
     /// What `compile` gives for these events over the document, in the form of a last line.
     pub fn answer(&self, alloc: Global, events: &[Event]) -> Result<String, AllocError> {
-        match compile(alloc, events, self.document.as_slice(), &self.decoder) {
-            Ok(tree) => format!(in alloc; "= {tree:?}"),
-            Err(Fault::Message(message)) => refusal(alloc, message),
-            Err(Fault::Memory(error)) => Err(error),
-        }
+        let answer = compile(alloc, events, self.document.as_slice(), &self.decoder);
+        last_line(alloc, answer)
+    }
+}
+
+/// The last line of a case that must have this answer.
+pub fn last_line(alloc: Global, answer: Result<Node, Fault>) -> Result<String, AllocError> {
+    match answer {
+        Ok(tree) => format!(in alloc; "= {tree:?}"),
+        Err(Fault::Message(message)) => refusal(alloc, message),
+        Err(Fault::Memory(error)) => Err(error),
     }
 }
 

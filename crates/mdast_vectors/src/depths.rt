@@ -1,8 +1,8 @@
 //! Trees that are deep.
 
 use crate::cases::compiled;
-use crate::outline::{event_at, spelled};
-use markdown_nodes::event::{Event, Kind, Name};
+use crate::outline::{spelled, spelled_to};
+use markdown_nodes::event::{Event, Name};
 use markdown_nodes::mdast::Node;
 use std::alloc::{AllocError, Global};
 use std::test::Fail;
@@ -51,28 +51,55 @@ fn a_blank_line_in_the_innermost_of_nested_lists(rt: HostRuntime) -> Result<(), 
     Ok(())
 }
 
-/// A text in a paragraph in as many block quotes.
-fn nested_quotes(alloc: Global, depth: u32) -> Result<Vec<Event>, AllocError> {
-    let mut events = Vec::new(alloc);
-    for _ in 0..depth {
-        events.push(event_at(Kind::Enter, Name::BlockQuote, 0))?;
+/// So many of a name.
+fn many(alloc: Global, name: Name, count: usize) -> Result<Vec<Name>, AllocError> {
+    let mut names = Vec::new(alloc);
+    for _ in 0..count {
+        names.push(name)?;
     }
-    events.push(event_at(Kind::Enter, Name::Paragraph, 0))?;
-    events.push(event_at(Kind::Enter, Name::Data, 0))?;
-    events.push(event_at(Kind::Exit, Name::Data, 1))?;
-    events.push(event_at(Kind::Exit, Name::Paragraph, 1))?;
-    for _ in 0..depth {
-        events.push(event_at(Kind::Exit, Name::BlockQuote, 1))?;
+    Ok(names)
+}
+
+/// The events of spans of one byte, each in the one before.
+fn tower(alloc: Global, names: &[Name]) -> Result<Vec<Event>, AllocError> {
+    let mut outline = Vec::new(alloc);
+    for (depth, name) in names.iter().enumerate() {
+        outline.push((depth, *name))?;
     }
-    Ok(events)
+    spelled_to(alloc, outline.as_slice(), 1)
+}
+
+/// The tree of a byte in a thousand spans of a name, with spans around and in them.
+fn nested(alloc: Global, outer: &[Name], name: Name, inner: &[Name]) -> Result<Node, Fail> {
+    let mut names = Vec::new(alloc);
+    names.extend_from_slice(outer)?;
+    names.extend_from_slice(many(alloc, name, 1000)?.as_slice())?;
+    names.extend_from_slice(inner)?;
+    let events = tower(alloc, names.as_slice())?;
+    Ok(compiled(alloc, b"a", events.as_slice())?)
 }
 
 #[test]
 fn a_text_in_thousand_block_quotes(rt: HostRuntime) -> Result<(), Fail> {
-    let alloc = rt.alloc();
-    let events = nested_quotes(alloc, 1000)?;
-    let tree = compiled(alloc, b"a", events.as_slice())?;
-    assert_eq!(rt; tree.to_string(alloc)?.as_str(), "a");
-    assert!(rt; tree.clone(alloc)? == tree);
+    let inner = [Name::Paragraph, Name::Data];
+    let tree = nested(rt.alloc(), &[], Name::BlockQuote, &inner)?;
+    assert_eq!(rt; tree.to_string(rt.alloc())?.as_str(), "a");
+    assert!(rt; tree.clone(rt.alloc())? == tree);
     Ok(())
+}
+
+#[test]
+fn a_text_in_thousand_emphases_of_a_label(rt: HostRuntime) -> Result<(), Fail> {
+    let outer = [Name::Image, Name::LabelText];
+    let tree = nested(rt.alloc(), &outer, Name::Emphasis, &[Name::Data])?;
+    assert_eq!(rt; alternative_text(&tree), Some("a"));
+    Ok(())
+}
+
+/// The alternative text of the image that a tree begins with.
+fn alternative_text(tree: &Node) -> Option<&str> {
+    match first_child(tree)? {
+        Node::ImageReference(image) => Some(image.alt.as_str()),
+        _ => None,
+    }
 }

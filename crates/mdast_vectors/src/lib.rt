@@ -14,6 +14,8 @@ mod alignment;
 #[cfg(test)]
 mod cases;
 #[cfg(test)]
+mod counted;
+#[cfg(test)]
 mod decoder;
 #[cfg(test)]
 mod depths;

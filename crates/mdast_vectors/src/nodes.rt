@@ -29,7 +29,7 @@ fn printed(rt: &impl Abort, alloc: Global, node: &Node, want: &str) -> Result<()
 fn carried(
     rt: &impl Abort,
     alloc: Global,
-    mut node: Node,
+    node: &mut Node,
     text: &str,
     front: &str,
     back: &str,
@@ -38,8 +38,8 @@ fn carried(
     assert!(rt; node.position_mut().is_none(), "{front}");
     assert_eq!(rt; node.to_string(alloc)?.as_str(), text, "{front}");
     let nowhere = format!(in alloc; "{front}position: None{back}")?;
-    printed(rt, alloc, &node, nowhere.as_str())?;
+    printed(rt, alloc, node, nowhere.as_str())?;
     node.position_set(Some(Position::new(1, 1, 0, 1, 2, 1)));
     let somewhere = format!(in alloc; "{front}position: Some(1:1-1:2 (0-1)){back}")?;
-    printed(rt, alloc, &node, somewhere.as_str())
+    printed(rt, alloc, node, somewhere.as_str())
 }

@@ -5,22 +5,36 @@ use std::alloc::{AllocError, Global};
 
 /// The events of spans in order, each with how many others it stands in.
 pub fn spelled(alloc: Global, outline: &[(usize, Name)]) -> Result<Vec<Event>, AllocError> {
+    spelled_to(alloc, outline, 0)
+}
+
+/// The events of such spans, all from the first byte of the document to this one.
+pub fn spelled_to(
+    alloc: Global,
+    outline: &[(usize, Name)],
+    end: usize,
+) -> Result<Vec<Event>, AllocError> {
     let mut events = Vec::new(alloc);
     let mut names = Vec::new(alloc);
     for (depth, name) in outline {
-        leave(&mut events, &mut names, *depth)?;
+        leave(&mut events, &mut names, *depth, end)?;
         events.push(enter(*name))?;
         names.push(*name)?;
     }
-    leave(&mut events, &mut names, 0)?;
+    leave(&mut events, &mut names, 0, end)?;
     Ok(events)
 }
 
 /// Ends the innermost of the open spans, until so many are left.
-fn leave(events: &mut Vec<Event>, names: &mut Vec<Name>, depth: usize) -> Result<(), AllocError> {
+fn leave(
+    events: &mut Vec<Event>,
+    names: &mut Vec<Name>,
+    depth: usize,
+    end: usize,
+) -> Result<(), AllocError> {
     for _ in depth..names.len() {
         if let Some(name) = names.pop() {
-            events.push(exit(name))?;
+            events.push(event_at(Kind::Exit, name, end))?;
         }
     }
     Ok(())

@@ -116,6 +116,16 @@ doc 23232323232323
 +HeadingAtx 1:1:0, +HeadingAtxSequence 1:1:0, -HeadingAtxSequence 1:8:7, -HeadingAtx 1:8:7
 ! heading-depth 1:8 (7)
 
+case a-sequence-that-cuts-a-character
+doc c3a9
++HeadingAtx 1:1:0, +HeadingAtxSequence 1:1:0, -HeadingAtxSequence 1:2:1, -HeadingAtx 1:3:2
+= Root { children: [Heading { children: [], position: Some(1:1-1:3 (0-2)), depth: 1 }], position: Some(1:1-1:3 (0-2)) }
+
+case a-reversed-sequence
+doc 2323
++HeadingAtx 1:1:0, +HeadingAtxSequence 1:3:2, -HeadingAtxSequence 1:2:1, -HeadingAtx 1:3:2
+! slice-invalid 1:2 (1)
+
 case no-sequence
 doc 23232323232323
 +HeadingAtx 1:1:0, -HeadingAtx 1:8:7
@@ -150,6 +160,11 @@ pub const RAW: &str = r#"case fenced-code-with-info-and-meta
 doc 7e7e7e6a7320780a610a7e7e7e
 +CodeFenced 1:1:0, +CodeFencedFence 1:1:0, +CodeFencedFenceSequence 1:1:0, -CodeFencedFenceSequence 1:4:3, +CodeFencedFenceInfo 1:4:3, +Data 1:4:3, -Data 1:6:5, -CodeFencedFenceInfo 1:6:5, +SpaceOrTab 1:6:5, -SpaceOrTab 1:7:6, +CodeFencedFenceMeta 1:7:6, +Data 1:7:6, -Data 1:8:7, -CodeFencedFenceMeta 1:8:7, -CodeFencedFence 1:8:7, +LineEnding 1:8:7, -LineEnding 2:1:8, +CodeFlowChunk 2:1:8, -CodeFlowChunk 2:2:9, +LineEnding 2:2:9, -LineEnding 3:1:10, +CodeFencedFence 3:1:10, -CodeFencedFence 3:4:13, -CodeFenced 3:4:13
 = Root { children: [Code { value: "a", position: Some(1:1-3:4 (0-13)), lang: Some("js"), meta: Some("x") }], position: Some(1:1-3:4 (0-13)) }
+
+case fenced-code-loses-one-line-ending-at-each-end
+doc 7e7e7e0d0a610a0a7e7e7e
++CodeFenced 1:1:0, +CodeFencedFence 1:1:0, -CodeFencedFence 1:4:3, +LineEnding 1:4:3, -LineEnding 2:1:5, +CodeFlowChunk 2:1:5, -CodeFlowChunk 2:2:6, +LineEnding 2:2:6, -LineEnding 3:1:7, +LineEnding 3:1:7, -LineEnding 4:1:8, +CodeFencedFence 4:1:8, -CodeFencedFence 4:4:11, -CodeFenced 4:4:11
+= Root { children: [Code { value: "a\n", position: Some(1:1-4:4 (0-11)), lang: None, meta: None }], position: Some(1:1-4:4 (0-11)) }
 
 case an-open-fence
 doc 7e7e7e0a
@@ -191,6 +206,11 @@ doc 0a61
 +CodeIndented 1:1:0, +LineEnding 1:1:0, -LineEnding 2:1:1, +CodeFlowChunk 2:1:1, -CodeFlowChunk 2:2:2, -CodeIndented 2:2:2
 = Root { children: [Code { value: "\na", position: Some(1:1-2:2 (0-2)), lang: None, meta: None }], position: Some(1:1-2:2 (0-2)) }
 
+case indented-code-loses-its-last-line-ending-of-two-bytes
+doc 20202020610d0a
++CodeIndented 1:1:0, +SpaceOrTab 1:1:0, -SpaceOrTab 1:5:4, +CodeFlowChunk 1:5:4, -CodeFlowChunk 1:6:5, +LineEnding 1:6:5, -LineEnding 2:1:7, -CodeIndented 2:1:7
+= Root { children: [Code { value: "a", position: Some(1:1-2:1 (0-7)), lang: None, meta: None }], position: Some(1:1-2:1 (0-7)) }
+
 case math
 doc 24240a610a2424
 +MathFlow 1:1:0, +MathFlowFence 1:1:0, -MathFlowFence 1:3:2, +LineEnding 1:3:2, -LineEnding 2:1:3, +MathFlowChunk 2:1:3, -MathFlowChunk 2:2:4, +LineEnding 2:2:4, -LineEnding 3:1:5, +MathFlowFence 3:1:5, -MathFlowFence 3:3:7, -MathFlow 3:3:7
@@ -225,6 +245,11 @@ case a-pipe-in-code-in-emphasis-in-a-table
 doc 60615c7c6260
 +GfmTable 1:1:0, +GfmTableRow 1:1:0, +GfmTableCell 1:1:0, +Emphasis 1:1:0, +CodeText 1:1:0, +CodeTextSequence 1:1:0, -CodeTextSequence 1:2:1, +CodeTextData 1:2:1, -CodeTextData 1:6:5, +CodeTextSequence 1:6:5, -CodeTextSequence 1:7:6, -CodeText 1:7:6, -Emphasis 1:7:6, -GfmTableCell 1:7:6, -GfmTableRow 1:7:6, -GfmTable 1:7:6
 = Root { children: [Table { children: [TableRow { children: [TableCell { children: [Emphasis { children: [InlineCode { value: "a|b", position: Some(1:1-1:7 (0-6)) }], position: Some(1:1-1:7 (0-6)) }], position: Some(1:1-1:7 (0-6)) }], position: Some(1:1-1:7 (0-6)) }], position: Some(1:1-1:7 (0-6)), align: [] }], position: Some(1:1-1:7 (0-6)) }
+
+case a-pipe-between-line-endings-in-code-in-a-table
+doc 600a615c7c620d0a60
++GfmTable 1:1:0, +GfmTableRow 1:1:0, +GfmTableCell 1:1:0, +CodeText 1:1:0, +CodeTextSequence 1:1:0, -CodeTextSequence 1:2:1, +LineEnding 1:2:1, -LineEnding 2:1:2, +CodeTextData 2:1:2, -CodeTextData 2:5:6, +LineEnding 2:5:6, -LineEnding 3:1:8, +CodeTextSequence 3:1:8, -CodeTextSequence 3:2:9, -CodeText 3:2:9, -GfmTableCell 3:2:9, -GfmTableRow 3:2:9, -GfmTable 3:2:9
+= Root { children: [Table { children: [TableRow { children: [TableCell { children: [InlineCode { value: "a|b", position: Some(1:1-3:2 (0-9)) }], position: Some(1:1-3:2 (0-9)) }], position: Some(1:1-3:2 (0-9)) }], position: Some(1:1-3:2 (0-9)), align: [] }], position: Some(1:1-3:2 (0-9)) }
 
 case a-pipe-in-code-behind-a-table
 doc 60615c7c6260
@@ -345,6 +370,11 @@ case a-text-that-becomes-empty
 doc 2a205b785d202a622a
 +ListUnordered 1:1:0, +ListItem 1:1:0, +ListItemPrefix 1:1:0, -ListItemPrefix 1:3:2, +Paragraph 1:3:2, +GfmTaskListItemCheck 1:3:2, +GfmTaskListItemValueChecked 1:4:3, -GfmTaskListItemValueChecked 1:5:4, -GfmTaskListItemCheck 1:6:5, +Data 1:6:5, -Data 1:7:6, +Emphasis 1:7:6, +EmphasisSequence 1:7:6, -EmphasisSequence 1:8:7, +EmphasisText 1:8:7, +Data 1:8:7, -Data 1:9:8, -EmphasisText 1:9:8, +EmphasisSequence 1:9:8, -EmphasisSequence 1:10:9, -Emphasis 1:10:9, -Paragraph 1:10:9, -ListItem 1:10:9, -ListUnordered 1:10:9
 = Root { children: [List { children: [ListItem { children: [Paragraph { children: [Emphasis { children: [Text { value: "b", position: Some(1:8-1:9 (7-8)) }], position: Some(1:7-1:10 (6-9)) }], position: Some(1:7-1:10 (6-9)) }], position: Some(1:1-1:10 (0-9)), spread: false, checked: Some(true) }], position: Some(1:1-1:10 (0-9)), ordered: false, start: None, spread: false }], position: Some(1:1-1:10 (0-9)) }
+
+case a-mark-and-a-space-alone
+doc 2a205b785d20
++ListUnordered 1:1:0, +ListItem 1:1:0, +ListItemPrefix 1:1:0, -ListItemPrefix 1:3:2, +Paragraph 1:3:2, +GfmTaskListItemCheck 1:3:2, +GfmTaskListItemValueChecked 1:4:3, -GfmTaskListItemValueChecked 1:5:4, -GfmTaskListItemCheck 1:6:5, +Data 1:6:5, -Data 1:7:6, -Paragraph 1:7:6, -ListItem 1:7:6, -ListUnordered 1:7:6
+= Root { children: [List { children: [ListItem { children: [Paragraph { children: [], position: Some(1:7-1:7 (6-6)) }], position: Some(1:1-1:7 (0-6)), spread: false, checked: Some(true) }], position: Some(1:1-1:7 (0-6)), ordered: false, start: None, spread: false }], position: Some(1:1-1:7 (0-6)) }
 
 case a-mark-in-a-later-paragraph
 doc 2a205b615d3a20620a20205b785d2063
@@ -506,6 +536,11 @@ doc 6162
 case a-delimiter-row-in-another
 doc 6162
 +GfmTable 1:1:0, +GfmTableDelimiterRow 1:1:0, +GfmTableBody 1:1:0, +GfmTableDelimiterRow 1:2:1, -GfmTableDelimiterRow 1:3:2, -GfmTableBody 1:3:2, -GfmTableDelimiterRow 1:3:2, -GfmTable 1:3:2
+! span-held 1:2 (1)
+
+case a-cell-value-in-another
+doc 6162
++GfmTableDelimiterCellValue 1:1:0, +GfmTableDelimiterRow 1:1:0, +GfmTableDelimiterCellValue 1:2:1, -GfmTableDelimiterCellValue 1:3:2, -GfmTableDelimiterRow 1:3:2, -GfmTableDelimiterCellValue 1:3:2
 ! span-held 1:2 (1)
 
 case two-labels-in-an-image

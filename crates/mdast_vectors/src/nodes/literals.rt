@@ -17,7 +17,7 @@ fn literal(
 ) -> Result<(), Fail> {
     assert!(rt; node.children().is_none(), "{front}");
     assert!(rt; node.children_mut().is_none(), "{front}");
-    carried(rt, alloc, node, "a", front, back)
+    carried(rt, alloc, &mut node, "a", front, back)
 }
 
 #[test]

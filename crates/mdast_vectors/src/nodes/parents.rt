@@ -19,7 +19,7 @@ fn parent(
     assert_eq!(rt; count, Some(0), "{front}");
     let count = node.children_mut().map(|children| children.len());
     assert_eq!(rt; count, Some(0), "{front}");
-    carried(rt, alloc, node, "", front, back)
+    carried(rt, alloc, &mut node, "", front, back)
 }
 
 #[test]

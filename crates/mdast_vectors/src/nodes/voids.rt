@@ -17,7 +17,7 @@ fn void(
 ) -> Result<(), Fail> {
     assert!(rt; node.children().is_none(), "{front}");
     assert!(rt; node.children_mut().is_none(), "{front}");
-    carried(rt, alloc, node, "", front, back)
+    carried(rt, alloc, &mut node, "", front, back)
 }
 
 #[test]
