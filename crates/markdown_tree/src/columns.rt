@@ -12,7 +12,7 @@ use std::alloc::{AllocError, Global};
 use std::mem;
 
 /// How far the delimiter rows of the table are.
-#[derive(Clone, Copy, PartialEq, Eq, Debug)]
+#[derive(Clone, Copy)]
 pub enum Rows {
     /// There was none.
     Before,

@@ -80,7 +80,7 @@ pub struct DefinitionParts {
 }
 
 /// How a character reference is written.
-#[derive(Clone, Copy, PartialEq, Eq, Debug)]
+#[derive(Clone, Copy)]
 pub enum Marker {
     Named,
     Decimal,
@@ -88,7 +88,7 @@ pub enum Marker {
 }
 
 /// The markers that stood in a character reference: the last, and which stood before it.
-#[derive(Clone, Copy, PartialEq, Eq, Debug)]
+#[derive(Clone, Copy)]
 pub struct Markers {
     pub last: Marker,
     pub named: bool,
@@ -117,14 +117,14 @@ pub struct MathFenceParts {
 }
 
 /// What an item of an ordered list gave: its number, and its mark.
-#[derive(Clone, Copy, PartialEq, Eq, Debug)]
+#[derive(Clone, Copy)]
 pub struct NumberedItemParts {
     pub value: Option<u32>,
     pub mark: Option<bool>,
 }
 
 /// What stood in a heading with an underline.
-#[derive(Clone, Copy, PartialEq, Eq, Debug)]
+#[derive(Clone, Copy)]
 pub struct SetextParts {
     pub depth: Option<u8>,
     pub has_text: bool,

@@ -14,7 +14,7 @@ use markdown_nodes::mdast::AlignKind;
 use markdown_nodes::role::{Acting, Content, Plain, Role};
 
 /// What a child is to its siblings and to its parent.
-#[derive(Clone, Copy, PartialEq, Eq, Debug)]
+#[derive(Clone, Copy)]
 pub enum Sibling {
     Other,
     SpaceOrTab,
@@ -28,7 +28,7 @@ pub enum Sibling {
 }
 
 /// What the first child is.
-#[derive(Clone, Copy, PartialEq, Eq, Debug)]
+#[derive(Clone, Copy)]
 pub enum First {
     /// There is no child so far.
     Absent,
@@ -37,7 +37,7 @@ pub enum First {
 }
 
 /// What the children so far say.
-#[derive(Clone, Copy, PartialEq, Eq, Debug)]
+#[derive(Clone, Copy)]
 pub struct Marks {
     /// The last child.
     pub near: Sibling,
