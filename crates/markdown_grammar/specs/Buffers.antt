@@ -8,16 +8,16 @@ use Rattle.markdown_events.specs.declared.event.Kind.{Kind}
 use Rattle.markdown_events.specs.declared.event.Name.{Name}
 use Rattle.markdown_events.specs.declared.role.Acting.{Acting}
 use Rattle.markdown_events.specs.declared.role.Role.{Role}
+use Rattle.markdown_grammar.specs.Decorated.{nodes_of}
 use Rattle.markdown_grammar.specs.Items.{Items, item, items, none, ◌then◌}
-use Rattle.markdown_grammar.specs.Nodes.{nodes}
-use Rattle.markdown_grammar.specs.Parts.{itself}
-use Rattle.markdown_grammar.specs.Place.{Place, place_behind, place_inside, root_place}
-use Rattle.markdown_grammar.specs.Source.{Source}
-use Rattle.markdown_events.specs.declared.role.Content.TheVariants as contents
-use Rattle.markdown_events.specs.declared.role.Part.TheVariants as parts
-use Rattle.markdown_events.specs.declared.role.Role.TheVariants.{Plain as plain, Acting as acting}
+use Rattle.markdown_grammar.specs.Nodes.{decorate}
+use Rattle.markdown_grammar.specs.Attributes.{Place, inherited_after, inherited_in, inherited_at_root}
+use Rattle.markdown_grammar.specs.Document.{Source}
+use Rattle.markdown_events.specs.declared.role.Role.TheVariants.{Acting as acting, Plain as plain}
 use Rattle.markdown_events.specs.declared.role.Acting.TheVariants.{Content as content, Part as part}
 use Rattle.markdown_events.specs.declared.event.Kind.TheVariants.{Enter, Exit}
+use Rattle.markdown_events.specs.declared.role.Content.TheVariants as contents
+use Rattle.markdown_events.specs.declared.role.Part.TheVariants as parts
 
 -- a span whose nodes are collected for a text
 abbrev pub is_buffer : Acting → Bool
@@ -50,11 +50,11 @@ node_count (node _ children _ rest) = 1 + node_count children + node_count rest
 abbrev pub held_in : Source → Place → Items → ℕ
 held_in s p none = 0
 held_in s p (item what _ _ _ inner rest) =
-    (if is_buffer what then node_count (nodes s itself (place_inside what p) inner) else 0) + held_in s (place_inside what p) inner + held_in s (place_behind what p) rest
+    (if is_buffer what then node_count (nodes_of (decorate s (inherited_in what p) inner)) else 0) + held_in s (inherited_in what p) inner + held_in s (inherited_after what p) rest
 
 -- the same of a forest
 abbrev pub held : Source → Forest → ℕ
-held s forest = held_in s root_place (items forest)
+held s forest = held_in s inherited_at_root (items forest)
 
 -- a number, if there is one, and one more
 abbrev pub one_more : Option ℕ → Option ℕ

@@ -1,19 +1,18 @@
 -- What `compile` answers.
-use Rattle.std.specs.Prelude.{◌≡◌, ◌≢◌, ◌⊎◌, List}
+use Rattle.std.specs.Prelude.{List, ◌≡◌, ◌≢◌, ◌⊎◌}
 use Rattle.markdown_events.specs.declared.event.Event.{Event}
 use Rattle.markdown_nodes.specs.declared.mdast.Node.{Node}
 use Rattle.markdown_events.specs.declared.message.Fault.{Fault}
-use Rattle.markdown_events.specs.declared.message.Fault.TheVariants as faults
 use Rattle.markdown_events.specs.declared.message.Message.{Message}
 use Rattle.markdown_events.specs.Forest.{Forest, spell}
 use Rattle.markdown_nodes.specs.View.{view}
 use Rattle.markdown_grammar.specs.declared.refusal.Refusal.TheVariants.{Unbalanced}
 use Rattle.markdown_grammar.specs.Accepted.{Accepted}
 use Rattle.markdown_grammar.specs.Meaning.{meaning}
-use Rattle.markdown_grammar.specs.Reasons.{EndsFor, StopsFor}
-use Rattle.markdown_grammar.specs.Refusals.{Says}
-use Rattle.markdown_grammar.specs.Rejections.{Rejection}
-use Rattle.markdown_grammar.specs.Source.{Source}
+use Rattle.markdown_grammar.specs.Reasons.{EndsOpen, StopsAtFirstError}
+use Rattle.markdown_grammar.specs.Refusals.{ErrorAt, Says}
+use Rattle.markdown_grammar.specs.Document.{Source}
+use Rattle.markdown_events.specs.declared.message.Fault.TheVariants as faults
 
 -- the tree is the meaning of an accepted forest that the events spell
 pub record IsMeaning (tree : Node) (events : List Event) (s : Source) : Type 0 where
@@ -23,15 +22,15 @@ pub record IsMeaning (tree : Node) (events : List Event) (s : Source) : Type 0 w
   pub is_meaning : view tree ≡ meaning s forest
 
 -- no accepted forest spells the events, and none at all where they are said to be unbalanced
-pub record IsRefused (why : Rejection) (events : List Event) (s : Source) : Type 0 where
+pub record IsRefused (why : ErrorAt) (events : List Event) (s : Source) : Type 0 where
   pub none_accepted : (forest : Forest) → spell forest ≡ events → ¬ (Accepted s forest)
   pub unbalanced : why.refusal ≡ Unbalanced → (forest : Forest) → spell forest ≢ events
   -- it is for the first event at which something is wrong, or for what is left open at the last
-  pub reason : StopsFor s events why ⊎ EndsFor s events why
+  pub reason : StopsAtFirstError s events why ⊎ EndsOpen s events why
 
 -- the message says why, and where
 pub record Refuses (message : Message) (events : List Event) (s : Source) : Type 0 where
-  pub why : Rejection
+  pub why : ErrorAt
   pub says : Says message why.refusal why.point
   pub is_refused : IsRefused why events s
 

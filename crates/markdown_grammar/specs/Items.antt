@@ -1,14 +1,17 @@
--- The items of a holder: the acting spans in it, where each plain span gives way to the items in it.
-use Rattle.std.specs.Prelude.{Bool, List, [], ◌∷◌}
+-- The items of a span: the acting spans in it, where each plain span gives way to the items in it; and words for what an item is.
+use Rattle.std.specs.Prelude.{Bool, List, None, Option, Some, [], false, true, ℕ, ◌||◌, ◌∷◌}
 use Rattle.markdown_events.specs.Forest.{Forest, empty, span}
 use Rattle.markdown_events.specs.Names.{role_of}
 use Rattle.markdown_events.specs.declared.event.Point.{Point}
 use Rattle.markdown_events.specs.declared.role.Acting.{Acting}
 use Rattle.markdown_events.specs.declared.role.Part.{Part}
 use Rattle.markdown_events.specs.declared.role.Role.{Role}
-use Rattle.markdown_events.specs.declared.role.Role.TheVariants.{Plain as plain, Acting as acting}
+use Rattle.markdown_events.specs.declared.role.Role.TheVariants.{Acting as acting, Plain as plain}
 use denote.Enum.Bare.{sameb}
 use Rattle.markdown_events.specs.contracts.role.Part.{the_type}
+use Rattle.markdown_events.specs.declared.role.Acting.TheVariants.{Content as content, Part as part}
+use Rattle.markdown_events.specs.declared.role.Content.TheVariants as contents
+use Rattle.markdown_events.specs.declared.role.Part.TheVariants as parts
 
 -- a list of acting spans: the first one, its ends, its children as they stand, and its items; and the items behind it
 pub data Items : Type 0 where
@@ -39,3 +42,54 @@ kinds (item what _ _ _ _ rest) = what ∷ kinds rest
 -- two parts are the same
 abbrev pub same_part : Part → Part → Bool
 same_part first second = sameb the_type first second
+
+-- content, and no part
+abbrev pub is_content : Acting → Bool
+is_content (content _) = true
+is_content (part _) = false
+
+-- a line ending
+abbrev pub is_line_ending : Acting → Bool
+is_line_ending (content contents.LineEnding) = true
+is_line_ending _ = false
+
+-- a hard break of either form
+abbrev pub is_hard_break : Acting → Bool
+is_hard_break (content contents.HardBreak) = true
+is_hard_break _ = false
+
+-- a Frontmatter
+abbrev pub is_frontmatter : Acting → Bool
+is_frontmatter (content contents.Frontmatter) = true
+is_frontmatter _ = false
+
+-- a table
+abbrev pub is_table : Acting → Bool
+is_table (content contents.Table) = true
+is_table _ = false
+
+-- that part
+abbrev pub is_part : Part → Acting → Bool
+is_part p (content _) = false
+is_part p (part q) = same_part p q
+
+-- what passes one test or the other
+infixl 20 ◌or◌
+abbrev pub ◌or◌ : (Acting → Bool) → (Acting → Bool) → Acting → Bool
+(p or q) what = p what || q what
+
+-- nothing passes
+abbrev pub no_item : Acting → Bool
+no_item what = false
+
+-- one of those parts
+abbrev pub is_one_of : List Part → Acting → Bool
+is_one_of [] what = false
+is_one_of (p ∷ ps) what = is_part p what || is_one_of ps what
+
+-- the byte that a marker of a character reference stands for
+abbrev pub marker_of : Acting → Option ℕ
+marker_of (part parts.CharacterReferenceMarker) = Some 38
+marker_of (part parts.CharacterReferenceMarkerNumeric) = Some 35
+marker_of (part parts.CharacterReferenceMarkerHexadecimal) = Some 120
+marker_of _ = None

@@ -5,11 +5,11 @@ use Rattle.markdown_events.specs.Slices.{between}
 use Rattle.markdown_nodes.specs.Tree.{Tree, root}
 use Rattle.markdown_events.specs.declared.event.Point.{Point}
 use Rattle.markdown_events.specs.declared.unist.Position.{Position}
+use Rattle.markdown_grammar.specs.Decorated.{nodes_of}
 use Rattle.markdown_grammar.specs.Items.{items}
-use Rattle.markdown_grammar.specs.Nodes.{nodes}
-use Rattle.markdown_grammar.specs.Parts.{itself}
-use Rattle.markdown_grammar.specs.Place.{root_place}
-use Rattle.markdown_grammar.specs.Source.{Source}
+use Rattle.markdown_grammar.specs.Nodes.{decorate}
+use Rattle.markdown_grammar.specs.Attributes.{inherited_at_root}
+use Rattle.markdown_grammar.specs.Document.{Source}
 
 -- the first place of a document
 abbrev pub nowhere : Position
@@ -27,4 +27,4 @@ extent (span _ start end _ rest) = between start (last_end end rest)
 
 -- a Root over the nodes of the items, from the first event to the last
 abbrev pub meaning : Source → Forest → Tree
-meaning s forest = record { label = root; children = nodes s itself root_place (items forest); position = Some (extent forest) }
+meaning s forest = record { label = root; children = nodes_of (decorate s inherited_at_root (items forest)); position = Some (extent forest) }

@@ -1,77 +1,157 @@
--- The nodes that items give.
-use Rattle.std.specs.Prelude.{Bool, List, None, Some, [], codes, false, if◌then◌else◌, true, ℕ}
-use Rattle.markdown_events.specs.Spread.{Shown, shown_of}
-use Rattle.markdown_events.specs.Texts.{raw, spaces, trim}
-use Rattle.markdown_nodes.specs.Tree.{Label, Trees, join, nothing, plain_text}
+-- The nodes that spans mean, each by its own items.
+use Rattle.std.specs.Prelude.{Bool, List, None, Option, Some, [], codes, false, if◌then◌else◌, is_some, option_map, true, unwrap_or, ℕ, ◌++◌}
+use Rattle.markdown_nodes.specs.Tree.{Label, Trees, nothing, plain_text}
 use Rattle.markdown_events.specs.declared.event.Point.{Point}
+use Rattle.markdown_nodes.specs.declared.mdast.ReferenceKind.{ReferenceKind}
+use Rattle.markdown_grammar.specs.Attributes.{Place, decoded, mark, inherited_after, inherited_in, value}
+use Rattle.markdown_grammar.specs.Decorated.{Decorated, Found, decorated, first, identifier, label_text, node_at, nodes_of, or_empty, text, undecorated, within}
+use Rattle.std.specs.Option.{option_and_then, option_or}
+use Rattle.markdown_events.specs.Forest.{Forest}
+use Rattle.markdown_events.specs.Spread.{align, loose, loose_item}
+use Rattle.markdown_events.specs.Texts.{raw, spaces, trim}
 use Rattle.markdown_events.specs.declared.role.Acting.{Acting}
-use Rattle.markdown_grammar.specs.Gives.{text_read, value}
-use Rattle.markdown_grammar.specs.Items.{Items, item, none, same_part, ◌then◌}
-use Rattle.markdown_grammar.specs.Media.{autolink, image_label, link_label, linked, media_of, node_at}
-use Rattle.markdown_grammar.specs.Parts.{Inner, Path, count_of, identifier_of, inner_of, into, is_byte, itself, path_through, path_to, text_of, words_of}
-use Rattle.markdown_grammar.specs.Place.{Place, place_behind, place_inside}
-use Rattle.markdown_grammar.specs.Source.{Source}
+use Rattle.markdown_grammar.specs.Document.{Source, is_byte, length_between, text_read}
+use Rattle.markdown_grammar.specs.Items.{Items, item, none}
 use Rattle.markdown_grammar.specs.Tasks.{task_if}
-use Rattle.markdown_events.specs.declared.role.Content.TheVariants as contents
-use Rattle.markdown_events.specs.declared.role.Part.TheVariants as parts
-use Rattle.markdown_nodes.specs.Tree as tree
 use Rattle.markdown_events.specs.declared.role.Acting.TheVariants.{Content as content, Part as part}
+use Rattle.markdown_events.specs.declared.role.Part.TheVariants as parts
+use Rattle.markdown_nodes.specs.declared.mdast.ReferenceKind.TheVariants as reference_kind
+use Rattle.markdown_nodes.specs.Tree as tree
+use Rattle.markdown_events.specs.declared.role.Content.TheVariants as contents
+
+-- a link to an address, with that address for its text
+abbrev pub linked : List ℕ → List ℕ → Point → Point → Point → Point → Trees
+linked scheme value start end from to = node_at (tree.link (scheme ++ value) None) (node_at (tree.text value) nothing from to) start end
+
+-- what a Link and an Image have in common
+pub record Media : Type 0 where
+  -- with a Resource, its url and title
+  pub resource : Option (List ℕ × Option (List ℕ))
+  pub kind : ReferenceKind
+  pub identifier : List ℕ
+  pub label : List ℕ
+
+-- a Link with a Resource, a LinkReference without one
+abbrev pub link_label : Media → Label
+link_label m = elim m.resource [ Some r ↦ tree.link r.0 r.1 | None ↦ tree.link_reference m.kind m.identifier (Some m.label) ]
+
+-- an Image with a Resource, an ImageReference without one
+abbrev pub image_label : List ℕ → Media → Label
+image_label alt m = elim m.resource [ Some r ↦ tree.image alt r.0 r.1 | None ↦ tree.image_reference alt m.kind m.identifier (Some m.label) ]
 
 -- a Toml or a Yaml
 abbrev pub frontmatter : Bool → List ℕ → Label
 frontmatter true value = tree.toml value
 frontmatter false value = tree.yaml value
 
--- the node of one span; a part gives none, but for the text of a heading, which gives its nodes
-abbrev pub node_of : Source → Place → Acting → Point → Point → Shown → Inner → Trees
-node_of s p (content contents.Data) a b _ i = node_at (tree.text (text_read s a b)) nothing a b
-node_of s p (content contents.CharacterReference) a b _ i = node_at (tree.text (text_of (i.part (path_to parts.CharacterReferenceValue)))) nothing a b
-node_of s p (content contents.LineEnding) a b _ i = if p.line_endings then node_at (tree.text (text_read s a b)) nothing a b else nothing
-node_of s p (content contents.HardBreak) a b _ i = node_at tree.«break» nothing a b
-node_of s p (content contents.Autolink) a b _ i = autolink (i.part (path_to parts.AutolinkEmail)) (i.part (path_to parts.AutolinkProtocol)) a b
-node_of s p (content contents.AutolinkLiteralEmail) a b _ i = linked (codes "mailto:") (text_read s a b) a b a b
-node_of s p (content contents.AutolinkLiteralWww) a b _ i = linked (codes "http://") (text_read s a b) a b a b
-node_of s p (content contents.AutolinkLiteralWhole) a b _ i = linked [] (text_read s a b) a b a b
-node_of s p (content contents.BlockQuote) a b _ i = node_at tree.blockquote i.nodes a b
-node_of s p (content contents.Emphasis) a b _ i = node_at tree.emphasis i.nodes a b
-node_of s p (content contents.Strong) a b _ i = node_at tree.strong i.nodes a b
-node_of s p (content contents.Strikethrough) a b _ i = node_at tree.delete i.nodes a b
-node_of s p (content contents.Paragraph) a b _ i = node_at tree.paragraph i.nodes a b
-node_of s p (content contents.Table) a b children i = node_at (tree.table children.align) i.nodes a b
-node_of s p (content contents.TableRow) a b _ i = node_at tree.table_row i.nodes a b
-node_of s p (content contents.TableCell) a b _ i = node_at tree.table_cell i.nodes a b
-node_of s p (content contents.HeadingAtx) a b _ i = node_at (tree.heading (count_of (i.part (path_to parts.HeadingAtxSequence)))) i.nodes a b
-node_of s p (content contents.HeadingSetext) a b _ i = node_at (tree.heading (count_of (i.part (path_to parts.HeadingSetextUnderlineSequence)))) i.nodes a b
-node_of s p (content contents.ThematicBreak) a b _ i = node_at tree.thematic_break nothing a b
-node_of s p (content contents.ListOrdered) a b children i = node_at (tree.list true i.value children.loose_list) i.nodes a b
-node_of s p (content contents.ListUnordered) a b children i = node_at (tree.list false None children.loose_list) i.nodes a b
-node_of s p (content contents.ListItem) a b children i = node_at (tree.list_item children.loose_item i.mark) (task_if i.mark i.nodes) a b
-node_of s p (content contents.CodeFenced) a b _ i =
-    node_at (tree.code (trim (plain_text i.nodes) true true) (words_of (i.part (path_through parts.CodeFencedFence parts.CodeFencedFenceInfo))) (words_of (i.part (path_through parts.CodeFencedFence parts.CodeFencedFenceMeta)))) nothing a b
-node_of s p (content contents.MathFlow) a b _ i = node_at (tree.math (trim (plain_text i.nodes) true true) (words_of (i.part (path_through parts.MathFlowFence parts.MathFlowFenceMeta)))) nothing a b
-node_of s p (content contents.CodeIndented) a b _ i = node_at (tree.code (trim (plain_text i.nodes) false true) None None) nothing a b
-node_of s p (content contents.CodeText) a b _ i = node_at (tree.inline_code (raw (spaces (plain_text i.nodes)) p.in_table)) nothing a b
-node_of s p (content contents.MathText) a b _ i = node_at (tree.inline_math (raw (spaces (plain_text i.nodes)) p.in_table)) nothing a b
-node_of s p (content contents.Html) a b _ i = node_at (tree.html (plain_text i.nodes)) nothing a b
-node_of s p (content contents.Frontmatter) a b _ i = node_at (frontmatter (is_byte s 43 a) (trim (plain_text i.nodes) true true)) nothing a b
-node_of s p (content contents.Definition) a b _ i =
-    node_at (tree.definition (text_of (i.part (path_to parts.DefinitionDestinationString))) (words_of (i.part (path_to parts.DefinitionTitleString)))
-    (identifier_of (i.part (path_to parts.DefinitionLabelString))) (words_of (i.part (path_to parts.DefinitionLabelString)))) nothing a b
-node_of s p (content contents.FootnoteDefinition) a b _ i =
-    node_at (tree.footnote_definition (identifier_of (i.part (path_to parts.FootnoteDefinitionLabelString))) (words_of (i.part (path_to parts.FootnoteDefinitionLabelString)))) i.nodes a b
-node_of s p (content contents.FootnoteCall) a b _ i =
-    node_at (tree.footnote_reference (identifier_of (i.part (path_to parts.LabelText))) (Some (text_of (i.part (path_to parts.LabelText))))) nothing a b
-node_of s p (content contents.Link) a b _ i = node_at (link_label (media_of i)) i.label a b
-node_of s p (content contents.Image) a b _ i = node_at (image_label (text_of (i.part (path_to parts.LabelText))) (media_of i)) nothing a b
-node_of s p (part parts.HeadingSetextText) a b _ i = i.nodes
-node_of s p (part _) a b _ i = nothing
+-- a span that acts: its ends, where it stands, the spans in it, its items, and the mark and the number that these give
+pub record Span : Type 0 where
+  pub start : Point
+  pub end : Point
+  pub place : Place
+  pub children : Forest
+  pub items : Decorated
+  pub mark : Option Bool
+  pub number : Option ℕ
 
--- the nodes of items, of all or of those of a part. A break and the line ending behind it give one Break
-abbrev pub nodes : Source → Path → Place → Items → Trees
-nodes s which p none = nothing
-nodes s itself p (item (content contents.HardBreak) start _ _ _ (item (content contents.LineEnding) _ end _ _ rest)) =
-    join (node_at tree.«break» nothing start end) (nodes s itself p rest)
-nodes s itself p (item what start end children inner rest) =
-    join (node_of s p what start end (shown_of children) (inner_of s (place_inside what p) inner (λ which. nodes s which (place_inside what p) inner))) (nodes s itself (place_behind what p) rest)
-nodes s (into q way) p (item (part r) _ _ _ inner rest) = elim (same_part q r) [ true ↦ nodes s way (place_inside (part r) p) inner | false ↦ nodes s (into q way) p rest ]
-nodes s (into q way) p (item (content _) _ _ _ _ rest) = nodes s (into q way) p rest
+-- its slice
+abbrev pub slice_of : Source → Span → List ℕ
+slice_of s x = text_read s x.start x.end
+
+-- the text of the nodes in it
+abbrev pub content_of : Span → List ℕ
+content_of x = plain_text (nodes_of x.items)
+
+-- ---- Its node: a literal has no children, and a parent those that its items give
+
+abbrev pub literal : Span → Label → Trees
+literal x label = node_at label nothing x.start x.end
+
+abbrev pub parent : Span → Label → Trees
+parent x label = node_at label (nodes_of x.items) x.start x.end
+
+-- a link to an address in it, with that address for its text
+abbrev pub autolink : Source → Span → Option Found → Option Found → Trees
+autolink s x (Some email) _ = linked (codes "mailto:") (text_read s email.start email.end) x.start x.end email.start email.end
+autolink s x None (Some address) = linked [] (text_read s address.start address.end) x.start x.end address.start address.end
+autolink s x None None = literal x (tree.link [] None)
+
+-- what the decoder says of the value of a character reference
+abbrev pub character : Source → Decorated → Option (List ℕ)
+character s xs = option_and_then (λ (x : Found). decoded s x.place x.start x.end) (first parts.CharacterReferenceValue xs)
+
+-- the depth of a heading: the length of its first sequence, or 2 where its underline begins with a dash
+abbrev pub atx_depth : Source → Decorated → ℕ
+atx_depth s xs = unwrap_or (option_and_then (λ (x : Found). length_between s.bytes x.start x.end) (first parts.HeadingAtxSequence xs)) 0
+
+abbrev pub setext_depth : Source → Decorated → ℕ
+setext_depth s xs = unwrap_or (option_map (λ (x : Found). if is_byte s 45 x.start then 2 else 1) (first parts.HeadingSetextUnderlineSequence xs)) 0
+
+-- no Reference is a shortcut, one without a string collapsed
+abbrev pub kind_of_reference : Decorated → ReferenceKind
+kind_of_reference xs =
+    if is_some (first parts.Reference xs) then (if is_some (first parts.ReferenceString (within parts.Reference xs)) then reference_kind.Full else reference_kind.Collapsed) else reference_kind.Shortcut
+
+-- where a Link or an Image points: the texts of its Resource, or the kind, the identifier and the label of a reference
+abbrev pub target : Source → Decorated → Media
+target s xs =
+    let resource : Decorated = within parts.Resource xs in
+    let reference : Decorated = within parts.Reference xs in
+    record {
+      resource = option_map (λ (x : Found). (or_empty (text parts.ResourceDestinationString resource), text parts.ResourceTitleString resource)) (first parts.Resource xs);
+      kind = kind_of_reference xs;
+      identifier = or_empty (option_or (identifier s parts.ReferenceString reference) (identifier s parts.LabelText xs));
+      label = or_empty (option_or (text parts.ReferenceString reference) (label_text xs));
+    }
+
+-- the nodes of one span: one node, or none. A part gives none, but for the text of a heading, which gives those of its items
+abbrev pub node_of : Source → Acting → Span → Trees
+node_of s (content contents.Data) x = literal x (tree.text (slice_of s x))
+node_of s (content contents.CharacterReference) x = literal x (tree.text (or_empty (character s x.items)))
+node_of s (content contents.LineEnding) x = if x.place.line_endings then literal x (tree.text (slice_of s x)) else nothing
+node_of s (content contents.HardBreak) x = literal x tree.«break»
+node_of s (content contents.Autolink) x = autolink s x (first parts.AutolinkEmail x.items) (first parts.AutolinkProtocol x.items)
+node_of s (content contents.AutolinkLiteralEmail) x = linked (codes "mailto:") (slice_of s x) x.start x.end x.start x.end
+node_of s (content contents.AutolinkLiteralWww) x = linked (codes "http://") (slice_of s x) x.start x.end x.start x.end
+node_of s (content contents.AutolinkLiteralWhole) x = linked [] (slice_of s x) x.start x.end x.start x.end
+node_of s (content contents.BlockQuote) x = parent x tree.blockquote
+node_of s (content contents.Emphasis) x = parent x tree.emphasis
+node_of s (content contents.Strong) x = parent x tree.strong
+node_of s (content contents.Strikethrough) x = parent x tree.delete
+node_of s (content contents.Paragraph) x = parent x tree.paragraph
+node_of s (content contents.Table) x = parent x (tree.table (align x.children))
+node_of s (content contents.TableRow) x = parent x tree.table_row
+node_of s (content contents.TableCell) x = parent x tree.table_cell
+node_of s (content contents.HeadingAtx) x = parent x (tree.heading (atx_depth s x.items))
+node_of s (content contents.HeadingSetext) x = parent x (tree.heading (setext_depth s x.items))
+node_of s (content contents.ThematicBreak) x = literal x tree.thematic_break
+node_of s (content contents.ListOrdered) x = parent x (tree.list true x.number (loose x.children false))
+node_of s (content contents.ListUnordered) x = parent x (tree.list false None (loose x.children false))
+node_of s (content contents.ListItem) x = node_at (tree.list_item (loose_item x.children) x.mark) (task_if x.mark (nodes_of x.items)) x.start x.end
+node_of s (content contents.CodeFenced) x =
+    let fence : Decorated = within parts.CodeFencedFence x.items in
+    literal x (tree.code (trim (content_of x) true true) (text parts.CodeFencedFenceInfo fence) (text parts.CodeFencedFenceMeta fence))
+node_of s (content contents.MathFlow) x = literal x (tree.math (trim (content_of x) true true) (text parts.MathFlowFenceMeta (within parts.MathFlowFence x.items)))
+node_of s (content contents.CodeIndented) x = literal x (tree.code (trim (content_of x) false true) None None)
+node_of s (content contents.CodeText) x = literal x (tree.inline_code (raw (spaces (content_of x)) x.place.in_table))
+node_of s (content contents.MathText) x = literal x (tree.inline_math (raw (spaces (content_of x)) x.place.in_table))
+node_of s (content contents.Html) x = literal x (tree.html (content_of x))
+node_of s (content contents.Frontmatter) x = literal x (frontmatter (is_byte s 43 x.start) (trim (content_of x) true true))
+node_of s (content contents.Definition) x =
+    literal x (tree.definition (or_empty (text parts.DefinitionDestinationString x.items)) (text parts.DefinitionTitleString x.items)
+    (or_empty (identifier s parts.DefinitionLabelString x.items)) (text parts.DefinitionLabelString x.items))
+node_of s (content contents.FootnoteDefinition) x =
+    parent x (tree.footnote_definition (or_empty (identifier s parts.FootnoteDefinitionLabelString x.items)) (text parts.FootnoteDefinitionLabelString x.items))
+node_of s (content contents.FootnoteCall) x = literal x (tree.footnote_reference (or_empty (identifier s parts.LabelText x.items)) (Some (or_empty (label_text x.items))))
+node_of s (content contents.Link) x = node_at (link_label (target s x.items)) (nodes_of (within parts.LabelText x.items)) x.start x.end
+node_of s (content contents.Image) x = literal x (image_label (or_empty (label_text x.items)) (target s x.items))
+node_of s (part parts.HeadingSetextText) x = nodes_of x.items
+node_of s (part _) x = nothing
+
+-- items that begin in a place, each with its node
+abbrev pub decorate : Source → Place → Items → Decorated
+decorate s p none = undecorated
+decorate s p (item what start end children inner rest) =
+    let own : Decorated = decorate s (inherited_in what p) inner in
+    let x : Span = record { start = start; end = end; place = p; children = children; items = own; mark = mark inner; number = value s inner } in
+    decorated what start end p (node_of s what x) own (decorate s (inherited_after what p) rest)

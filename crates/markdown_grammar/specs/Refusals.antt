@@ -1,21 +1,19 @@
 -- What a refusal says.
-use Rattle.std.specs.Prelude.{◌≡◌, ℕ, List, codes, Some, if◌then◌else◌, is_some}
+use Rattle.std.specs.Prelude.{List, Some, codes, if◌then◌else◌, is_some, ℕ, ◌≡◌}
 use Rattle.markdown_events.specs.declared.event.Point.{Point}
 use Rattle.markdown_events.specs.declared.message.Fault.{Fault}
-use Rattle.markdown_events.specs.declared.message.Fault.TheVariants as faults
 use Rattle.markdown_events.specs.declared.message.Message.{Message}
-use Rattle.markdown_events.specs.declared.message.Place.TheVariants as places
 use Rattle.markdown_events.specs.Slices.{slice, to_unist}
 use Rattle.markdown_events.specs.declared.role.Acting.{Acting}
 use Rattle.markdown_events.specs.declared.role.Acting.TheVariants.{Part as part}
-use Rattle.markdown_events.specs.declared.role.Part.TheVariants as parts
-use Rattle.markdown_grammar.specs.Holders.{Holder, character_reference, code_fenced, list_ordered, math_flow}
-use Rattle.markdown_grammar.specs.Ranges.{length_between}
-use Rattle.markdown_grammar.specs.Rules.{Rule, never, once, only_before}
-use Rattle.markdown_grammar.specs.Source.{Source}
+use Rattle.markdown_grammar.specs.Grammar.{Holder, Rule, character_reference, code_fenced, list_ordered, math_flow, never, once, only_before}
+use Rattle.markdown_grammar.specs.Document.{Source, length_between}
 use Rattle.markdown_grammar.specs.declared.refusal.Refusal.{Refusal}
-use Rattle.markdown_grammar.specs.declared.refusal.Refusal.TheVariants.{Unbalanced, Misplaced, Repeated, Held, InvalidSlice, InvalidListValue, MissingListValue, UnknownReference, IncompleteReference, MissingFence, HeadingDepth, UnfinishedBreak}
+use Rattle.markdown_grammar.specs.declared.refusal.Refusal.TheVariants.{HeadingDepth, Held, IncompleteReference, InvalidListValue, InvalidSlice, Misplaced, MissingFence, MissingListValue, Repeated, Unbalanced, UnfinishedBreak, UnknownReference}
 use Rattle.markdown_grammar.specs.declared.refusal.Stop.{Stop}
+use Rattle.markdown_events.specs.declared.message.Fault.TheVariants as faults
+use Rattle.markdown_events.specs.declared.message.Place.TheVariants as places
+use Rattle.markdown_events.specs.declared.role.Part.TheVariants as parts
 use Rattle.markdown_grammar.specs.declared.refusal.Stop.TheVariants as stops
 
 -- the rule that a refusal names
@@ -51,26 +49,26 @@ reason_of UnfinishedBreak = codes "a hard break is not followed by its line endi
 -- ---- Which refusal belongs to what is wrong
 
 -- why an item that breaks a rule of a holder is refused
-abbrev pub broken : Holder → Rule → Refusal
-broken h (once ps) = Repeated
-broken h (never ps) = Repeated
-broken character_reference (only_before ps test) = IncompleteReference
-broken h rule = Misplaced
+abbrev pub rule_error : Holder → Rule → Refusal
+rule_error h (once ps) = Repeated
+rule_error h (never ps) = Repeated
+rule_error character_reference (only_before ps test) = IncompleteReference
+rule_error h rule = Misplaced
 
 -- why a holder is refused that lacks what must stand in it
-abbrev pub lacking : Holder → Refusal
-lacking character_reference = IncompleteReference
-lacking code_fenced = MissingFence
-lacking math_flow = MissingFence
-lacking list_ordered = MissingListValue
-lacking h = HeadingDepth
+abbrev pub missing_error : Holder → Refusal
+missing_error character_reference = IncompleteReference
+missing_error code_fenced = MissingFence
+missing_error math_flow = MissingFence
+missing_error list_ordered = MissingListValue
+missing_error h = HeadingDepth
 
 -- why an item is refused that cannot be read
-abbrev pub unread : Source → Acting → Point → Point → Refusal
-unread s (part parts.CharacterReferenceValue) a b = if is_some (slice s.bytes a b) then UnknownReference else InvalidSlice
-unread s (part parts.ListItemValue) a b = if is_some (slice s.bytes a b) then InvalidListValue else InvalidSlice
-unread s (part parts.HeadingAtxSequence) a b = if is_some (length_between s.bytes a b) then HeadingDepth else InvalidSlice
-unread s what a b = InvalidSlice
+abbrev pub value_error : Source → Acting → Point → Point → Refusal
+value_error s (part parts.CharacterReferenceValue) a b = if is_some (slice s.bytes a b) then UnknownReference else InvalidSlice
+value_error s (part parts.ListItemValue) a b = if is_some (slice s.bytes a b) then InvalidListValue else InvalidSlice
+value_error s (part parts.HeadingAtxSequence) a b = if is_some (length_between s.bytes a b) then HeadingDepth else InvalidSlice
+value_error s what a b = InvalidSlice
 
 -- ---- What the message says
 
@@ -86,3 +84,8 @@ abbrev pub IsFaultOf : Stop → Point → Fault → Type 0
 IsFaultOf (stops.Refused refusal) point (faults.Message message) = Says message refusal point
 IsFaultOf (stops.Refused refusal) point (faults.Memory error) = ⊥
 IsFaultOf (stops.Memory error) point fault = fault ≡ faults.Memory error
+
+-- why an event is refused, and its point
+pub record ErrorAt : Type 0 where
+  pub refusal : Refusal
+  pub point : Point

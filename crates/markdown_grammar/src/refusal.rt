@@ -1,7 +1,7 @@
 //! Why a list of events is refused.
 
 ghost use Rattle.std.specs.Prelude.{◌≡◌, codes, alloc_error};
-ghost use Rattle.markdown_grammar.specs.Refusals.{rule_of, reason_of, IsFaultOf};
+ghost use Rattle.markdown_grammar.specs.Refusals.{IsFaultOf, reason_of, rule_of};
 ghost use Rattle.markdown_grammar.specs.declared.refusal.Stop.TheVariants.{Memory};
 
 use markdown_nodes::event::Point;

@@ -17,20 +17,21 @@ use Rattle.markdown_nodes.specs.declared.mdast.Node.{Node}
 use Rattle.markdown_nodes.specs.declared.mdast.Node.TheVariants as nodes
 use Rattle.markdown_nodes.specs.declared.mdast.Root.{Root as RootNode}
 use Rattle.markdown_nodes.proofs.Views.{view-Root}
-use Rattle.markdown_grammar.specs.OneTest.{accepted}
+use Rattle.markdown_steps.specs.OneTest.{accepted}
 use Rattle.markdown_grammar.specs.Buffers.{held, inside}
-use Rattle.markdown_grammar.specs.Compiler.{Holds, State, compiled, fresh, is_shut, last_checks, opening, point_of, run, tree_of}
+use Rattle.markdown_steps.specs.Compiler.{Holds, State, compiled, fresh, is_shut, last_checks, opening, point_of, run, tree_of}
 use Rattle.markdown_grammar.specs.Correct.{FailsRightly, IsMeaning, IsRefused}
-use Rattle.markdown_grammar.specs.Extents.{extent_of, last_event}
-use Rattle.markdown_grammar.specs.Holders.{any_content, leaf}
+use Rattle.markdown_steps.specs.Extents.{extent_of, last_event}
+use Rattle.markdown_grammar.specs.Grammar.{any_content, leaf}
 use Rattle.markdown_tree.specs.Holdings.{first_failing}
 use Rattle.markdown_grammar.specs.Ordered.{IsOrdered, NeverGoesBack}
 use Rattle.markdown_grammar.specs.Refusals.{IsFaultOf}
-use Rattle.markdown_grammar.specs.Rejections.{Rejection, checked, refused, ◌>>=◌}
-use Rattle.markdown_grammar.specs.Source.{Source}
+use Rattle.markdown_grammar.specs.Refusals.{ErrorAt}
+use Rattle.markdown_steps.specs.Checks.{checked, refused, ◌>>=◌}
+use Rattle.markdown_grammar.specs.Document.{Source}
 use Rattle.markdown_tree.specs.States.{Completes, Fails, kept_top, leaf_holder, leaf_place, opens, state_of, top_of, with_break}
-use Rattle.markdown_grammar.specs.Walked.{run_walks}
-use Rattle.markdown_grammar.specs.Well.{AllStand}
+use Rattle.markdown_steps.specs.Walked.{run_visits}
+use Rattle.markdown_steps.specs.Well.{AllStand}
 use Rattle.markdown_tree.specs.declared.context.Context.{Context}
 use Rattle.markdown_tree.specs.declared.context.Frame.{Frame}
 use Rattle.markdown_tree.specs.declared.holding.Holding.{Holding}
@@ -38,16 +39,16 @@ use Rattle.markdown_grammar.specs.declared.refusal.Refusal.{Refusal}
 use Rattle.markdown_grammar.specs.declared.refusal.Refusal.TheVariants.{Unbalanced, UnfinishedBreak}
 use Rattle.markdown_grammar.specs.declared.refusal.Stop.TheVariants as stops
 use Rattle.markdown_tree.proofs.Beginnings.{checked_fails, checked_through}
-use Rattle.markdown_grammar.proofs.Compiled.{sound}
-use Rattle.markdown_grammar.proofs.Conditions.{conditions-accept, conditions-hold}
-use Rattle.markdown_grammar.proofs.HeldWalks.{accepted-walks}
-use Rattle.markdown_grammar.proofs.InsideWalks.{any-walks}
-use Rattle.markdown_grammar.proofs.Outcomes.{ok_is}
-use Rattle.markdown_grammar.proofs.Reasons.{explained}
-use Rattle.markdown_grammar.proofs.Refused.{refuses}
-use Rattle.markdown_grammar.proofs.SpanLaw.{span_law}
-use Rattle.markdown_grammar.proofs.Unbalanced.{unbalanced}
-use Rattle.markdown_grammar.proofs.WellKept.{well-opening, well-run}
+use Rattle.markdown_steps.proofs.Compiled.{sound}
+use Rattle.markdown_steps.proofs.Conditions.{conditions-accept, conditions-hold}
+use Rattle.markdown_steps.proofs.HeldWalks.{accepted-walks}
+use Rattle.markdown_steps.proofs.InsideWalks.{any-walks}
+use Rattle.markdown_steps.proofs.Outcomes.{ok_is}
+use Rattle.markdown_steps.proofs.Reasons.{explained}
+use Rattle.markdown_steps.proofs.Refused.{refuses}
+use Rattle.markdown_steps.proofs.SpanLaw.{span_law}
+use Rattle.markdown_steps.proofs.Unbalanced.{unbalanced}
+use Rattle.markdown_steps.proofs.WellKept.{well-opening, well-run}
 
 -- ---- A tree, and a message
 
@@ -62,7 +63,7 @@ is_ordered : (s : Source) (es : List Event) (tree : Node) → IsMeaning tree es 
 is_ordered s es tree m rises = subst (λ (t : Tree). IsOrdered (only t)) (sym m.is_meaning) (span_law s m.forest (subst NeverGoesBack (sym m.spelled) rises))
 
 -- what the steps refuse, no accepted forest spells
-pub is_refused : (s : Source) (es : List Event) (m : Rejection) → compiled s es ≡ Err m → IsRefused m es s
+pub is_refused : (s : Source) (es : List Event) (m : ErrorAt) → compiled s es ≡ Err m → IsRefused m es s
 is_refused s es m h = record {
   none_accepted = λ f e a. refuses s es m h f e (conditions-accept s f a);
   unbalanced = unbalanced s es m h;
@@ -82,7 +83,7 @@ pub left_fails : (f : Fault) (s : Source) (es : List Event) (st : State) (why : 
 left_fails (faults.Memory e) s es st why p h fails at says = absurd says
 left_fails (faults.Message m) s es st why p h fails at says = (
   record { refusal = why; point = p },
-  ap (λ (r : Result State Rejection). r >>= λ x. checked (last_checks x) (point_of (last_event es)) (Ok (tree_of es x))) h
+  ap (λ (r : Result State ErrorAt). r >>= λ x. checked (last_checks x) (point_of (last_event es)) (Ok (tree_of es x))) h
       ∙ checked_fails (last_checks st) (point_of (last_event es)) (Ok (tree_of es st)) why fails
       ∙ ap (λ (x : Point). refused why x) (sym at),
   says,
@@ -101,7 +102,7 @@ some_event s (e ∷ es) st why h fails = omega arith
 pub tree_gives : (s : Source) (es : List Event) (st : State) (r : RootNode) → run s es opening ≡ Ok st → first_failing (last_checks st) ≡ None → views r.children.items ≡ st.top.inner.nodes → r.position ≡ Some (extent_of es)
     → compiled s es ≡ Ok (view (nodes.Root r))
 tree_gives s es st r h none children position =
-    ap (λ (x : Result State Rejection). x >>= λ y. checked (last_checks y) (point_of (last_event es)) (Ok (tree_of es y))) h
+    ap (λ (x : Result State ErrorAt). x >>= λ y. checked (last_checks y) (point_of (last_event es)) (Ok (tree_of es y))) h
     ∙ checked_through (last_checks st) (point_of (last_event es)) (Ok (tree_of es st)) none
     ∙ (λ t. Ok (record { label = root; children = sym children t; position = sym position t }))
     ∙ ap Ok (sym (view-Root r))
@@ -170,17 +171,17 @@ root_nodes s es c h none =
 -- ---- Steps
 
 -- those of a tree: one for each node in a buffer of the forest
-pub steps_of_tree : (s : Source) (es : List Event) (tree : Node) (f : Forest) (began after : ℕ) → compiled s es ≡ Ok (view tree) → spell f ≡ es → after ≤ began + 4 * length es + run_walks s es opening
+pub steps_of_tree : (s : Source) (es : List Event) (tree : Node) (f : Forest) (began after : ℕ) → compiled s es ≡ Ok (view tree) → spell f ≡ es → after ≤ began + 4 * length es + run_visits s es opening
     → after ≤ began + 4 * length es + held s f
 steps_of_tree s es tree f began after h spelled bound =
     let m = sound s es (view tree) h in
     let same : m.forest ≡ f = one_forest m.forest f (m.is_spelled ∙ sym spelled) in
-    let walks : run_walks s es opening ≤ held s f =
-    subst (λ (x : List Event). run_walks s x opening ≤ held s f) spelled (accepted-walks s f (ap (accepted s) (sym same) ∙ m.is_accepted)) in
+    let walks : run_visits s es opening ≤ held s f =
+    subst (λ (x : List Event). run_visits s x opening ≤ held s f) spelled (accepted-walks s f (ap (accepted s) (sym same) ∙ m.is_accepted)) in
     omega (arith, bound, walks)
 
 -- those of every other answer: one for each event inside a span with a buffer's name
-pub steps_of_any : (s : Source) (es : List Event) (began after : ℕ) → after ≤ began + 4 * length es + run_walks s es opening → after ≤ began + 4 * length es + inside es
+pub steps_of_any : (s : Source) (es : List Event) (began after : ℕ) → after ≤ began + 4 * length es + run_visits s es opening → after ≤ began + 4 * length es + inside es
 steps_of_any s es began after bound = let walks = any-walks s es in omega (arith, bound, walks)
 
 -- ---- Either answer
@@ -198,11 +199,11 @@ pub refused_so : (s : Source) (es : List Event) (r : Result Node Fault) → Comp
 refused_so s es (Ok tree) h = tt
 refused_so s es (Err f) h = fails_rightly f es s h
 
-pub tree_bound : (s : Source) (es : List Event) (r : Result Node Fault) (began after : ℕ) → Completes view r (compiled s es) → after ≤ began + 4 * length es + run_walks s es opening
+pub tree_bound : (s : Source) (es : List Event) (r : Result Node Fault) (began after : ℕ) → Completes view r (compiled s es) → after ≤ began + 4 * length es + run_visits s es opening
     → IfOk r (λ tree. (f : Forest) → spell f ≡ es → after ≤ began + 4 * length es + held s f)
 tree_bound s es (Ok tree) began after h bound = λ f spelled. steps_of_tree s es tree f began after h spelled bound
 tree_bound s es (Err f) began after h bound = tt
 
-pub other_bound : (s : Source) (es : List Event) (r : Result Node Fault) (began after : ℕ) → after ≤ began + 4 * length es + run_walks s es opening → IfErr r (λ f. after ≤ began + 4 * length es + inside es)
+pub other_bound : (s : Source) (es : List Event) (r : Result Node Fault) (began after : ℕ) → after ≤ began + 4 * length es + run_visits s es opening → IfErr r (λ f. after ≤ began + 4 * length es + inside es)
 other_bound s es (Ok tree) began after bound = tt
 other_bound s es (Err f) began after bound = steps_of_any s es began after bound

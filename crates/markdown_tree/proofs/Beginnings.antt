@@ -21,19 +21,20 @@ use Rattle.markdown_tree.specs.declared.context.Context.{Context}
 use Rattle.markdown_tree.specs.declared.context.Frame.{Frame}
 use Rattle.markdown_tree.specs.declared.holding.Holding.{Holding}
 use Rattle.markdown_grammar.specs.declared.refusal.Refusal.{Refusal}
-use Rattle.markdown_grammar.specs.Compiler.{Holds, Open, State, enter_as, enter_step, enter_checks, entered, fresh, opened}
-use Rattle.markdown_grammar.specs.Holders.{Holder, code_fenced, holder_of, leaf, list_ordered, math_flow}
+use Rattle.markdown_steps.specs.Compiler.{Holds, Open, State, enter_as, enter_checks, enter_step, entered, fresh, opened}
+use Rattle.markdown_grammar.specs.Grammar.{Holder, code_fenced, model_of, leaf, list_ordered, math_flow}
 use Rattle.markdown_tree.specs.Holdings.{IsFresh, first_failing, moved_of, row_of}
 use Rattle.markdown_events.specs.Around.{may_begin, under}
-use Rattle.markdown_grammar.specs.Columns.{columns_entered}
-use Rattle.markdown_grammar.specs.Kinds.{is_line_ending, is_table}
-use Rattle.markdown_grammar.specs.Place.{Place, line_ending_is_text}
-use Rattle.markdown_grammar.specs.Rejections.{Rejection, checked, refused}
-use Rattle.markdown_grammar.specs.Source.{Source}
+use Rattle.markdown_steps.specs.Columns.{columns_entered}
+use Rattle.markdown_grammar.specs.Items.{is_line_ending, is_table}
+use Rattle.markdown_grammar.specs.Attributes.{Place, line_ending_is_text}
+use Rattle.markdown_grammar.specs.Refusals.{ErrorAt}
+use Rattle.markdown_steps.specs.Checks.{checked, refused}
+use Rattle.markdown_grammar.specs.Document.{Source}
 use Rattle.markdown_tree.specs.States.{Begun, Opened, OpenedHolder, Stops, OpenedLeaf, columns_of, holdings_left, holds_of, kept_top, leaf_left, leaf_place, marks_of, opens, outer_of, state_of, top_of, with_break}
 
 -- tests that all pass, and a first one that fails
-pub checked_through : {A : Type 0} (tests : List (Bool × Refusal)) (p : Point) (r : Result A Rejection) → first_failing tests ≡ None → checked tests p r ≡ r
+pub checked_through : {A : Type 0} (tests : List (Bool × Refusal)) (p : Point) (r : Result A ErrorAt) → first_failing tests ≡ None → checked tests p r ≡ r
 checked_through [] p r h = refl
 checked_through (test ∷ tests) p r h = by-test test.0 (checked_through tests p r) h
   where
@@ -44,7 +45,7 @@ checked_through (test ∷ tests) p r h = by-test test.0 (checked_through tests p
 some_same : (x y : Refusal) → Some x ≡ Some y → x ≡ y
 some_same x y h = ap (λ (o : Option Refusal). elim o [ Some z ↦ z | None ↦ x ]) h
 
-pub checked_fails : {A : Type 0} (tests : List (Bool × Refusal)) (p : Point) (r : Result A Rejection) (why : Refusal) → first_failing tests ≡ Some why → checked tests p r ≡ refused why p
+pub checked_fails : {A : Type 0} (tests : List (Bool × Refusal)) (p : Point) (r : Result A ErrorAt) (why : Refusal) → first_failing tests ≡ Some why → checked tests p r ≡ refused why p
 checked_fails [] p r why h = let z : ⊥ = cc in absurd z
 checked_fails (test ∷ tests) p r why h = by-test test.0 (checked_fails tests p r why) h
   where
@@ -58,7 +59,7 @@ no_leaf s what point p kept true h = let z : ⊥ = cc in absurd z
 no_leaf s what point p kept false h = refl
 
 -- what a leaf is
-leaf_speaks : (h : Holder) (what : Acting) → holder_of h what ≡ leaf → line_ending_is_text what ≡ true
+leaf_speaks : (h : Holder) (what : Acting) → model_of h what ≡ leaf → line_ending_is_text what ≡ true
 leaf_speaks h (content contents.Table) e = let z : ⊥ = cc in absurd z
 leaf_speaks h (content contents.BlockQuote) e = let z : ⊥ = cc in absurd z
 leaf_speaks h (content contents.TableRow) e = let z : ⊥ = cc in absurd z
@@ -84,7 +85,7 @@ leaf_speaks h (part parts.Reference) e = let z : ⊥ = cc in absurd z
 leaf_speaks h (content c) e = refl
 leaf_speaks h (part q) e = refl
 
-pub leaf_no_table : (h : Holder) (what : Acting) → holder_of h what ≡ leaf → is_table what ≡ false
+pub leaf_no_table : (h : Holder) (what : Acting) → model_of h what ≡ leaf → is_table what ≡ false
 leaf_no_table h (content contents.Table) e = let z : ⊥ = cc in absurd z
 leaf_no_table h (content c) e = refl
 leaf_no_table h (part q) e = refl
@@ -189,7 +190,7 @@ no_leaf_row (holders.CodeFenced x) e = cc
 no_leaf_row (holders.MathFlow x) e = cc
 
 -- what opens a holder is no line ending
-holder_no_ending : (h : OpenHolder) (row : Holder) (what : Acting) → row_of h ≡ holder_of row what → is_line_ending what ≡ false
+holder_no_ending : (h : OpenHolder) (row : Holder) (what : Acting) → row_of h ≡ model_of row what → is_line_ending what ≡ false
 holder_no_ending h row (content contents.LineEnding) e = absurd (no_leaf_row h e)
 holder_no_ending h row (content c) e = refl
 holder_no_ending h row (part q) e = refl
@@ -211,7 +212,7 @@ holder_entered s name what point old mid new in_table acts o b is =
     let begun : Begun name (acting what) point false in_table between new = subst (λ (m : Context). Begun name (acting what) point false in_table m new) o.others b in
     let flag : old.is_leaf ≡ false = no_leaf s what point (leaf_place old.in_table) (kept_top old) old.is_leaf o.taken in
     let inside : in_table ≡ (old.in_table || is_table what) = is ∙ ap (λ (m : Context). m.in_table || is_table what) o.others in
-    let made : IsFresh o.top.holder (holder_of (moved_of old.top.holder) what) = o.fresh_holder in
+    let made : IsFresh o.top.holder (model_of (moved_of old.top.holder) what) = o.fresh_holder in
     let kept_taken : first_failing (enter_checks s (kept_top old) what point) ≡ None =
     (λ t. first_failing (enter_checks s (cond (sym flag t) (fresh leaf (leaf_place old.in_table)) (kept_top old)) what point)) ∙ o.taken in
     let no_break : old.pending ≡ None = nothing_waits old.pending (is_line_ending what) (first_passes (not (is_some old.pending) || is_line_ending what) _ UnfinishedBreak kept_taken)

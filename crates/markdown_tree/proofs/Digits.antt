@@ -4,7 +4,7 @@ use Rattle.std.specs.List.{fold as fold_list, list_all}
 use Rattle.std.specs.Char.{is_ascii_digit}
 use Rattle.std.proofs.lemmas.List.{at_drop_more, at_drop_all}
 use Rattle.std.proofs.lemmas.Bool.Decides.{nat_tests}
-use Rattle.markdown_grammar.specs.Numbers.{is_item_number, is_number, number}
+use Rattle.markdown_grammar.specs.Document.{is_item_number, is_number, number}
 
 -- the number that digits behind another number make
 abbrev pub number_from : ℕ → List ℕ → ℕ

@@ -24,26 +24,28 @@ use Rattle.markdown_grammar.specs.declared.refusal.Refusal.{Refusal}
 use Rattle.markdown_grammar.specs.declared.refusal.Refusal.TheVariants.{InvalidSlice, Misplaced, Unbalanced, UnfinishedBreak}
 use Rattle.markdown_grammar.specs.declared.refusal.Stop.{Stop}
 use Rattle.markdown_grammar.specs.declared.refusal.Stop.TheVariants as stops
-use Rattle.markdown_grammar.specs.Columns.{columns_left, shown}
-use Rattle.markdown_grammar.specs.Compiler.{Holds, Open, State, closed, enter_checks, exit_from, exit_step, fresh, leave, leave_to, rule_checks, shut}
-use Rattle.markdown_grammar.specs.Refusals.{lacking, unread}
-use Rattle.markdown_grammar.specs.Grammar.{is_complete, rules}
-use Rattle.markdown_grammar.specs.Holders.{Holder, code_fenced, holder_of, leaf, list_item, list_ordered, marked_item, marked_numbered_item, math_flow, numbered_item}
+use Rattle.markdown_steps.specs.Columns.{columns_left, shown}
+use Rattle.markdown_steps.specs.Compiler.{Holds, Open, State, closed, enter_checks, exit_from, exit_step, fresh, leave, leave_to, rule_checks, shut}
+use Rattle.markdown_grammar.specs.Refusals.{missing_error, value_error}
+use Rattle.markdown_grammar.specs.Grammar.{rules}
+use Rattle.markdown_steps.specs.Compiler.{all_stood}
+use Rattle.markdown_grammar.specs.Grammar.{Holder, code_fenced, model_of, leaf, list_item, list_ordered, marked_item, marked_numbered_item, math_flow, numbered_item}
 use Rattle.markdown_tree.specs.Holdings.{first_failing, is_part_row, is_row_of, misfit_of, row_of}
-use Rattle.markdown_grammar.specs.Kinds.{is_frontmatter, is_line_ending, is_table}
-use Rattle.markdown_grammar.specs.Ranges.{byte_at}
-use Rattle.markdown_grammar.specs.Reads.{is_read}
-use Rattle.markdown_grammar.specs.Rejections.{Rejection, checked, passes, refused, ◌>>=◌}
-use Rattle.markdown_grammar.specs.Siblings.{marks_with}
-use Rattle.markdown_grammar.specs.Source.{Source}
+use Rattle.markdown_grammar.specs.Items.{is_frontmatter, is_line_ending, is_table}
+use Rattle.markdown_grammar.specs.Document.{byte_at}
+use Rattle.markdown_grammar.specs.Values.{is_read}
+use Rattle.markdown_grammar.specs.Refusals.{ErrorAt}
+use Rattle.markdown_steps.specs.Checks.{checked, passes, refused, ◌>>=◌}
+use Rattle.markdown_steps.specs.Siblings.{marks_with}
+use Rattle.markdown_grammar.specs.Document.{Source}
 use Rattle.markdown_tree.specs.States.{Closed, Ends, EndsAs, Gives, HolderEnds, Stops, columns_of, holdings_left, holds_of, kept_top, leaf_holder, leaf_left, leaf_place, left_to, left_walks, inner_of_holding, marks_of, opens, outer_of, state_of, top_of}
-use Rattle.markdown_grammar.specs.Walked.{exit_walks, walked, walked_by}
-use Rattle.markdown_grammar.specs.Well.{AllStand, Stands, Well, is_plain}
+use Rattle.markdown_steps.specs.Walked.{exit_walks, walked, walked_by}
+use Rattle.markdown_steps.specs.Well.{AllStand, Stands, Well, is_plain}
 use Rattle.markdown_tree.proofs.Beginnings.{no_leaf_row, pushed}
-use Rattle.markdown_grammar.proofs.Booleans.{and-right}
+use Rattle.markdown_steps.proofs.Booleans.{and-right}
 use Rattle.markdown_tree.proofs.Misfits.{left_none, misfit_first, none_fails}
 use Rattle.markdown_tree.proofs.Stopping.{gives_same}
-use Rattle.markdown_grammar.proofs.WellKept.{taken-awaited}
+use Rattle.markdown_steps.proofs.WellKept.{taken-awaited}
 
 -- ---- What is known of a span that ends
 
@@ -134,7 +136,7 @@ exit_stops s name point old frames f role (stops.Memory error) at is same left =
 exit_stops s name point old frames f role (stops.Refused why) at is same left =
     exit_by s name point old f frames.items true at same
     ∙ (λ t. left_to s (sym is t) f point old >>= λ top. Ok (shut (open_of f old) (around_it f frames.items old) (state_of old) top))
-    ∙ ap (λ (r : Result Holds Rejection). r >>= λ top. Ok (shut (open_of f old) (around_it f frames.items old) (state_of old) top)) left
+    ∙ ap (λ (r : Result Holds ErrorAt). r >>= λ top. Ok (shut (open_of f old) (around_it f frames.items old) (state_of old) top)) left
 
 -- where it takes it
 pub exit_done : (s : Source) (name : Name) (point : Point) (old mid : Context) (frames : Vec Frame Global) (f : Frame) (role : Role) (marks : OpenMarks) → old.frames.items ≡ frames.items ++ f ∷ [] → role ≡ role_of f.name
@@ -142,10 +144,10 @@ pub exit_done : (s : Source) (name : Name) (point : Point) (old mid : Context) (
     → marks_of marks ≡ marks_with (marks_of f.marks) role (marks_of mid.marks)
     → exit_step s name point (state_of old) ≡ Ok (state_of (record mid { around = f.around; marks = marks }))
 exit_done s name point old mid frames f role marks at is same left shuts with =
-    let on : Holds → Result State Rejection = λ top. Ok (shut (open_of f old) (around_it f frames.items old) (state_of old) top) in
+    let on : Holds → Result State ErrorAt = λ top. Ok (shut (open_of f old) (around_it f frames.items old) (state_of old) top) in
     exit_by s name point old f frames.items true at same
     ∙ (λ t. left_to s (sym is t) f point old >>= on)
-    ∙ ap (λ (r : Result Holds Rejection). r >>= on) left
+    ∙ ap (λ (r : Result Holds ErrorAt). r >>= on) left
     ∙ (λ t. Ok (record {
       frames = ((λ u. opens (reverse frames.items) (leaf_left (sym is u) (leaf_holder old)) (holdings_left (sym is u) (leaf_holder old) (reverse old.holdings.items)))
           ∙ (λ u. opens (reverse (sym shuts.frames u).items) (sym shuts.leaf u) (sym shuts.holdings u))) t;
@@ -176,9 +178,9 @@ holder_waits s what f end c grows h waits =
     let children : Shown = shown (marks_of c.marks) (columns_of c.columns) in
     let own : Holds = kept_top c in
     let top : Holds = holds_of f.in_table None h.outer in
-    let out : Result Holds Rejection = Ok (closed s top what f.start end children own.inner) in
+    let out : Result Holds ErrorAt = Ok (closed s top what f.start end children own.inner) in
     holder_leaves s what f end c h.outer h.others grows h.holdings
-    ∙ (λ t. cond (not (waits t)) (checked ((is_complete own.row own.inner, lacking own.row) ∷ (is_read s top.holder top.place top.waiting what f.start end, unread s what f.start end) ∷ []) end out) (refused UnfinishedBreak end))
+    ∙ (λ t. cond (not (waits t)) (checked ((all_stood own.row own.inner, missing_error own.row) ∷ (is_read s top.holder top.place top.waiting what f.start end, value_error s what f.start end) ∷ []) end out) (refused UnfinishedBreak end))
 
 -- where none does
 pub holder_left : (s : Source) (what : Acting) (f : Frame) (end : Point) (c : Context) (outer : Holding) (others : List Holding) → c.is_leaf ≡ false → reverse c.holdings.items ≡ outer ∷ others → is_some c.pending ≡ false
@@ -193,7 +195,7 @@ pub holder_gives : (s : Source) (what : Acting) (f : Frame) (end : Point) (old n
     → Gives {X = Unit {0}} {Y = Holds} (λ x. holds_of f.in_table None new.top) end result (leave s what f.start end (shown (marks_of old.marks) (columns_of old.columns)) (holds_of old.in_table None old.top) (holds_of f.in_table None outer))
     → Gives {X = Unit {0}} {Y = Holds} (λ x. top_of new) end result (left_to s (acting what) f end old)
 holder_gives s what f end old new outer others result grows at none same_leaf same_break same_table given =
-    let after : Result Holds Rejection = leave s what f.start end (shown (marks_of old.marks) (columns_of old.columns)) (holds_of old.in_table None old.top) (holds_of f.in_table None outer) in
+    let after : Result Holds ErrorAt = leave s what f.start end (shown (marks_of old.marks) (columns_of old.columns)) (holds_of old.in_table None old.top) (holds_of f.in_table None outer) in
     let tops : top_of new ≡ holds_of f.in_table None new.top =
     (λ t. cond ((same_leaf ∙ grows) t) (fresh leaf (leaf_place new.in_table)) (kept_top new)) ∙ (λ t. holds_of (same_table t) ((same_break ∙ no_break old.pending none) t) new.top) in
     gives_same (λ x. top_of new) end result after (left_to s (acting what) f end old) (holder_left s what f end old outer others grows at none)
@@ -206,7 +208,7 @@ popped hs rest h at = ap (λ (x : List Holding). reverse x) at ∙ reverse-appen
 -- ---- Rows
 
 -- the row of content that is no leaf is one that it may have
-pub content_row : (h : OpenHolder) (x : Holder) (c : Content) → row_of h ≡ holder_of x (content c) → is_row_of c (row_of h) ≡ true
+pub content_row : (h : OpenHolder) (x : Holder) (c : Content) → row_of h ≡ model_of x (content c) → is_row_of c (row_of h) ≡ true
 content_row h x contents.Data e = absurd (no_leaf_row h e)
 content_row h x contents.AutolinkLiteralEmail e = absurd (no_leaf_row h e)
 content_row h x contents.AutolinkLiteralWww e = absurd (no_leaf_row h e)
@@ -224,7 +226,7 @@ content_row h x contents.Paragraph e = ap (is_row_of contents.Paragraph) e
 content_row h x c e = ap (is_row_of c) e
 
 -- and so is that of a part
-pub part_row : (h : OpenHolder) (x : Holder) (q : Part) → row_of h ≡ holder_of x (part q) → is_part_row q (row_of h) ≡ true
+pub part_row : (h : OpenHolder) (x : Holder) (q : Part) → row_of h ≡ model_of x (part q) → is_part_row q (row_of h) ≡ true
 part_row h code_fenced parts.CodeFencedFence e = ap (is_part_row parts.CodeFencedFence) e
 part_row h x parts.CodeFencedFence e = absurd (no_leaf_row h e)
 part_row h math_flow parts.MathFlowFence e = ap (is_part_row parts.MathFlowFence) e

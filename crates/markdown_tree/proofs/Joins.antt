@@ -9,8 +9,8 @@ use Rattle.markdown_nodes.specs.Tree.{Label, Trees, Tree, before, join, node, no
 use Rattle.markdown_nodes.specs.View.{view, views}
 use Rattle.markdown_nodes.proofs.Joining.{join-nothing}
 use Rattle.markdown_nodes.proofs.Views.{view-Text}
-use Rattle.markdown_grammar.specs.TextNodes.{is_text}
-use Rattle.markdown_grammar.specs.TextNodes.{text_node}
+use Rattle.markdown_steps.specs.Consequences.{is_text}
+use Rattle.markdown_steps.specs.TextNodes.{text_node}
 
 -- the last of the nodes grows by what is put behind it
 grown_at : (ns : List Node) (i : ℕ) (d new : Node) (t : Trees) → length ns ≡ i + 1

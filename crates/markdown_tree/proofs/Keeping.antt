@@ -13,13 +13,13 @@ use Rattle.markdown_tree.specs.declared.holder.Holder.{Holder as Open}
 use Rattle.markdown_tree.specs.declared.holder.Holder.TheVariants as holders
 use Rattle.markdown_tree.specs.declared.holder.Target.{Target}
 use Rattle.markdown_tree.specs.declared.holder.Target.TheVariants as targets
-use Rattle.markdown_grammar.specs.Compiler.{label_with, part_with}
-use Rattle.markdown_grammar.specs.Gives.{mark_given, value_given}
-use Rattle.markdown_grammar.specs.Holders.{Holder, holder_behind, list_item, numbered_item}
+use Rattle.markdown_steps.specs.Compiler.{label_with, part_with}
+use Rattle.markdown_grammar.specs.Attributes.{mark_given, value_given}
+use Rattle.markdown_grammar.specs.Grammar.{Holder, model_after, list_item, numbered_item}
 use Rattle.markdown_tree.specs.Holdings.{Keeps, inner_with, is_parent, part_of, label_of, mark_of, value_of, moved_of, ending, nodes_of_label, label_kept, resource_of, reference_of, in_code_fence, in_math_fence, fence_of}
-use Rattle.markdown_grammar.specs.Parts.{Path, Kept, Inner, itself, into, path_to}
-use Rattle.markdown_grammar.specs.Place.{Place}
-use Rattle.markdown_grammar.specs.Source.{Source}
+use Rattle.markdown_steps.specs.Kept.{Inner, Kept, Path, into, itself, path_to}
+use Rattle.markdown_grammar.specs.Attributes.{Place}
+use Rattle.markdown_grammar.specs.Document.{Source}
 
 -- nothing stands below a part that is not there
 below_ending : (k : Option Kept) (way : Path) → k ≡ None → ending k way ≡ None
@@ -102,7 +102,7 @@ same_label : (old : Option Kept) (nodes ts : Trees) → (old ≡ None → nodes 
 same_label (Some k) nodes ts below c = refl
 same_label None nodes ts below c = below refl
 
-behind_content : (h : Holder) (c : Content) (m : Bool) → (c ≡ contents.Paragraph → ⊥) → holder_behind h (content c) m ≡ h
+behind_content : (h : Holder) (c : Content) (m : Bool) → (c ≡ contents.Paragraph → ⊥) → model_after h (content c) m ≡ h
 behind_content h contents.Paragraph m other = absurd (other refl)
 behind_content list_item c m other = refl
 behind_content numbered_item c m other = refl
@@ -121,7 +121,7 @@ no_value s contents.ListItem a b v other = absurd (other refl)
 no_value s c a b v other = refl
 
 -- a parent of which nothing but nodes is kept gives its holder nothing else
-unmarked_behind : (h : Holder) (c : Content) → holder_behind h (content c) false ≡ h
+unmarked_behind : (h : Holder) (c : Content) → model_after h (content c) false ≡ h
 unmarked_behind list_item contents.Paragraph = refl
 unmarked_behind numbered_item contents.Paragraph = refl
 unmarked_behind h c = refl

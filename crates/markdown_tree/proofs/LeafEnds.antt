@@ -14,45 +14,46 @@ use Rattle.markdown_events.specs.declared.role.Content.{Content}
 use Rattle.markdown_events.specs.declared.role.Content.TheVariants as contents
 use Rattle.markdown_tree.specs.declared.holder.Holder.{Holder as Open}
 use Rattle.markdown_tree.specs.declared.holding.Holding.{Holding}
-use Rattle.markdown_grammar.specs.Compiler.{Holds, closed, fresh, leave, lengthened, nothing_yet}
-use Rattle.markdown_grammar.specs.Refusals.{unread}
-use Rattle.markdown_grammar.specs.Gives.{text_read}
-use Rattle.markdown_grammar.specs.Holders.{leaf}
+use Rattle.markdown_steps.specs.Compiler.{Holds, closed, fresh, leave, lengthened, nothing_yet}
+use Rattle.markdown_grammar.specs.Refusals.{value_error}
+use Rattle.markdown_grammar.specs.Document.{text_read}
+use Rattle.markdown_grammar.specs.Grammar.{leaf}
 use Rattle.markdown_tree.specs.Holdings.{Keeps, is_literal, moved_of}
-use Rattle.markdown_grammar.specs.Kinds.{is_hard_break, is_line_ending}
-use Rattle.markdown_grammar.specs.Nodes.{node_of}
-use Rattle.markdown_grammar.specs.Parts.{Inner}
-use Rattle.markdown_grammar.specs.Place.{Place, line_ending_is_text_behind}
-use Rattle.markdown_grammar.specs.Reads.{is_read}
-use Rattle.markdown_grammar.specs.Rejections.{Rejection, refused}
-use Rattle.markdown_grammar.specs.Source.{Source}
+use Rattle.markdown_grammar.specs.Items.{is_hard_break, is_line_ending}
+use Rattle.markdown_steps.specs.KeptNodes.{node_of}
+use Rattle.markdown_steps.specs.Kept.{Inner}
+use Rattle.markdown_grammar.specs.Attributes.{Place, line_ending_is_text_after}
+use Rattle.markdown_grammar.specs.Values.{is_read}
+use Rattle.markdown_grammar.specs.Refusals.{ErrorAt}
+use Rattle.markdown_steps.specs.Checks.{refused}
+use Rattle.markdown_grammar.specs.Document.{Source}
 use Rattle.markdown_tree.specs.States.{holds_of, place_of}
-use Rattle.markdown_grammar.specs.TextNodes.{one_text}
+use Rattle.markdown_steps.specs.TextNodes.{one_text}
 use Rattle.markdown_grammar.specs.declared.refusal.Refusal.{Refusal}
 use Rattle.markdown_grammar.specs.declared.refusal.Refusal.TheVariants.{InvalidSlice}
-use Rattle.markdown_grammar.proofs.BreakEnds.{join-lengthened}
+use Rattle.markdown_steps.proofs.BreakEnds.{join-lengthened}
 use Rattle.markdown_tree.proofs.Keeping.{content_keeps}
 use Rattle.markdown_tree.proofs.SpanEnds.{closed_is}
 
 -- a leaf goes into its holder, where no break is before it and it is none
 pub leaf_in : (s : Source) (in_table : Bool) (top new : Holding) (what : Acting) (a b : Point) (children : Shown) (place : Place)
-    → Keeps s (place_of in_table top) what a b nothing_yet top.holder new.holder → new.line_endings ≡ line_ending_is_text_behind what top.line_endings
+    → Keeps s (place_of in_table top) what a b nothing_yet top.holder new.holder → new.line_endings ≡ line_ending_is_text_after what top.line_endings
     → views new.nodes.items ≡ join (views top.nodes.items) (node_of s (place_of in_table top) what a b children nothing_yet) → is_hard_break what ≡ false
     → is_read s (moved_of top.holder) (place_of in_table top) false what a b ≡ true
     → leave s what a b children (fresh leaf place) (holds_of in_table None top) ≡ Ok (holds_of in_table None new)
 unfolding leave
 leaf_in s in_table top new what a b children place keeps ending made no_break read =
-    let out : Result Holds Rejection = Ok (closed s (holds_of in_table None top) what a b children nothing_yet) in
-    (λ t. cond (read t) out (refused (unread s what a b) b)) ∙ ap Ok (closed_is s in_table top new what a b children nothing_yet keeps ending made no_break)
+    let out : Result Holds ErrorAt = Ok (closed s (holds_of in_table None top) what a b children nothing_yet) in
+    (λ t. cond (read t) out (refused (value_error s what a b) b)) ∙ ap Ok (closed_is s in_table top new what a b children nothing_yet keeps ending made no_break)
 
 -- a leaf that cannot be read is refused
 pub leaf_unread : (s : Source) (in_table : Bool) (pending : Option Position) (top : Holding) (what : Acting) (a b : Point) (children : Shown) (place : Place)
     → is_read s (moved_of top.holder) (place_of in_table top) (is_some pending) what a b ≡ false
-    → leave s what a b children (fresh leaf place) (holds_of in_table pending top) ≡ refused (unread s what a b) b
+    → leave s what a b children (fresh leaf place) (holds_of in_table pending top) ≡ refused (value_error s what a b) b
 unfolding leave
 leaf_unread s in_table pending top what a b children place unread_here =
-    let out : Result Holds Rejection = Ok (closed s (holds_of in_table pending top) what a b children nothing_yet) in
-    λ t. cond (unread_here t) out (refused (unread s what a b) b)
+    let out : Result Holds ErrorAt = Ok (closed s (holds_of in_table pending top) what a b children nothing_yet) in
+    λ t. cond (unread_here t) out (refused (value_error s what a b) b)
 
 -- ---- Content
 
@@ -130,9 +131,9 @@ break_is_in s in_table pending here top c a b children place is waits at =
     ∙ break_in s in_table top a b children place ∙ ap (λ (x : Position). Ok (holds_of in_table (Some x) top)) (sym at)
 
 -- a line ending behind a break is not read
-behind_break : (l x : Bool) → (not (l && not true) || x) ≡ true
-behind_break true x = refl
-behind_break false x = refl
+after_break : (l x : Bool) → (not (l && not true) || x) ≡ true
+after_break true x = refl
+after_break false x = refl
 
 -- behind it the break is a node, which ends where it does
 pub break_ends : (s : Source) (in_table : Bool) (here : Position) (top new : Holding) (a b : Point) (children : Shown) (place : Place) → new.holder ≡ top.holder → new.line_endings ≡ top.line_endings
@@ -146,8 +147,8 @@ break_ends s in_table here top new a b children place same ending made =
     subst (λ (h : Open). Keeps s p (content contents.LineEnding) a b nothing_yet top.holder h) (sym same) (keeps s p contents.LineEnding a b nothing_yet top.holder refl) in
     let nodes : lengthened (to_unist b) (join old (node «break» nothing (Some here) nothing)) ≡ views new.nodes.items =
     join-lengthened (to_unist b) old (node «break» nothing (Some here) nothing) tt ∙ sym made in
-    let out : Result Holds Rejection = Ok (closed s (holds_of in_table (Some here) top) (content contents.LineEnding) a b children nothing_yet) in
-    (λ t. cond (behind_break top.line_endings (is_some (slice s.bytes a b)) t) out (refused (unread s (content contents.LineEnding) a b) b))
+    let out : Result Holds ErrorAt = Ok (closed s (holds_of in_table (Some here) top) (content contents.LineEnding) a b children nothing_yet) in
+    (λ t. cond (after_break top.line_endings (is_some (slice s.bytes a b)) t) out (refused (value_error s (content contents.LineEnding) a b) b))
     ∙ (λ t. Ok (record {
       row = sym k.row t;
       holder = sym k.moved t;

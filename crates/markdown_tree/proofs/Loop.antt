@@ -9,15 +9,16 @@ use Rattle.markdown_events.specs.declared.message.Fault.TheVariants as faults
 use Rattle.markdown_events.specs.declared.event.Point.{Point}
 use Rattle.markdown_grammar.specs.declared.refusal.Stop.{Stop}
 use Rattle.markdown_grammar.specs.declared.refusal.Stop.TheVariants as stops
-use Rattle.markdown_grammar.specs.Compiler.{State, opening, run, step}
-use Rattle.markdown_grammar.specs.Rejections.{Rejection, ◌>>=◌}
+use Rattle.markdown_steps.specs.Compiler.{State, opening, run, step}
+use Rattle.markdown_grammar.specs.Refusals.{ErrorAt}
+use Rattle.markdown_steps.specs.Checks.{◌>>=◌}
 use Rattle.markdown_grammar.specs.Refusals.{IsFaultOf}
-use Rattle.markdown_grammar.specs.Source.{Source}
+use Rattle.markdown_grammar.specs.Document.{Source}
 use Rattle.markdown_tree.specs.States.{Fails, Stops}
-use Rattle.markdown_grammar.specs.Walked.{run_walks, step_walks}
-use Rattle.markdown_grammar.specs.Well.{Well}
-use Rattle.markdown_grammar.proofs.WalkCounts.{first-walks, taken-walks}
-use Rattle.markdown_grammar.proofs.WellKept.{well-opening, well-step}
+use Rattle.markdown_steps.specs.Walked.{run_visits, step_visits}
+use Rattle.markdown_steps.specs.Well.{Well}
+use Rattle.markdown_steps.proofs.WalkCounts.{first-walks, taken-walks}
+use Rattle.markdown_steps.proofs.WellKept.{well-opening, well-step}
 
 -- an index at which there is no event is past the list
 pub past_end : (es : List Event) (i : ℕ) → None ≡ slice_get es i → length es ≤ i
@@ -38,7 +39,7 @@ run_at s es i e st h = left_at (λ (xs : List Event). run s xs st) es i e h
 -- where the loop stands: the run over what is left is the whole run, and each event took one step, each node that was walked over one more
 pub record Stands (s : Source) (es : List Event) (began count i : ℕ) (st : State) : Type 0 where
   pub same : run s (drop i es) st ≡ run s es opening
-  pub counted : count + run_walks s (drop i es) st ≤ began + i + run_walks s es opening
+  pub counted : count + run_visits s (drop i es) st ≤ began + i + run_visits s es opening
   pub within : i ≤ length es
   pub well : Well s st
 
@@ -46,13 +47,13 @@ pub begins : (s : Source) (es : List Event) (began : ℕ) → Stands s es began 
 begins s es began = record { same = refl; counted = omega arith; within = omega arith; well = well-opening s }
 
 pub goes_on : (s : Source) (es : List Event) (began count read after i : ℕ) (e : Event) (st next : State)
-    → Some e ≡ slice_get es i → step s e st ≡ Ok next → read ≡ count + 1 → after ≤ read + step_walks e st → Stands s es began count i st → Stands s es began after (i + 1) next
+    → Some e ≡ slice_get es i → step s e st ≡ Ok next → read ≡ count + 1 → after ≤ read + step_visits e st → Stands s es began count i st → Stands s es began after (i + 1) next
 goes_on s es began count read after i e st next at one ticked walked so_far =
     let h = so_far.counted in
     let in_list = slice_get_within es i e (sym at) in
-    let left = left_at (λ (xs : List Event). run_walks s xs st) es i e at ∙ taken-walks s e (drop (i + 1) es) st next one in
+    let left = left_at (λ (xs : List Event). run_visits s xs st) es i e at ∙ taken-walks s e (drop (i + 1) es) st next one in
     record {
-      same = sym (ap (λ (r : Result State Rejection). r >>= run s (drop (i + 1) es)) one) ∙ sym (run_at s es i e st at) ∙ so_far.same;
+      same = sym (ap (λ (r : Result State ErrorAt). r >>= run s (drop (i + 1) es)) one) ∙ sym (run_at s es i e st at) ∙ so_far.same;
       counted = omega (arith, h, ticked, walked, left);
       within = omega (arith, in_list);
       well = well-step s e st next one so_far.well;
@@ -63,16 +64,16 @@ pub stops_here : (stop : Stop) (fault : Fault) (p : Point) (s : Source) (es : Li
     → Some e ≡ slice_get es i → Stops stop p (step s e st) → IsFaultOf stop p fault → Stands s es began count i st → Fails fault (run s es opening)
 stops_here (stops.Memory error) fault p s es began count i e st at one is so_far = subst (λ (f : Fault). Fails f (run s es opening)) (sym is) tt
 stops_here (stops.Refused why) (faults.Message m) p s es began count i e st at one is so_far =
-    (record { refusal = why; point = p }, sym so_far.same ∙ run_at s es i e st at ∙ ap (λ (r : Result State Rejection). r >>= run s (drop (i + 1) es)) one, is)
+    (record { refusal = why; point = p }, sym so_far.same ∙ run_at s es i e st at ∙ ap (λ (r : Result State ErrorAt). r >>= run s (drop (i + 1) es)) one, is)
 stops_here (stops.Refused why) (faults.Memory error) p s es began count i e st at one is so_far = absurd is
 
 -- and takes no more steps than all of it
 pub stops_within : (s : Source) (es : List Event) (began count read after i : ℕ) (e : Event) (st : State)
-    → Some e ≡ slice_get es i → read ≡ count + 1 → after ≤ read + step_walks e st → Stands s es began count i st → after ≤ began + length es + run_walks s es opening
+    → Some e ≡ slice_get es i → read ≡ count + 1 → after ≤ read + step_visits e st → Stands s es began count i st → after ≤ began + length es + run_visits s es opening
 stops_within s es began count read after i e st at ticked walked so_far =
     let h = so_far.counted in
     let in_list = slice_get_within es i e (sym at) in
-    let left = left_at (λ (xs : List Event). run_walks s xs st) es i e at in
+    let left = left_at (λ (xs : List Event). run_visits s xs st) es i e at in
     let first = first-walks s e (drop (i + 1) es) st in
     omega (arith, h, in_list, ticked, walked, left, first)
 

@@ -5,32 +5,33 @@ use Rattle.markdown_events.specs.declared.role.Acting.{Acting}
 use Rattle.markdown_events.specs.declared.role.Part.{Part}
 use Rattle.markdown_tree.specs.declared.holder.Holder.{Holder as Open}
 use Rattle.markdown_grammar.specs.declared.refusal.Refusal.{Refusal}
-use Rattle.markdown_grammar.specs.Compiler.{allows, enter_checks, fresh, has_one_of, rule_checks}
-use Rattle.markdown_grammar.specs.Refusals.{broken}
-use Rattle.markdown_grammar.specs.Grammar.{has_part, rules}
-use Rattle.markdown_grammar.specs.Holders.{Holder, leaf}
+use Rattle.markdown_steps.specs.Compiler.{allows, enter_checks, fresh, has_one_of, rule_checks}
+use Rattle.markdown_grammar.specs.Refusals.{rule_error}
+use Rattle.markdown_grammar.specs.Grammar.{rules}
+use Rattle.markdown_steps.specs.Compiler.{has_stood}
+use Rattle.markdown_grammar.specs.Grammar.{Holder, leaf}
 use Rattle.markdown_tree.specs.Holdings.{empty_but, first_failing, misfit_of, part_of, row_of}
-use Rattle.markdown_grammar.specs.Kinds.{is_frontmatter, is_line_ending, is_one_of, is_table}
+use Rattle.markdown_grammar.specs.Items.{is_frontmatter, is_line_ending, is_one_of, is_table}
 use Rattle.markdown_events.specs.declared.event.Point.{Point}
 use Rattle.markdown_tree.specs.declared.context.Context.{Context}
 use Rattle.markdown_grammar.specs.declared.refusal.Refusal.TheVariants.{InvalidSlice, Misplaced, UnfinishedBreak}
-use Rattle.markdown_grammar.specs.Ranges.{byte_at}
-use Rattle.markdown_grammar.specs.Source.{Source}
+use Rattle.markdown_grammar.specs.Document.{byte_at}
+use Rattle.markdown_grammar.specs.Document.{Source}
 use Rattle.markdown_tree.specs.States.{kept_top, leaf_place, top_of}
-use Rattle.markdown_grammar.specs.Parts.{Inner}
-use Rattle.markdown_grammar.specs.Rejections.{passes}
-use Rattle.markdown_grammar.specs.Rules.{Rule, only, once, never, only_before, only_behind}
+use Rattle.markdown_steps.specs.Kept.{Inner}
+use Rattle.markdown_steps.specs.Checks.{passes}
+use Rattle.markdown_grammar.specs.Grammar.{Rule, never, once, only, only_before, only_after}
 
 -- a rule looks at nothing but the parts
 has_same : (ps : List Part) (i : Inner) → has_one_of ps i ≡ has_one_of ps (empty_but i.part)
 has_same [] i = refl
-has_same (p ∷ ps) i = ap (λ (b : Bool). has_part p i || b) (has_same ps i)
+has_same (p ∷ ps) i = ap (λ (b : Bool). has_stood p i || b) (has_same ps i)
 
 allows_same : (rule : Rule) (i : Inner) (what : Acting) → allows rule i what ≡ allows rule (empty_but i.part) what
 allows_same (only test) i what = refl
 allows_same (once ps) i what = ap (λ (b : Bool). not (is_one_of ps what) || not b) (has_same ps i)
 allows_same (never ps) i what = refl
-allows_same (only_behind ps test) i what = ap (λ (b : Bool). not b || test what) (has_same ps i)
+allows_same (only_after ps test) i what = ap (λ (b : Bool). not b || test what) (has_same ps i)
 allows_same (only_before ps test) i what = ap (λ (b : Bool). b || (is_one_of ps what || test what)) (has_same ps i)
 
 -- the tests behind those of the rules come after them
@@ -42,8 +43,8 @@ rules_first : (h : Holder) (rs : List Rule) (i : Inner) (what : Acting) (others 
     → first_failing (rule_checks h rs i what others) ≡ option_or (first_failing (rule_checks h rs (empty_but i.part) what [])) (first_failing others)
 rules_first h [] i what others = refl
 rules_first h (rule ∷ rs) i what others =
-    ap (λ (b : Bool). cond b (first_failing (rule_checks h rs i what others)) (Some (broken h rule))) (allows_same rule i what)
-    ∙ or_behind (allows rule (empty_but i.part) what) (broken h rule) (first_failing (rule_checks h rs i what others)) (first_failing (rule_checks h rs (empty_but i.part) what [])) (first_failing others)
+    ap (λ (b : Bool). cond b (first_failing (rule_checks h rs i what others)) (Some (rule_error h rule))) (allows_same rule i what)
+    ∙ or_behind (allows rule (empty_but i.part) what) (rule_error h rule) (first_failing (rule_checks h rs i what others)) (first_failing (rule_checks h rs (empty_but i.part) what [])) (first_failing others)
     (rules_first h rs i what others)
 
 -- the first misfit of a holder, and else the first test behind it

@@ -16,19 +16,20 @@ use Rattle.markdown_events.specs.declared.role.Part.TheVariants as parts
 use Rattle.markdown_tree.specs.declared.holder.Holder.{Holder as Open}
 use Rattle.markdown_tree.specs.declared.holder.Holder.TheVariants as holders
 use Rattle.markdown_tree.specs.declared.holding.Holding.{Holding}
-use Rattle.markdown_grammar.specs.Compiler.{fresh, leave, nothing_yet, part_with}
+use Rattle.markdown_steps.specs.Compiler.{fresh, leave, nothing_yet, part_with}
 use Rattle.markdown_grammar.specs.Grammar.{addresses}
-use Rattle.markdown_grammar.specs.Holders.{Holder, heading_atx, leaf, part_holder}
+use Rattle.markdown_grammar.specs.Grammar.{Holder, heading_atx, leaf, part_model}
 use Rattle.markdown_tree.specs.Holdings.{Keeps, misfit_of, moved_of, part_of}
-use Rattle.markdown_grammar.specs.Kinds.{is_one_of}
-use Rattle.markdown_grammar.specs.Nodes.{node_of}
-use Rattle.markdown_grammar.specs.Numbers.{is_depth, is_item_number}
-use Rattle.markdown_grammar.specs.Parts.{Path, decoded, into, itself}
-use Rattle.markdown_grammar.specs.Place.{Place, line_ending_is_text_behind}
-use Rattle.markdown_grammar.specs.Ranges.{length_between}
-use Rattle.markdown_grammar.specs.Reads.{is_read}
-use Rattle.markdown_grammar.specs.Rejections.{refused}
-use Rattle.markdown_grammar.specs.Source.{Source}
+use Rattle.markdown_grammar.specs.Items.{is_one_of}
+use Rattle.markdown_steps.specs.KeptNodes.{node_of}
+use Rattle.markdown_grammar.specs.Document.{is_depth, is_item_number}
+use Rattle.markdown_steps.specs.Kept.{Path, into, itself}
+use Rattle.markdown_grammar.specs.Attributes.{decoded}
+use Rattle.markdown_grammar.specs.Attributes.{Place, line_ending_is_text_after}
+use Rattle.markdown_grammar.specs.Document.{length_between}
+use Rattle.markdown_grammar.specs.Values.{is_read}
+use Rattle.markdown_steps.specs.Checks.{refused}
+use Rattle.markdown_grammar.specs.Document.{Source}
 use Rattle.markdown_tree.specs.States.{holds_of, place_of}
 use Rattle.markdown_grammar.specs.declared.refusal.Refusal.TheVariants.{HeadingDepth, InvalidListValue, InvalidSlice, UnknownReference}
 use Rattle.markdown_tree.proofs.LeafEnds.{leaf_in, leaf_unread}
@@ -40,7 +41,7 @@ no_node s p q a b children = refl
 
 -- a part goes into its holder, and gives no nodes
 pub part_in : (s : Source) (in_table : Bool) (top new : Holding) (q : Part) (a b : Point) (children : Shown) (place : Place)
-    → Keeps s (place_of in_table top) (part q) a b nothing_yet top.holder new.holder → new.line_endings ≡ line_ending_is_text_behind (part q) top.line_endings
+    → Keeps s (place_of in_table top) (part q) a b nothing_yet top.holder new.holder → new.line_endings ≡ line_ending_is_text_after (part q) top.line_endings
     → new.nodes ≡ top.nodes → is_read s (moved_of top.holder) (place_of in_table top) false (part q) a b ≡ true
     → leave s (part q) a b children (fresh leaf place) (holds_of in_table None top) ≡ Ok (holds_of in_table None new)
 part_in s in_table top new q a b children place keeps ending same read =
@@ -49,7 +50,7 @@ part_in s in_table top new q a b children place keeps ending same read =
 
 -- the same of a part that is known to be one
 pub part_is_in : (s : Source) (in_table : Bool) (top new : Holding) (q r : Part) (a b : Point) (children : Shown) (place : Place) → r ≡ q
-    → Keeps s (place_of in_table top) (part q) a b nothing_yet top.holder new.holder → new.line_endings ≡ line_ending_is_text_behind (part q) top.line_endings
+    → Keeps s (place_of in_table top) (part q) a b nothing_yet top.holder new.holder → new.line_endings ≡ line_ending_is_text_after (part q) top.line_endings
     → new.nodes ≡ top.nodes → is_read s (moved_of top.holder) (place_of in_table top) false (part q) a b ≡ true
     → leave s (part r) a b children (fresh leaf place) (holds_of in_table None top) ≡ Ok (holds_of in_table None new)
 part_is_in s in_table top new q r a b children place is keeps ending same read =
@@ -163,7 +164,7 @@ code_parts s p a b f itself = refl
 code_parts s p a b f (into parts.CodeFencedFence way) = refl
 code_parts s p a b f (into q way) = refl
 
-code_fence_keeps : (s : Source) (p : Place) (a b : Point) (h : Open) → misfit_of h (part parts.CodeFencedFence) ≡ None → part_holder (moved_of h) parts.CodeFencedFence ≡ leaf
+code_fence_keeps : (s : Source) (p : Place) (a b : Point) (h : Open) → misfit_of h (part parts.CodeFencedFence) ≡ None → part_model (moved_of h) parts.CodeFencedFence ≡ leaf
     → Keeps s p (part parts.CodeFencedFence) a b nothing_yet h h
 code_fence_keeps s p a b (holders.CodeFenced (Some f)) fits behind =
     record { row = refl; moved = refl; marker = refl; kept = code_parts s p a b f; label = refl; mark = refl; value = refl }
@@ -176,7 +177,7 @@ math_parts s p a b f itself = refl
 math_parts s p a b f (into parts.MathFlowFence way) = refl
 math_parts s p a b f (into q way) = refl
 
-math_fence_keeps : (s : Source) (p : Place) (a b : Point) (h : Open) → misfit_of h (part parts.MathFlowFence) ≡ None → part_holder (moved_of h) parts.MathFlowFence ≡ leaf
+math_fence_keeps : (s : Source) (p : Place) (a b : Point) (h : Open) → misfit_of h (part parts.MathFlowFence) ≡ None → part_model (moved_of h) parts.MathFlowFence ≡ leaf
     → Keeps s p (part parts.MathFlowFence) a b nothing_yet h h
 math_fence_keeps s p a b (holders.MathFlow (Some f)) fits behind =
     record { row = refl; moved = refl; marker = refl; kept = math_parts s p a b f; label = refl; mark = refl; value = refl }
@@ -184,14 +185,14 @@ math_fence_keeps s p a b (holders.MathFlow None) fits behind = let z : ⊥ = cc 
 math_fence_keeps s p a b h fits behind = let z : ⊥ = cc in absurd z
 
 pub fence_later : (s : Source) (in_table : Bool) (top : Holding) (q : Part) (a b : Point) (children : Shown) (place : Place) → (q ≡ parts.CodeFencedFence) ⊎ (q ≡ parts.MathFlowFence)
-    → misfit_of top.holder (part q) ≡ None → part_holder (moved_of top.holder) q ≡ leaf
+    → misfit_of top.holder (part q) ≡ None → part_model (moved_of top.holder) q ≡ leaf
     → leave s (part q) a b children (fresh leaf place) (holds_of in_table None top) ≡ Ok (holds_of in_table None (record { holder = top.holder; line_endings = true; nodes = top.nodes }))
 fence_later s in_table top q a b children place such fits behind =
     let new : Holding = record { holder = top.holder; line_endings = true; nodes = top.nodes } in
     let p : Place = place_of in_table top in
     ⊎_elim
     (λ is. part_is_in s in_table top new parts.CodeFencedFence q a b children place is
-    (code_fence_keeps s p a b top.holder (ap (λ (x : Part). misfit_of top.holder (part x)) (sym is) ∙ fits) (ap (part_holder (moved_of top.holder)) (sym is) ∙ behind)) refl refl refl)
+    (code_fence_keeps s p a b top.holder (ap (λ (x : Part). misfit_of top.holder (part x)) (sym is) ∙ fits) (ap (part_model (moved_of top.holder)) (sym is) ∙ behind)) refl refl refl)
     (λ is. part_is_in s in_table top new parts.MathFlowFence q a b children place is
-    (math_fence_keeps s p a b top.holder (ap (λ (x : Part). misfit_of top.holder (part x)) (sym is) ∙ fits) (ap (part_holder (moved_of top.holder)) (sym is) ∙ behind)) refl refl refl)
+    (math_fence_keeps s p a b top.holder (ap (λ (x : Part). misfit_of top.holder (part x)) (sym is) ∙ fits) (ap (part_model (moved_of top.holder)) (sym is) ∙ behind)) refl refl refl)
     such

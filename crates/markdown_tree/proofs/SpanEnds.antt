@@ -3,7 +3,7 @@ use Rattle.std.proofs.Common.{◌≡◌, ◌≢◌, ℕ, List, [], Bool, true, f
 use Rattle.std.specs.Prelude.{is_some, unwrap_or}
 use Rattle.markdown_events.specs.Slices.{between, slice}
 use Rattle.markdown_events.specs.Spread.{Shown}
-use Rattle.markdown_grammar.specs.Gives.{text_read}
+use Rattle.markdown_grammar.specs.Document.{text_read}
 use Rattle.markdown_nodes.specs.Tree.{Label, Tree, Trees, join, node, nothing, only}
 use Rattle.markdown_nodes.specs.Tree as tree
 use Rattle.markdown_nodes.specs.View.{views}
@@ -18,27 +18,30 @@ use Rattle.markdown_events.specs.declared.role.Part.TheVariants as parts
 use Rattle.markdown_tree.specs.declared.holding.Holding.{Holding}
 use Rattle.markdown_grammar.specs.declared.refusal.Refusal.{Refusal}
 use Rattle.markdown_grammar.specs.declared.refusal.Refusal.TheVariants.{InvalidSlice}
-use Rattle.markdown_grammar.specs.Compiler.{Holds, closed, leave}
-use Rattle.markdown_grammar.specs.Refusals.{lacking, unread}
-use Rattle.markdown_grammar.specs.Grammar.{is_complete}
-use Rattle.markdown_grammar.specs.Holders.{Holder, any_content}
+use Rattle.markdown_steps.specs.Compiler.{Holds, closed, leave}
+use Rattle.markdown_grammar.specs.Refusals.{missing_error, value_error}
+use Rattle.markdown_steps.specs.Compiler.{all_stood}
+use Rattle.markdown_grammar.specs.Grammar.{Holder, any_content}
 use Rattle.markdown_tree.specs.Holdings.{Keeps, is_label_string, is_parent, is_row_of, is_text_part, moved_of, parent_label, placed, row_of}
-use Rattle.markdown_grammar.specs.Kinds.{is_hard_break}
-use Rattle.markdown_grammar.specs.Media.{Media, autolink, image_label, link_label}
-use Rattle.markdown_grammar.specs.Nodes.{frontmatter, node_of}
-use Rattle.markdown_grammar.specs.Parts.{Inner, Kept, address}
-use Rattle.markdown_grammar.specs.Place.{Place, line_ending_is_text_behind}
-use Rattle.markdown_grammar.specs.Reads.{is_read}
-use Rattle.markdown_grammar.specs.Rejections.{Rejection, refused}
-use Rattle.markdown_grammar.specs.Source.{Source}
+use Rattle.markdown_grammar.specs.Items.{is_hard_break}
+use Rattle.markdown_grammar.specs.Nodes.{Media, image_label, link_label}
+use Rattle.markdown_steps.specs.KeptNodes.{autolink}
+use Rattle.markdown_grammar.specs.Nodes.{frontmatter}
+use Rattle.markdown_steps.specs.KeptNodes.{node_of}
+use Rattle.markdown_steps.specs.Kept.{Inner, Kept, address}
+use Rattle.markdown_grammar.specs.Attributes.{Place, line_ending_is_text_after}
+use Rattle.markdown_grammar.specs.Values.{is_read}
+use Rattle.markdown_grammar.specs.Refusals.{ErrorAt}
+use Rattle.markdown_steps.specs.Checks.{refused}
+use Rattle.markdown_grammar.specs.Document.{Source}
 use Rattle.markdown_grammar.specs.declared.refusal.Stop.{Stop}
 use Rattle.markdown_grammar.specs.declared.refusal.Stop.TheVariants as stops
 use Rattle.markdown_tree.specs.States.{Makes, Stops, ended_with, holds_of, inner_of_holding, place_of}
-use Rattle.markdown_grammar.specs.TextNodes.{is_text}
+use Rattle.markdown_steps.specs.Consequences.{is_text}
 
 -- what one more item makes of a holder, where no break is before it and it is none
 pub closed_is : (s : Source) (in_table : Bool) (top new : Holding) (what : Acting) (a b : Point) (children : Shown) (i : Inner)
-    → Keeps s (place_of in_table top) what a b i top.holder new.holder → new.line_endings ≡ line_ending_is_text_behind what top.line_endings
+    → Keeps s (place_of in_table top) what a b i top.holder new.holder → new.line_endings ≡ line_ending_is_text_after what top.line_endings
     → views new.nodes.items ≡ join (views top.nodes.items) (node_of s (place_of in_table top) what a b children i) → is_hard_break what ≡ false
     → closed s (holds_of in_table None top) what a b children i ≡ holds_of in_table None new
 closed_is s in_table top new what a b children i keeps ending made no_break = λ t. record {
@@ -64,25 +67,25 @@ row_read s h p waiting c a b r such = refl
 
 -- content goes into its holder, if what has to stand in it does
 pub content_left : (s : Source) (in_table inner_table : Bool) (top own new : Holding) (c : Content) (a b : Point) (children : Shown)
-    → is_row_of c (row_of own.holder) ≡ true → is_complete (row_of own.holder) (inner_of_holding own) ≡ true
+    → is_row_of c (row_of own.holder) ≡ true → all_stood (row_of own.holder) (inner_of_holding own) ≡ true
     → Keeps s (place_of in_table top) (content c) a b (inner_of_holding own) top.holder new.holder → new.line_endings ≡ top.line_endings
     → views new.nodes.items ≡ join (views top.nodes.items) (node_of s (place_of in_table top) (content c) a b children (inner_of_holding own))
     → leave s (content c) a b children (holds_of inner_table None own) (holds_of in_table None top) ≡ Ok (holds_of in_table None new)
 unfolding leave
 content_left s in_table inner_table top own new c a b children such complete keeps ending made =
     let row : Holder = row_of own.holder in
-    let out : Result Holds Rejection = Ok (closed s (holds_of in_table None top) (content c) a b children (inner_of_holding own)) in
-    (λ t. cond (complete t) (cond (row_read s (holds_of in_table None top).holder (place_of in_table top) false c a b row such t) out (refused (unread s (content c) a b) b)) (refused (lacking row) b))
+    let out : Result Holds ErrorAt = Ok (closed s (holds_of in_table None top) (content c) a b children (inner_of_holding own)) in
+    (λ t. cond (complete t) (cond (row_read s (holds_of in_table None top).holder (place_of in_table top) false c a b row such t) out (refused (value_error s (content c) a b) b)) (refused (missing_error row) b))
     ∙ ap Ok (closed_is s in_table top new (content c) a b children (inner_of_holding own) keeps ending made (row_no_break c row such))
 
 -- and else it is refused
 pub content_lacks : (s : Source) (in_table inner_table : Bool) (top own : Holding) (c : Content) (a b : Point) (children : Shown)
-    → is_complete (row_of own.holder) (inner_of_holding own) ≡ false
-    → leave s (content c) a b children (holds_of inner_table None own) (holds_of in_table None top) ≡ refused (lacking (row_of own.holder)) b
+    → all_stood (row_of own.holder) (inner_of_holding own) ≡ false
+    → leave s (content c) a b children (holds_of inner_table None own) (holds_of in_table None top) ≡ refused (missing_error (row_of own.holder)) b
 unfolding leave
 content_lacks s in_table inner_table top own c a b children lacks =
     let read : Bool = is_read s (holds_of in_table None top).holder (place_of in_table top) false (content c) a b in
-    λ t. cond (lacks t) (cond read (Ok (closed s (holds_of in_table None top) (content c) a b children (inner_of_holding own))) (refused (unread s (content c) a b) b)) (refused (lacking (row_of own.holder)) b)
+    λ t. cond (lacks t) (cond read (Ok (closed s (holds_of in_table None top) (content c) a b children (inner_of_holding own))) (refused (value_error s (content c) a b) b)) (refused (missing_error (row_of own.holder)) b)
 
 -- ---- Parents
 
@@ -153,7 +156,7 @@ pub made_no_text : (s : Source) (p : Place) (c : Content) (a b : Point) (childre
 made_no_text s p c a b children i r t such other made = ap (λ (ts : Trees). is_text (first_label tree.thematic_break ts)) made ∙ node_no_text s p c a b children i r such other
 
 -- a thing that is not made: what has to stand there does not, or memory ran out
-pub unmade_stops : {X Y : Type 0} (stop : Stop) (complete : Bool) (why : Refusal) (Is : X → Type 0) (b : Point) (expected : Result Y Rejection)
+pub unmade_stops : {X Y : Type 0} (stop : Stop) (complete : Bool) (why : Refusal) (Is : X → Type 0) (b : Point) (expected : Result Y ErrorAt)
     → Makes (Err stop) complete why Is → (complete ≡ false → expected ≡ refused why b) → Stops stop b expected
 unmade_stops (stops.Memory error) complete why Is b expected made lacks = tt
 unmade_stops (stops.Refused refusal) complete why Is b expected made lacks = lacks made.0 ∙ ap (λ (x : Refusal). refused x b) (sym made.1)
@@ -162,24 +165,24 @@ unmade_stops (stops.Refused refusal) complete why Is b expected made lacks = lac
 
 -- a part goes into its holder
 pub part_left : (s : Source) (in_table : Bool) (top new : Holding) (row : Holder) (place : Place) (i : Inner) (q : Part) (a b : Point) (children : Shown)
-    → is_complete row i ≡ true → is_read s (moved_of top.holder) (place_of in_table top) false (part q) a b ≡ true
-    → Keeps s (place_of in_table top) (part q) a b i top.holder new.holder → new.line_endings ≡ line_ending_is_text_behind (part q) top.line_endings
+    → all_stood row i ≡ true → is_read s (moved_of top.holder) (place_of in_table top) false (part q) a b ≡ true
+    → Keeps s (place_of in_table top) (part q) a b i top.holder new.holder → new.line_endings ≡ line_ending_is_text_after (part q) top.line_endings
     → views new.nodes.items ≡ join (views top.nodes.items) (node_of s (place_of in_table top) (part q) a b children i)
     → leave s (part q) a b children (ended_with row place i) (holds_of in_table None top) ≡ Ok (holds_of in_table None new)
 unfolding leave
 part_left s in_table top new row place i q a b children complete read keeps ending made =
-    let out : Result Holds Rejection = Ok (closed s (holds_of in_table None top) (part q) a b children i) in
-    (λ t. cond (complete t) (cond (read t) out (refused (unread s (part q) a b) b)) (refused (lacking row) b))
+    let out : Result Holds ErrorAt = Ok (closed s (holds_of in_table None top) (part q) a b children i) in
+    (λ t. cond (complete t) (cond (read t) out (refused (value_error s (part q) a b) b)) (refused (missing_error row) b))
     ∙ ap Ok (closed_is s in_table top new (part q) a b children i keeps ending made refl)
 
 -- a part whose value is not there
 pub part_unread : (s : Source) (in_table : Bool) (top : Holding) (row : Holder) (place : Place) (i : Inner) (q : Part) (a b : Point) (children : Shown)
-    → is_complete row i ≡ true → is_read s (moved_of top.holder) (place_of in_table top) false (part q) a b ≡ false
-    → leave s (part q) a b children (ended_with row place i) (holds_of in_table None top) ≡ refused (unread s (part q) a b) b
+    → all_stood row i ≡ true → is_read s (moved_of top.holder) (place_of in_table top) false (part q) a b ≡ false
+    → leave s (part q) a b children (ended_with row place i) (holds_of in_table None top) ≡ refused (value_error s (part q) a b) b
 unfolding leave
 part_unread s in_table top row place i q a b children complete read =
-    let out : Result Holds Rejection = Ok (closed s (holds_of in_table None top) (part q) a b children i) in
-    λ t. cond (complete t) (cond (read t) out (refused (unread s (part q) a b) b)) (refused (lacking row) b)
+    let out : Result Holds ErrorAt = Ok (closed s (holds_of in_table None top) (part q) a b children i) in
+    λ t. cond (complete t) (cond (read t) out (refused (value_error s (part q) a b) b)) (refused (missing_error row) b)
 
 -- what is read and what is put by a part that is a text
 pub text_part_read : (s : Source) (h : Holder) (p : Place) (q : Part) (a b : Point) → is_text_part q ≡ true → is_read s h p false (part q) a b ≡ true
@@ -192,7 +195,7 @@ text_part_read s h p parts.CodeFencedFenceMeta a b such = refl
 text_part_read s h p parts.MathFlowFenceMeta a b such = refl
 text_part_read s h p q a b such = let z : ⊥ = cc in absurd z
 
-pub text_part_behind : (q : Part) (before : Bool) → is_text_part q ≡ true → before ≡ line_ending_is_text_behind (part q) before
+pub text_part_behind : (q : Part) (before : Bool) → is_text_part q ≡ true → before ≡ line_ending_is_text_after (part q) before
 text_part_behind parts.CodeFencedFence before such = let z : ⊥ = cc in absurd z
 text_part_behind parts.MathFlowFence before such = let z : ⊥ = cc in absurd z
 text_part_behind parts.HeadingSetextText before such = let z : ⊥ = cc in absurd z
@@ -209,13 +212,13 @@ label_string_read s h p parts.DefinitionLabelString a b such = refl
 label_string_read s h p parts.FootnoteDefinitionLabelString a b such = refl
 label_string_read s h p q a b such = let z : ⊥ = cc in absurd z
 
-pub label_string_unread : (s : Source) (q : Part) (a b : Point) → is_label_string q ≡ true → unread s (part q) a b ≡ InvalidSlice
+pub label_string_unread : (s : Source) (q : Part) (a b : Point) → is_label_string q ≡ true → value_error s (part q) a b ≡ InvalidSlice
 label_string_unread s parts.CharacterReferenceValue a b such = let z : ⊥ = cc in absurd z
 label_string_unread s parts.ListItemValue a b such = let z : ⊥ = cc in absurd z
 label_string_unread s parts.HeadingAtxSequence a b such = let z : ⊥ = cc in absurd z
 label_string_unread s q a b such = refl
 
-pub label_string_behind : (q : Part) (before : Bool) → is_label_string q ≡ true → before ≡ line_ending_is_text_behind (part q) before
+pub label_string_behind : (q : Part) (before : Bool) → is_label_string q ≡ true → before ≡ line_ending_is_text_after (part q) before
 label_string_behind parts.CodeFencedFence before such = let z : ⊥ = cc in absurd z
 label_string_behind parts.MathFlowFence before such = let z : ⊥ = cc in absurd z
 label_string_behind parts.HeadingSetextText before such = let z : ⊥ = cc in absurd z

@@ -11,7 +11,7 @@ use Rattle.markdown_events.specs.declared.unist.Position.{Position}
 use Rattle.markdown_nodes.specs.Tree.{Label, Trees, Tree, before, node, nothing, paragraph, text}
 use Rattle.markdown_nodes.specs.View.{view, views}
 use Rattle.markdown_nodes.proofs.Views.{view-Paragraph, view-Text, view-is}
-use Rattle.markdown_grammar.specs.TextNodes.{is_text}
+use Rattle.markdown_steps.specs.Consequences.{is_text}
 use Rattle.markdown_tree.specs.TaskWalks.{first_cut, paragraph_before, text_cut}
 use Rattle.markdown_grammar.specs.Tasks.{after_blank, from_point, task, trimmed_text}
 

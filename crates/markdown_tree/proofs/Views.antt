@@ -6,7 +6,7 @@ use Rattle.markdown_nodes.specs.declared.mdast.Text.{Text}
 use Rattle.markdown_events.specs.declared.unist.Position.{Position}
 use Rattle.markdown_nodes.specs.Tree.{Trees, Label, nothing, node, before, only, seam, join, text}
 use Rattle.markdown_nodes.specs.View.{view, views}
-use Rattle.markdown_grammar.specs.TextNodes.{is_text}
+use Rattle.markdown_steps.specs.Consequences.{is_text}
 
 -- a node that is no text meets nothing
 seam_second : (l m : Label) (c d : Trees) (p q : Option Position) (rest : Trees) → is_text m ≡ false → seam l c p (node m d q rest) ≡ node l c p (node m d q rest)

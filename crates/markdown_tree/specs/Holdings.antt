@@ -29,14 +29,14 @@ use Rattle.markdown_events.specs.declared.role.Acting.{Acting}
 use Rattle.markdown_grammar.specs.declared.refusal.Refusal.{Refusal}
 use Rattle.std.specs.Option.{option_or}
 use Rattle.markdown_events.specs.declared.event.Point.{Point}
-use Rattle.markdown_grammar.specs.Compiler.{label_with, part_with, rule_checks}
-use Rattle.markdown_grammar.specs.Gives.{mark_given, value_given}
-use Rattle.markdown_grammar.specs.Kinds
-use Rattle.markdown_grammar.specs.Place.{Place}
-use Rattle.markdown_grammar.specs.Source.{Source}
+use Rattle.markdown_steps.specs.Compiler.{label_with, part_with, rule_checks}
+use Rattle.markdown_grammar.specs.Attributes.{mark_given, value_given}
+use Rattle.markdown_grammar.specs.Items as Kinds
+use Rattle.markdown_grammar.specs.Attributes.{Place}
+use Rattle.markdown_grammar.specs.Document.{Source}
 use Rattle.markdown_grammar.specs.Grammar.{rules}
-use Rattle.markdown_grammar.specs.Holders.{Holder, any_content, autolink, media, footnote_call, resource, reference, definition, character_reference, code_fence, math_fence, list_ordered, list_item, numbered_item, marked_item, marked_numbered_item, task_paragraph, marked_paragraph, footnote_definition, heading_atx, heading_text, heading_setext, code_fenced, math_flow, code_buffer, math_buffer, holder_behind}
-use Rattle.markdown_grammar.specs.Parts.{Path, identifier_of, words_of, itself, into, path_to, Kept, stood, count, words, named, address, Inner}
+use Rattle.markdown_grammar.specs.Grammar.{Holder, any_content, autolink, character_reference, code_buffer, code_fence, code_fenced, definition, footnote_call, footnote_definition, heading_atx, heading_setext, heading_text, model_after, list_item, list_ordered, marked_item, marked_numbered_item, marked_paragraph, math_buffer, math_fence, math_flow, media, numbered_item, reference, resource, task_paragraph}
+use Rattle.markdown_steps.specs.Kept.{Inner, Kept, Path, address, count, identifier_of, into, itself, named, path_to, stood, words, words_of}
 
 -- ---- Rows of the grammar
 
@@ -275,7 +275,7 @@ inner_with h ts = record { nodes = ts; label = label_of h; part = part_of h; mar
 -- behind one more item the holder keeps this
 pub record Keeps (s : Source) (p : Place) (what : Acting) (a b : Point) (i : Inner) (old new : Open) : Type 0 where
   pub row : row_of new ≡ row_of old
-  pub moved : moved_of new ≡ holder_behind (moved_of old) what (is_some i.mark)
+  pub moved : moved_of new ≡ model_after (moved_of old) what (is_some i.mark)
   pub marker : marker_of new ≡ option_or (Kinds.marker_of what) (marker_of old)
   pub kept : (way : Path) → part_of new way ≡ part_with s p what a b i (part_of old) way
   pub label : label_of new ≡ label_with what i.nodes (part_of old (path_to parts.LabelText)) (label_of old)

@@ -7,7 +7,7 @@ use Rattle.markdown_events.specs.declared.role.Role.TheVariants.{Plain as plain,
 use Rattle.markdown_events.specs.declared.message.Fault.{Fault}
 use Rattle.markdown_events.specs.declared.message.Fault.TheVariants as faults
 use Rattle.markdown_grammar.specs.Refusals.{Says}
-use Rattle.markdown_grammar.specs.Walked.{walked_by}
+use Rattle.markdown_steps.specs.Walked.{walked_by}
 use Rattle.markdown_tree.specs.declared.context.Context.{Context}
 use Rattle.markdown_tree.specs.declared.context.Frame.{Frame}
 use Rattle.markdown_nodes.specs.View.{views}
@@ -18,13 +18,14 @@ use Rattle.markdown_grammar.specs.declared.refusal.Stop.TheVariants as stops
 use Rattle.markdown_nodes.specs.Tree.{Trees, join, node, nothing, «break»}
 use Rattle.markdown_events.specs.declared.event.Point.{Point}
 use Rattle.markdown_events.specs.declared.unist.Position.{Position}
-use Rattle.markdown_grammar.specs.Compiler.{Holds, Open, State, enter_checks, fresh, leave_to}
-use Rattle.markdown_grammar.specs.Holders.{Holder, holder_of, leaf}
+use Rattle.markdown_steps.specs.Compiler.{Holds, Open, State, enter_checks, fresh, leave_to}
+use Rattle.markdown_grammar.specs.Grammar.{Holder, model_of, leaf}
 use Rattle.markdown_tree.specs.Holdings.{IsFresh, first_failing, inner_with, marker_of, misfit_of, moved_of, row_of}
-use Rattle.markdown_grammar.specs.Rejections.{Rejection, refused}
-use Rattle.markdown_grammar.specs.Parts.{Inner}
-use Rattle.markdown_grammar.specs.Place.{Place, line_ending_is_text}
-use Rattle.markdown_grammar.specs.Source.{Source}
+use Rattle.markdown_grammar.specs.Refusals.{ErrorAt}
+use Rattle.markdown_steps.specs.Checks.{refused}
+use Rattle.markdown_steps.specs.Kept.{Inner}
+use Rattle.markdown_grammar.specs.Attributes.{Place, line_ending_is_text}
+use Rattle.markdown_grammar.specs.Document.{Source}
 use Rattle.markdown_tree.specs.declared.columns.Columns.{Columns as OpenColumns}
 use Rattle.markdown_tree.specs.declared.columns.Rows.{Rows as OpenRows}
 use Rattle.markdown_tree.specs.declared.columns.Rows.TheVariants as rows
@@ -35,9 +36,9 @@ use Rattle.markdown_tree.specs.declared.marks.Sibling.{Sibling as OpenSibling}
 use Rattle.markdown_tree.specs.declared.marks.Sibling.TheVariants as siblings
 use Rattle.markdown_events.specs.declared.event.Name.{Name}
 use Rattle.markdown_events.specs.Around.{under}
-use Rattle.markdown_grammar.specs.Columns.{Columns, Rows, columns_entered, columns_left, before, inside, behind, shown}
-use Rattle.markdown_grammar.specs.Kinds.{is_line_ending}
-use Rattle.markdown_grammar.specs.Siblings.{Marks, Sibling, no_marks, no_sibling}
+use Rattle.markdown_steps.specs.Columns.{Columns, Rows, before, behind, columns_entered, columns_left, inside, shown}
+use Rattle.markdown_grammar.specs.Items.{is_line_ending}
+use Rattle.markdown_steps.specs.Siblings.{Marks, Sibling, no_marks, no_sibling}
 
 -- what a child says
 abbrev pub sibling_in : OpenSibling → Sibling
@@ -103,22 +104,22 @@ holds_of in_table pending h = record {
 }
 
 -- how a step that stops at a point agrees with what is expected
-abbrev pub Stops : {Y : Type 0} → Stop → Point → Result Y Rejection → Type 0
+abbrev pub Stops : {Y : Type 0} → Stop → Point → Result Y ErrorAt → Type 0
 Stops (stops.Memory error) point expected = Unit {0}
 Stops (stops.Refused why) point expected = expected ≡ refused why point
 
 -- a function gave, by this view, what is expected, unless memory ran out
-abbrev pub Gives : {X Y : Type 0} → (X → Y) → Point → Result X Stop → Result Y Rejection → Type 0
+abbrev pub Gives : {X Y : Type 0} → (X → Y) → Point → Result X Stop → Result Y ErrorAt → Type 0
 Gives seen point (Ok x) expected = expected ≡ Ok (seen x)
 Gives seen point (Err stop) expected = Stops stop point expected
 
 -- how a fault agrees with what is expected: it names the refusal and its point
-abbrev pub Fails : {Y : Type 0} → Fault → Result Y Rejection → Type 0
+abbrev pub Fails : {Y : Type 0} → Fault → Result Y ErrorAt → Type 0
 Fails (faults.Memory error) expected = Unit {0}
-Fails (faults.Message message) expected = (why : Rejection) × (expected ≡ Err why) × Says message why.refusal why.point
+Fails (faults.Message message) expected = (why : ErrorAt) × (expected ≡ Err why) × Says message why.refusal why.point
 
 -- a function gave, by this view, what is expected, or a fault that agrees with it
-abbrev pub Completes : {X Y : Type 0} → (X → Y) → Result X Fault → Result Y Rejection → Type 0
+abbrev pub Completes : {X Y : Type 0} → (X → Y) → Result X Fault → Result Y ErrorAt → Type 0
 Completes seen (Ok x) expected = expected ≡ Ok (seen x)
 Completes seen (Err fault) expected = Fails fault expected
 
@@ -185,14 +186,14 @@ state_of c = record {
 -- a leaf begins: nothing of the program's changes
 pub record OpenedLeaf (s : Source) (what : Acting) (point : Point) (old new : Context) : Type 0 where
   pub taken : first_failing (enter_checks s (top_of old) what point) ≡ None
-  pub leaf_row : holder_of (moved_of old.top.holder) what ≡ leaf
+  pub leaf_row : model_of (moved_of old.top.holder) what ≡ leaf
   pub same : new ≡ old
 
 -- a holder begins: it is the innermost, over the one that was
 pub record OpenedHolder (s : Source) (what : Acting) (point : Point) (old new : Context) : Type 0 where
   pub taken : first_failing (enter_checks s (top_of old) what point) ≡ None
   pub top : Holding
-  pub fresh_holder : IsFresh top.holder (holder_of (moved_of old.top.holder) what)
+  pub fresh_holder : IsFresh top.holder (model_of (moved_of old.top.holder) what)
   pub line_endings : top.line_endings ≡ line_ending_is_text what
   pub nodes : top.nodes.items ≡ []
   pub holdings : new.holdings.items ≡ old.holdings.items ++ old.top ∷ []
@@ -216,7 +217,7 @@ pub record Begun (name : Name) (role : Role) (point : Point) (is_leaf in_table :
 
 -- the innermost span, a leaf, ends: the innermost holder took it
 pub record LeafEnds (what : Acting) (c : Context) : Type 0 where
-  pub row : holder_of (moved_of c.top.holder) what ≡ leaf
+  pub row : model_of (moved_of c.top.holder) what ≡ leaf
   pub fits : misfit_of c.top.holder what ≡ None
   pub awaited : (not (is_some c.pending) || is_line_ending what) ≡ true
 
@@ -225,7 +226,7 @@ pub record HolderEnds (what : Acting) (c : Context) : Type 0 where
   pub outer : Holding
   pub others : List Holding
   pub holdings : reverse c.holdings.items ≡ outer ∷ others
-  pub row : row_of c.top.holder ≡ holder_of (moved_of outer.holder) what
+  pub row : row_of c.top.holder ≡ model_of (moved_of outer.holder) what
   pub fits : misfit_of outer.holder what ≡ None
 
 -- the innermost span may end, by whether it is a leaf, and by its role: of a plain one nothing is asked
@@ -239,7 +240,7 @@ abbrev pub Ends : Role → Context → Type 0
 Ends role c = EndsAs c.is_leaf role c
 
 -- what the innermost span belongs to, and what is made of that at its end
-abbrev pub left_to : Source → Role → Frame → Point → Context → Result Holds Rejection
+abbrev pub left_to : Source → Role → Frame → Point → Context → Result Holds ErrorAt
 left_to s role f end c = leave_to s f.start end (shown (marks_of c.marks) (columns_of c.columns)) (top_of c) (outer_of role f.in_table (leaf_holder c) (reverse c.holdings.items))
 
 -- how many nodes are walked over there

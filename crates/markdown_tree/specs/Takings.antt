@@ -10,13 +10,13 @@ use Rattle.markdown_events.specs.declared.unist.Position.{Position}
 use Rattle.markdown_nodes.specs.Tree.{Trees, only}
 use Rattle.markdown_nodes.specs.View.{view}
 use Rattle.markdown_nodes.specs.declared.mdast.Node.{Node}
-use Rattle.markdown_grammar.specs.Columns.{shown}
-use Rattle.markdown_grammar.specs.Compiler.{fresh, leave}
-use Rattle.markdown_grammar.specs.Holders.{Holder, any_content, leaf}
-use Rattle.markdown_grammar.specs.Nodes.{node_of}
-use Rattle.markdown_grammar.specs.Parts.{Inner}
-use Rattle.markdown_grammar.specs.Place.{Place}
-use Rattle.markdown_grammar.specs.Source.{Source}
+use Rattle.markdown_steps.specs.Columns.{shown}
+use Rattle.markdown_steps.specs.Compiler.{fresh, leave}
+use Rattle.markdown_grammar.specs.Grammar.{Holder, any_content, leaf}
+use Rattle.markdown_steps.specs.KeptNodes.{node_of}
+use Rattle.markdown_steps.specs.Kept.{Inner}
+use Rattle.markdown_grammar.specs.Attributes.{Place}
+use Rattle.markdown_grammar.specs.Document.{Source}
 use Rattle.markdown_grammar.specs.declared.refusal.Stop.{Stop}
 use Rattle.markdown_tree.specs.Holdings.{inner_with}
 use Rattle.markdown_tree.specs.States.{Gives, columns_of, ended_with, holds_of, marks_of, place_with}

@@ -6,8 +6,9 @@ ghost use Rattle.markdown_nodes.specs.Tree as tree;
 ghost use Rattle.markdown_nodes.specs.View.{view, views};
 ghost use Rattle.markdown_grammar.specs.Buffers.{node_count};
 ghost use Rattle.markdown_tree.specs.Holdings.{definition_label, footnote_label, identified_kept, inner_with, is_parent, label_kept, nodes_of_label, parent_label, placed};
-ghost use Rattle.markdown_grammar.specs.Media.{image_label, link_label, media_of};
-ghost use Rattle.markdown_grammar.specs.Parts.{identifier_of, text_of, words_of};
+ghost use Rattle.markdown_grammar.specs.Nodes.{image_label, link_label};
+ghost use Rattle.markdown_steps.specs.KeptNodes.{media_of};
+ghost use Rattle.markdown_steps.specs.Kept.{identifier_of, text_of, words_of};
 ghost use Rattle.markdown_tree.specs.declared.holder.Holder.TheVariants as holders;
 
 use crate::buffer::label_of;

@@ -2,7 +2,7 @@
 
 ghost use Rattle.std.specs.Prelude.{◌≡◌, OnOk};
 ghost use Rattle.markdown_events.specs.declared.role.Role.TheVariants as roles;
-ghost use Rattle.markdown_grammar.specs.Columns.{columns_entered, columns_left, no_columns};
+ghost use Rattle.markdown_steps.specs.Columns.{columns_entered, columns_left, no_columns};
 ghost use Rattle.markdown_tree.specs.States.{columns_of, marks_of};
 
 use crate::marks::Marks;

@@ -4,15 +4,15 @@ ghost use Rattle.std.specs.Prelude.{◌≡◌, ◌≤◌, ◌+◌, ◌||◌, [],
 ghost use Rattle.markdown_events.specs.Names.{role_of};
 ghost use Rattle.markdown_events.specs.declared.role.Acting.TheVariants as acting;
 ghost use Rattle.markdown_events.specs.declared.role.Role.TheVariants as roles;
-ghost use Rattle.markdown_grammar.specs.Compiler;
-ghost use Rattle.markdown_grammar.specs.Compiler.{enter_as, enter_checks, enter_step, exit_step, last_checks, opening};
+ghost use Rattle.markdown_steps.specs.Compiler;
+ghost use Rattle.markdown_steps.specs.Compiler.{enter_as, enter_checks, enter_step, exit_step, last_checks, opening};
 ghost use Rattle.markdown_tree.specs.Holdings.{first_failing, is_parent};
 ghost use Rattle.markdown_tree.specs.declared.holder.Holder.TheVariants as holders;
-ghost use Rattle.markdown_grammar.specs.Kinds;
-ghost use Rattle.markdown_grammar.specs.Source.{Source, source};
+ghost use Rattle.markdown_grammar.specs.Items as Kinds;
+ghost use Rattle.markdown_grammar.specs.Document.{Source, source};
 ghost use Rattle.markdown_tree.specs.States.{Begun, Closed, Ends, Gives, HolderEnds, LeafEnds, Opened, left_to, left_walks, state_of, top_of};
-ghost use Rattle.markdown_grammar.specs.Walked.{exit_walks, step_walks};
-ghost use Rattle.markdown_grammar.specs.Well.{Well, is_plain};
+ghost use Rattle.markdown_steps.specs.Walked.{exit_walks, step_visits};
+ghost use Rattle.markdown_steps.specs.Well.{Well, is_plain};
 
 use crate::closing::is_parent;
 use crate::columns::Columns;
@@ -175,7 +175,7 @@ impl<'a> Context<'a> {
         requires { Well (source bytes.now (R.text references.now)) (state_of self.old) }
         ensures gives { Gives (λ _. state_of self.new) event.point result (Compiler.step (source bytes.now (R.text references.now)) event (state_of self.old)) }
         ensures list { steps.new.events ≡ steps.old.events }
-        ensures bound { steps.new.count ≤ steps.old.count + step_walks event (state_of self.old) }
+        ensures bound { steps.new.count ≤ steps.old.count + step_visits event (state_of self.old) }
     {
         match event.kind {
             Kind::Enter => self.enter(alloc, bytes, event.name, event.point),

@@ -3,12 +3,12 @@
 ghost use Rattle.std.specs.Prelude.{◌≡◌, ◌≢◌, false, not, cond, Some, true};
 ghost use Rattle.markdown_events.specs.declared.role.Acting.TheVariants as acting;
 ghost use Rattle.markdown_grammar.specs.Grammar.{task_marks};
-ghost use Rattle.markdown_grammar.specs.Holders;
-ghost use Rattle.markdown_grammar.specs.Holders.{Holder as Row};
+ghost use Rattle.markdown_grammar.specs.Grammar as Holders;
+ghost use Rattle.markdown_grammar.specs.Grammar.{Holder as Row};
 ghost use Rattle.markdown_tree.specs.Holdings.{IsFresh, misfit_of, moved_of, refusal_if};
 ghost use Rattle.markdown_events.specs.declared.role.Content.TheVariants as contents;
 ghost use Rattle.markdown_events.specs.declared.role.Part.TheVariants as parts;
-ghost use Rattle.markdown_grammar.specs.Kinds;
+ghost use Rattle.markdown_grammar.specs.Items as Kinds;
 ghost use Rattle.markdown_tree.specs.declared.holder.Holder.TheVariants as holders;
 ghost use Rattle.markdown_grammar.specs.declared.refusal.Refusal.TheVariants.{Misplaced, Repeated};
 
@@ -359,8 +359,8 @@ impl<'a> Holder<'a> {
     /// Whether a span is a leaf in this holder: it takes no items, and is no holder. A fence behind the
     /// first is one.
     pub fn has_leaf(&self, what: Acting) -> bool
-        ensures leaf { result ≡ true → Holders.holder_of (moved_of self.now) what ≡ Holders.leaf }
-        ensures holder { result ≡ false → Holders.holder_of (moved_of self.now) what ≢ Holders.leaf }
+        ensures leaf { result ≡ true → Holders.model_of (moved_of self.now) what ≡ Holders.leaf }
+        ensures holder { result ≡ false → Holders.model_of (moved_of self.now) what ≢ Holders.leaf }
     {
         match what {
             Acting::Content(content) => is_leaf(content),
@@ -370,8 +370,8 @@ impl<'a> Holder<'a> {
 
     /// The same of a part.
     fn has_leaf_part(&self, part: Part) -> bool
-        ensures leaf { result ≡ true → Holders.part_holder (moved_of self.now) part ≡ Holders.leaf }
-        ensures holder { result ≡ false → Holders.part_holder (moved_of self.now) part ≢ Holders.leaf }
+        ensures leaf { result ≡ true → Holders.part_model (moved_of self.now) part ≡ Holders.leaf }
+        ensures holder { result ≡ false → Holders.part_model (moved_of self.now) part ≢ Holders.leaf }
     {
         match part {
             Part::CodeFencedFence => !matches!(self, Holder::CodeFenced(None)),
@@ -382,8 +382,8 @@ impl<'a> Holder<'a> {
 
     /// What a span that is no leaf is to the items in it, at its enter in this holder.
     pub fn opened(&self, what: Acting) -> Holder<'a>
-        requires { Holders.holder_of (moved_of self.now) what ≢ Holders.leaf }
-        ensures { IsFresh result (Holders.holder_of (moved_of self.now) what) }
+        requires { Holders.model_of (moved_of self.now) what ≢ Holders.leaf }
+        ensures { IsFresh result (Holders.model_of (moved_of self.now) what) }
     {
         match what {
             Acting::Content(content) => self.opened_by_content(content),
@@ -393,8 +393,8 @@ impl<'a> Holder<'a> {
 
     /// The same of content.
     fn opened_by_content(&self, content: Content) -> Holder<'a>
-        requires { Holders.content_holder (moved_of self.now) content ≢ Holders.leaf }
-        ensures { IsFresh result (Holders.content_holder (moved_of self.now) content) }
+        requires { Holders.content_model (moved_of self.now) content ≢ Holders.leaf }
+        ensures { IsFresh result (Holders.content_model (moved_of self.now) content) }
     {
         match content {
             Content::CharacterReference => Holder::CharacterReference(CharacterReferenceParts {
@@ -430,7 +430,7 @@ impl<'a> Holder<'a> {
 
     /// An item, which has a number in an ordered list.
     fn opened_item(&self) -> Holder<'a>
-        ensures { IsFresh result (Holders.content_holder (moved_of self.now) contents.ListItem) }
+        ensures { IsFresh result (Holders.content_model (moved_of self.now) contents.ListItem) }
     {
         match self {
             Holder::ListOrdered(_) => Holder::NumberedItem(NumberedItemParts {
@@ -443,7 +443,7 @@ impl<'a> Holder<'a> {
 
     /// A paragraph, which may have a mark in an item without one.
     fn opened_paragraph(&self) -> Holder<'a>
-        ensures { IsFresh result (Holders.content_holder (moved_of self.now) contents.Paragraph) }
+        ensures { IsFresh result (Holders.content_model (moved_of self.now) contents.Paragraph) }
     {
         match self {
             Holder::ListItem(None) => Holder::TaskParagraph(None),
@@ -461,8 +461,8 @@ impl<'a> Holder<'a> {
 
     /// The same of a part.
     fn opened_by_part(&self, part: Part) -> Holder<'a>
-        requires { Holders.part_holder (moved_of self.now) part ≢ Holders.leaf }
-        ensures { IsFresh result (Holders.part_holder (moved_of self.now) part) }
+        requires { Holders.part_model (moved_of self.now) part ≢ Holders.leaf }
+        ensures { IsFresh result (Holders.part_model (moved_of self.now) part) }
     {
         match part {
             Part::CodeFencedFence => Holder::CodeFence(CodeFenceParts {
@@ -483,8 +483,8 @@ impl<'a> Holder<'a> {
 
 /// Whether content is a leaf, which it is in each holder or in none.
 fn is_leaf(content: Content) -> bool
-    ensures leaf { result ≡ true → (h : Row) → Holders.content_holder h content ≡ Holders.leaf }
-    ensures holder { result ≡ false → (h : Row) → Holders.content_holder h content ≢ Holders.leaf }
+    ensures leaf { result ≡ true → (h : Row) → Holders.content_model h content ≡ Holders.leaf }
+    ensures holder { result ≡ false → (h : Row) → Holders.content_model h content ≢ Holders.leaf }
 {
     matches!(
         content,
@@ -500,8 +500,8 @@ fn is_leaf(content: Content) -> bool
 
 /// Whether a part is a leaf. Of a fence its holder says that.
 fn is_leaf_part(part: Part) -> bool
-    ensures leaf { result ≡ true → (h : Row) → Holders.part_holder h part ≡ Holders.leaf }
-    ensures holder { result ≡ false → part ≢ parts.CodeFencedFence → part ≢ parts.MathFlowFence → (h : Row) → Holders.part_holder h part ≢ Holders.leaf }
+    ensures leaf { result ≡ true → (h : Row) → Holders.part_model h part ≡ Holders.leaf }
+    ensures holder { result ≡ false → part ≢ parts.CodeFencedFence → part ≢ parts.MathFlowFence → (h : Row) → Holders.part_model h part ≢ Holders.leaf }
 {
     matches!(
         part,

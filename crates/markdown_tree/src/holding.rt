@@ -7,28 +7,28 @@ ghost use Rattle.markdown_events.specs.Spread.{Shown};
 ghost use Rattle.markdown_nodes.specs.Tree as tree;
 ghost use Rattle.markdown_nodes.specs.Tree.{Trees, join, nothing, only, plain_text};
 ghost use Rattle.markdown_events.specs.Texts.{trim};
-ghost use Rattle.markdown_grammar.specs.Parts.{count, count_of, path_to, text_of};
+ghost use Rattle.markdown_steps.specs.Kept.{count, count_of, path_to, text_of};
 ghost use Rattle.markdown_grammar.specs.declared.refusal.Refusal.TheVariants.{HeadingDepth, MissingFence, MissingListValue};
 ghost use Rattle.markdown_events.specs.declared.role.Content.TheVariants as contents;
 ghost use Rattle.markdown_grammar.specs.Buffers.{node_count};
-ghost use Rattle.markdown_grammar.specs.Compiler.{leave};
-ghost use Rattle.markdown_grammar.specs.Refusals.{lacking};
-ghost use Rattle.markdown_grammar.specs.Grammar.{is_complete};
+ghost use Rattle.markdown_steps.specs.Compiler.{leave};
+ghost use Rattle.markdown_grammar.specs.Refusals.{missing_error};
+ghost use Rattle.markdown_steps.specs.Compiler.{all_stood};
 ghost use Rattle.markdown_grammar.specs.Tasks.{task_if};
 ghost use Rattle.markdown_nodes.specs.View.{view, views};
 ghost use Rattle.markdown_events.specs.declared.role.Acting.TheVariants as acting;
-ghost use Rattle.markdown_grammar.specs.Columns.{columns_left, shown};
-ghost use Rattle.markdown_grammar.specs.Holders;
+ghost use Rattle.markdown_steps.specs.Columns.{columns_left, shown};
+ghost use Rattle.markdown_grammar.specs.Grammar as Holders;
 ghost use Rattle.markdown_tree.specs.Holdings.{code_label, inner_with, is_parent, is_row_of, math_label, moved_of, nodes_of_label, placed, row_of};
 ghost use Rattle.markdown_events.specs.declared.role.Role.TheVariants as roles;
-ghost use Rattle.markdown_grammar.specs.Nodes.{node_of};
+ghost use Rattle.markdown_steps.specs.KeptNodes.{node_of};
 ghost use Rattle.markdown_tree.specs.declared.holder.Holder.TheVariants as holders;
-ghost use Rattle.markdown_grammar.specs.Place.{Place, line_ending_is_text};
-ghost use Rattle.markdown_grammar.specs.Source.{Source};
+ghost use Rattle.markdown_grammar.specs.Attributes.{Place, line_ending_is_text};
+ghost use Rattle.markdown_grammar.specs.Document.{Source};
 ghost use Rattle.markdown_tree.specs.States.{Makes, columns_of, holds_of, inner_of_holding, marks_of};
 ghost use Rattle.markdown_tree.specs.Takings.{IsNodeOf, TakesHolding};
-ghost use Rattle.markdown_grammar.specs.TextNodes.{one_text};
-ghost use Rattle.markdown_grammar.specs.Walked.{walked};
+ghost use Rattle.markdown_steps.specs.TextNodes.{one_text};
+ghost use Rattle.markdown_steps.specs.Walked.{walked};
 
 use crate::closing::{
     definition, footnote_call, footnote_definition, heading, image_node, link_node, list,
@@ -239,7 +239,7 @@ impl<'a> Holding<'a> {
         requires such { is_row_of content (row_of self.holder) ≡ true }
         requires other { content ≢ contents.CharacterReference }
         requires no_parent { self.holder ≡ holders.AnyContent → is_parent content ≡ false }
-        ensures node { Makes result (is_complete (row_of self.entry.holder) (inner_of_holding self.entry)) (lacking (row_of self.entry.holder)) (IsNodeOf bytes.now content ending columns.old (inner_of_holding self.entry)) }
+        ensures node { Makes result (all_stood (row_of self.entry.holder) (inner_of_holding self.entry)) (missing_error (row_of self.entry.holder)) (IsNodeOf bytes.now content ending columns.old (inner_of_holding self.entry)) }
         ensures columns { OnOk result (columns_of columns.new ≡ columns_left (roles.Acting (acting.Content content)) (marks_of ending.marks) (columns_of columns.old)) }
         ensures list { steps.new.events ≡ steps.old.events }
         ensures bound { steps.new.count ≤ steps.old.count + walked (acting.Content content) (inner_of_holding self.entry) }
@@ -310,7 +310,7 @@ impl<'a> Holding<'a> {
         own: Holding<'_>,
         ending: Ending,
     ) -> Result<(), Stop>
-        requires row { row_of own.holder ≡ Holders.content_holder (moved_of self.old.holder) content }
+        requires row { row_of own.holder ≡ Holders.content_model (moved_of self.old.holder) content }
         requires such { is_row_of content (row_of own.holder) ≡ true }
         requires no_parent { own.holder ≡ holders.AnyContent → is_parent content ≡ false }
         ensures left { TakesHolding bytes.now (acting.Content content) own.entry ending (shown (marks_of ending.marks) (columns_of columns.old)) self.old self.new result }
@@ -339,7 +339,7 @@ impl<'a> Holding<'a> {
         requires { is_row_of contents.CharacterReference (row_of own.holder) ≡ true }
         ensures holder { self.new.holder ≡ self.old.holder }
         ensures line_endings { self.new.line_endings ≡ self.old.line_endings }
-        ensures text { Makes result (is_complete (row_of own.entry.holder) (inner_of_holding own.entry)) (lacking (row_of own.entry.holder)) (λ _. views self.new.nodes.items ≡ join (views self.old.nodes.items) (one_text (text_of ((inner_of_holding own.entry).part (path_to parts.CharacterReferenceValue))) (between ending.start ending.end))) }
+        ensures text { Makes result (all_stood (row_of own.entry.holder) (inner_of_holding own.entry)) (missing_error (row_of own.entry.holder)) (λ _. views self.new.nodes.items ≡ join (views self.old.nodes.items) (one_text (text_of ((inner_of_holding own.entry).part (path_to parts.CharacterReferenceValue))) (between ending.start ending.end))) }
     {
         let Holding { holder, .. } = own;
         match holder {

@@ -3,7 +3,8 @@
 ghost use Rattle.std.specs.Prelude.{◌≡◌, false, OnOk, IfOk};
 ghost use Rattle.markdown_nodes.specs.Tree.{from_to, join, only};
 ghost use Rattle.markdown_nodes.specs.View.{view, views};
-ghost use Rattle.markdown_grammar.specs.TextNodes.{is_text, one_text, text_node};
+ghost use Rattle.markdown_steps.specs.Consequences.{is_text};
+ghost use Rattle.markdown_steps.specs.TextNodes.{one_text, text_node};
 
 use markdown_nodes::mdast::{Node, Text};
 use markdown_nodes::unist::Position;

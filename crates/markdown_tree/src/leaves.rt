@@ -13,20 +13,20 @@ ghost use Rattle.markdown_events.specs.declared.role.Part.TheVariants as parts;
 ghost use Rattle.markdown_nodes.specs.Tree as tree;
 ghost use Rattle.markdown_nodes.specs.Tree.{join, nothing};
 ghost use Rattle.markdown_nodes.specs.View.{view, views};
-ghost use Rattle.markdown_grammar.specs.Compiler.{nothing_yet};
-ghost use Rattle.markdown_grammar.specs.Gives.{text_read};
+ghost use Rattle.markdown_steps.specs.Compiler.{nothing_yet};
+ghost use Rattle.markdown_grammar.specs.Document.{text_read};
 ghost use Rattle.markdown_grammar.specs.Grammar.{addresses};
-ghost use Rattle.markdown_grammar.specs.Holders;
+ghost use Rattle.markdown_grammar.specs.Grammar as Holders;
 ghost use Rattle.markdown_tree.specs.Holdings.{byte_of, is_literal, is_sign, marker_of, misfit_of, moved_of, placed};
-ghost use Rattle.markdown_grammar.specs.Kinds.{is_line_ending, is_one_of};
-ghost use Rattle.markdown_grammar.specs.Media.{linked};
-ghost use Rattle.markdown_grammar.specs.Nodes.{node_of};
-ghost use Rattle.markdown_grammar.specs.Parts.{Inner};
-ghost use Rattle.markdown_grammar.specs.Place.{Place};
-ghost use Rattle.markdown_grammar.specs.Source.{Source, source};
+ghost use Rattle.markdown_grammar.specs.Items.{is_line_ending, is_one_of};
+ghost use Rattle.markdown_grammar.specs.Nodes.{linked};
+ghost use Rattle.markdown_steps.specs.KeptNodes.{node_of};
+ghost use Rattle.markdown_steps.specs.Kept.{Inner};
+ghost use Rattle.markdown_grammar.specs.Attributes.{Place};
+ghost use Rattle.markdown_grammar.specs.Document.{Source, source};
 ghost use Rattle.markdown_tree.specs.States.{Makes};
 ghost use Rattle.markdown_tree.specs.Takings.{Takes, TakesLeaf};
-ghost use Rattle.markdown_grammar.specs.TextNodes.{one_text};
+ghost use Rattle.markdown_steps.specs.TextNodes.{one_text};
 ghost use Rattle.markdown_grammar.specs.declared.refusal.Refusal.TheVariants.{InvalidSlice};
 
 use crate::holder::{Address, Holder, Marker};
@@ -54,7 +54,7 @@ impl<'a> Holding<'a> {
         what: Acting,
         ending: Ending,
     ) -> Result<(), Stop>
-        requires leaf { Holders.holder_of (moved_of self.old.holder) what ≡ Holders.leaf }
+        requires leaf { Holders.model_of (moved_of self.old.holder) what ≡ Holders.leaf }
         requires fits { misfit_of self.old.holder what ≡ None }
         requires waits { (not (is_some pending.old) || is_line_ending what) ≡ true }
         ensures { TakesLeaf (source bytes.now (R.text references.now)) what ending pending.old self.old pending.new self.new result }
@@ -76,7 +76,7 @@ impl<'a> Holding<'a> {
         content: Content,
         ending: Ending,
     ) -> Result<(), Stop>
-        requires leaf { Holders.content_holder (moved_of self.old.holder) content ≡ Holders.leaf }
+        requires leaf { Holders.content_model (moved_of self.old.holder) content ≡ Holders.leaf }
         requires waits { (not (is_some pending.old) || is_line_ending (acting.Content content)) ≡ true }
         ensures { (text : List ℕ → ℕ → Option (List ℕ)) → TakesLeaf (source bytes.now text) (acting.Content content) ending pending.old self.old pending.new self.new result }
     {
@@ -104,7 +104,7 @@ impl<'a> Holding<'a> {
         part: Part,
         ending: Ending,
     ) -> Result<(), Stop>
-        requires leaf { Holders.part_holder (moved_of self.old.holder) part ≡ Holders.leaf }
+        requires leaf { Holders.part_model (moved_of self.old.holder) part ≡ Holders.leaf }
         requires fits { misfit_of self.old.holder (acting.Part part) ≡ None }
         ensures { TakesLeaf (source bytes.now (R.text references.now)) (acting.Part part) ending None self.old None self.new result }
     {
@@ -214,7 +214,7 @@ impl<'a> Holding<'a> {
     /// A part that says all by its name: a marker of a character reference, a mark of a task (GFM),
     /// or a fence behind the first, behind which line endings are text.
     fn take_sign(&mut self, part: Part)
-        requires leaf { Holders.part_holder (moved_of self.old.holder) part ≡ Holders.leaf }
+        requires leaf { Holders.part_model (moved_of self.old.holder) part ≡ Holders.leaf }
         requires fits { misfit_of self.old.holder (acting.Part part) ≡ None }
         requires such { is_sign part ≡ true }
         ensures { Takes (acting.Part part) Holders.leaf nothing_yet self.old self.new }

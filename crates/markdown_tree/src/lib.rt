@@ -20,4 +20,4 @@ mod task;
 mod texts;
 pub mod to_mdast;
 
-pub use markdown_grammar::laws;
+pub use markdown_steps::laws;

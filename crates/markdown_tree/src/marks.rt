@@ -7,7 +7,7 @@ ghost use Rattle.markdown_events.specs.declared.role.Acting.TheVariants as actin
 ghost use Rattle.markdown_events.specs.declared.role.Content.TheVariants as contents;
 ghost use Rattle.markdown_events.specs.declared.role.Plain.TheVariants as plain;
 ghost use Rattle.markdown_events.specs.declared.role.Role.TheVariants as roles;
-ghost use Rattle.markdown_grammar.specs.Siblings.{kind_by, marks_with, no_marks, past_space, sibling_of};
+ghost use Rattle.markdown_steps.specs.Siblings.{kind_by, marks_with, no_marks, past_space, sibling_of};
 ghost use Rattle.markdown_tree.specs.States.{first_of, marks_of, sibling_in};
 
 use markdown_nodes::mdast::AlignKind;

@@ -1,7 +1,7 @@
 //! The numbers of ordered lists.
 
 ghost use Rattle.std.specs.Prelude.{◌≡◌, Some, IfSome, is_some};
-ghost use Rattle.markdown_grammar.specs.Numbers.{is_item_number, number};
+ghost use Rattle.markdown_grammar.specs.Document.{is_item_number, number};
 
 /// The number that the value of a list item writes: the number of an ordered list is that of its
 /// first item (CommonMark), and mdast keeps it in 32 bits.

@@ -8,13 +8,13 @@ ghost use Rattle.markdown_events.specs.declared.role.Part.TheVariants as parts;
 ghost use Rattle.markdown_nodes.specs.Tree.{Trees, plain_text};
 ghost use Rattle.markdown_nodes.specs.View.{views};
 ghost use Rattle.markdown_grammar.specs.Buffers.{node_count};
-ghost use Rattle.markdown_grammar.specs.Holders;
+ghost use Rattle.markdown_grammar.specs.Grammar as Holders;
 ghost use Rattle.markdown_tree.specs.Holdings.{inner_with, is_label_string, is_part_row, is_text_part, misfit_of, moved_of, row_of};
-ghost use Rattle.markdown_grammar.specs.Source.{Source};
+ghost use Rattle.markdown_grammar.specs.Document.{Source};
 ghost use Rattle.markdown_tree.specs.States.{inner_of_holding};
 ghost use Rattle.markdown_tree.specs.Takings.{Takes, TakesHolding, TakesString};
-ghost use Rattle.markdown_grammar.specs.Walked.{walked};
-ghost use Rattle.markdown_grammar.specs.Place.{Place};
+ghost use Rattle.markdown_steps.specs.Walked.{walked};
+ghost use Rattle.markdown_grammar.specs.Attributes.{Place};
 ghost use Rattle.markdown_events.specs.declared.event.Point.{Point};
 ghost use Rattle.markdown_tree.specs.declared.holder.Holder.TheVariants as holders;
 
@@ -185,7 +185,7 @@ impl<'a> Holding<'a> {
         own: Holding<'a>,
         ending: Ending,
     ) -> Result<(), Stop>
-        requires row { row_of own.holder ≡ Holders.part_holder (moved_of self.old.holder) part }
+        requires row { row_of own.holder ≡ Holders.part_model (moved_of self.old.holder) part }
         requires such { is_part_row part (row_of own.holder) ≡ true }
         requires fits { misfit_of self.old.holder (acting.Part part) ≡ None }
         ensures left { (children : Shown) → TakesHolding bytes.now (acting.Part part) own.entry ending children self.old self.new result }

@@ -8,15 +8,16 @@ ghost use Rattle.markdown_events.specs.declared.event.Point.{Point};
 ghost use Rattle.markdown_events.specs.declared.role.Acting.TheVariants as acting;
 ghost use Rattle.markdown_events.specs.declared.role.Content.TheVariants as contents;
 ghost use Rattle.markdown_events.specs.declared.role.Part.TheVariants as parts;
-ghost use Rattle.markdown_grammar.specs.Compiler.{nothing_yet};
-ghost use Rattle.markdown_grammar.specs.Gives.{text_read};
-ghost use Rattle.markdown_grammar.specs.Holders;
+ghost use Rattle.markdown_steps.specs.Compiler.{nothing_yet};
+ghost use Rattle.markdown_grammar.specs.Document.{text_read};
+ghost use Rattle.markdown_grammar.specs.Grammar as Holders;
 ghost use Rattle.markdown_tree.specs.Holdings.{Keeps, inner_with, is_label_string, is_row_of, misfit_of, moved_of, row_of, part_of_marker, part_of_mark, is_text_part, marked};
-ghost use Rattle.markdown_grammar.specs.Numbers.{number};
-ghost use Rattle.markdown_grammar.specs.Parts.{decoded, is_byte};
-ghost use Rattle.markdown_grammar.specs.Ranges.{length_between};
-ghost use Rattle.markdown_grammar.specs.Place.{Place};
-ghost use Rattle.markdown_grammar.specs.Source.{Source};
+ghost use Rattle.markdown_grammar.specs.Document.{number};
+ghost use Rattle.markdown_grammar.specs.Document.{is_byte};
+ghost use Rattle.markdown_grammar.specs.Attributes.{decoded};
+ghost use Rattle.markdown_grammar.specs.Document.{length_between};
+ghost use Rattle.markdown_grammar.specs.Attributes.{Place};
+ghost use Rattle.markdown_grammar.specs.Document.{Source};
 ghost use Rattle.markdown_tree.specs.declared.holder.Holder.TheVariants as holders;
 
 use crate::holder::{
@@ -223,7 +224,7 @@ impl<'a> Holder<'a> {
 impl<'a> Holder<'a> {
     /// What content gives besides its node: a paragraph the mark in it, and an item its number.
     pub fn put_content(&mut self, content: Content, inner: &Holder<'_>)
-        requires row { row_of inner.now ≡ Holders.content_holder (moved_of self.old) content }
+        requires row { row_of inner.now ≡ Holders.content_model (moved_of self.old) content }
         requires such { is_row_of content (row_of inner.now) ≡ true }
         ensures { (s : Source) (p : Place) (a b : Point) (ts : Trees) → Keeps s p (acting.Content content) a b (inner_with inner.now ts) self.old self.new }
     {
@@ -236,7 +237,7 @@ impl<'a> Holder<'a> {
 
     /// The mark of a paragraph is that of its item.
     fn put_paragraph(&mut self, inner: &Holder<'_>)
-        requires row { row_of inner.now ≡ Holders.content_holder (moved_of self.old) contents.Paragraph }
+        requires row { row_of inner.now ≡ Holders.content_model (moved_of self.old) contents.Paragraph }
         requires such { is_row_of contents.Paragraph (row_of inner.now) ≡ true }
         ensures { (s : Source) (p : Place) (a b : Point) (ts : Trees) → Keeps s p (acting.Content contents.Paragraph) a b (inner_with inner.now ts) self.old self.new }
     {
@@ -253,7 +254,7 @@ impl<'a> Holder<'a> {
 
     /// The first number of an item is that of its list.
     fn put_item(&mut self, inner: &Holder<'_>)
-        requires row { row_of inner.now ≡ Holders.content_holder (moved_of self.old) contents.ListItem }
+        requires row { row_of inner.now ≡ Holders.content_model (moved_of self.old) contents.ListItem }
         requires such { is_row_of contents.ListItem (row_of inner.now) ≡ true }
         ensures { (s : Source) (p : Place) (a b : Point) (ts : Trees) → Keeps s p (acting.Content contents.ListItem) a b (inner_with inner.now ts) self.old self.new }
     {

@@ -9,7 +9,8 @@ ghost use Rattle.markdown_nodes.specs.Tree.{nothing, only, plain_text};
 ghost use Rattle.markdown_nodes.specs.View.{view, views};
 ghost use Rattle.markdown_grammar.specs.Buffers.{node_count};
 ghost use Rattle.markdown_tree.specs.Holdings.{email_kept, placed, protocol_kept};
-ghost use Rattle.markdown_grammar.specs.Media.{autolink, linked};
+ghost use Rattle.markdown_steps.specs.KeptNodes.{autolink};
+ghost use Rattle.markdown_grammar.specs.Nodes.{linked};
 ghost use Rattle.markdown_grammar.specs.Nodes.{frontmatter};
 
 use crate::buffer::values_of;

@@ -3,8 +3,8 @@
 ghost use Rattle.std.specs.Prelude.{◌≡◌, ◌^◌, ◌<◌, IfErr, Some, SomeIff, IfSome, is_some, option_copied};
 ghost use Rattle.std.specs.Result.{result_ok};
 ghost use Rattle.markdown_events.specs.Slices.{edge, slice, between};
-ghost use Rattle.markdown_grammar.specs.Numbers.{is_depth};
-ghost use Rattle.markdown_grammar.specs.Ranges.{byte_at, length_between};
+ghost use Rattle.markdown_grammar.specs.Document.{is_depth};
+ghost use Rattle.markdown_grammar.specs.Document.{byte_at, length_between};
 ghost use Rattle.markdown_grammar.specs.declared.refusal.Refusal.TheVariants.{InvalidSlice};
 ghost use Rattle.markdown_grammar.specs.declared.refusal.Stop.TheVariants.{Refused};
 

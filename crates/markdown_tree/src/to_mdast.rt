@@ -5,14 +5,14 @@ ghost use Rattle.markdown_events.specs.Forest.{Forest, spell};
 ghost use Rattle.markdown_nodes.specs.Tree.{only};
 ghost use Rattle.markdown_nodes.specs.View.{view};
 ghost use Rattle.markdown_grammar.specs.Buffers.{held, inside};
-ghost use Rattle.markdown_grammar.specs.Compiler.{compiled, opening, point_of, run};
-ghost use Rattle.markdown_grammar.specs.Correct.{IsMeaning, FailsRightly};
-ghost use Rattle.markdown_grammar.specs.Extents.{extent_of, last_event};
+ghost use Rattle.markdown_steps.specs.Compiler.{compiled, opening, point_of, run};
+ghost use Rattle.markdown_grammar.specs.Correct.{FailsRightly, IsMeaning};
+ghost use Rattle.markdown_steps.specs.Extents.{extent_of, last_event};
 ghost use Rattle.markdown_grammar.specs.Ordered.{IsOrdered, NeverGoesBack};
-ghost use Rattle.markdown_grammar.specs.Source.{source};
+ghost use Rattle.markdown_grammar.specs.Document.{source};
 ghost use Rattle.markdown_tree.specs.States.{Completes, state_of};
 ghost use Rattle.markdown_events.specs.Steps.{events_in};
-ghost use Rattle.markdown_grammar.specs.Walked.{run_walks};
+ghost use Rattle.markdown_steps.specs.Walked.{run_visits};
 
 use crate::context::Context;
 use crate::holding::Holding;
@@ -117,7 +117,7 @@ fn compile_list<R: References>(
     ensures gives { Completes view result (compiled (source bytes.now (R.text references.now)) steps.old.events) }
     ensures empty { steps.old.events ≡ [] → IsOk result }
     ensures list { steps.new.events ≡ steps.old.events }
-    ensures bound { steps.new.count ≤ steps.old.count + 4 * length steps.old.events + run_walks (source bytes.now (R.text references.now)) steps.old.events opening }
+    ensures bound { steps.new.count ≤ steps.old.count + 4 * length steps.old.events + run_visits (source bytes.now (R.text references.now)) steps.old.events opening }
 {
     let Taken { context, length } = take_all(alloc, steps, bytes, references)?;
     if let Some(refusal) = context.unfinished() {
@@ -149,7 +149,7 @@ fn take_all<'a, R: References>(
     ensures empty { steps.old.events ≡ [] → IsOk result }
     ensures length { IfOk result (λ taken. taken.length ≡ length steps.old.events) }
     ensures list { steps.new.events ≡ steps.old.events }
-    ensures bound { steps.new.count ≤ steps.old.count + length steps.old.events + run_walks (source bytes.now (R.text references.now)) steps.old.events opening }
+    ensures bound { steps.new.count ≤ steps.old.count + length steps.old.events + run_visits (source bytes.now (R.text references.now)) steps.old.events opening }
 {
     let mut context = Context::new(alloc);
     let mut index = 0;

@@ -9,7 +9,7 @@ use Rattle.markdown_events.specs.declared.message.Place.TheVariants as places
 use Rattle.markdown_events.specs.declared.unist.Point.{Point}
 use Rattle.markdown_events.specs.Places.{point_text}
 use Rattle.markdown_grammar.specs.Correct.{IsMeaning, Refuses}
-use Rattle.markdown_grammar.specs.Source.{Source, source}
+use Rattle.markdown_grammar.specs.Document.{Source, source}
 use Rattle.mdast_show.specs.declared.run.Answer.{Answer}
 use Rattle.mdast_show.specs.declared.run.Answer.TheVariants as answers
 use Rattle.mdast_show.specs.Decoder.{decoded}

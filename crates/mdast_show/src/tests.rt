@@ -144,8 +144,8 @@ fn reads_its_input_whole_first(rt: HostRuntime) {
     let failed = "mdast_show: cannot read the events\n";
     expect(&rt, &mut Failing(false), failed, 2);
     expect(&rt, &mut LineFeeds(u32::MAX), failed, 2);
-    let unread = "mdast_show: event line 1 cannot be read\n";
-    expect(&rt, &mut Interrupted(0), unread, 2);
+    let value_error = "mdast_show: event line 1 cannot be read\n";
+    expect(&rt, &mut Interrupted(0), value_error, 2);
 }
 
 #[test]

@@ -5,7 +5,7 @@ use Rattle.markdown_nodes.specs.Tree.{only}
 use Rattle.markdown_nodes.proofs.Views.{view-Text}
 use Rattle.markdown_tree.proofs.Joins.{first_begun, text_begun, text_grown}
 use Rattle.markdown_tree.proofs.Views.{no_text}
-use Rattle.markdown_grammar.specs.TextNodes.{text_node}
+use Rattle.markdown_steps.specs.TextNodes.{text_node}
 use denote.Hole.Carrier
 use Rattle.markdown_nodes.specs.declared.mdast.Node.TheViews.{out-Node}
 use Rattle.markdown_tree.proofs.joining.put_made.Goals.{in-Some+in_default-last, in_default}

@@ -2,7 +2,7 @@ use Rattle.std.proofs.Common.{ap, refl, ◌<◌}
 use Rattle.std.specs.Vec.{vec_len}
 use Rattle.markdown_tree.proofs.Joins.{first_begun, text_begun, text_grown}
 use Rattle.markdown_tree.proofs.Views.{no_text}
-use Rattle.markdown_grammar.specs.TextNodes.{one_text}
+use Rattle.markdown_steps.specs.TextNodes.{one_text}
 use denote.Hole.Carrier
 use Rattle.markdown_nodes.specs.declared.mdast.Node.TheViews.{out-Node}
 use Rattle.markdown_tree.proofs.joining.put_text.Goals.{in-Some+in_default-last, in_default}

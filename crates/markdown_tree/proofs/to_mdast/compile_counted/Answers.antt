@@ -1,4 +1,4 @@
-use Rattle.markdown_grammar.specs.Source.{source}
+use Rattle.markdown_grammar.specs.Document.{source}
 use Rattle.markdown_tree.proofs.Answered.{found, ordered_so, other_bound, refused_so, tree_bound}
 use Rattle.markdown_tree.proofs.to_mdast.compile_counted.Goals as goal
 

@@ -1,6 +1,6 @@
 use Rattle.std.proofs.Common.{ap, ◌∙◌}
 use Rattle.markdown_events.specs.declared.role.Role.{Role}
-use Rattle.markdown_grammar.specs.Compiler.{enter_as}
+use Rattle.markdown_steps.specs.Compiler.{enter_as}
 use Rattle.markdown_tree.specs.States.{state_of}
 use Rattle.markdown_tree.proofs.Beginnings.{enter_free, enter_held}
 use Rattle.markdown_tree.proofs.Stopping.{gives_same}

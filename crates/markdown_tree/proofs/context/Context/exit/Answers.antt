@@ -1,6 +1,6 @@
 use Rattle.std.proofs.Common.{◌-◌, arith, get_or, sym, ◌∙◌}
 use Rattle.std.specs.Prelude.{vec_len}
-use Rattle.markdown_grammar.specs.Source.{source}
+use Rattle.markdown_grammar.specs.Document.{source}
 use Rattle.markdown_tree.proofs.Endings.{ends, exit_done, exit_none, exit_other, exit_stops, exit_walks_left, none_left}
 use Rattle.markdown_tree.proofs.Stopping.{passed_on}
 use Rattle.markdown_tree.proofs.context.Context.exit.Goals as goal

@@ -2,12 +2,12 @@ use Rattle.std.proofs.Common.{arith, Bool, None, refl, reverse, sym, ap, ◌∙�
 use Rattle.markdown_events.specs.Spread.{Shown}
 use Rattle.markdown_events.specs.declared.role.Acting.{Acting}
 use Rattle.markdown_tree.specs.declared.holding.Holding.{Holding}
-use Rattle.markdown_grammar.specs.Columns.{shown}
-use Rattle.markdown_grammar.specs.Compiler.{leave}
-use Rattle.markdown_grammar.specs.Holders.{holder_of}
+use Rattle.markdown_steps.specs.Columns.{shown}
+use Rattle.markdown_steps.specs.Compiler.{leave}
+use Rattle.markdown_grammar.specs.Grammar.{model_of}
 use Rattle.markdown_tree.specs.Holdings.{moved_of, row_of}
 use Rattle.markdown_tree.specs.States.{columns_of, holds_of, inner_of_holding, marks_of}
-use Rattle.markdown_grammar.specs.Walked.{walked}
+use Rattle.markdown_steps.specs.Walked.{walked}
 use Rattle.markdown_tree.proofs.Endings.{content_row, holder_gives, holder_walks, part_row, popped}
 use Rattle.markdown_tree.proofs.Stopping.{gives_same}
 use Rattle.markdown_tree.proofs.context.Context.leave_any.Goals as goal
@@ -15,12 +15,12 @@ use Rattle.markdown_tree.proofs.context.Context.leave_any.Goals as goal
 pub take_content-requires-clause-such : goal.take_content-requires-clause-such
 take_content-requires-clause-such c =
     content_row c.replace-own.result.holder (moved_of c.requires.ends.outer.holder) c.in-Content.content
-    (ap (λ (h : Holding). row_of h.holder) c.replace-own.ensures.value ∙ c.requires.ends.row ∙ ap (λ (w : Acting). holder_of (moved_of c.requires.ends.outer.holder) w) c.in-Content.is)
+    (ap (λ (h : Holding). row_of h.holder) c.replace-own.ensures.value ∙ c.requires.ends.row ∙ ap (λ (w : Acting). model_of (moved_of c.requires.ends.outer.holder) w) c.in-Content.is)
 
 pub take_part-requires-clause-such : goal.take_part-requires-clause-such
 take_part-requires-clause-such c =
     part_row c.replace-own.result.holder (moved_of c.requires.ends.outer.holder) c.in-Part.part
-    (ap (λ (h : Holding). row_of h.holder) c.replace-own.ensures.value ∙ c.requires.ends.row ∙ ap (λ (w : Acting). holder_of (moved_of c.requires.ends.outer.holder) w) c.in-Part.is)
+    (ap (λ (h : Holding). row_of h.holder) c.replace-own.ensures.value ∙ c.requires.ends.row ∙ ap (λ (w : Acting). model_of (moved_of c.requires.ends.outer.holder) w) c.in-Part.is)
 
 pub returns-in-Part-clause-gives : goal.returns-in-Part-clause-gives
 returns-in-Part-clause-gives c s same =

@@ -1,7 +1,7 @@
 use Rattle.std.proofs.Common.{ℕ, List, Option, refl, sym, ap}
 use Rattle.std.specs.Prelude.{[], is_some, unwrap_or}
 use Rattle.markdown_events.specs.declared.role.Part.TheVariants as parts
-use Rattle.markdown_grammar.specs.Source.{source}
+use Rattle.markdown_grammar.specs.Document.{source}
 use Rattle.markdown_tree.specs.States.{place_of}
 use Rattle.markdown_tree.proofs.PartEnds.{address_unread, part_is_in}
 use Rattle.markdown_tree.proofs.Stopping.{refused_on}

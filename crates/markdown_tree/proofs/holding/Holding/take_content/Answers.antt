@@ -4,15 +4,15 @@ use Rattle.markdown_nodes.specs.Tree.{Trees, join}
 use Rattle.markdown_nodes.specs.View.{views}
 use Rattle.markdown_events.specs.declared.role.Content.{Content}
 use Rattle.markdown_tree.specs.declared.holder.Holder.{Holder as Open}
-use Rattle.markdown_grammar.specs.Columns.{shown}
-use Rattle.markdown_grammar.specs.Refusals.{lacking}
-use Rattle.markdown_grammar.specs.Grammar.{is_complete}
-use Rattle.markdown_grammar.specs.Nodes.{node_of}
-use Rattle.markdown_grammar.specs.Place.{Place}
+use Rattle.markdown_steps.specs.Columns.{shown}
+use Rattle.markdown_grammar.specs.Refusals.{missing_error}
+use Rattle.markdown_steps.specs.Compiler.{all_stood}
+use Rattle.markdown_steps.specs.KeptNodes.{node_of}
+use Rattle.markdown_grammar.specs.Attributes.{Place}
 use Rattle.markdown_tree.proofs.Stopping.{made_gives, nothing_on_err, passed_on}
 use Rattle.markdown_events.specs.declared.role.Acting.TheVariants.{Content as content}
 use Rattle.markdown_tree.specs.Holdings.{Keeps, marker_of, row_of}
-use Rattle.markdown_grammar.specs.Source.{source}
+use Rattle.markdown_grammar.specs.Document.{source}
 use Rattle.markdown_tree.specs.States.{columns_of, inner_of_holding, marks_of, place_of, place_with}
 use Rattle.markdown_tree.proofs.SpanEnds.{content_lacks, content_left, made_no_text, unmade_stops}
 use Rattle.markdown_tree.proofs.holding.Holding.take_content.Goals as goal
@@ -37,7 +37,7 @@ returns-in-CharacterReference-clause-left c s inner_table same =
     let what : Content = c.args.content in
     let children : Shown = shown (marks_of c.args.ending.marks) (columns_of c.args.columns.now) in
     let place : Place = place_of c.args.ending.in_table c.args.self.now in
-    made_gives _ c.args.ending.end c.take_reference.result (is_complete (row_of c.args.own.holder) (inner_of_holding c.args.own)) (lacking (row_of c.args.own.holder)) _ _ c.take_reference.ensures.text
+    made_gives _ c.args.ending.end c.take_reference.result (all_stood (row_of c.args.own.holder) (inner_of_holding c.args.own)) (missing_error (row_of c.args.own.holder)) _ _ c.take_reference.ensures.text
     (λ x complete made. content_left s c.args.ending.in_table inner_table c.args.self.now c.args.own c.take_reference.new.self what c.args.ending.start c.args.ending.end children
     c.requires.such complete
     (subst (λ (h : Open). Keeps s place (content what) c.args.ending.start c.args.ending.end (inner_of_holding c.args.own) c.args.self.now.holder h) (sym c.take_reference.ensures.holder) (c.put_content.ensures s place c.args.ending.start c.args.ending.end (views c.args.own.nodes.items)))

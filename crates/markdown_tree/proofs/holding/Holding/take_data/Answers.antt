@@ -3,7 +3,7 @@ use Rattle.std.specs.Prelude.{is_some}
 use Rattle.markdown_events.specs.Slices.{slice}
 use Rattle.markdown_events.specs.declared.role.Acting.TheVariants.{Content as content}
 use Rattle.markdown_events.specs.declared.role.Content.TheVariants as contents
-use Rattle.markdown_grammar.specs.Source.{Source, source}
+use Rattle.markdown_grammar.specs.Document.{Source, source}
 use Rattle.markdown_tree.specs.declared.holding.Holding.{Holding}
 use Rattle.markdown_grammar.specs.declared.refusal.Refusal.TheVariants.{InvalidSlice}
 use Rattle.markdown_tree.proofs.LeafEnds.{content_in, leaf_unread}
@@ -16,4 +16,4 @@ returns c text children place =
     let top : Holding = c.args.self.now in
     made_gives _ c.args.ending.end c.put_slice.result (is_some (slice c.args.bytes.now c.args.ending.start c.args.ending.end)) InvalidSlice _ _ c.put_slice.ensures
     (λ x read made. content_in s c.args.ending.in_table top (record { holder = top.holder; line_endings = c.args.self.now.line_endings; nodes = c.put_slice.new.nodes }) contents.Data c.args.ending.start c.args.ending.end children place refl refl refl made refl read)
-    (λ unread. leaf_unread s c.args.ending.in_table None top (content contents.Data) c.args.ending.start c.args.ending.end children place unread)
+    (λ value_error. leaf_unread s c.args.ending.in_table None top (content contents.Data) c.args.ending.start c.args.ending.end children place value_error)

@@ -1,10 +1,10 @@
 use Rattle.std.proofs.Common.{refl, ap, ◌∙◌}
 use Rattle.markdown_events.specs.Texts.{fold}
 use Rattle.markdown_nodes.specs.View.{views}
-use Rattle.markdown_grammar.specs.Holders
+use Rattle.markdown_grammar.specs.Grammar as Holders
 use Rattle.markdown_tree.specs.Holdings.{inner_with, moved_of}
 use Rattle.markdown_tree.specs.declared.holder.Holder.TheVariants as holders
-use Rattle.markdown_grammar.specs.Rejections.{refused}
+use Rattle.markdown_steps.specs.Checks.{refused}
 use Rattle.markdown_tree.specs.States.{place_of}
 use Rattle.markdown_tree.proofs.SpanEnds.{label_string_behind, label_string_put, label_string_read, label_string_unread, part_left, part_unread, slice_missing, slice_read, slice_there}
 use Rattle.markdown_tree.proofs.Stopping.{refused_on}

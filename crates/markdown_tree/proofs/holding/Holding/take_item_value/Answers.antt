@@ -1,13 +1,13 @@
 use Rattle.std.proofs.Common.{ℕ, List, Option, refl, sym, ap, ◌∙◌}
 use Rattle.std.specs.Prelude.{[], unwrap_or}
 use Rattle.markdown_events.specs.declared.role.Part.TheVariants as parts
-use Rattle.markdown_grammar.specs.Numbers.{number}
-use Rattle.markdown_grammar.specs.Source.{source}
+use Rattle.markdown_grammar.specs.Document.{number}
+use Rattle.markdown_grammar.specs.Document.{source}
 use Rattle.markdown_tree.specs.States.{place_of}
 use Rattle.markdown_tree.proofs.PartEnds.{item_unread, item_wrong, part_in}
 use Rattle.markdown_tree.proofs.Stopping.{refused_on}
 use Rattle.markdown_tree.proofs.holding.Holding.take_item_value.Goals as goal
-use Rattle.markdown_grammar.specs.Numbers.{is_item_number}
+use Rattle.markdown_grammar.specs.Document.{is_item_number}
 
 pub returns-in_err-text : goal.returns-in_err-text
 returns-in_err-text c text children place =

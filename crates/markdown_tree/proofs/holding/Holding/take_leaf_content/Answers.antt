@@ -1,4 +1,4 @@
-use Rattle.markdown_grammar.specs.Source.{source}
+use Rattle.markdown_grammar.specs.Document.{source}
 use Rattle.markdown_tree.proofs.LeafEnds.{break_is_in}
 use Rattle.markdown_tree.proofs.holding.Holding.take_leaf_content.Goals as goal
 

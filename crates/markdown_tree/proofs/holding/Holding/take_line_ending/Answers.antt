@@ -5,7 +5,7 @@ use Rattle.markdown_events.specs.declared.unist.Point.{Point as UnistPoint}
 use Rattle.markdown_events.specs.declared.unist.Position.{Position}
 use Rattle.markdown_nodes.specs.Tree.{Tree, join, node, nothing, only, «break»}
 use Rattle.markdown_nodes.specs.View.{views}
-use Rattle.markdown_grammar.specs.Source.{Source, source}
+use Rattle.markdown_grammar.specs.Document.{Source, source}
 use Rattle.markdown_tree.specs.declared.holding.Holding.{Holding}
 use Rattle.markdown_grammar.specs.declared.refusal.Refusal.TheVariants.{InvalidSlice}
 use Rattle.markdown_tree.proofs.LeafEnds.{break_ends, known_in, known_unread, nothing_in, text_in, text_unread}
@@ -31,8 +31,8 @@ returns-then-self c text children place =
     made_gives _ c.args.ending.end c.put_slice.result (is_some (slice c.args.bytes.now c.args.ending.start c.args.ending.end)) InvalidSlice _ _ c.put_slice.ensures
     (λ x read made. known_in s c.args.ending.in_table None c.args.pending.now c.take.new.self top new c.args.ending.start c.args.ending.end children place c.in_default.ensures.value c.in_default.ensures.after
     (text_in s c.args.ending.in_table top new c.args.ending.start c.args.ending.end children place c.if-self.true refl refl made read))
-    (λ unread. known_unread s c.args.ending.in_table None c.args.pending.now top c.args.ending.start c.args.ending.end children place InvalidSlice c.in_default.ensures.value
-    (text_unread s c.args.ending.in_table top c.args.ending.start c.args.ending.end children place c.if-self.true unread))
+    (λ value_error. known_unread s c.args.ending.in_table None c.args.pending.now top c.args.ending.start c.args.ending.end children place InvalidSlice c.in_default.ensures.value
+    (text_unread s c.args.ending.in_table top c.args.ending.start c.args.ending.end children place c.if-self.true value_error))
 
 pub returns : goal.returns
 returns c text children place =

@@ -4,11 +4,11 @@ use Rattle.markdown_events.specs.declared.role.Acting.TheVariants.{Content as co
 use Rattle.markdown_events.specs.declared.unist.Position.{Position}
 use Rattle.markdown_nodes.specs.Tree.{Tree, Trees, join, node, nothing, only, «break», thematic_break}
 use Rattle.markdown_nodes.specs.View.{views}
-use Rattle.markdown_grammar.specs.Compiler.{nothing_yet}
+use Rattle.markdown_steps.specs.Compiler.{nothing_yet}
 use Rattle.markdown_tree.specs.Holdings.{moved_of, placed}
-use Rattle.markdown_grammar.specs.Media.{linked}
-use Rattle.markdown_grammar.specs.Place.{Place}
-use Rattle.markdown_grammar.specs.Source.{Source, source}
+use Rattle.markdown_grammar.specs.Nodes.{linked}
+use Rattle.markdown_grammar.specs.Attributes.{Place}
+use Rattle.markdown_grammar.specs.Document.{Source, source}
 use Rattle.markdown_tree.specs.States.{place_of}
 use Rattle.markdown_tree.specs.declared.holding.Holding.{Holding}
 use Rattle.markdown_tree.proofs.LeafEnds.{content_in, leaf_unread, literal_alone, literal_read}

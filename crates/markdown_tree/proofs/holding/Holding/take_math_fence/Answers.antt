@@ -1,6 +1,6 @@
 use Rattle.std.proofs.Common.{refl, true}
 use Rattle.markdown_nodes.specs.View.{views}
-use Rattle.markdown_grammar.specs.Holders
+use Rattle.markdown_grammar.specs.Grammar as Holders
 use Rattle.markdown_tree.specs.Holdings.{inner_with}
 use Rattle.markdown_tree.specs.declared.holder.Holder.TheVariants as holders
 use Rattle.markdown_events.specs.declared.role.Part.TheVariants as parts

@@ -1,4 +1,4 @@
-use Rattle.markdown_grammar.specs.Source.{source}
+use Rattle.markdown_grammar.specs.Document.{source}
 use Rattle.markdown_tree.proofs.PartEnds.{sequence_later}
 use Rattle.markdown_tree.proofs.holding.Holding.take_sequence.Goals as goal
 

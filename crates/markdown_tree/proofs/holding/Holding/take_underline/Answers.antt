@@ -2,7 +2,7 @@ use Rattle.std.proofs.Common.{ℕ, Option, None, Some, false, refl, sym, ap, ◌
 use Rattle.std.specs.Prelude.{is_some, ◌==◌}
 use Rattle.markdown_events.specs.declared.role.Acting.TheVariants.{Part as part}
 use Rattle.markdown_events.specs.declared.role.Part.TheVariants as parts
-use Rattle.markdown_grammar.specs.Source.{source}
+use Rattle.markdown_grammar.specs.Document.{source}
 use Rattle.markdown_tree.specs.States.{place_of}
 use Rattle.markdown_tree.proofs.LeafEnds.{leaf_unread}
 use Rattle.markdown_tree.proofs.PartEnds.{part_in}

@@ -1,8 +1,8 @@
 use Rattle.std.proofs.Common.{◌≡◌, Some, refl, ap, ◌∙◌}
 use Rattle.std.specs.Prelude.{option_map, string_bytes}
-use Rattle.markdown_grammar.specs.Parts.{decoded}
-use Rattle.markdown_grammar.specs.Place.{Place}
-use Rattle.markdown_grammar.specs.Source.{Source, source}
+use Rattle.markdown_grammar.specs.Attributes.{decoded}
+use Rattle.markdown_grammar.specs.Attributes.{Place}
+use Rattle.markdown_grammar.specs.Document.{Source, source}
 use Rattle.markdown_tree.specs.States.{place_of}
 use Rattle.markdown_tree.proofs.PartEnds.{decoded_is, value_in, value_unknown, value_unread}
 use Rattle.markdown_tree.proofs.Stopping.{refused_on}

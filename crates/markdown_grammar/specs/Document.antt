@@ -1,0 +1,50 @@
+-- What is read of a document: texts, ranges, single bytes and numbers.
+use Rattle.std.specs.Prelude.{Bool, List, None, Option, Some, [], false, if◌then◌else◌, length, nat_le, nat_lt, slice_get, unwrap_or, ℕ, ◌&&◌, ◌*◌, ◌+◌, ◌-◌, ◌==◌, ◌^◌, ◌∷◌}
+use Rattle.markdown_events.specs.Slices.{edge, slice}
+use Rattle.markdown_events.specs.declared.event.Point.{Point}
+use Rattle.std.specs.Char.{is_ascii_digit}
+use Rattle.std.specs.List.{fold as fold_list, list_all}
+
+-- the bytes of the document, and the text that a character reference's value and marker stand for
+pub record Source : Type 0 where
+  pub bytes : List ℕ
+  pub text : List ℕ → ℕ → Option (List ℕ)
+
+-- a document, and what a decoder says of references
+abbrev pub source : List ℕ → (List ℕ → ℕ → Option (List ℕ)) → Source
+source bytes text = record { bytes = bytes; text = text }
+
+-- how many bytes stand from one point to another, if these are in order and in the document
+abbrev pub length_between : List ℕ → Point → Point → Option ℕ
+length_between bytes start end = if nat_le (edge start) (edge end) && nat_le (edge end) (length bytes) then Some (edge end - edge start) else None
+
+-- the byte at the index of a point
+abbrev pub byte_at : List ℕ → Point → Option ℕ
+byte_at bytes point = slice_get bytes point.index
+
+-- the slice of a span, empty where there is none
+abbrev pub text_read : Source → Point → Point → List ℕ
+text_read s start end = unwrap_or (slice s.bytes start end) []
+
+-- a byte at a point, compared
+abbrev pub is_byte : Source → ℕ → Point → Bool
+is_byte s b p = elim (byte_at s.bytes p) [ Some c ↦ b == c | None ↦ false ]
+
+-- one or more decimal digits
+abbrev pub is_number : List ℕ → Bool
+is_number [] = false
+is_number (d ∷ ds) = list_all is_ascii_digit (d ∷ ds)
+
+-- the number that decimal digits write
+abbrev pub number : List ℕ → ℕ
+number digits = fold_list (λ n d. 10 * n + (d - 48)) 0 digits
+
+-- a range of one to six bytes
+abbrev pub is_depth : Option ℕ → Bool
+is_depth None = false
+is_depth (Some n) = nat_lt 0 n && nat_le n 6
+
+-- the digits of a number up to 4294967295
+abbrev pub is_item_number : Option (List ℕ) → Bool
+is_item_number None = false
+is_item_number (Some digits) = is_number digits && nat_lt (number digits) (2 ^ 32)

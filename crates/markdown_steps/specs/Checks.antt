@@ -1,0 +1,25 @@
+-- What a step answers, and tests in their order.
+use Rattle.std.specs.Prelude.{Bool, Err, List, Ok, Result, [], cond, true, ◌&&◌, ◌∷◌}
+use Rattle.markdown_events.specs.declared.event.Point.{Point}
+use Rattle.markdown_grammar.specs.declared.refusal.Refusal.{Refusal}
+use Rattle.markdown_grammar.specs.Refusals.{ErrorAt}
+
+-- what goes on with what was given
+infixl 10 ◌>>=◌
+abbrev pub ◌>>=◌ : {A B : Type 0} → Result A ErrorAt → (A → Result B ErrorAt) → Result B ErrorAt
+(Ok x) >>= f = f x
+(Err e) >>= f = Err e
+
+-- an event at a point is refused
+abbrev pub refused : {A : Type 0} → Refusal → Point → Result A ErrorAt
+refused why point = Err (record { refusal = why; point = point })
+
+-- tests in their order, each with what it refuses by
+abbrev pub checked : {A : Type 0} → List (Bool × Refusal) → Point → Result A ErrorAt → Result A ErrorAt
+checked [] point result = result
+checked (test ∷ tests) point result = cond test.0 (checked tests point result) (refused test.1 point)
+
+-- all tests pass
+abbrev pub passes : List (Bool × Refusal) → Bool
+passes [] = true
+passes (test ∷ tests) = test.0 && passes tests

@@ -1,0 +1,12 @@
+pub mod Consequences
+pub mod Kept
+pub mod KeptNodes
+pub mod OneTest
+pub mod TextNodes
+pub mod Extents
+pub mod Checks
+pub mod Siblings
+pub mod Columns
+pub mod Compiler
+pub mod Walked
+pub mod Well

@@ -1,0 +1,79 @@
+-- What a frame keeps of the children of its span, plain ones too, in place of the children.
+use Rattle.std.specs.Prelude.{Bool, None, Option, Some, cond, false, not, true, unwrap_or, ◌&&◌, ◌||◌}
+use Rattle.std.specs.Option.{option_or}
+use Rattle.markdown_events.specs.Spread.{align_kind_of, is_blank_line, is_delimiter_marker, is_item_prefix, is_quote_prefix, is_space_or_tab}
+use Rattle.markdown_events.specs.declared.infer.AlignKind.{AlignKind}
+use Rattle.markdown_events.specs.declared.role.Role.{Role}
+use Rattle.markdown_events.specs.declared.role.Acting.TheVariants.{Content as content}
+use Rattle.markdown_events.specs.declared.role.Role.TheVariants.{Acting as acting, Plain as plain}
+use Rattle.markdown_events.specs.declared.role.Content.TheVariants as contents
+use Rattle.markdown_events.specs.declared.role.Plain.TheVariants as plains
+
+-- what one child says of itself
+pub record Sibling : Type 0 where
+  pub space : Bool
+  pub item_prefix : Bool
+  pub quote_prefix : Bool
+  -- it ends an item without content, or it is an item that ends so
+  pub bare_end : Bool
+  pub bare_item : Bool
+  pub marker : Bool
+
+-- no child says a thing
+abbrev pub no_sibling : Sibling
+no_sibling = record { space = false; item_prefix = false; quote_prefix = false; bare_end = false; bare_item = false; marker = false }
+
+-- what the children so far say
+pub record Marks : Type 0 where
+  -- the last child, and the one before it
+  pub near : Sibling
+  pub far : Sibling
+  -- whether a blank line makes an item loose, and a list
+  pub item_blank : Bool
+  pub list_blank : Bool
+  -- whether the first child is a delimiter's marker
+  pub marked_first : Option Bool
+
+-- before the first child
+abbrev pub no_marks : Marks
+no_marks = record { near = no_sibling; far = no_sibling; item_blank = false; list_blank = false; marked_first = None }
+
+-- the last child, or the one before it where the last is a SpaceOrTab
+abbrev pub past_space : Marks → Sibling
+past_space m = cond m.near.space m.far m.near
+
+-- whether a child leaves an item that it ends without content, by whether its own last child is a quote's prefix
+abbrev pub bare_by : Role → Bool → Bool
+bare_by (plain plains.ListItemPrefix) quoted = true
+bare_by (acting (content contents.BlockQuote)) quoted = quoted
+bare_by role quoted = false
+
+-- whether a child is an item without content at its end, by what its own last child leaves
+abbrev pub item_by : Role → Bool → Bool
+item_by (acting (content contents.ListItem)) bare = bare
+item_by role bare = false
+
+-- what a child says, by its role and what its own children say
+abbrev pub sibling_of : Role → Marks → Sibling
+sibling_of role inner = record {
+  space = is_space_or_tab role;
+  item_prefix = is_item_prefix role;
+  quote_prefix = is_quote_prefix role;
+  bare_end = bare_by role inner.near.quote_prefix;
+  bare_item = item_by role (past_space inner).bare_end;
+  marker = is_delimiter_marker role;
+}
+
+-- the children with one more, at its exit
+abbrev pub marks_with : Marks → Role → Marks → Marks
+marks_with m role inner = record {
+  near = sibling_of role inner;
+  far = m.near;
+  item_blank = m.item_blank || (is_blank_line role && not (past_space m).item_prefix);
+  list_blank = m.list_blank || (is_blank_line role && not m.near.bare_item);
+  marked_first = option_or m.marked_first (Some (is_delimiter_marker role));
+}
+
+-- the entry of a delimiter cell value with these children
+abbrev pub kind_by : Marks → AlignKind
+kind_by m = align_kind_of (unwrap_or m.marked_first false) m.near.marker

@@ -1,0 +1,13 @@
+-- A text among its siblings.
+use Rattle.std.specs.Prelude.{List, Some, string_bytes, ℕ}
+use Rattle.markdown_nodes.specs.Tree.{Trees, node, nothing, text}
+use Rattle.markdown_nodes.specs.declared.mdast.Text.{Text}
+use Rattle.markdown_events.specs.declared.unist.Position.{Position}
+
+-- a text alone, by its value and its place
+abbrev pub one_text : List ℕ → Position → Trees
+one_text value position = node (text value) nothing (Some position) nothing
+
+-- a text of the program, alone
+abbrev pub text_node : Text → Trees
+text_node made = node (text (string_bytes made.value)) nothing made.position nothing

@@ -1,0 +1,136 @@
+//! What holds of every tree and of every refusal, whatever the document: laws, each the contract of
+//! a function that takes and gives nothing.
+//!
+//! A tree that `compile` gives is the meaning of an accepted forest that the events spell, and with
+//! a message something is wrong at an event, or left open at the last. So each law here is one about
+//! what it answers.
+
+ghost use Rattle.std.specs.Prelude.{◌≡◌, ◌++◌, ◌∷◌, [], true};
+ghost use Rattle.markdown_events.specs.Forest.{Forest};
+ghost use Rattle.markdown_events.specs.declared.event.Point.{Point};
+ghost use Rattle.markdown_events.specs.declared.role.Acting.{Acting};
+ghost use Rattle.markdown_nodes.specs.Tree.{only};
+ghost use Rattle.markdown_grammar.specs.Accepted.{Accepted, Occurrence};
+ghost use Rattle.markdown_grammar.specs.Decorated.{nodes_of};
+ghost use Rattle.markdown_steps.specs.Consequences.{Everywhere, HasColumnsOf, HasDepthToSix, HasPosition, HasStartIfOrdered, IsLinkBefore, NoTextBehindText, is_autolink};
+ghost use Rattle.markdown_grammar.specs.Grammar.{takes};
+ghost use Rattle.markdown_grammar.specs.Items.{Items, item, kinds};
+ghost use Rattle.markdown_grammar.specs.Meaning.{meaning};
+ghost use Rattle.markdown_grammar.specs.Nodes.{decorate};
+ghost use Rattle.markdown_grammar.specs.Attributes.{Place, inherited_after};
+ghost use Rattle.markdown_grammar.specs.Reasons.{IsWrongAtEnter, IsWrongAtExit};
+ghost use Rattle.markdown_steps.specs.Consequences.{EnterSays, ExitSays};
+ghost use Rattle.markdown_grammar.specs.Document.{Source};
+ghost use Rattle.markdown_grammar.specs.Spots.{Site};
+ghost use Rattle.markdown_grammar.specs.declared.refusal.Refusal.{Refusal};
+
+/// No Text stands directly behind a Text among siblings, at any depth.
+///
+/// A tokenizer cuts text wherever it stops to look: at an escape, at a character reference, at a
+/// line ending. Parsers to mdast join the pieces, so that one Text is all of the text that stands
+/// together, and whoever searches or replaces words finds each of them whole.
+///
+/// In the document `a\*b` a tokenizer finds the data `a`, `*` and `b`; the tree has one Text, which
+/// is `a*b`.
+///
+/// It holds of every forest, accepted or not.
+#[tactic(auto, using(crate::proofs::Merged::no_text_behind_text))]
+pub fn no_text_behind_text()
+    ensures { (s : Source) (f : Forest) → NoTextBehindText (only (meaning s f)) }
+{}
+
+/// Every node has a position.
+///
+/// In mdast, as in every unist tree, a node that stems from a document says where it lies in it,
+/// and a node that a program makes has no position. Every node here stems from the document.
+///
+/// The Text of the document `Hi` has a position that is printed as `1:1-1:3 (0-2)`.
+///
+/// It holds of every forest, accepted or not.
+#[tactic(auto, using(crate::proofs::ConsequencesOfFields::positions))]
+pub fn every_node_has_a_position()
+    ensures { (s : Source) (f : Forest) → Everywhere HasPosition (only (meaning s f)) }
+{}
+
+/// Every Heading has a depth from 1 to 6.
+///
+/// CommonMark has six levels of headings: one to six number signs open a heading, and an underline
+/// of equals signs or dashes makes one of level 1 or 2. mdast takes the level for the `depth`.
+/// Only an accepted forest is sure to have the signs or the underline.
+///
+/// `### a` gives a Heading of depth 3, and `a` above `---` one of depth 2.
+#[tactic(auto, using(crate::proofs::ConsequencesOfFields::depths))]
+pub fn heading_depths_are_one_to_six()
+    ensures { (s : Source) (f : Forest) → Accepted s f → Everywhere HasDepthToSix (only (meaning s f)) }
+{}
+
+/// A List has a `start` exactly when it is ordered.
+///
+/// In CommonMark an ordered list starts with the number of its first item, and a bullet list has no
+/// numbers. In mdast `start` is that number, and is there for ordered lists alone. Here it is that
+/// of the first item that has one. Only in an accepted forest an ordered list is sure to have a
+/// number.
+///
+/// `3. a` gives a List with the `start` 3, and `* a` one without.
+#[tactic(auto, using(crate::proofs::ConsequencesOfFields::starts))]
+pub fn lists_have_a_start_when_ordered()
+    ensures { (s : Source) (f : Forest) → Accepted s f → Everywhere HasStartIfOrdered (only (meaning s f)) }
+{}
+
+/// Every Table lies where a table of the events lies, and has one alignment for each cell value of
+/// the first delimiter row in that table.
+///
+/// In GFM the delimiter row, the second line of a table, has a cell of dashes for each column, and
+/// the colons beside the dashes say how the column is aligned. In mdast `align` lists that, column
+/// by column; in HTML the alignment goes to each cell of the column.
+///
+/// The delimiter row `| :-- | - |` gives `AlignKind::Left` and `AlignKind::None`.
+///
+/// In a forest that is not accepted a cell value may stand in another, and has no entry there.
+#[tactic(auto, using(crate::proofs::ConsequencesOfTables::columns))]
+pub fn tables_have_an_alignment_for_each_column()
+    ensures { (s : Source) (f : Forest) → Accepted s f → Everywhere (HasColumnsOf f) (only (meaning s f)) }
+{}
+
+/// An autolink gives a Link, from its start to its end, before the nodes of what stands behind it.
+///
+/// CommonMark has autolinks in angle brackets, and GFM has addresses that stand bare in a text,
+/// which it calls autolinks too. mdast has no kind for either: both are Links, without a title.
+///
+/// `<https://a.b>` gives a Link to `https://a.b` with that address as its one Text.
+///
+/// It holds of every item of a forest, accepted or not, wherever it stands.
+#[tactic(auto, using(crate::proofs::ConsequencesOfLinks::links))]
+pub fn autolinks_give_links()
+    ensures { (s : Source) (p : Place) (what : Acting) (start end : Point) (children : Forest) (inner rest : Items) → is_autolink what ≡ true
+        → IsLinkBefore (nodes_of (decorate s p (item what start end children inner rest))) start end (nodes_of (decorate s (inherited_after what p) rest)) }
+{}
+
+/// A span that acts and is refused where it begins has what the refusal's reason says.
+///
+/// Behind a hard break stands no line ending (`break-unfinished`). The holder does not take the
+/// span behind what stands in it (`part-repeated`, `name-misplaced`), or the span is a table in a
+/// table (`name-misplaced`). The value of a character reference has no marker before it
+/// (`reference-incomplete`). A Frontmatter begins at no byte of the document (`slice-invalid`). No
+/// other refusal comes there. The reasons are ours.
+///
+/// A second `LabelText` in a Link is refused by `part-repeated`.
+#[tactic(auto, using(crate::proofs::Sayings::enter_says))]
+pub fn refused_enters_are_as_said()
+    ensures { (s : Source) (spot : Site) (what : Acting) (start : Point) (why : Refusal) → takes spot.row (kinds spot.before) ≡ true → IsWrongAtEnter s spot what start why → EnterSays s spot what start why }
+{}
+
+/// A span that acts and is refused where it ends has what the refusal's reason says.
+///
+/// Its last item is a hard break (`break-unfinished`). It lacks a value (`reference-incomplete`,
+/// `list-value-missing`), a fence (`fence-missing`) or the sequence that sets its depth
+/// (`heading-depth`). Its slice, range or byte is not there (`slice-invalid`), or is no number up to
+/// 4294967295 (`list-value-invalid`), nothing that the decoder knows (`reference-unknown`), or no
+/// sequence of one to six bytes (`heading-depth`). No other refusal comes there. The reasons are
+/// ours.
+///
+/// An ordered list in which no item has a value is refused by `list-value-missing`.
+#[tactic(auto, using(crate::proofs::Sayings::exit_says))]
+pub fn refused_exits_are_as_said()
+    ensures { (s : Source) (x : Occurrence) (why : Refusal) → IsWrongAtExit s x why → ExitSays s x why }
+{}
