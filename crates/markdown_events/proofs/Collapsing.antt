@@ -7,7 +7,7 @@ use Rattle.markdown_events.specs.declared.text.Blanks.{Blanks}
 use Rattle.markdown_events.specs.Texts.{is_blank, starts_with_blank, without_trailing_blanks, without_first_space, collapsed}
 use Rattle.markdown_events.specs.TextWalks.{blanks_after, collapsed_part}
 
--- what is written for these characters behind those blanks
+-- what is written for these characters after those blanks
 abbrev pub collapse_walk : List ℕ → Blanks → List ℕ
 collapse_walk [] before = []
 collapse_walk (c ∷ cs) before = collapsed_part before c ++ collapse_walk cs (blanks_after before c)
@@ -25,17 +25,17 @@ carried W text text' part ys rest tail c e known =
 abbrev pub before_all : Blanks
 before_all = record { started = false; pending = false }
 
-abbrev behind : Blanks
-behind = record { started = true; pending = false }
+abbrev after : Blanks
+after = record { started = true; pending = false }
 
 abbrev waiting : Blanks
 waiting = record { started = true; pending = true }
 
 collapse_blank : (c : ℕ) (cs : List ℕ) (s : Blanks) → is_blank c ≡ true → collapse_walk (c ∷ cs) s ≡ collapse_walk cs (record { started = s.started; pending = s.started })
-collapse_blank c cs s e = (λ i. cond (e i) [] (cond s.pending (32 ∷ c ∷ []) (c ∷ [])) ++ collapse_walk cs (cond (e i) (record { started = s.started; pending = s.started }) behind))
+collapse_blank c cs s e = (λ i. cond (e i) [] (cond s.pending (32 ∷ c ∷ []) (c ∷ [])) ++ collapse_walk cs (cond (e i) (record { started = s.started; pending = s.started }) after))
 
-collapse_other : (c : ℕ) (cs : List ℕ) (s : Blanks) → is_blank c ≡ false → collapse_walk (c ∷ cs) s ≡ cond s.pending (32 ∷ c ∷ []) (c ∷ []) ++ collapse_walk cs behind
-collapse_other c cs s e = (λ i. cond (e i) [] (cond s.pending (32 ∷ c ∷ []) (c ∷ [])) ++ collapse_walk cs (cond (e i) (record { started = s.started; pending = s.started }) behind))
+collapse_other : (c : ℕ) (cs : List ℕ) (s : Blanks) → is_blank c ≡ false → collapse_walk (c ∷ cs) s ≡ cond s.pending (32 ∷ c ∷ []) (c ∷ []) ++ collapse_walk cs after
+collapse_other c cs s e = (λ i. cond (e i) [] (cond s.pending (32 ∷ c ∷ []) (c ∷ [])) ++ collapse_walk cs (cond (e i) (record { started = s.started; pending = s.started }) after))
 
 -- what one blank becomes
 abbrev joint : List ℕ → List ℕ
@@ -51,16 +51,16 @@ joint_blank : (c : ℕ) (cs : List ℕ) (b : Bool) → is_blank c ≡ b → join
 joint_blank c cs b e = ap (λ x. cond x (without_trailing_blanks (c ∷ cs)) (32 ∷ without_trailing_blanks (c ∷ cs))) e
 
 abbrev Both : List ℕ → Type 0
-Both cs = (collapse_walk cs waiting ≡ joint cs) × (collapse_walk cs behind ≡ without_trailing_blanks cs)
+Both cs = (collapse_walk cs waiting ≡ joint cs) × (collapse_walk cs after ≡ without_trailing_blanks cs)
 
 both_at : (c : ℕ) (cs : List ℕ) → Both cs → (b : Bool) → is_blank c ≡ b → Both (c ∷ cs)
 both_at c cs ih true e = (
   collapse_blank c cs waiting e ∙ ih.0 ∙ sym (trail_blank c cs e) ∙ sym (joint_blank c cs true e),
-  collapse_blank c cs behind e ∙ ih.0 ∙ sym (trail_blank c cs e),
+  collapse_blank c cs after e ∙ ih.0 ∙ sym (trail_blank c cs e),
 )
 both_at c cs ih false e = (
   collapse_other c cs waiting e ∙ ap (λ x. 32 ∷ c ∷ x) ih.1 ∙ ap (λ x. 32 ∷ x) (sym (trail_other c cs e)) ∙ sym (joint_blank c cs false e),
-  collapse_other c cs behind e ∙ ap (λ x. c ∷ x) ih.1 ∙ sym (trail_other c cs e),
+  collapse_other c cs after e ∙ ap (λ x. c ∷ x) ih.1 ∙ sym (trail_other c cs e),
 )
 
 both : (cs : List ℕ) → Both cs

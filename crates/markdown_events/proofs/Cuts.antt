@@ -6,7 +6,7 @@ use Rattle.std.specs.List.{list_all}
 use Rattle.std.specs.Borrow.{Bor}
 use Rattle.std.proofs.lemmas.Bool.Decides.{nat_tests}
 use Rattle.std.proofs.lemmas.List.{reverse-append, reverse-reverse, take_at}
-use Rattle.markdown_events.specs.Texts.{is_space, starts_with_byte, without_line_ending_behind, without_last_line_ending, without_escapes, is_padded, without_padding}
+use Rattle.markdown_events.specs.Texts.{is_space, starts_with_byte, without_line_ending_reversed, without_last_line_ending, without_escapes, is_padded, without_padding}
 use Rattle.markdown_events.specs.TextWalks.{after_first, before_last}
 
 -- ---- A character off an end
@@ -71,7 +71,7 @@ ended (Some front) bs = unwrap_or (before_last 13 front) front
 abbrev cut : List ℕ → List ℕ
 cut bs = ended (before_last 10 bs) bs
 
-one-off : (b : ℕ) (n r : Bool) → (b == 10) ≡ n → (b == 13) ≡ r → cut (b ∷ []) ≡ reverse (without_line_ending_behind (b ∷ []))
+one-off : (b : ℕ) (n r : Bool) → (b == 10) ≡ n → (b == 13) ≡ r → cut (b ∷ []) ≡ reverse (without_line_ending_reversed (b ∷ []))
 one-off b true true en er = rw (en, er) refl
 one-off b true false en er = rw (en, er) refl
 one-off b false true en er = rw (en, er) refl
@@ -99,7 +99,7 @@ turned true false false b c rs = sym (reverse-cons c rs)
 turned false true m b c rs = sym (reverse-cons c rs)
 turned false false m b c rs = sym (two-reverse b c rs)
 
-cut-reverse : (rs : List ℕ) → cut (reverse rs) ≡ reverse (without_line_ending_behind rs)
+cut-reverse : (rs : List ℕ) → cut (reverse rs) ≡ reverse (without_line_ending_reversed rs)
 cut-reverse [] = refl
 cut-reverse (b ∷ []) = one-off b (b == 10) (b == 13) refl refl
 cut-reverse (b ∷ c ∷ rs) = ap cut (two-reverse b c rs) ∙ two-off b c (reverse rs) (b == 10) (b == 13) (c == 13) refl refl refl ∙ turned (b == 10) (b == 13) (c == 13) b c rs

@@ -1,7 +1,7 @@
 -- What the spelling of a forest does to the walks that look for blank lines.
 use Rattle.std.proofs.Common.{◌≡◌, ℕ, suc, ◌+◌, ◌-◌, ◌==◌, List, [], ◌∷◌, ◌++◌, Bool, true, false, cond, ◌&&◌, ◌||◌, not, refl, sym, ap, ◌∙◌, append_assoc, arith, drop, take, length}
 use Rattle.std.proofs.lemmas.List.{take_rest}
-use Rattle.markdown_events.specs.Begins.{IsSpelledAt}
+use Rattle.markdown_events.specs.Begins.{HasEventsAt}
 use Prim.Native.Nat.{zero}
 use Rattle.std.proofs.lemmas.Bool.{ne_eqb}
 use Rattle.markdown_events.specs.declared.event.Name.{Name}
@@ -10,7 +10,7 @@ use Rattle.markdown_events.specs.declared.event.Event.{Event}
 use Rattle.markdown_events.specs.declared.infer.Child.{Child}
 use Rattle.markdown_events.specs.declared.role.Role.{Role}
 use Rattle.markdown_events.specs.Names.{role_of}
-use Rattle.markdown_events.specs.Forest.{Forest, empty, span, spell, enter, exit}
+use Rattle.markdown_events.specs.Forest.{Forest, empty, span, events_of, enter, exit}
 use Rattle.markdown_events.specs.Spread.{is_blank_line, is_space_or_tab, is_item_prefix, begins_with, skip_space, some_blank_line, loose_item}
 use Rattle.markdown_events.specs.Walks.{item_walk, child_exited, no_child}
 
@@ -39,13 +39,13 @@ item-enter-deep n a d last es = rw (not-zero d, up d) refl
 item-exit-deep : (n : Name) (b : Point) (d : ℕ) (last : Child) (es : List Event) → item_walk (exit n b ∷ es) (suc (suc d)) last ≡ item_walk es (suc d) last
 item-exit-deep n b d last es = rw (not-zero (suc d), not-one d, down d) refl
 
-pub item-deep : (f : Forest) (d : ℕ) (last : Child) (more : List Event) → item_walk (spell f ++ more) (suc d) last ≡ item_walk more (suc d) last
+pub item-deep : (f : Forest) (d : ℕ) (last : Child) (more : List Event) → item_walk (events_of f ++ more) (suc d) last ≡ item_walk more (suc d) last
 item-deep empty d last more = refl
 item-deep (span n a b c r) d last more =
-    item-enter-deep n a d last ((spell c ++ (exit n b ∷ spell r)) ++ more)
-    ∙ ap (λ es. item_walk es (suc (suc d)) last) (regroup n b (spell c) (spell r) more)
-    ∙ item-deep c (suc d) last (exit n b ∷ (spell r ++ more))
-    ∙ item-exit-deep n b d last (spell r ++ more)
+    item-enter-deep n a d last ((events_of c ++ (exit n b ∷ events_of r)) ++ more)
+    ∙ ap (λ es. item_walk es (suc (suc d)) last) (regroup n b (events_of c) (events_of r) more)
+    ∙ item-deep c (suc d) last (exit n b ∷ (events_of r ++ more))
+    ∙ item-exit-deep n b d last (events_of r ++ more)
     ∙ item-deep r d last more
 
 -- what the walk keeps of the children so far, from the last to the first
@@ -66,22 +66,22 @@ counted true false x y e = refl
 counted false bare x y e = e
 
 item-children : (f before : Forest) (n : Name) (p : Point) (more : List Event)
-    → item_walk (spell f ++ (exit n p ∷ more)) 0 (kept is_item_prefix before) ≡ some_blank_line (λ x. not (begins_with is_item_prefix (skip_space x))) before f
+    → item_walk (events_of f ++ (exit n p ∷ more)) 0 (kept is_item_prefix before) ≡ some_blank_line (λ x. not (begins_with is_item_prefix (skip_space x))) before f
 item-children empty before n p more = refl
 item-children (span m a b c r) before n p more =
     let state = kept is_item_prefix before in
-    let tail = spell r ++ (exit n p ∷ more) in
+    let tail = events_of r ++ (exit n p ∷ more) in
     counted (is_blank_line (role_of m)) (begins_with is_item_prefix (skip_space before)) _ _
-    (ap (λ es. item_walk es 1 state) (regroup m b (spell c) (spell r) (exit n p ∷ more))
+    (ap (λ es. item_walk es 1 state) (regroup m b (events_of c) (events_of r) (exit n p ∷ more))
     ∙ item-deep c 0 state (exit m b ∷ tail)
     ∙ ap (λ s. item_walk tail 0 s) (kept-exited is_item_prefix m a b c before)
     ∙ item-children r (span m a b c before) n p more)
 
--- the walk behind an item's enter is the definition
-pub item-walked : (c : Forest) (n : Name) (p : Point) (more : List Event) → item_walk (spell c ++ (exit n p ∷ more)) 0 no_child ≡ loose_item c
+-- the walk after an item's enter is the definition
+pub item-walked : (c : Forest) (n : Name) (p : Point) (more : List Event) → item_walk (events_of c ++ (exit n p ∷ more)) 0 no_child ≡ loose_item c
 item-walked c n p more = item-children c empty n p more
 
--- what stands behind the first of the rest
+-- what comes after the first of the rest
 pub drop-tail : (xs : List Event) (i : ℕ) (x : Event) (ys : List Event) → drop i xs ≡ x ∷ ys → drop (i + 1) xs ≡ ys
 drop-tail [] zero x ys h = absurd cc
 drop-tail [] (suc i) x ys h = absurd cc
@@ -89,6 +89,6 @@ drop-tail (e ∷ es) zero x ys h = cc
 drop-tail (e ∷ es) (suc i) x ys h = ap (λ k. drop k (e ∷ es)) (up i) ∙ ap (λ k. drop k es) (sym (one-more i)) ∙ drop-tail es i x ys h
 
 -- what `&events[index + 1..]` holds, where a span begins at the index
-pub behind_enter : (events : List Event) (i : ℕ) (n : Name) (a b : Point) (c : Forest) (at : IsSpelledAt events i (span n a b c empty))
-    → take (length events - (i + 1)) (drop (i + 1) events) ≡ spell c ++ (exit n b ∷ at.0)
-behind_enter events i n a b c at = take_rest events (i + 1) ∙ drop-tail events i (enter n a) _ at.1 ∙ regroup n b (spell c) [] at.0
+pub after_enter : (events : List Event) (i : ℕ) (n : Name) (a b : Point) (c : Forest) (at : HasEventsAt events i (span n a b c empty))
+    → take (length events - (i + 1)) (drop (i + 1) events) ≡ events_of c ++ (exit n b ∷ at.0)
+after_enter events i n a b c at = take_rest events (i + 1) ∙ drop-tail events i (enter n a) _ at.1 ∙ regroup n b (events_of c) [] at.0

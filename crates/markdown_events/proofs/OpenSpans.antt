@@ -44,7 +44,7 @@ begun e es spans new span passed enters some grows are =
       subst AreOpen (sym top) (subst (λ (x : Open). x.inside ≡ around_of (x.name ∷ names)) (sym both.1) refl, are),
     )
 
--- where a span is still open behind an exit, the walk goes on
+-- where a span is still open after an exit, the walk goes on
 goes_on : (names : List Name) (passed : ℕ) (next : List Name → ℕ → Option ℕ) → (names ≡ [] → ⊥) → exited names passed next ≡ next names (passed + 1)
 goes_on [] passed next some = absurd (some refl)
 goes_on (n ∷ names) passed next some = refl

@@ -1,28 +1,28 @@
--- What is around a span, plain or acting, and which spans may begin there.
+-- What is around a span, transparent or significant, and which spans may begin there.
 use Rattle.std.specs.Prelude.{Bool, true, false, not, ◌&&◌, ◌||◌}
 use Rattle.markdown_events.specs.Forest.{is_delimiter_cell_value, is_delimiter_row}
 use Rattle.markdown_events.specs.declared.around.Around.{Around}
-use Rattle.markdown_events.specs.declared.role.Acting.TheVariants.{Content as content}
+use Rattle.markdown_events.specs.declared.role.ItemKind.TheVariants.{Content as content}
 use Rattle.markdown_events.specs.declared.role.Content.TheVariants as contents
-use Rattle.markdown_events.specs.declared.role.Plain.TheVariants as plains
+use Rattle.markdown_events.specs.declared.role.TransparentKind.TheVariants as transparents
 use Rattle.markdown_events.specs.declared.role.Role.{Role}
-use Rattle.markdown_events.specs.declared.role.Role.TheVariants.{Plain as plain, Acting as acting}
+use Rattle.markdown_events.specs.declared.role.Role.TheVariants.{Transparent as transparent, Significant as significant}
 
 -- the roles whose spans may not hold any span
-abbrev pub holds_nothing : Role → Bool
-holds_nothing (acting (content contents.LineEnding)) = true
-holds_nothing (plain plains.BlankLineEnding) = true
-holds_nothing (plain plains.SpaceOrTab) = true
-holds_nothing _ = false
+abbrev pub is_sealed : Role → Bool
+is_sealed (significant (content contents.LineEnding)) = true
+is_sealed (transparent transparents.BlankLineEnding) = true
+is_sealed (transparent transparents.SpaceOrTab) = true
+is_sealed _ = false
 
 -- nothing is around
 abbrev pub in_the_open : Around
-in_the_open = record { held = false; in_row = false; in_value = false }
+in_the_open = record { in_sealed = false; in_row = false; in_value = false }
 
 -- a span of that role may begin here
 abbrev pub may_begin : Around → Role → Bool
-may_begin a role = (not a.held && not (a.in_row && is_delimiter_row role)) && not (a.in_value && is_delimiter_cell_value role)
+may_begin a role = (not a.in_sealed && not (a.in_row && is_delimiter_row role)) && not (a.in_value && is_delimiter_cell_value role)
 
 -- what is around the spans in a span of that role
 abbrev pub under : Around → Role → Around
-under a role = record { held = holds_nothing role; in_row = a.in_row || is_delimiter_row role; in_value = a.in_value || is_delimiter_cell_value role }
+under a role = record { in_sealed = is_sealed role; in_row = a.in_row || is_delimiter_row role; in_value = a.in_value || is_delimiter_cell_value role }

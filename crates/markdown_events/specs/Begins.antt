@@ -5,30 +5,30 @@ use Rattle.markdown_events.specs.declared.event.Event.{Event}
 use Rattle.markdown_events.specs.declared.event.Name.{Name}
 use Rattle.markdown_events.specs.declared.event.Name.TheVariants as names
 use Rattle.markdown_events.specs.declared.event.Point.{Point}
-use Rattle.markdown_events.specs.Forest.{Forest, empty, span, spell, has_right_shape}
+use Rattle.markdown_events.specs.Forest.{Forest, empty, span, events_of, is_well_formed}
 
--- from that index on, the events begin with the spelling of the forest
-abbrev pub IsSpelledAt : List Event → ℕ → Forest → Type 0
-IsSpelledAt events index forest = (more : List Event) × (drop index events ≡ spell forest ++ more)
+-- from that index on, the events begin with those of the forest
+abbrev pub HasEventsAt : List Event → ℕ → Forest → Type 0
+HasEventsAt events index forest = (more : List Event) × (drop index events ≡ events_of forest ++ more)
 
--- the events from one index to another, both included, spell one span of the right shape
+-- the events from one index to another, both included, are those of one well-formed span
 abbrev pub SpanAt : List Event → ℕ → ℕ → Type 0
 SpanAt events index last =
     (name : Name) × (start : Point) × (end : Point) × (children : Forest)
-    × IsSpelledAt events index (span name start end children empty)
-    × IsTrue (has_right_shape (span name start end children empty))
-    × (index + length (spell (span name start end children empty)) ≡ suc last)
+    × HasEventsAt events index (span name start end children empty)
+    × IsTrue (is_well_formed (span name start end children empty))
+    × (index + length (events_of (span name start end children empty)) ≡ suc last)
 
--- a span of the right shape begins there
+-- a well-formed span begins there
 abbrev pub Begins : List Event → ℕ → Type 0
 Begins events index = (last : ℕ) × SpanAt events index last
 
--- a span of the right shape begins there, and holds these
+-- a well-formed span begins there, and holds these
 abbrev pub BeginsWith : List Event → ℕ → Forest → Type 0
 BeginsWith events index children =
     (name : Name) × (start : Point) × (end : Point)
-    × IsSpelledAt events index (span name start end children empty)
-    × IsTrue (has_right_shape (span name start end children empty))
+    × HasEventsAt events index (span name start end children empty)
+    × IsTrue (is_well_formed (span name start end children empty))
 
 -- the event there has that name
 abbrev pub IsNameAt : List Event → ℕ → Name → Type 0

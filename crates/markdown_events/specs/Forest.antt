@@ -1,17 +1,17 @@
--- Forests of spans, how they are spelled in events, and their right shape.
+-- Forests of spans, their events, and which forests are well-formed.
 use Rattle.std.specs.Prelude.{Bool, true, false, ◌&&◌, not, List, [], ◌∷◌, ◌++◌}
 use Rattle.markdown_events.specs.declared.event.Event.{Event}
 use Rattle.markdown_events.specs.declared.event.Kind.TheVariants.{Enter, Exit}
 use Rattle.markdown_events.specs.declared.event.Name.{Name}
 use Rattle.markdown_events.specs.declared.event.Point.{Point}
 use Rattle.markdown_events.specs.declared.role.Role.{Role}
-use Rattle.markdown_events.specs.declared.role.Role.TheVariants.{Plain as plain, Acting as acting}
-use Rattle.markdown_events.specs.declared.role.Acting.TheVariants.{Content as content}
+use Rattle.markdown_events.specs.declared.role.Role.TheVariants.{Transparent as transparent, Significant as significant}
+use Rattle.markdown_events.specs.declared.role.ItemKind.TheVariants.{Content as content}
 use Rattle.markdown_events.specs.declared.role.Content.TheVariants as contents
-use Rattle.markdown_events.specs.declared.role.Plain.TheVariants as plains
+use Rattle.markdown_events.specs.declared.role.TransparentKind.TheVariants as transparents
 use Rattle.markdown_events.specs.Names.{role_of}
 
--- a list of spans: the first one's name and ends, the spans in it, and the spans behind it
+-- a list of spans: the first one's name and ends, the spans in it, and the spans after it
 pub data Forest : Type 0 where
   empty : Forest
   span : (name : Name) (start end : Point) (children rest : Forest) → Forest
@@ -25,9 +25,9 @@ abbrev pub exit : Name → Point → Event
 exit name point = record { kind = Exit; name = name; point = point }
 
 -- for each span its enter, what is in it, and its exit
-abbrev pub spell : Forest → List Event
-spell empty = []
-spell (span name start end children rest) = enter name start ∷ (spell children ++ (exit name end ∷ spell rest))
+abbrev pub events_of : Forest → List Event
+events_of empty = []
+events_of (span name start end children rest) = enter name start ∷ (events_of children ++ (exit name end ∷ events_of rest))
 
 -- no span
 abbrev pub is_empty : Forest → Bool
@@ -41,24 +41,24 @@ lacks test (span name _ _ children rest) = not (test (role_of name)) && lacks te
 
 -- the delimiter row of a table
 abbrev pub is_delimiter_row : Role → Bool
-is_delimiter_row (plain plains.DelimiterRow) = true
+is_delimiter_row (transparent transparents.DelimiterRow) = true
 is_delimiter_row _ = false
 
 -- the value of a cell in a delimiter row
 abbrev pub is_delimiter_cell_value : Role → Bool
-is_delimiter_cell_value (plain plains.DelimiterCellValue) = true
+is_delimiter_cell_value (transparent transparents.DelimiterCellValue) = true
 is_delimiter_cell_value _ = false
 
 -- line endings, blank line endings and spaces hold nothing; delimiter rows, and delimiter cell values, do not nest
-abbrev pub may_hold : Role → Forest → Bool
-may_hold (acting (content contents.LineEnding)) children = is_empty children
-may_hold (plain plains.BlankLineEnding) children = is_empty children
-may_hold (plain plains.SpaceOrTab) children = is_empty children
-may_hold (plain plains.DelimiterRow) children = lacks is_delimiter_row children
-may_hold (plain plains.DelimiterCellValue) children = lacks is_delimiter_cell_value children
-may_hold _ children = true
+abbrev pub may_contain : Role → Forest → Bool
+may_contain (significant (content contents.LineEnding)) children = is_empty children
+may_contain (transparent transparents.BlankLineEnding) children = is_empty children
+may_contain (transparent transparents.SpaceOrTab) children = is_empty children
+may_contain (transparent transparents.DelimiterRow) children = lacks is_delimiter_row children
+may_contain (transparent transparents.DelimiterCellValue) children = lacks is_delimiter_cell_value children
+may_contain _ children = true
 
 -- each span holds only what it may
-abbrev pub has_right_shape : Forest → Bool
-has_right_shape empty = true
-has_right_shape (span name _ _ children rest) = may_hold (role_of name) children && has_right_shape children && has_right_shape rest
+abbrev pub is_well_formed : Forest → Bool
+is_well_formed empty = true
+is_well_formed (span name _ _ children rest) = may_contain (role_of name) children && is_well_formed children && is_well_formed rest

@@ -13,7 +13,7 @@ to_unist p = record { line = p.line; column = p.column; offset = p.index }
 abbrev pub between : Point → Point → Position
 between start end = record { start = to_unist start; end = to_unist end }
 
--- the byte at which a slice begins or ends: behind a virtual space, the one after its tab
+-- the byte at which a slice begins or ends: after a virtual space, the one after its tab
 abbrev pub edge : Point → ℕ
 edge p = p.index + (if nat_lt 0 p.vs then 1 else 0)
 

@@ -9,17 +9,17 @@ abbrev pub after_first : ℕ → List ℕ → Option (List ℕ)
 after_first c [] = None
 after_first c (b ∷ bs) = if b == c then Some bs else None
 
--- the front of a text that ends with this byte
+-- the prefix of a text that ends with this byte
 abbrev pub before_last : ℕ → List ℕ → Option (List ℕ)
 before_last c [] = None
 before_last c (b ∷ []) = if b == c then Some [] else None
 before_last c (b ∷ d ∷ bs) = option_map (λ front. b ∷ front) (before_last c (d ∷ bs))
 
--- what is kept of the blanks so far behind one character
+-- what is kept of the blanks so far after one character
 abbrev pub blanks_after : Blanks → ℕ → Blanks
 blanks_after before c = if is_blank c then (record { started = before.started; pending = before.started }) else (record { started = true; pending = false })
 
--- what is written for one character behind those blanks
+-- what is written for one character after those blanks
 abbrev pub collapsed_part : Blanks → ℕ → List ℕ
 collapsed_part before c = if is_blank c then [] else (if before.pending then 32 ∷ c ∷ [] else c ∷ [])
 

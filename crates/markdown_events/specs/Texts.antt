@@ -23,14 +23,14 @@ without_first_line_ending (b ∷ []) = if is_line_ending b then [] else b ∷ []
 without_first_line_ending (b ∷ c ∷ bs) = if b == 13 && c == 10 then bs else (if is_line_ending b then c ∷ bs else b ∷ c ∷ bs)
 
 -- the same of a text that is turned round, its last byte first
-abbrev pub without_line_ending_behind : List ℕ → List ℕ
-without_line_ending_behind [] = []
-without_line_ending_behind (b ∷ []) = if is_line_ending b then [] else b ∷ []
-without_line_ending_behind (b ∷ c ∷ bs) = if b == 10 && c == 13 then bs else (if is_line_ending b then c ∷ bs else b ∷ c ∷ bs)
+abbrev pub without_line_ending_reversed : List ℕ → List ℕ
+without_line_ending_reversed [] = []
+without_line_ending_reversed (b ∷ []) = if is_line_ending b then [] else b ∷ []
+without_line_ending_reversed (b ∷ c ∷ bs) = if b == 10 && c == 13 then bs else (if is_line_ending b then c ∷ bs else b ∷ c ∷ bs)
 
 -- without one CRLF, CR or LF at the end
 abbrev pub without_last_line_ending : List ℕ → List ℕ
-without_last_line_ending bs = reverse (without_line_ending_behind (reverse bs))
+without_last_line_ending bs = reverse (without_line_ending_reversed (reverse bs))
 
 -- one line ending goes off the start, where that is asked, and then one off the end of what is left
 abbrev pub trim : List ℕ → Bool → Bool → List ℕ

@@ -8,8 +8,8 @@ use Rattle.markdown_events.specs.declared.event.Event.{Event}
 use Rattle.markdown_events.specs.declared.infer.Child.{Child}
 use Rattle.markdown_events.specs.declared.infer.Ends.{Ends}
 use Rattle.markdown_events.specs.declared.role.Role.{Role}
-use Rattle.markdown_events.specs.declared.role.Role.TheVariants.{Acting as acting}
-use Rattle.markdown_events.specs.declared.role.Acting.TheVariants.{Content as content}
+use Rattle.markdown_events.specs.declared.role.Role.TheVariants.{Significant as significant}
+use Rattle.markdown_events.specs.declared.role.ItemKind.TheVariants.{Content as content}
 use Rattle.markdown_events.specs.declared.role.Content.TheVariants as contents
 use Rattle.markdown_events.specs.declared.around.Around.{Around}
 use Rattle.markdown_events.specs.Around.{in_the_open, may_begin, under}
@@ -20,12 +20,12 @@ use Rattle.markdown_events.specs.declared.infer.AlignKind.{AlignKind}
 
 -- an item of a list
 abbrev pub is_list_item : Role → Bool
-is_list_item (acting (content contents.ListItem)) = true
+is_list_item (significant (content contents.ListItem)) = true
 is_list_item _ = false
 
 -- a block quote
 abbrev pub is_block_quote : Role → Bool
-is_block_quote (acting (content contents.BlockQuote)) = true
+is_block_quote (significant (content contents.BlockQuote)) = true
 is_block_quote _ = false
 
 -- ---- Open spans, by their names, the innermost first
@@ -39,12 +39,12 @@ around_of (inner ∷ names) = under (around_of names) (role_of inner)
 abbrev pub can_enter : List Name → Name → Bool
 can_enter names name = may_begin (around_of names) (role_of name)
 
--- behind an exit: done, where none is open any more
+-- after an exit: done, where none is open any more
 abbrev pub exited : List Name → ℕ → (List Name → ℕ → Option ℕ) → Option ℕ
 exited [] passed next = Some passed
 exited (inner ∷ names) passed next = next (inner ∷ names) (passed + 1)
 
--- one event more: which spans are open behind it and how many events have passed, if it fits
+-- one event more: which spans are open after it and how many events have passed, if it fits
 abbrev pub move : Kind → Name → List Name → ℕ → (List Name → ℕ → Option ℕ) → Option ℕ
 move Enter name names passed next = if can_enter names name then next (name ∷ names) (passed + 1) else None
 move Exit name [] passed next = None
@@ -61,7 +61,7 @@ run (event ∷ events) names passed = move event.kind event.name names passed (r
 abbrev pub no_child : Child
 no_child = record { direct = false; skipped = false }
 
--- behind a child: whether it is of that kind, white space in a line passed over or not
+-- after a child: whether it is of that kind, white space in a line passed over or not
 abbrev pub child_exited : Child → Bool → Name → Child
 child_exited before is_it name = record { direct = is_it; skipped = (if is_space_or_tab (role_of name) then before.direct else is_it) }
 
@@ -70,7 +70,7 @@ abbrev pub item_step : Kind → Name → ℕ → Child → (ℕ → Child → Bo
 item_step Enter name depth last next = if (depth == 0) && (is_blank_line (role_of name) && not last.skipped) then true else next (depth + 1) last
 item_step Exit name depth last next = if depth == 0 then false else (if depth == 1 then next 0 (child_exited last (is_item_prefix (role_of name)) name) else next (depth - 1) last)
 
--- whether a blank line counts among the events of an item behind its enter
+-- whether a blank line counts among the events of an item after its enter
 abbrev pub item_walk : List Event → ℕ → Child → Bool
 item_walk [] depth last = false
 item_walk (event ∷ events) depth last = item_step event.kind event.name depth last (item_walk events)
@@ -85,13 +85,13 @@ no_ends = record { bare = false; counts = false; prefix = no_child; inner = no_c
 abbrev pub counts_blank : Ends → ℕ → Bool
 counts_blank ends depth = if depth == 0 then not ends.bare else ((depth == 1) && (ends.counts && not ends.prefix.skipped))
 
--- behind an enter at that depth in the list
+-- after an enter at that depth in the list
 abbrev pub list_entered : Ends → ℕ → Bool → Name → Ends
 list_entered ends depth include_items name =
     if depth == 0 then (record { bare = ends.bare; counts = include_items && is_list_item (role_of name); prefix = ends.prefix; inner = ends.inner; quote = ends.quote })
     else ends
 
--- behind an exit to that depth in the list
+-- after an exit to that depth in the list
 abbrev pub list_exited : Ends → ℕ → Name → Ends
 list_exited ends depth name =
     if depth == 0 then (record { bare = is_list_item (role_of name) && ends.inner.skipped; counts = false; prefix = no_child; inner = no_child; quote = false })
@@ -110,18 +110,18 @@ abbrev pub list_step : Bool → Kind → Name → ℕ → Ends → (ℕ → Ends
 list_step include_items Enter name depth ends next = if counts_blank ends depth && is_blank_line (role_of name) then true else next (depth + 1) (list_entered ends depth include_items name)
 list_step include_items Exit name depth ends next = if depth == 0 then false else next (depth - 1) (list_exited ends (depth - 1) name)
 
--- whether a blank line counts among the events of a list behind its enter, or where that is asked an item is loose
+-- whether a blank line counts among the events of a list after its enter, or where that is asked an item is loose
 abbrev pub list_walk : Bool → List Event → ℕ → Ends → Bool
 list_walk include_items [] depth ends = false
 list_walk include_items (event ∷ events) depth ends = list_step include_items event.kind event.name depth ends (list_walk include_items events)
 
 -- ---- Delimiter rows
 
--- whether the last cell value began with a marker, behind one event more
+-- whether the last cell value began with a marker, after one event more
 abbrev pub first_after : Name → Bool → Name → Bool
 first_after before first name = if is_delimiter_cell_value (role_of before) then is_delimiter_marker (role_of name) else first
 
--- one event more of the row: the kind of a cell value that ends, and nothing behind the row's exit
+-- one event more of the row: the kind of a cell value that ends, and nothing after the row's exit
 abbrev pub cells_step : Kind → Name → Name → Bool → (Name → Bool → List AlignKind) → List AlignKind
 cells_step Enter name before first next = next name first
 cells_step Exit name before first next =

@@ -1,17 +1,17 @@
-//! What is around a span, as far as the right shape of a list asks.
+//! What is around a span, as far as well-formedness asks.
 
 ghost use Rattle.std.specs.Prelude.{◌≡◌};
 ghost use Rattle.markdown_events.specs.Around.{in_the_open, may_begin, under};
 
-use crate::role::{Plain, Role};
+use crate::role::{Role, TransparentKind};
 
-/// What is around a span, as far as its right shape asks (ours).
+/// What is around a span, as far as well-formedness asks (ours).
 ///
 /// In a `GfmTableDelimiterRow`, `in_row` is true at any depth, and no other such row may begin.
 #[derive(Clone, Copy, PartialEq, Eq, Debug)]
 pub struct Around {
     /// The innermost open span may not hold any span.
-    pub held: bool,
+    pub in_sealed: bool,
     /// A delimiter row is open.
     pub in_row: bool,
     /// A delimiter cell value is open.
@@ -26,7 +26,7 @@ impl Around {
         ensures { result ≡ in_the_open }
     {
         Around {
-            held: false,
+            in_sealed: false,
             in_row: false,
             in_value: false,
         }
@@ -41,9 +41,10 @@ impl Around {
         ensures { result ≡ may_begin self role }
     {
         match role {
-            Role::Plain(Plain::DelimiterRow) => !self.held && !self.in_row,
-            Role::Plain(Plain::DelimiterCellValue) => !self.held && !self.in_value,
-            _ => !self.held,
+            Role::Transparent(TransparentKind::DelimiterRow) => !self.in_sealed && !self.in_row,
+            Role::Transparent(TransparentKind::DelimiterCellValue) => !self.in_sealed
+                && !self.in_value,
+            _ => !self.in_sealed,
         }
     }
 
@@ -55,18 +56,18 @@ impl Around {
         ensures { result ≡ under self role }
     {
         match role {
-            Role::Plain(Plain::DelimiterRow) => Around {
-                held: false,
+            Role::Transparent(TransparentKind::DelimiterRow) => Around {
+                in_sealed: false,
                 in_row: true,
                 in_value: self.in_value,
             },
-            Role::Plain(Plain::DelimiterCellValue) => Around {
-                held: false,
+            Role::Transparent(TransparentKind::DelimiterCellValue) => Around {
+                in_sealed: false,
                 in_row: self.in_row,
                 in_value: true,
             },
             _ => Around {
-                held: role.holds_nothing(),
+                in_sealed: role.is_sealed(),
                 in_row: self.in_row,
                 in_value: self.in_value,
             },

@@ -111,7 +111,7 @@ pub enum Name {
     ListItemValue,
     Reference,
     Resource,
-    // Plain names that right shape, spread and alignment look at.
+    // Transparent names that well-formedness, spread and alignment look at.
     BlankLineEnding,
     SpaceOrTab,
     ListItemPrefix,
@@ -119,7 +119,7 @@ pub enum Name {
     GfmTableDelimiterRow,
     GfmTableDelimiterCellValue,
     GfmTableDelimiterMarker,
-    // Plain names that nothing looks at.
+    // Transparent names that nothing looks at.
     AttentionSequence,
     AutolinkMarker,
     BlockQuoteMarker,
@@ -577,7 +577,7 @@ fn find_in_row(names: &[Name], text: &[u8]) -> Option<Name>
 
 /// A place between two characters of a document, as the tokenizer of the crate `markdown` has it.
 ///
-/// In the document `Hi` the place behind the `H` is
+/// In the document `Hi` the place after the `H` is
 /// `Point { line: 1, column: 2, index: 1, vs: 0 }`.
 #[derive(Clone, Copy, PartialEq, Eq, Debug)]
 pub struct Point {

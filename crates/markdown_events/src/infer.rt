@@ -1,7 +1,7 @@
 //! What the events of a span say of its node: whether a list or an item is spread, and how the
 //! columns of a table are aligned.
 //!
-//! Each function asks for the events of a span of the right shape, which
+//! Each function asks for the events of a well-formed span, which
 //! [`span_begins`](crate::event::span_begins) finds.
 
 ghost use Rattle.std.specs.Prelude.{◌≡◌, IsOk, IfOk, false, []};
@@ -124,7 +124,7 @@ fn child_exited(before: Child, is_it: bool, name: Name) -> Child
     }
 }
 
-/// Whether a blank line counts in an item, from the events behind its enter.
+/// Whether a blank line counts in an item, from the events after its enter.
 fn item_walk(events: &[Event]) -> bool
     ensures { result ≡ item_walk events.now 0 no_child }
 {
@@ -235,7 +235,7 @@ fn list_exited(ends: Ends, depth: usize, name: Name) -> Ends
     }
 }
 
-/// Whether a list is loose, from the events behind its enter.
+/// Whether a list is loose, from the events after its enter.
 fn list_walk(events: &[Event], include_items: bool) -> bool
     ensures { result ≡ list_walk include_items events.now 0 no_ends }
 {
@@ -289,7 +289,7 @@ fn first_after(before: Name, first: bool, name: Name) -> bool
     }
 }
 
-/// How the columns are aligned, from the events of the delimiter row behind its enter.
+/// How the columns are aligned, from the events of the delimiter row after its enter.
 fn row_align(alloc: Global, events: &[Event]) -> Result<Vec<AlignKind>, AllocError>
     ensures value { IfOk result (λ kinds.
         kinds.items ≡ cells_walk events.now names.GfmTableDelimiterRow false) }
@@ -318,7 +318,7 @@ fn row_align(alloc: Global, events: &[Event]) -> Result<Vec<AlignKind>, AllocErr
     }
 }
 
-/// How the columns are aligned, from the events of the table behind its enter.
+/// How the columns are aligned, from the events of the table after its enter.
 fn table_align(alloc: Global, events: &[Event]) -> Result<Vec<AlignKind>, AllocError>
     ensures value { IfOk result (λ kinds. kinds.items ≡ table_walk events.now 0) }
     ensures memory { table_walk events.now 0 ≡ [] → IsOk result }

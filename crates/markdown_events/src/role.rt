@@ -6,16 +6,17 @@ ghost use Rattle.std.specs.Prelude.{◌≡◌};
 ghost use Rattle.markdown_events.specs.Names.{role_of};
 ghost use Rattle.markdown_events.specs.Forest.{is_delimiter_row, is_delimiter_cell_value};
 ghost use Rattle.markdown_events.specs.Spread.{is_blank_line, is_space_or_tab, is_item_prefix, is_quote_prefix, is_delimiter_marker};
-ghost use Rattle.markdown_events.specs.Around.{holds_nothing};
+ghost use Rattle.markdown_events.specs.Around.{is_sealed};
 ghost use Rattle.markdown_events.specs.Walks.{is_list_item, is_block_quote};
 
 use crate::event::Name;
 
-/// A plain name: it makes no node, and what it holds is its holder's (ours).
+/// A transparent name: it makes no node, and what is in its span counts as its container's (ours).
 ///
-/// `Name::EmphasisText.role()` is `Role::Plain(Plain::Other)`: what it holds is the emphasis's.
+/// `Name::EmphasisText.role()` is `Role::Transparent(TransparentKind::Other)`: what is in its span is
+/// the emphasis's.
 #[derive(Clone, Copy, PartialEq, Eq, Debug)]
-pub enum Plain {
+pub enum TransparentKind {
     /// The line ending of a line that has nothing but white space (CommonMark, blank lines).
     BlankLineEnding,
     /// White space in a line.
@@ -34,8 +35,8 @@ pub enum Plain {
     Other,
 }
 
-/// A name that a holder of content takes, any number of times (ours). Names that mean the same are
-/// one.
+/// An item that a container of content takes, any number of times (ours). Names that mean the same
+/// are one.
 ///
 /// `Name::HardBreakEscape` and `Name::HardBreakTrailing` are both `Content::HardBreak`.
 #[derive(Clone, Copy, PartialEq, Eq, Debug)]
@@ -70,7 +71,7 @@ pub enum Content {
     Table,
     TableRow,
     TableCell,
-    /// A heading behind number signs.
+    /// A heading after number signs.
     HeadingAtx,
     /// A heading above a line of equals signs or hyphens.
     HeadingSetext,
@@ -93,7 +94,7 @@ pub enum Content {
     LineEnding,
 }
 
-/// A name that only some holders take (ours).
+/// An item that only some containers take (ours).
 ///
 /// `Part::LabelText` has its place in a link, an image and a footnote call alone.
 #[derive(Clone, Copy, PartialEq, Eq, Debug)]
@@ -106,13 +107,13 @@ pub enum Part {
     CharacterReferenceMarker,
     /// The `#` of a reference by number. Alone it says that the number is decimal.
     CharacterReferenceMarkerNumeric,
-    /// The `x` or `X` behind the `#`, which says that the number is hexadecimal.
+    /// The `x` or `X` after the `#`, which says that the number is hexadecimal.
     CharacterReferenceMarkerHexadecimal,
-    /// What stands behind the markers: `amp` in `&amp;`.
+    /// What comes after the markers: `amp` in `&amp;`.
     CharacterReferenceValue,
-    /// The first word behind a fence of code, which names the language.
+    /// The first word after a fence of code, which names the language.
     CodeFencedFenceInfo,
-    /// What stands behind that word.
+    /// What comes after that word.
     CodeFencedFenceMeta,
     /// `b` in `[a]: b "c"`.
     DefinitionDestinationString,
@@ -124,7 +125,7 @@ pub enum Part {
     FootnoteDefinitionLabelString,
     /// What stands in the first brackets of a link, an image or a footnote call: `a` in `[a][b]`.
     LabelText,
-    /// What stands behind a fence of mathematics.
+    /// What comes after a fence of mathematics.
     MathFlowFenceMeta,
     /// `b` in `[a][b]`.
     ReferenceString,
@@ -140,7 +141,7 @@ pub enum Part {
     TaskMarkChecked,
     /// The blank in `[ ]`: the task is not done (GFM).
     TaskMarkUnchecked,
-    /// Number signs before the text of an ATX heading, or behind it.
+    /// Number signs before the text of an ATX heading, or after it.
     HeadingAtxSequence,
     /// The text of a setext heading, without the line under it.
     HeadingSetextText,
@@ -154,31 +155,31 @@ pub enum Part {
     Resource,
 }
 
-/// A name that says something to the tree (ours).
+/// What an item is: a span whose name is significant, which matters to the tree (ours).
 ///
-/// `Acting::Content(Content::Paragraph)` gives a node, and `Acting::Part(Part::LabelText)` tells
-/// its holder a label.
+/// `ItemKind::Content(Content::Paragraph)` gives a node, and `ItemKind::Part(Part::LabelText)` tells
+/// its container a label.
 #[derive(Clone, Copy, PartialEq, Eq, Debug)]
-pub enum Acting {
+pub enum ItemKind {
     Content(Content),
     Part(Part),
 }
 
 /// What a name is to the tree (ours).
 ///
-/// `Name::Content.role()` is `Role::Plain(Plain::Other)`, and `Name::Paragraph.role()` is
-/// `Role::Acting(Acting::Content(Content::Paragraph))`.
+/// `Name::Content.role()` is `Role::Transparent(TransparentKind::Other)`, and that of
+/// `Name::Paragraph` is `Role::Significant(ItemKind::Content(Content::Paragraph))`.
 #[derive(Clone, Copy, PartialEq, Eq, Debug)]
 pub enum Role {
-    Plain(Plain),
-    Acting(Acting),
+    Transparent(TransparentKind),
+    Significant(ItemKind),
 }
 
 impl Name {
     /// What the name is to the tree.
     ///
-    /// `Name::HtmlText.role()` is `Role::Acting(Acting::Content(Content::Html))`, as is that of
-    /// `Name::HtmlFlow`.
+    /// `Name::HtmlText.role()` is `Role::Significant(ItemKind::Content(Content::Html))`, as is that
+    /// of `Name::HtmlFlow`.
     #[inline(always)]
     pub fn role(self) -> Role
         ensures { result ≡ role_of self }
@@ -192,104 +193,120 @@ impl Name {
             | Name::HtmlFlowData
             | Name::HtmlTextData
             | Name::MathFlowChunk
-            | Name::MathTextData => Role::Acting(Acting::Content(Content::Data)),
-            Name::CharacterReference => Role::Acting(Acting::Content(Content::CharacterReference)),
-            Name::Autolink => Role::Acting(Acting::Content(Content::Autolink)),
-            Name::BlockQuote => Role::Acting(Acting::Content(Content::BlockQuote)),
-            Name::CodeFenced => Role::Acting(Acting::Content(Content::CodeFenced)),
-            Name::CodeIndented => Role::Acting(Acting::Content(Content::CodeIndented)),
-            Name::CodeText => Role::Acting(Acting::Content(Content::CodeText)),
-            Name::Definition => Role::Acting(Acting::Content(Content::Definition)),
-            Name::Emphasis => Role::Acting(Acting::Content(Content::Emphasis)),
-            Name::Frontmatter => Role::Acting(Acting::Content(Content::Frontmatter)),
-            Name::GfmAutolinkLiteralEmail => Role::Acting(Acting::Content(
+            | Name::MathTextData => Role::Significant(ItemKind::Content(Content::Data)),
+            Name::CharacterReference => Role::Significant(ItemKind::Content(
+                Content::CharacterReference,
+            )),
+            Name::Autolink => Role::Significant(ItemKind::Content(Content::Autolink)),
+            Name::BlockQuote => Role::Significant(ItemKind::Content(Content::BlockQuote)),
+            Name::CodeFenced => Role::Significant(ItemKind::Content(Content::CodeFenced)),
+            Name::CodeIndented => Role::Significant(ItemKind::Content(Content::CodeIndented)),
+            Name::CodeText => Role::Significant(ItemKind::Content(Content::CodeText)),
+            Name::Definition => Role::Significant(ItemKind::Content(Content::Definition)),
+            Name::Emphasis => Role::Significant(ItemKind::Content(Content::Emphasis)),
+            Name::Frontmatter => Role::Significant(ItemKind::Content(Content::Frontmatter)),
+            Name::GfmAutolinkLiteralEmail => Role::Significant(ItemKind::Content(
                 Content::AutolinkLiteralEmail,
             )),
-            Name::GfmAutolinkLiteralWww => Role::Acting(Acting::Content(
+            Name::GfmAutolinkLiteralWww => Role::Significant(ItemKind::Content(
                 Content::AutolinkLiteralWww,
             )),
             Name::GfmAutolinkLiteralMailto
             | Name::GfmAutolinkLiteralProtocol
-            | Name::GfmAutolinkLiteralXmpp => Role::Acting(Acting::Content(
+            | Name::GfmAutolinkLiteralXmpp => Role::Significant(ItemKind::Content(
                 Content::AutolinkLiteralWhole,
             )),
-            Name::GfmFootnoteCall => Role::Acting(Acting::Content(Content::FootnoteCall)),
-            Name::GfmFootnoteDefinition => Role::Acting(Acting::Content(
+            Name::GfmFootnoteCall => Role::Significant(ItemKind::Content(Content::FootnoteCall)),
+            Name::GfmFootnoteDefinition => Role::Significant(ItemKind::Content(
                 Content::FootnoteDefinition,
             )),
-            Name::GfmStrikethrough => Role::Acting(Acting::Content(Content::Strikethrough)),
-            Name::GfmTable => Role::Acting(Acting::Content(Content::Table)),
-            Name::GfmTableRow => Role::Acting(Acting::Content(Content::TableRow)),
-            Name::GfmTableCell => Role::Acting(Acting::Content(Content::TableCell)),
-            Name::HeadingAtx => Role::Acting(Acting::Content(Content::HeadingAtx)),
-            Name::HeadingSetext => Role::Acting(Acting::Content(Content::HeadingSetext)),
-            Name::HtmlFlow | Name::HtmlText => Role::Acting(Acting::Content(Content::Html)),
-            Name::Image => Role::Acting(Acting::Content(Content::Image)),
-            Name::Link => Role::Acting(Acting::Content(Content::Link)),
-            Name::ListItem => Role::Acting(Acting::Content(Content::ListItem)),
-            Name::ListOrdered => Role::Acting(Acting::Content(Content::ListOrdered)),
-            Name::ListUnordered => Role::Acting(Acting::Content(Content::ListUnordered)),
-            Name::MathFlow => Role::Acting(Acting::Content(Content::MathFlow)),
-            Name::MathText => Role::Acting(Acting::Content(Content::MathText)),
-            Name::Paragraph => Role::Acting(Acting::Content(Content::Paragraph)),
-            Name::Strong => Role::Acting(Acting::Content(Content::Strong)),
-            Name::ThematicBreak => Role::Acting(Acting::Content(Content::ThematicBreak)),
-            Name::HardBreakEscape | Name::HardBreakTrailing => Role::Acting(Acting::Content(
+            Name::GfmStrikethrough => Role::Significant(ItemKind::Content(Content::Strikethrough)),
+            Name::GfmTable => Role::Significant(ItemKind::Content(Content::Table)),
+            Name::GfmTableRow => Role::Significant(ItemKind::Content(Content::TableRow)),
+            Name::GfmTableCell => Role::Significant(ItemKind::Content(Content::TableCell)),
+            Name::HeadingAtx => Role::Significant(ItemKind::Content(Content::HeadingAtx)),
+            Name::HeadingSetext => Role::Significant(ItemKind::Content(Content::HeadingSetext)),
+            Name::HtmlFlow | Name::HtmlText => Role::Significant(ItemKind::Content(Content::Html)),
+            Name::Image => Role::Significant(ItemKind::Content(Content::Image)),
+            Name::Link => Role::Significant(ItemKind::Content(Content::Link)),
+            Name::ListItem => Role::Significant(ItemKind::Content(Content::ListItem)),
+            Name::ListOrdered => Role::Significant(ItemKind::Content(Content::ListOrdered)),
+            Name::ListUnordered => Role::Significant(ItemKind::Content(Content::ListUnordered)),
+            Name::MathFlow => Role::Significant(ItemKind::Content(Content::MathFlow)),
+            Name::MathText => Role::Significant(ItemKind::Content(Content::MathText)),
+            Name::Paragraph => Role::Significant(ItemKind::Content(Content::Paragraph)),
+            Name::Strong => Role::Significant(ItemKind::Content(Content::Strong)),
+            Name::ThematicBreak => Role::Significant(ItemKind::Content(Content::ThematicBreak)),
+            Name::HardBreakEscape | Name::HardBreakTrailing => Role::Significant(ItemKind::Content(
                 Content::HardBreak,
             )),
-            Name::LineEnding => Role::Acting(Acting::Content(Content::LineEnding)),
-            Name::AutolinkEmail => Role::Acting(Acting::Part(Part::AutolinkEmail)),
-            Name::AutolinkProtocol => Role::Acting(Acting::Part(Part::AutolinkProtocol)),
-            Name::CharacterReferenceMarker => Role::Acting(Acting::Part(
+            Name::LineEnding => Role::Significant(ItemKind::Content(Content::LineEnding)),
+            Name::AutolinkEmail => Role::Significant(ItemKind::Part(Part::AutolinkEmail)),
+            Name::AutolinkProtocol => Role::Significant(ItemKind::Part(Part::AutolinkProtocol)),
+            Name::CharacterReferenceMarker => Role::Significant(ItemKind::Part(
                 Part::CharacterReferenceMarker,
             )),
-            Name::CharacterReferenceMarkerNumeric => Role::Acting(Acting::Part(
+            Name::CharacterReferenceMarkerNumeric => Role::Significant(ItemKind::Part(
                 Part::CharacterReferenceMarkerNumeric,
             )),
-            Name::CharacterReferenceMarkerHexadecimal => Role::Acting(Acting::Part(
+            Name::CharacterReferenceMarkerHexadecimal => Role::Significant(ItemKind::Part(
                 Part::CharacterReferenceMarkerHexadecimal,
             )),
-            Name::CharacterReferenceValue => Role::Acting(Acting::Part(
+            Name::CharacterReferenceValue => Role::Significant(ItemKind::Part(
                 Part::CharacterReferenceValue,
             )),
-            Name::CodeFencedFenceInfo => Role::Acting(Acting::Part(Part::CodeFencedFenceInfo)),
-            Name::CodeFencedFenceMeta => Role::Acting(Acting::Part(Part::CodeFencedFenceMeta)),
-            Name::DefinitionDestinationString => Role::Acting(Acting::Part(
+            Name::CodeFencedFenceInfo => Role::Significant(ItemKind::Part(
+                Part::CodeFencedFenceInfo,
+            )),
+            Name::CodeFencedFenceMeta => Role::Significant(ItemKind::Part(
+                Part::CodeFencedFenceMeta,
+            )),
+            Name::DefinitionDestinationString => Role::Significant(ItemKind::Part(
                 Part::DefinitionDestinationString,
             )),
-            Name::DefinitionLabelString => Role::Acting(Acting::Part(Part::DefinitionLabelString)),
-            Name::DefinitionTitleString => Role::Acting(Acting::Part(Part::DefinitionTitleString)),
-            Name::GfmFootnoteDefinitionLabelString => Role::Acting(Acting::Part(
+            Name::DefinitionLabelString => Role::Significant(ItemKind::Part(
+                Part::DefinitionLabelString,
+            )),
+            Name::DefinitionTitleString => Role::Significant(ItemKind::Part(
+                Part::DefinitionTitleString,
+            )),
+            Name::GfmFootnoteDefinitionLabelString => Role::Significant(ItemKind::Part(
                 Part::FootnoteDefinitionLabelString,
             )),
-            Name::LabelText => Role::Acting(Acting::Part(Part::LabelText)),
-            Name::MathFlowFenceMeta => Role::Acting(Acting::Part(Part::MathFlowFenceMeta)),
-            Name::ReferenceString => Role::Acting(Acting::Part(Part::ReferenceString)),
-            Name::ResourceDestinationString => Role::Acting(Acting::Part(
+            Name::LabelText => Role::Significant(ItemKind::Part(Part::LabelText)),
+            Name::MathFlowFenceMeta => Role::Significant(ItemKind::Part(Part::MathFlowFenceMeta)),
+            Name::ReferenceString => Role::Significant(ItemKind::Part(Part::ReferenceString)),
+            Name::ResourceDestinationString => Role::Significant(ItemKind::Part(
                 Part::ResourceDestinationString,
             )),
-            Name::ResourceTitleString => Role::Acting(Acting::Part(Part::ResourceTitleString)),
-            Name::CodeFencedFence => Role::Acting(Acting::Part(Part::CodeFencedFence)),
-            Name::MathFlowFence => Role::Acting(Acting::Part(Part::MathFlowFence)),
-            Name::GfmTaskListItemValueChecked => Role::Acting(Acting::Part(Part::TaskMarkChecked)),
-            Name::GfmTaskListItemValueUnchecked => Role::Acting(Acting::Part(
+            Name::ResourceTitleString => Role::Significant(ItemKind::Part(
+                Part::ResourceTitleString,
+            )),
+            Name::CodeFencedFence => Role::Significant(ItemKind::Part(Part::CodeFencedFence)),
+            Name::MathFlowFence => Role::Significant(ItemKind::Part(Part::MathFlowFence)),
+            Name::GfmTaskListItemValueChecked => Role::Significant(ItemKind::Part(
+                Part::TaskMarkChecked,
+            )),
+            Name::GfmTaskListItemValueUnchecked => Role::Significant(ItemKind::Part(
                 Part::TaskMarkUnchecked,
             )),
-            Name::HeadingAtxSequence => Role::Acting(Acting::Part(Part::HeadingAtxSequence)),
-            Name::HeadingSetextText => Role::Acting(Acting::Part(Part::HeadingSetextText)),
-            Name::HeadingSetextUnderlineSequence => Role::Acting(Acting::Part(
+            Name::HeadingAtxSequence => Role::Significant(ItemKind::Part(Part::HeadingAtxSequence)),
+            Name::HeadingSetextText => Role::Significant(ItemKind::Part(Part::HeadingSetextText)),
+            Name::HeadingSetextUnderlineSequence => Role::Significant(ItemKind::Part(
                 Part::HeadingSetextUnderlineSequence,
             )),
-            Name::ListItemValue => Role::Acting(Acting::Part(Part::ListItemValue)),
-            Name::Reference => Role::Acting(Acting::Part(Part::Reference)),
-            Name::Resource => Role::Acting(Acting::Part(Part::Resource)),
-            Name::BlankLineEnding => Role::Plain(Plain::BlankLineEnding),
-            Name::SpaceOrTab => Role::Plain(Plain::SpaceOrTab),
-            Name::ListItemPrefix => Role::Plain(Plain::ListItemPrefix),
-            Name::BlockQuotePrefix => Role::Plain(Plain::BlockQuotePrefix),
-            Name::GfmTableDelimiterRow => Role::Plain(Plain::DelimiterRow),
-            Name::GfmTableDelimiterCellValue => Role::Plain(Plain::DelimiterCellValue),
-            Name::GfmTableDelimiterMarker => Role::Plain(Plain::DelimiterMarker),
+            Name::ListItemValue => Role::Significant(ItemKind::Part(Part::ListItemValue)),
+            Name::Reference => Role::Significant(ItemKind::Part(Part::Reference)),
+            Name::Resource => Role::Significant(ItemKind::Part(Part::Resource)),
+            Name::BlankLineEnding => Role::Transparent(TransparentKind::BlankLineEnding),
+            Name::SpaceOrTab => Role::Transparent(TransparentKind::SpaceOrTab),
+            Name::ListItemPrefix => Role::Transparent(TransparentKind::ListItemPrefix),
+            Name::BlockQuotePrefix => Role::Transparent(TransparentKind::BlockQuotePrefix),
+            Name::GfmTableDelimiterRow => Role::Transparent(TransparentKind::DelimiterRow),
+            Name::GfmTableDelimiterCellValue => Role::Transparent(
+                TransparentKind::DelimiterCellValue,
+            ),
+            Name::GfmTableDelimiterMarker => Role::Transparent(TransparentKind::DelimiterMarker),
             // Four arms with one body: the prover takes no more than sixteen names of an arm apart.
             Name::AttentionSequence
             | Name::AutolinkMarker
@@ -306,7 +323,7 @@ impl Name {
             | Name::DefinitionDestinationLiteralMarker
             | Name::DefinitionDestinationRaw
             | Name::DefinitionLabel
-            | Name::DefinitionLabelMarker => Role::Plain(Plain::Other),
+            | Name::DefinitionLabelMarker => Role::Transparent(TransparentKind::Other),
             Name::DefinitionMarker
             | Name::DefinitionTitle
             | Name::DefinitionTitleMarker
@@ -322,7 +339,7 @@ impl Name {
             | Name::GfmFootnoteDefinitionPrefix
             | Name::GfmStrikethroughSequence
             | Name::GfmStrikethroughText
-            | Name::GfmTableBody => Role::Plain(Plain::Other),
+            | Name::GfmTableBody => Role::Transparent(TransparentKind::Other),
             Name::GfmTableCellDivider
             | Name::GfmTableCellText
             | Name::GfmTableDelimiterCell
@@ -338,7 +355,7 @@ impl Name {
             | Name::LabelImageMarker
             | Name::LabelLink
             | Name::LabelMarker
-            | Name::ListItemMarker => Role::Plain(Plain::Other),
+            | Name::ListItemMarker => Role::Transparent(TransparentKind::Other),
             Name::MathFlowFenceSequence
             | Name::MathTextSequence
             | Name::ReferenceMarker
@@ -351,7 +368,7 @@ impl Name {
             | Name::ResourceTitleMarker
             | Name::StrongSequence
             | Name::StrongText
-            | Name::ThematicBreakSequence => Role::Plain(Plain::Other),
+            | Name::ThematicBreakSequence => Role::Transparent(TransparentKind::Other),
         }
     }
 }
@@ -361,13 +378,13 @@ impl Role {
     /// and white space in a line (ours: micromark has none in them).
     ///
     /// `Name::LineEnding.role().holds_nothing()` is true.
-    pub fn holds_nothing(self) -> bool
-        ensures { result ≡ holds_nothing self }
+    pub fn is_sealed(self) -> bool
+        ensures { result ≡ is_sealed self }
     {
         matches!(
             self,
-            Role::Acting(Acting::Content(Content::LineEnding))
-                | Role::Plain(Plain::BlankLineEnding | Plain::SpaceOrTab)
+            Role::Significant(ItemKind::Content(Content::LineEnding))
+                | Role::Transparent(TransparentKind::BlankLineEnding | TransparentKind::SpaceOrTab)
         )
     }
 
@@ -375,28 +392,28 @@ impl Role {
     pub(crate) fn is_blank_line(self) -> bool
         ensures { result ≡ is_blank_line self }
     {
-        matches!(self, Role::Plain(Plain::BlankLineEnding))
+        matches!(self, Role::Transparent(TransparentKind::BlankLineEnding))
     }
 
     /// Whether it is white space in a line.
     pub(crate) fn is_space_or_tab(self) -> bool
         ensures { result ≡ is_space_or_tab self }
     {
-        matches!(self, Role::Plain(Plain::SpaceOrTab))
+        matches!(self, Role::Transparent(TransparentKind::SpaceOrTab))
     }
 
     /// Whether it is what stands before the content of a list item.
     pub(crate) fn is_item_prefix(self) -> bool
         ensures { result ≡ is_item_prefix self }
     {
-        matches!(self, Role::Plain(Plain::ListItemPrefix))
+        matches!(self, Role::Transparent(TransparentKind::ListItemPrefix))
     }
 
     /// Whether it is what stands before the content of a block quote.
     pub(crate) fn is_quote_prefix(self) -> bool
         ensures { result ≡ is_quote_prefix self }
     {
-        matches!(self, Role::Plain(Plain::BlockQuotePrefix))
+        matches!(self, Role::Transparent(TransparentKind::BlockQuotePrefix))
     }
 
     /// Whether it is the row under the head of a table (GFM).
@@ -405,7 +422,7 @@ impl Role {
     pub fn is_delimiter_row(self) -> bool
         ensures { result ≡ is_delimiter_row self }
     {
-        matches!(self, Role::Plain(Plain::DelimiterRow))
+        matches!(self, Role::Transparent(TransparentKind::DelimiterRow))
     }
 
     /// Whether it says how a column is aligned (GFM).
@@ -414,27 +431,33 @@ impl Role {
     pub fn is_delimiter_cell_value(self) -> bool
         ensures { result ≡ is_delimiter_cell_value self }
     {
-        matches!(self, Role::Plain(Plain::DelimiterCellValue))
+        matches!(self, Role::Transparent(TransparentKind::DelimiterCellValue))
     }
 
     /// Whether it is a colon that says how a column is aligned.
     pub(crate) fn is_delimiter_marker(self) -> bool
         ensures { result ≡ is_delimiter_marker self }
     {
-        matches!(self, Role::Plain(Plain::DelimiterMarker))
+        matches!(self, Role::Transparent(TransparentKind::DelimiterMarker))
     }
 
     /// Whether it is an item of a list.
     pub(crate) fn is_list_item(self) -> bool
         ensures { result ≡ is_list_item self }
     {
-        matches!(self, Role::Acting(Acting::Content(Content::ListItem)))
+        matches!(
+            self,
+            Role::Significant(ItemKind::Content(Content::ListItem))
+        )
     }
 
     /// Whether it is a block quote.
     pub(crate) fn is_block_quote(self) -> bool
         ensures { result ≡ is_block_quote self }
     {
-        matches!(self, Role::Acting(Acting::Content(Content::BlockQuote)))
+        matches!(
+            self,
+            Role::Significant(ItemKind::Content(Content::BlockQuote))
+        )
     }
 }

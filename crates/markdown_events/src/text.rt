@@ -88,7 +88,7 @@ fn after_first(value: &str, first: char) -> Option<&str>
     value.strip_prefix(first)
 }
 
-/// The front of a text that ends with this character.
+/// The prefix of a text that ends with this character.
 fn before_last(value: &str, last: char) -> Option<&str>
     requires { last < 128 }
     ensures { option_copied result ≡ before_last last value.now }

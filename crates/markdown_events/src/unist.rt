@@ -48,7 +48,7 @@ impl fmt::Debug for Point {
 pub struct Position {
     /// The place of the first character.
     pub start: Point,
-    /// The place behind the last character.
+    /// The place after the last character.
     pub end: Point,
 }
 

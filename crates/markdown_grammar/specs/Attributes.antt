@@ -1,9 +1,9 @@
 -- What an item has from where it stands, and what it gives to the span around it.
 use Rattle.std.specs.Prelude.{Bool, List, None, Option, Some, false, true, ℕ, ◌||◌}
 use Rattle.std.specs.Option.{option_and_then, option_or}
-use Rattle.markdown_events.specs.declared.role.Acting.{Acting}
+use Rattle.markdown_events.specs.declared.role.ItemKind.{ItemKind}
 use Rattle.markdown_grammar.specs.Items.{Items, is_table, item, marker_of, none}
-use Rattle.markdown_events.specs.declared.role.Acting.TheVariants.{Content as content, Part as part}
+use Rattle.markdown_events.specs.declared.role.ItemKind.TheVariants.{Content as content, Part as part}
 use Rattle.markdown_events.specs.declared.event.Point.{Point}
 use Rattle.markdown_grammar.specs.Document.{Source, number, text_read}
 use Rattle.markdown_events.specs.declared.role.Content.TheVariants as contents
@@ -19,7 +19,7 @@ pub record Place : Type 0 where
   pub marker : Option ℕ
 
 -- whether a line ending is text inside a span
-abbrev pub line_ending_is_text : Acting → Bool
+abbrev pub line_ending_is_text : ItemKind → Bool
 line_ending_is_text (content contents.Table) = false
 line_ending_is_text (content contents.BlockQuote) = false
 line_ending_is_text (content contents.TableRow) = false
@@ -31,7 +31,7 @@ line_ending_is_text (content contents.FootnoteDefinition) = false
 -- before the first fence
 line_ending_is_text (content contents.CodeFenced) = false
 line_ending_is_text (content contents.MathFlow) = false
--- holders of parts alone
+-- containers of parts alone
 line_ending_is_text (content contents.Autolink) = false
 line_ending_is_text (content contents.Link) = false
 line_ending_is_text (content contents.Image) = false
@@ -41,19 +41,19 @@ line_ending_is_text (part parts.Resource) = false
 line_ending_is_text (part parts.Reference) = false
 line_ending_is_text _ = true
 
--- whether one is text behind an item: behind a fence, and not behind the text of a heading
-abbrev pub line_ending_is_text_after : Acting → Bool → Bool
+-- whether one is text after an item: after a fence, and not after the text of a heading
+abbrev pub line_ending_is_text_after : ItemKind → Bool → Bool
 line_ending_is_text_after (part parts.CodeFencedFence) before = true
 line_ending_is_text_after (part parts.MathFlowFence) before = true
 line_ending_is_text_after (part parts.HeadingSetextText) before = false
 line_ending_is_text_after _ before = before
 
 -- the place inside a span
-abbrev pub inherited_in : Acting → Place → Place
+abbrev pub inherited_in : ItemKind → Place → Place
 inherited_in what p = record { line_endings = line_ending_is_text what; in_table = p.in_table || is_table what; marker = None }
 
 -- the place of what follows an item
-abbrev pub inherited_after : Acting → Place → Place
+abbrev pub inherited_after : ItemKind → Place → Place
 inherited_after what p = record { line_endings = line_ending_is_text_after what p.line_endings; in_table = p.in_table; marker = option_or (marker_of what) p.marker }
 
 -- the place of the items of the root
@@ -64,8 +64,8 @@ inherited_at_root = record { line_endings = false; in_table = false; marker = No
 abbrev pub decoded : Source → Place → Point → Point → Option (List ℕ)
 decoded s p a b = option_and_then (λ marker. s.text (text_read s a b) marker) p.marker
 
--- the number that an item gives to its holder: an item value its own, and a ListItem that of its value
-abbrev pub value_given : Source → Acting → Point → Point → Option ℕ → Option ℕ
+-- the number that an item gives to its container: an item value its own, and a ListItem that of its value
+abbrev pub value_given : Source → ItemKind → Point → Point → Option ℕ → Option ℕ
 value_given s (part parts.ListItemValue) start end inner = Some (number (text_read s start end))
 value_given s (content contents.ListItem) start end inner = inner
 value_given s _ start end inner = None
@@ -75,8 +75,8 @@ abbrev pub value : Source → Items → Option ℕ
 value s none = None
 value s (item what start end _ inner rest) = option_or (value_given s what start end (value s inner)) (value s rest)
 
--- the mark that an item gives to its holder: a mark itself, and a Paragraph its own
-abbrev pub mark_given : Acting → Option Bool → Option Bool
+-- the mark that an item gives to its container: a mark itself, and a Paragraph its own
+abbrev pub mark_given : ItemKind → Option Bool → Option Bool
 mark_given (part parts.TaskMarkChecked) inner = Some true
 mark_given (part parts.TaskMarkUnchecked) inner = Some false
 mark_given (content contents.Paragraph) inner = inner

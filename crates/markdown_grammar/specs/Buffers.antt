@@ -6,21 +6,21 @@ use Rattle.markdown_nodes.specs.Tree.{Trees, node, nothing}
 use Rattle.markdown_events.specs.declared.event.Event.{Event}
 use Rattle.markdown_events.specs.declared.event.Kind.{Kind}
 use Rattle.markdown_events.specs.declared.event.Name.{Name}
-use Rattle.markdown_events.specs.declared.role.Acting.{Acting}
+use Rattle.markdown_events.specs.declared.role.ItemKind.{ItemKind}
 use Rattle.markdown_events.specs.declared.role.Role.{Role}
 use Rattle.markdown_grammar.specs.Decorated.{nodes_of}
 use Rattle.markdown_grammar.specs.Items.{Items, item, items, none, ◌then◌}
 use Rattle.markdown_grammar.specs.Nodes.{decorate}
 use Rattle.markdown_grammar.specs.Attributes.{Place, inherited_after, inherited_in, inherited_at_root}
 use Rattle.markdown_grammar.specs.Document.{Source}
-use Rattle.markdown_events.specs.declared.role.Role.TheVariants.{Acting as acting, Plain as plain}
-use Rattle.markdown_events.specs.declared.role.Acting.TheVariants.{Content as content, Part as part}
+use Rattle.markdown_events.specs.declared.role.Role.TheVariants.{Significant as significant, Transparent as transparent}
+use Rattle.markdown_events.specs.declared.role.ItemKind.TheVariants.{Content as content, Part as part}
 use Rattle.markdown_events.specs.declared.event.Kind.TheVariants.{Enter, Exit}
 use Rattle.markdown_events.specs.declared.role.Content.TheVariants as contents
 use Rattle.markdown_events.specs.declared.role.Part.TheVariants as parts
 
 -- a span whose nodes are collected for a text
-abbrev pub is_buffer : Acting → Bool
+abbrev pub is_buffer : ItemKind → Bool
 is_buffer (content contents.CodeText) = true
 is_buffer (content contents.MathText) = true
 is_buffer (content contents.Html) = true
@@ -47,14 +47,14 @@ node_count nothing = 0
 node_count (node _ children _ rest) = 1 + node_count children + node_count rest
 
 -- the nodes in each buffer, at any depth, over all buffers
-abbrev pub held_in : Source → Place → Items → ℕ
-held_in s p none = 0
-held_in s p (item what _ _ _ inner rest) =
-    (if is_buffer what then node_count (nodes_of (decorate s (inherited_in what p) inner)) else 0) + held_in s (inherited_in what p) inner + held_in s (inherited_after what p) rest
+abbrev pub buffered_nodes_in : Source → Place → Items → ℕ
+buffered_nodes_in s p none = 0
+buffered_nodes_in s p (item what _ _ _ inner rest) =
+    (if is_buffer what then node_count (nodes_of (decorate s (inherited_in what p) inner)) else 0) + buffered_nodes_in s (inherited_in what p) inner + buffered_nodes_in s (inherited_after what p) rest
 
 -- the same of a forest
-abbrev pub held : Source → Forest → ℕ
-held s forest = held_in s inherited_at_root (items forest)
+abbrev pub buffered_nodes : Source → Forest → ℕ
+buffered_nodes s forest = buffered_nodes_in s inherited_at_root (items forest)
 
 -- a number, if there is one, and one more
 abbrev pub one_more : Option ℕ → Option ℕ
@@ -69,21 +69,21 @@ closing Exit name (open_name ∷ []) rest = if is_same_name open_name name then 
 closing Exit name (open_name ∷ next ∷ names) rest = if is_same_name open_name name then one_more (rest (next ∷ names)) else None
 
 -- the events before the exit of the last open name, where each exit on the way is that of its enter
-abbrev pub until_closed : List Name → List Event → Option ℕ
-until_closed names [] = None
-until_closed names (event ∷ events) = closing event.kind event.name names (λ left. until_closed left events)
+abbrev pub until_exit : List Name → List Event → Option ℕ
+until_exit names [] = None
+until_exit names (event ∷ events) = closing event.kind event.name names (λ left. until_exit left events)
 
 -- the role of such a span
 abbrev pub is_buffer_role : Role → Bool
-is_buffer_role (plain _) = false
-is_buffer_role (acting what) = is_buffer what
+is_buffer_role (transparent _) = false
+is_buffer_role (significant what) = is_buffer what
 
 -- the events between the enter of a span with a buffer's name and its exit
-abbrev pub inside_from : Kind → Name → List Event → ℕ
-inside_from Enter name events = if is_buffer_role (role_of name) then unwrap_or (until_closed (name ∷ []) events) 0 else 0
-inside_from Exit name events = 0
+abbrev pub buffered_events_from : Kind → Name → List Event → ℕ
+buffered_events_from Enter name events = if is_buffer_role (role_of name) then unwrap_or (until_exit (name ∷ []) events) 0 else 0
+buffered_events_from Exit name events = 0
 
 -- the same for each span with a buffer's name
-abbrev pub inside : List Event → ℕ
-inside [] = 0
-inside (event ∷ events) = inside_from event.kind event.name events + inside events
+abbrev pub buffered_events : List Event → ℕ
+buffered_events [] = 0
+buffered_events (event ∷ events) = buffered_events_from event.kind event.name events + buffered_events events

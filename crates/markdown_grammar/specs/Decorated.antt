@@ -4,12 +4,12 @@ use Rattle.markdown_events.specs.Slices.{between}
 use Rattle.markdown_nodes.specs.Tree.{Label, Trees, join, node, nothing, plain_label, plain_text}
 use Rattle.markdown_events.specs.declared.event.Point.{Point}
 use Rattle.markdown_events.specs.Texts.{fold}
-use Rattle.markdown_events.specs.declared.role.Acting.{Acting}
+use Rattle.markdown_events.specs.declared.role.ItemKind.{ItemKind}
 use Rattle.markdown_events.specs.declared.role.Part.{Part}
 use Rattle.markdown_grammar.specs.Document.{Source, text_read}
 use Rattle.markdown_grammar.specs.Items.{is_part}
 use Rattle.markdown_grammar.specs.Attributes.{Place}
-use Rattle.markdown_events.specs.declared.role.Acting.TheVariants.{Content as content}
+use Rattle.markdown_events.specs.declared.role.ItemKind.TheVariants.{Content as content}
 use Rattle.markdown_events.specs.declared.role.Part.TheVariants as parts
 use Rattle.markdown_nodes.specs.Tree as tree
 use Rattle.markdown_events.specs.declared.role.Content.TheVariants as contents
@@ -18,12 +18,12 @@ use Rattle.markdown_events.specs.declared.role.Content.TheVariants as contents
 abbrev pub node_at : Label → Trees → Point → Point → Trees
 node_at label children start end = node label children (Some (between start end)) nothing
 
--- a list of items: what the first one is, its ends, where it stands, the nodes that it gives, and its items; and the items behind it
+-- a list of items: what the first one is, its ends, where it stands, the nodes that it gives, and its items; and the items after it
 pub data Decorated : Type 0 where
   undecorated : Decorated
-  decorated : (what : Acting) (start end : Point) (place : Place) (own : Trees) (inner rest : Decorated) → Decorated
+  decorated : (what : ItemKind) (start end : Point) (place : Place) (own : Trees) (inner rest : Decorated) → Decorated
 
--- the nodes of items, where texts that meet become one. A break and the line ending behind it give one Break
+-- the nodes of items, where texts that meet become one. A break and the line ending after it give one Break
 abbrev pub nodes_of : Decorated → Trees
 nodes_of undecorated = nothing
 nodes_of (decorated (content contents.HardBreak) start _ _ _ _ (decorated (content contents.LineEnding) _ end _ _ _ rest)) = join (node_at tree.«break» nothing start end) (nodes_of rest)

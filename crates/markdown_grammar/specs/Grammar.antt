@@ -1,51 +1,51 @@
--- The written grammar: how rows are written, which row a span has, what each row takes, and what must stand in it.
+-- The grammar: how content models are written, which one a span has, what each takes, and what it requires.
 use Rattle.std.specs.Prelude.{Bool, List, [], false, is_some, not, true, ◌&&◌, ◌||◌, ◌∷◌}
 use Rattle.std.specs.List.{list_all, list_any}
-use Rattle.markdown_events.specs.declared.role.Acting.{Acting}
+use Rattle.markdown_events.specs.declared.role.ItemKind.{ItemKind}
 use Rattle.markdown_events.specs.declared.role.Part.{Part}
 use Rattle.markdown_grammar.specs.Items.{Items, is_content, is_line_ending, is_one_of, is_part, kinds, no_item, ◌or◌}
 use Rattle.markdown_events.specs.declared.role.Content.{Content}
-use Rattle.markdown_events.specs.declared.role.Acting.TheVariants.{Content as content, Part as part}
+use Rattle.markdown_events.specs.declared.role.ItemKind.TheVariants.{Content as content, Part as part}
 use Rattle.markdown_grammar.specs.Attributes.{value}
 use Rattle.markdown_grammar.specs.Document.{Source}
 use Rattle.markdown_events.specs.declared.role.Content.TheVariants as contents
 use Rattle.markdown_events.specs.declared.role.Part.TheVariants as parts
 
 -- at least one item is such
-abbrev pub any_item : (Acting → Bool) → List Acting → Bool
+abbrev pub any_item : (ItemKind → Bool) → List ItemKind → Bool
 any_item test xs = list_any test xs
 
--- a rule for the items of a holder. Each front of a list that keeps a rule keeps it, too
+-- a rule for the items of a container. Each prefix of a list that keeps a rule keeps it, too
 pub data Rule : Type 0 where
   -- all items are such
-  only : (Acting → Bool) → Rule
+  only : (ItemKind → Bool) → Rule
   -- at most one is one of these
-  once : List Part → Rule
+  at_most_one : List Part → Rule
   -- none is
-  never : List Part → Rule
-  -- behind one of these there are only items such as that
-  only_after : List Part → (Acting → Bool) → Rule
+  none_of : List Part → Rule
+  -- after one of these there are only items such as that
+  only_after : List Part → (ItemKind → Bool) → Rule
   -- before the first of these there are only items such as that
-  only_before : List Part → (Acting → Bool) → Rule
+  only_before : List Part → (ItemKind → Bool) → Rule
 
 -- a list of items keeps a rule
-abbrev pub keeps : Rule → List Acting → Bool
+abbrev pub keeps : Rule → List ItemKind → Bool
 keeps rule [] = true
 keeps (only test) (what ∷ xs) = test what && keeps (only test) xs
-keeps (once ps) (what ∷ xs) = (not (is_one_of ps what) || not (any_item (is_one_of ps) xs)) && keeps (once ps) xs
-keeps (never ps) (what ∷ xs) = not (is_one_of ps what) && keeps (never ps) xs
+keeps (at_most_one ps) (what ∷ xs) = (not (is_one_of ps what) || not (any_item (is_one_of ps) xs)) && keeps (at_most_one ps) xs
+keeps (none_of ps) (what ∷ xs) = not (is_one_of ps what) && keeps (none_of ps) xs
 keeps (only_after ps test) (what ∷ xs) = (not (is_one_of ps what) || list_all test xs) && keeps (only_after ps test) xs
 keeps (only_before ps test) (what ∷ xs) = is_one_of ps what || (test what && keeps (only_before ps test) xs)
 
--- which row
-pub data Holder : Type 0 where
+-- which content model
+pub data ContentModel : Type 0 where
   any_content autolink media footnote_call resource reference definition character_reference
       code_fence math_fence leaf list_ordered list_item numbered_item marked_item marked_numbered_item
       task_paragraph marked_paragraph footnote_definition heading_atx heading_text heading_setext
-      code_fenced math_flow code_buffer math_buffer : Holder
+      code_fenced math_flow code_buffer math_buffer : ContentModel
 
--- the row of a content name, in a holder of that row
-abbrev pub content_model : Holder → Content → Holder
+-- the content model of a content name, in a container of that content model
+abbrev pub content_model : ContentModel → Content → ContentModel
 content_model h contents.Data = leaf
 content_model h contents.AutolinkLiteralEmail = leaf
 content_model h contents.AutolinkLiteralWww = leaf
@@ -73,8 +73,8 @@ content_model h contents.CodeFenced = code_fenced
 content_model h contents.MathFlow = math_flow
 content_model h _ = any_content
 
--- a fence has its row only where it is the first of its block
-abbrev pub part_model : Holder → Part → Holder
+-- a fence has its content model only where it is the first of its block
+abbrev pub part_model : ContentModel → Part → ContentModel
 part_model code_fenced parts.CodeFencedFence = code_fence
 part_model math_flow parts.MathFlowFence = math_fence
 part_model h parts.CodeFencedFence = leaf
@@ -94,19 +94,19 @@ part_model h parts.HeadingSetextUnderlineSequence = leaf
 part_model h parts.ListItemValue = leaf
 part_model h _ = any_content
 
--- the row of an item in a holder of that row
-abbrev pub model_of : Holder → Acting → Holder
+-- the content model of an item in a container of that content model
+abbrev pub model_of : ContentModel → ItemKind → ContentModel
 model_of h (content c) = content_model h c
 model_of h (part p) = part_model h p
 
--- an item behind a Paragraph, by whether that has a mark
-abbrev pub marked_if : Holder → Holder → Bool → Holder
+-- an item after a Paragraph, by whether that has a mark
+abbrev pub marked_if : ContentModel → ContentModel → Bool → ContentModel
 marked_if before marked true = marked
 marked_if before marked false = before
 
--- the holder of what follows: behind its first fence a block is a buffer, behind its first sequence a heading takes any,
--- and an item has one mark, given by a Paragraph
-abbrev pub model_after : Holder → Acting → Bool → Holder
+-- the content model of what follows: after its first fence a block is a buffer, after its first sequence a heading takes any,
+-- and an item has one check mark, given by a Paragraph
+abbrev pub model_after : ContentModel → ItemKind → Bool → ContentModel
 model_after code_fenced (part parts.CodeFencedFence) m = code_buffer
 model_after math_flow (part parts.MathFlowFence) m = math_buffer
 model_after heading_atx (part parts.HeadingAtxSequence) m = heading_text
@@ -130,53 +130,53 @@ addresses = parts.AutolinkEmail ∷ parts.AutolinkProtocol ∷ []
 abbrev pub targets : List Part
 targets = parts.Resource ∷ parts.Reference ∷ []
 
--- a holder of line endings and of these parts
+-- a container of line endings and of these parts
 abbrev pub parts_alone : List Part → Rule
 parts_alone ps = only (is_line_ending or is_one_of ps)
 
--- a holder of content and of these parts
+-- a container of content and of these parts
 abbrev pub content_and : List Part → Rule
 content_and ps = only (is_content or is_one_of ps)
 
--- the rules of each holder, those of what may stand once first
-abbrev pub rules : Holder → List Rule
+-- the rules of each content model, those of what may stand once first
+abbrev pub rules : ContentModel → List Rule
 rules leaf = only no_item ∷ []
-rules autolink = once addresses ∷ parts_alone addresses ∷ []
+rules autolink = at_most_one addresses ∷ parts_alone addresses ∷ []
 rules media =
-    once (parts.LabelText ∷ []) ∷ once (parts.Resource ∷ []) ∷ once (parts.Reference ∷ []) ∷ parts_alone (parts.LabelText ∷ targets) ∷ only_after targets is_line_ending ∷ []
-rules footnote_call = once (parts.LabelText ∷ []) ∷ parts_alone (parts.LabelText ∷ []) ∷ []
+    at_most_one (parts.LabelText ∷ []) ∷ at_most_one (parts.Resource ∷ []) ∷ at_most_one (parts.Reference ∷ []) ∷ parts_alone (parts.LabelText ∷ targets) ∷ only_after targets is_line_ending ∷ []
+rules footnote_call = at_most_one (parts.LabelText ∷ []) ∷ parts_alone (parts.LabelText ∷ []) ∷ []
 rules resource =
-    once (parts.ResourceDestinationString ∷ []) ∷ once (parts.ResourceTitleString ∷ []) ∷ parts_alone (parts.ResourceDestinationString ∷ parts.ResourceTitleString ∷ []) ∷ []
-rules reference = once (parts.ReferenceString ∷ []) ∷ parts_alone (parts.ReferenceString ∷ []) ∷ []
+    at_most_one (parts.ResourceDestinationString ∷ []) ∷ at_most_one (parts.ResourceTitleString ∷ []) ∷ parts_alone (parts.ResourceDestinationString ∷ parts.ResourceTitleString ∷ []) ∷ []
+rules reference = at_most_one (parts.ReferenceString ∷ []) ∷ parts_alone (parts.ReferenceString ∷ []) ∷ []
 rules definition =
-    once (parts.DefinitionLabelString ∷ []) ∷ once (parts.DefinitionDestinationString ∷ []) ∷ once (parts.DefinitionTitleString ∷ [])
+    at_most_one (parts.DefinitionLabelString ∷ []) ∷ at_most_one (parts.DefinitionDestinationString ∷ []) ∷ at_most_one (parts.DefinitionTitleString ∷ [])
     ∷ parts_alone (parts.DefinitionLabelString ∷ parts.DefinitionDestinationString ∷ parts.DefinitionTitleString ∷ []) ∷ []
 rules character_reference =
-    once (parts.CharacterReferenceValue ∷ []) ∷ only (is_one_of markers or is_part parts.CharacterReferenceValue) ∷ only_after (parts.CharacterReferenceValue ∷ []) no_item ∷ only_before markers no_item ∷ []
-rules code_fence = once (parts.CodeFencedFenceInfo ∷ []) ∷ once (parts.CodeFencedFenceMeta ∷ []) ∷ only (is_part parts.CodeFencedFenceInfo or is_part parts.CodeFencedFenceMeta) ∷ []
-rules math_fence = once (parts.MathFlowFenceMeta ∷ []) ∷ only (is_part parts.MathFlowFenceMeta) ∷ []
-rules numbered_item = once (parts.ListItemValue ∷ []) ∷ content_and (parts.ListItemValue ∷ []) ∷ []
-rules task_paragraph = once task_marks ∷ content_and task_marks ∷ []
-rules marked_paragraph = never task_marks ∷ content_and task_marks ∷ []
-rules footnote_definition = once (parts.FootnoteDefinitionLabelString ∷ []) ∷ content_and (parts.FootnoteDefinitionLabelString ∷ []) ∷ []
+    at_most_one (parts.CharacterReferenceValue ∷ []) ∷ only (is_one_of markers or is_part parts.CharacterReferenceValue) ∷ only_after (parts.CharacterReferenceValue ∷ []) no_item ∷ only_before markers no_item ∷ []
+rules code_fence = at_most_one (parts.CodeFencedFenceInfo ∷ []) ∷ at_most_one (parts.CodeFencedFenceMeta ∷ []) ∷ only (is_part parts.CodeFencedFenceInfo or is_part parts.CodeFencedFenceMeta) ∷ []
+rules math_fence = at_most_one (parts.MathFlowFenceMeta ∷ []) ∷ only (is_part parts.MathFlowFenceMeta) ∷ []
+rules numbered_item = at_most_one (parts.ListItemValue ∷ []) ∷ content_and (parts.ListItemValue ∷ []) ∷ []
+rules task_paragraph = at_most_one task_marks ∷ content_and task_marks ∷ []
+rules marked_paragraph = none_of task_marks ∷ content_and task_marks ∷ []
+rules footnote_definition = at_most_one (parts.FootnoteDefinitionLabelString ∷ []) ∷ content_and (parts.FootnoteDefinitionLabelString ∷ []) ∷ []
 rules heading_atx = content_and (parts.HeadingAtxSequence ∷ []) ∷ []
 rules heading_setext =
-    once (parts.HeadingSetextUnderlineSequence ∷ []) ∷ once (parts.HeadingSetextText ∷ []) ∷ content_and (parts.HeadingSetextUnderlineSequence ∷ parts.HeadingSetextText ∷ [])
+    at_most_one (parts.HeadingSetextUnderlineSequence ∷ []) ∷ at_most_one (parts.HeadingSetextText ∷ []) ∷ content_and (parts.HeadingSetextUnderlineSequence ∷ parts.HeadingSetextText ∷ [])
     ∷ only_after (parts.HeadingSetextText ∷ []) (is_line_ending or is_part parts.HeadingSetextUnderlineSequence) ∷ []
 rules code_fenced = content_and (parts.CodeFencedFence ∷ []) ∷ only_before (parts.CodeFencedFence ∷ []) is_line_ending ∷ []
 rules math_flow = content_and (parts.MathFlowFence ∷ []) ∷ only_before (parts.MathFlowFence ∷ []) is_line_ending ∷ []
 rules _ = only is_content ∷ []
 
 -- the items so far keep the rules, and there may be more
-abbrev pub takes : Holder → List Acting → Bool
-takes h xs = list_all (λ rule. keeps rule xs) (rules h)
+abbrev pub conforms : ContentModel → List ItemKind → Bool
+conforms h xs = list_all (λ rule. keeps rule xs) (rules h)
 
 -- a part so named stands among the items
 abbrev pub has_part : Part → Items → Bool
 has_part p xs = any_item (is_part p) (kinds xs)
 
--- what has to stand among the items of the holder: a part, or in an ordered list the number of some item
-abbrev pub has_required : Source → Holder → Items → Bool
+-- what has to stand among the items of the container: a part, or in an ordered list the number of some item
+abbrev pub has_required : Source → ContentModel → Items → Bool
 has_required s character_reference xs = has_part parts.CharacterReferenceValue xs
 has_required s heading_atx xs = has_part parts.HeadingAtxSequence xs
 has_required s heading_setext xs = has_part parts.HeadingSetextUnderlineSequence xs

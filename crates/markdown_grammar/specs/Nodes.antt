@@ -9,11 +9,11 @@ use Rattle.std.specs.Option.{option_and_then, option_or}
 use Rattle.markdown_events.specs.Forest.{Forest}
 use Rattle.markdown_events.specs.Spread.{align, loose, loose_item}
 use Rattle.markdown_events.specs.Texts.{raw, spaces, trim}
-use Rattle.markdown_events.specs.declared.role.Acting.{Acting}
+use Rattle.markdown_events.specs.declared.role.ItemKind.{ItemKind}
 use Rattle.markdown_grammar.specs.Document.{Source, is_byte, length_between, text_read}
 use Rattle.markdown_grammar.specs.Items.{Items, item, none}
 use Rattle.markdown_grammar.specs.Tasks.{task_if}
-use Rattle.markdown_events.specs.declared.role.Acting.TheVariants.{Content as content, Part as part}
+use Rattle.markdown_events.specs.declared.role.ItemKind.TheVariants.{Content as content, Part as part}
 use Rattle.markdown_events.specs.declared.role.Part.TheVariants as parts
 use Rattle.markdown_nodes.specs.declared.mdast.ReferenceKind.TheVariants as reference_kind
 use Rattle.markdown_nodes.specs.Tree as tree
@@ -44,7 +44,7 @@ abbrev pub frontmatter : Bool → List ℕ → Label
 frontmatter true value = tree.toml value
 frontmatter false value = tree.yaml value
 
--- a span that acts: its ends, where it stands, the spans in it, its items, and the mark and the number that these give
+-- a significant span: its ends, where it stands, the spans in it, its items, and the mark and the number that these give
 pub record Span : Type 0 where
   pub start : Point
   pub end : Point
@@ -104,8 +104,23 @@ target s xs =
       label = or_empty (option_or (text parts.ReferenceString reference) (label_text xs));
     }
 
+-- code with the words of its first fence
+abbrev pub fenced_code : Span → Label
+fenced_code x =
+    let fence : Decorated = within parts.CodeFencedFence x.items in
+    tree.code (trim (content_of x) true true) (text parts.CodeFencedFenceInfo fence) (text parts.CodeFencedFenceMeta fence)
+
+-- a definition of a link, and of a footnote: without a label the identifier is empty
+abbrev pub link_definition : Source → Span → Label
+link_definition s x =
+    tree.definition (or_empty (text parts.DefinitionDestinationString x.items)) (text parts.DefinitionTitleString x.items)
+    (or_empty (identifier s parts.DefinitionLabelString x.items)) (text parts.DefinitionLabelString x.items)
+
+abbrev pub note_definition : Source → Span → Label
+note_definition s x = tree.footnote_definition (or_empty (identifier s parts.FootnoteDefinitionLabelString x.items)) (text parts.FootnoteDefinitionLabelString x.items)
+
 -- the nodes of one span: one node, or none. A part gives none, but for the text of a heading, which gives those of its items
-abbrev pub node_of : Source → Acting → Span → Trees
+abbrev pub node_of : Source → ItemKind → Span → Trees
 node_of s (content contents.Data) x = literal x (tree.text (slice_of s x))
 node_of s (content contents.CharacterReference) x = literal x (tree.text (or_empty (character s x.items)))
 node_of s (content contents.LineEnding) x = if x.place.line_endings then literal x (tree.text (slice_of s x)) else nothing
@@ -117,35 +132,30 @@ node_of s (content contents.AutolinkLiteralWhole) x = linked [] (slice_of s x) x
 node_of s (content contents.BlockQuote) x = parent x tree.blockquote
 node_of s (content contents.Emphasis) x = parent x tree.emphasis
 node_of s (content contents.Strong) x = parent x tree.strong
-node_of s (content contents.Strikethrough) x = parent x tree.delete
 node_of s (content contents.Paragraph) x = parent x tree.paragraph
+node_of s (content contents.Strikethrough) x = parent x tree.delete
 node_of s (content contents.Table) x = parent x (tree.table (align x.children))
 node_of s (content contents.TableRow) x = parent x tree.table_row
 node_of s (content contents.TableCell) x = parent x tree.table_cell
 node_of s (content contents.HeadingAtx) x = parent x (tree.heading (atx_depth s x.items))
 node_of s (content contents.HeadingSetext) x = parent x (tree.heading (setext_depth s x.items))
+node_of s (part parts.HeadingSetextText) x = nodes_of x.items
 node_of s (content contents.ThematicBreak) x = literal x tree.thematic_break
 node_of s (content contents.ListOrdered) x = parent x (tree.list true x.number (loose x.children false))
 node_of s (content contents.ListUnordered) x = parent x (tree.list false None (loose x.children false))
 node_of s (content contents.ListItem) x = node_at (tree.list_item (loose_item x.children) x.mark) (task_if x.mark (nodes_of x.items)) x.start x.end
-node_of s (content contents.CodeFenced) x =
-    let fence : Decorated = within parts.CodeFencedFence x.items in
-    literal x (tree.code (trim (content_of x) true true) (text parts.CodeFencedFenceInfo fence) (text parts.CodeFencedFenceMeta fence))
-node_of s (content contents.MathFlow) x = literal x (tree.math (trim (content_of x) true true) (text parts.MathFlowFenceMeta (within parts.MathFlowFence x.items)))
+node_of s (content contents.CodeFenced) x = literal x (fenced_code x)
 node_of s (content contents.CodeIndented) x = literal x (tree.code (trim (content_of x) false true) None None)
+node_of s (content contents.MathFlow) x = literal x (tree.math (trim (content_of x) true true) (text parts.MathFlowFenceMeta (within parts.MathFlowFence x.items)))
 node_of s (content contents.CodeText) x = literal x (tree.inline_code (raw (spaces (content_of x)) x.place.in_table))
 node_of s (content contents.MathText) x = literal x (tree.inline_math (raw (spaces (content_of x)) x.place.in_table))
 node_of s (content contents.Html) x = literal x (tree.html (content_of x))
 node_of s (content contents.Frontmatter) x = literal x (frontmatter (is_byte s 43 x.start) (trim (content_of x) true true))
-node_of s (content contents.Definition) x =
-    literal x (tree.definition (or_empty (text parts.DefinitionDestinationString x.items)) (text parts.DefinitionTitleString x.items)
-    (or_empty (identifier s parts.DefinitionLabelString x.items)) (text parts.DefinitionLabelString x.items))
-node_of s (content contents.FootnoteDefinition) x =
-    parent x (tree.footnote_definition (or_empty (identifier s parts.FootnoteDefinitionLabelString x.items)) (text parts.FootnoteDefinitionLabelString x.items))
+node_of s (content contents.Definition) x = literal x (link_definition s x)
+node_of s (content contents.FootnoteDefinition) x = parent x (note_definition s x)
 node_of s (content contents.FootnoteCall) x = literal x (tree.footnote_reference (or_empty (identifier s parts.LabelText x.items)) (Some (or_empty (label_text x.items))))
 node_of s (content contents.Link) x = node_at (link_label (target s x.items)) (nodes_of (within parts.LabelText x.items)) x.start x.end
 node_of s (content contents.Image) x = literal x (image_label (or_empty (label_text x.items)) (target s x.items))
-node_of s (part parts.HeadingSetextText) x = nodes_of x.items
 node_of s (part _) x = nothing
 
 -- items that begin in a place, each with its node

@@ -1,17 +1,17 @@
 -- Trees whose nodes nest and stand in order, by offsets.
-use Rattle.std.specs.Prelude.{Bool, IsFalse, List, None, Some, [], false, true, ℕ, ⊤, ◌-◌, ◌^◌, ◌∷◌, ◌≤◌}
+use Rattle.std.specs.Prelude.{Bool, IsFalse, List, None, Some, [], false, true, ℕ, ⊤, ◌∷◌, ◌≤◌}
 use Rattle.markdown_nodes.specs.Tree.{Label, Trees, list_item, node, nothing, paragraph}
 use Rattle.markdown_events.specs.declared.event.Event.{Event}
 use Rattle.markdown_events.specs.declared.unist.Position.{Position}
 
--- the indexes of the events do not fall, from a number to another
-abbrev pub RisesTo : ℕ → List Event → ℕ → Type 0
-RisesTo low [] high = low ≤ high
-RisesTo low (event ∷ events) high = (low ≤ event.point.index) × RisesTo event.point.index events high
+-- the indexes of the events do not fall, from a number on
+abbrev pub RisesFrom : ℕ → List Event → Type 0
+RisesFrom low [] = ⊤
+RisesFrom low (event ∷ events) = (low ≤ event.point.index) × RisesFrom event.point.index events
 
--- no event's index is below that of the event before it, and the last is one that a usize can be
+-- no event's index is below that of the event before it
 abbrev pub NeverGoesBack : List Event → Type 0
-NeverGoesBack events = RisesTo 0 events (2 ^ 64 - 1)
+NeverGoesBack events = RisesFrom 0 events
 
 -- where a node stands: first in an item with a mark, first in the paragraph there, or elsewhere
 pub data Standing : Type 0 where
@@ -28,7 +28,7 @@ first_child first_in_task paragraph = first_in_paragraph
 first_child _ (list_item _ (Some _)) = first_in_task
 first_child _ _ = elsewhere
 
--- whether the node's start is free: a task's mark may have been cut off its front
+-- whether the node's start is free: a task's mark may have been cut off its beginning
 abbrev pub may_start_late : Standing → Label → Bool
 may_start_late first_in_paragraph label = true
 may_start_late standing label = is_first_paragraph standing label

@@ -4,20 +4,20 @@ use Rattle.markdown_events.specs.declared.event.Point.{Point}
 use Rattle.markdown_events.specs.declared.message.Fault.{Fault}
 use Rattle.markdown_events.specs.declared.message.Message.{Message}
 use Rattle.markdown_events.specs.Slices.{slice, to_unist}
-use Rattle.markdown_events.specs.declared.role.Acting.{Acting}
-use Rattle.markdown_events.specs.declared.role.Acting.TheVariants.{Part as part}
-use Rattle.markdown_grammar.specs.Grammar.{Holder, Rule, character_reference, code_fenced, list_ordered, math_flow, never, once, only_before}
+use Rattle.markdown_events.specs.declared.role.ItemKind.{ItemKind}
+use Rattle.markdown_events.specs.declared.role.ItemKind.TheVariants.{Part as part}
+use Rattle.markdown_grammar.specs.Grammar.{ContentModel, Rule, character_reference, code_fenced, list_ordered, math_flow, none_of, at_most_one, only_before}
 use Rattle.markdown_grammar.specs.Document.{Source, length_between}
-use Rattle.markdown_grammar.specs.declared.refusal.Refusal.{Refusal}
-use Rattle.markdown_grammar.specs.declared.refusal.Refusal.TheVariants.{HeadingDepth, Held, IncompleteReference, InvalidListValue, InvalidSlice, Misplaced, MissingFence, MissingListValue, Repeated, Unbalanced, UnfinishedBreak, UnknownReference}
-use Rattle.markdown_grammar.specs.declared.refusal.Stop.{Stop}
+use Rattle.markdown_grammar.specs.declared.error_kind.ErrorKind.{ErrorKind}
+use Rattle.markdown_grammar.specs.declared.error_kind.ErrorKind.TheVariants.{HeadingDepth, Held, IncompleteReference, InvalidListValue, InvalidSlice, Misplaced, MissingFence, MissingListValue, Repeated, Unbalanced, UnfinishedBreak, UnknownReference}
+use Rattle.markdown_grammar.specs.declared.error_kind.Stop.{Stop}
 use Rattle.markdown_events.specs.declared.message.Fault.TheVariants as faults
 use Rattle.markdown_events.specs.declared.message.Place.TheVariants as places
 use Rattle.markdown_events.specs.declared.role.Part.TheVariants as parts
-use Rattle.markdown_grammar.specs.declared.refusal.Stop.TheVariants as stops
+use Rattle.markdown_grammar.specs.declared.error_kind.Stop.TheVariants as stops
 
 -- the rule that a refusal names
-abbrev pub rule_of : Refusal → List ℕ
+abbrev pub rule_of : ErrorKind → List ℕ
 rule_of Unbalanced = codes "events-unbalanced"
 rule_of Misplaced = codes "name-misplaced"
 rule_of Repeated = codes "part-repeated"
@@ -32,7 +32,7 @@ rule_of HeadingDepth = codes "heading-depth"
 rule_of UnfinishedBreak = codes "break-unfinished"
 
 -- the reason that a refusal gives
-abbrev pub reason_of : Refusal → List ℕ
+abbrev pub reason_of : ErrorKind → List ℕ
 reason_of Unbalanced = codes "an exit does not match the open span, or a span is left open"
 reason_of Misplaced = codes "this name cannot stand here"
 reason_of Repeated = codes "this part may stand only once"
@@ -48,15 +48,15 @@ reason_of UnfinishedBreak = codes "a hard break is not followed by its line endi
 
 -- ---- Which refusal belongs to what is wrong
 
--- why an item that breaks a rule of a holder is refused
-abbrev pub rule_error : Holder → Rule → Refusal
-rule_error h (once ps) = Repeated
-rule_error h (never ps) = Repeated
+-- why an item that breaks a rule of a container is refused
+abbrev pub rule_error : ContentModel → Rule → ErrorKind
+rule_error h (at_most_one ps) = Repeated
+rule_error h (none_of ps) = Repeated
 rule_error character_reference (only_before ps test) = IncompleteReference
 rule_error h rule = Misplaced
 
--- why a holder is refused that lacks what must stand in it
-abbrev pub missing_error : Holder → Refusal
+-- why a container is refused that lacks what must stand in it
+abbrev pub missing_error : ContentModel → ErrorKind
 missing_error character_reference = IncompleteReference
 missing_error code_fenced = MissingFence
 missing_error math_flow = MissingFence
@@ -64,7 +64,7 @@ missing_error list_ordered = MissingListValue
 missing_error h = HeadingDepth
 
 -- why an item is refused that cannot be read
-abbrev pub value_error : Source → Acting → Point → Point → Refusal
+abbrev pub value_error : Source → ItemKind → Point → Point → ErrorKind
 value_error s (part parts.CharacterReferenceValue) a b = if is_some (slice s.bytes a b) then UnknownReference else InvalidSlice
 value_error s (part parts.ListItemValue) a b = if is_some (slice s.bytes a b) then InvalidListValue else InvalidSlice
 value_error s (part parts.HeadingAtxSequence) a b = if is_some (length_between s.bytes a b) then HeadingDepth else InvalidSlice
@@ -73,19 +73,19 @@ value_error s what a b = InvalidSlice
 -- ---- What the message says
 
 -- the message says that the event at this point is refused so
-pub record Says (message : Message) (refusal : Refusal) (point : Point) : Type 0 where
+pub record Says (message : Message) (error_kind : ErrorKind) (point : Point) : Type 0 where
   pub place : message.place ≡ Some (places.Point (to_unist point))
-  pub rule : message.rule_id.now ≡ rule_of refusal
-  pub reason : message.reason.now ≡ reason_of refusal
+  pub rule : message.rule_id.now ≡ rule_of error_kind
+  pub reason : message.reason.now ≡ reason_of error_kind
   pub source : message.source.now ≡ codes "markdown-rs"
 
 -- the answer for an event that was not taken
 abbrev pub IsFaultOf : Stop → Point → Fault → Type 0
-IsFaultOf (stops.Refused refusal) point (faults.Message message) = Says message refusal point
-IsFaultOf (stops.Refused refusal) point (faults.Memory error) = ⊥
+IsFaultOf (stops.Refused error_kind) point (faults.Message message) = Says message error_kind point
+IsFaultOf (stops.Refused error_kind) point (faults.Memory error) = ⊥
 IsFaultOf (stops.Memory error) point fault = fault ≡ faults.Memory error
 
 -- why an event is refused, and its point
 pub record ErrorAt : Type 0 where
-  pub refusal : Refusal
+  pub error_kind : ErrorKind
   pub point : Point

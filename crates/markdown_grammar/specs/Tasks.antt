@@ -8,15 +8,15 @@ use Rattle.markdown_events.specs.declared.unist.Position.{Position}
 abbrev pub capped_sum : ℕ → ℕ → ℕ
 capped_sum m n = min (m + n) (2 ^ 64 - 1)
 
--- behind one byte of the same line
+-- after one byte of the same line
 abbrev pub one_on : Point → Point
 one_on p = record p { column = capped_sum p.column 1; offset = capped_sum p.offset 1 }
 
--- behind a line ending of n bytes
+-- after a line ending of n bytes
 abbrev pub on_next_line : ℕ → Point → Point
 on_next_line n p = record { line = capped_sum p.line 1; column = 1; offset = capped_sum p.offset n }
 
--- a text and the point at which it starts, without one tab, space or line ending at its front
+-- a text and the point at which it starts, without one tab, space or line ending at its beginning
 abbrev pub after_blank : List ℕ → Point → List ℕ × Point
 after_blank [] p = ([], p)
 after_blank (b ∷ []) p = if b == 9 || b == 32 then ([], one_on p) else (if b == 10 || b == 13 then ([], on_next_line 1 p) else (b ∷ [], p))

@@ -2,4 +2,4 @@
 //! events is refused: the definitions stand in `specs/`.
 #![tactic(auto)]
 
-pub mod refusal;
+pub mod error_kind;

@@ -22,8 +22,8 @@ same_length [] [] e = refl
 same_length [] (y ∷ ys) e = cc
 same_length (x ∷ xs) [] e = cc
 same_length (x ∷ xs) (y ∷ ys) e =
-    let behind : views xs ≡ views ys = cc in
-    let next : length xs ≡ length ys = same_length xs ys behind in
+    let after : views xs ≡ views ys = cc in
+    let next : length xs ≡ length ys = same_length xs ys after in
     grind arith
 
 -- lists that are the same have the same node at each index
@@ -36,9 +36,9 @@ same_at (x ∷ xs) (y ∷ ys) zero d e same lt =
     let position : (view x).position ≡ (view y).position = cc in
     tree_is _ _ _ _ _ _ label children position
 same_at (x ∷ xs) (y ∷ ys) (suc i) d e same lt =
-    let behind : views xs ≡ views ys = cc in
+    let after : views xs ≡ views ys = cc in
     let below : i < length xs = omega arith in
-    same_at xs ys i d e behind below
+    same_at xs ys i d e after below
 
 -- one node more
 pub same_so_far : (xs ys : List Node) (i : ℕ) (d e : Node) → i < length xs → i < length ys → views (take i xs) ≡ views (take i ys) → view (get_or xs i d) ≡ view (get_or ys i e) → views (take (i + 1) xs) ≡ views (take (i + 1) ys)

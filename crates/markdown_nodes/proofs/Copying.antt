@@ -29,13 +29,13 @@ like_children : (it same : Node) (items : List Node) (children : Trees) → it �
 like_children it same items children is below like =
     like ∙ sym (ap (λ (t : Tree). t.children) (view-is it)) ∙ ap (λ (n : Node). (view n).children) is ∙ below
 
--- a list of nodes behind another
-behind : Trees → Trees → Trees
-behind nothing rest = rest
-behind (node label children position first) rest = node label children position (behind first rest)
+-- a list of nodes after another
+after : Trees → Trees → Trees
+after nothing rest = rest
+after (node label children position first) rest = node label children position (after first rest)
 
-views-append : (front back : List Node) → views (front ++ back) ≡ behind (views front) (views back)
-unfolding behind
+views-append : (front back : List Node) → views (front ++ back) ≡ after (views front) (views back)
+unfolding after
 views-append [] back = refl
 views-append (x ∷ front) back = ap (before (view x)) (views-append front back)
 
@@ -44,8 +44,8 @@ pub one_more : (items copies : List Node) (i : ℕ) (d copy : Node) → i < leng
 one_more items copies i d copy lt like same =
     let next : take (i + 1) items ≡ take i items ++ get_or items i d ∷ [] = rw add-one (take-suc items i d lt) in
     views-append copies (copy ∷ [])
-    ∙ ap (λ (ts : Trees). behind ts (only (view copy))) like
-    ∙ ap (λ (t : Tree). behind (views (take i items)) (only t)) same
+    ∙ ap (λ (ts : Trees). after ts (only (view copy))) like
+    ∙ ap (λ (t : Tree). after (views (take i items)) (only t)) same
     ∙ sym (views-append (take i items) (get_or items i d ∷ []))
     ∙ ap views (sym next)
 

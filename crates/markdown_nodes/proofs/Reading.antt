@@ -6,7 +6,7 @@ use Rattle.markdown_nodes.specs.View.{view, views}
 use Rattle.markdown_nodes.specs.Access.{children_of, items_in, label_of, nodes_in}
 use Rattle.markdown_nodes.proofs.Views.{view-is}
 
--- a node's text stands before that of the nodes behind it
+-- a node's text stands before that of the nodes after it
 plain_text-before : (tree : Tree) (rest : Trees) → plain_text (before tree rest) ≡ plain_text (only tree) ++ plain_text rest
 plain_text-before tree rest =
     ap (λ (s : List ℕ). s ++ plain_text rest) (sym (append-nil (value_of tree.label ++ plain_text tree.children)))

@@ -187,8 +187,8 @@ same_trees-true (node label children position rest) (node label' children' posit
     let same : label ≡ label' = (label_decides label label').0 first.0 in
     let below : children ≡ children' = same_trees-true children children' first.1 in
     let place : position ≡ position' = (places_decide position position').0 last.0 in
-    let behind : rest ≡ rest' = same_trees-true rest rest' last.1 in
-    ap (λ z. node z children position rest) same ∙ ap (λ z. node label' z position rest) below ∙ ap (λ z. node label' children' z rest) place ∙ ap (node label' children' position') behind
+    let after : rest ≡ rest' = same_trees-true rest rest' last.1 in
+    ap (λ z. node z children position rest) same ∙ ap (λ z. node label' z position rest) below ∙ ap (λ z. node label' children' z rest) place ∙ ap (node label' children' position') after
 
 -- a list of nodes passes the test with itself
 same_trees-refl : (x : Trees) → same_trees x x ≡ true

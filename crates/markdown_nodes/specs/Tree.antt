@@ -21,7 +21,7 @@ pub data Label : Type 0 where
   footnote_reference footnote_definition : (identifier : List ℕ) (label : Option (List ℕ)) → Label
   definition : (url : List ℕ) (title : Option (List ℕ)) (identifier : List ℕ) (label : Option (List ℕ)) → Label
 
--- a list of nodes: the first one's label, children and position, and the nodes behind it
+-- a list of nodes: the first one's label, children and position, and the nodes after it
 pub data Trees : Type 0 where
   nothing : Trees
   node : (label : Label) (children : Trees) (position : Option Position) (rest : Trees) → Trees

@@ -413,7 +413,7 @@ pub struct List {
     /// The number of the first item that has one, if the items are numbered.
     pub start: Option<u32>,
     /// Whether a blank line stands directly in it, a last one too (markdown-rs). One directly
-    /// behind an item without content at its end does not count, and blank lines in the items are
+    /// after an item without content at its end does not count, and blank lines in the items are
     /// not asked for.
     pub spread: bool,
 }
@@ -610,7 +610,7 @@ pub struct Text {
 
 /// Lines of code (CommonMark, indented and fenced code blocks).
 ///
-/// A fence with the words `rust ignore` behind it has the language `rust` and the meta `ignore`.
+/// A fence with the words `rust ignore` after it has the language `rust` and the meta `ignore`.
 #[derive(PartialEq, Eq, Debug, Drop)]
 pub struct Code {
     /// Its characters.
@@ -619,7 +619,7 @@ pub struct Code {
     pub position: Option<Position>,
     /// The language that it is in, if it is given.
     pub lang: Option<String>,
-    /// What is said behind the language, if it is given.
+    /// What is said after the language, if it is given.
     pub meta: Option<String>,
 }
 
@@ -632,7 +632,7 @@ pub struct Math {
     pub value: String,
     /// Where it stands, if it stands in a document.
     pub position: Option<Position>,
-    /// What is said behind the fence, if it is given.
+    /// What is said after the fence, if it is given.
     pub meta: Option<String>,
 }
 
@@ -708,7 +708,7 @@ pub struct ListItem {
     /// Where it stands, if it stands in a document.
     pub position: Option<Position>,
     /// Whether a blank line stands directly in it, a last one too (markdown-rs). One directly
-    /// behind the item's prefix, a span of white space between them skipped, does not count.
+    /// after the item's prefix, a span of white space between them skipped, does not count.
     pub spread: bool,
     /// Whether the task is done, if it is a task.
     pub checked: Option<bool>,

@@ -1,30 +1,30 @@
--- One more item is taken exactly where what a holder keeps allows it.
+-- One more item is taken exactly where what a container keeps allows it.
 use Rattle.std.proofs.Common.{◌≡◌, Bool, true, false, not, cond, ◌&&◌, ◌||◌, List, [], ◌∷◌, ◌++◌, Option, Some, None, refl, sym, ◌∙◌, ap}
 use Rattle.std.specs.Prelude.{is_some, option_map}
 use Rattle.std.specs.List.{list_all}
 use Rattle.markdown_events.specs.Forest.{Forest}
 use Rattle.markdown_events.specs.declared.event.Point.{Point}
-use Rattle.markdown_events.specs.declared.role.Acting.{Acting}
+use Rattle.markdown_events.specs.declared.role.ItemKind.{ItemKind}
 use Rattle.markdown_events.specs.declared.role.Part.{Part}
-use Rattle.markdown_steps.proofs.Gathered.{inner_at}
+use Rattle.markdown_steps.proofs.SummaryLaws.{inner_at}
 use Rattle.markdown_steps.proofs.ItemLists.{kinds-then}
 use Rattle.markdown_steps.proofs.RuleLists.{keeps-snoc, lets}
 use Rattle.markdown_steps.specs.Compiler.{all_stood, allows, has_one_of, has_stood}
-use Rattle.markdown_grammar.specs.Grammar.{has_part, has_required, rules, takes}
-use Rattle.markdown_grammar.specs.Grammar.{Holder, character_reference, code_fenced, heading_atx, heading_setext, list_ordered, math_flow}
+use Rattle.markdown_grammar.specs.Grammar.{has_part, has_required, rules, conforms}
+use Rattle.markdown_grammar.specs.Grammar.{ContentModel, character_reference, code_fenced, heading_atx, heading_setext, list_ordered, math_flow}
 use Rattle.markdown_grammar.specs.Items.{Items, item, kinds, none, same_part, ◌then◌}
 use Rattle.markdown_grammar.specs.Items.{is_one_of, is_part}
-use Rattle.markdown_steps.specs.KeptNodes.{nodes}
-use Rattle.markdown_steps.specs.Kept.{Inner, Stretch, first_part, kept_at, path_to}
+use Rattle.markdown_steps.specs.SummaryNodes.{nodes}
+use Rattle.markdown_steps.specs.Summaries.{Summary, FoundPart, first_part, kept_at, path_to}
 use Rattle.markdown_grammar.specs.Attributes.{Place, inherited_after}
-use Rattle.markdown_grammar.specs.Grammar.{Rule, any_item, keeps, never, once, only, only_before, only_after}
+use Rattle.markdown_grammar.specs.Grammar.{Rule, any_item, keeps, none_of, at_most_one, only, only_before, only_after}
 use Rattle.markdown_grammar.specs.Document.{Source}
 use Rattle.markdown_events.specs.declared.role.Part.TheVariants as parts
-use Rattle.markdown_events.specs.declared.role.Acting.TheVariants.{Content as content, Part as part}
+use Rattle.markdown_events.specs.declared.role.ItemKind.TheVariants.{Content as content, Part as part}
 
 -- ---- What is kept says whether a part has stood
 
-any-or : (f g : Acting → Bool) (xs : List Acting) → any_item (λ w. f w || g w) xs ≡ (any_item f xs || any_item g xs)
+any-or : (f g : ItemKind → Bool) (xs : List ItemKind) → any_item (λ w. f w || g w) xs ≡ (any_item f xs || any_item g xs)
 any-or f g [] = refl
 any-or f g (x ∷ xs) =
     elim (f x) as (λ b. ((b || g x) || any_item (λ w. f w || g w) xs) ≡ ((b || any_item f xs) || (g x || any_item g xs))) [
@@ -36,7 +36,7 @@ any-or f g (x ∷ xs) =
     or-true true = refl
     or-true false = refl
 
-any-of-none : (xs : List Acting) → any_item (is_one_of []) xs ≡ false
+any-of-none : (xs : List ItemKind) → any_item (is_one_of []) xs ≡ false
 any-of-none [] = refl
 any-of-none (x ∷ xs) = any-of-none xs
 
@@ -44,7 +44,7 @@ any-first : (q : Part) (p : Place) (xs : Items) → any_item (is_part q) (kinds 
 any-first q p none = refl
 any-first q p (item (content c) a b d i rest) = any-first q (inherited_after (content c) p) rest
 any-first q p (item (part r) a b d i rest) =
-    elim (same_part q r) as (λ t. (t || any_item (is_part q) (kinds rest)) ≡ is_some (cond {A = Option Stretch} t (Some (record { start = a; end = b; place = p; inner = i })) (first_part q (inherited_after (part r) p) rest))) [
+    elim (same_part q r) as (λ t. (t || any_item (is_part q) (kinds rest)) ≡ is_some (cond {A = Option FoundPart} t (Some (record { start = a; end = b; place = p; inner = i })) (first_part q (inherited_after (part r) p) rest))) [
       | true ↦ refl
       | false ↦ any-first q (inherited_after (part r) p) rest
     ]
@@ -55,10 +55,10 @@ is_some-map f (Some x) = refl
 
 -- a part stands among the items exactly where it is kept
 pub stood-is : (q : Part) (s : Source) (p : Place) (xs : Items) → has_stood q (inner_at s p xs) ≡ has_part q xs
-stood-is q s p xs = is_some-map (λ (x : Stretch). kept_at s (path_to q) x (nodes s (path_to q) p xs)) (first_part q p xs) ∙ sym (any-first q p xs)
+stood-is q s p xs = is_some-map (λ (x : FoundPart). kept_at s (path_to q) x (nodes s (path_to q) p xs)) (first_part q p xs) ∙ sym (any-first q p xs)
 
 -- and what must stand does
-pub complete-is : (h : Holder) (s : Source) (p : Place) (xs : Items) → all_stood h (inner_at s p xs) ≡ has_required s h xs
+pub complete-is : (h : ContentModel) (s : Source) (p : Place) (xs : Items) → all_stood h (inner_at s p xs) ≡ has_required s h xs
 complete-is character_reference s p xs = stood-is parts.CharacterReferenceValue s p xs
 complete-is heading_atx s p xs = stood-is parts.HeadingAtxSequence s p xs
 complete-is heading_setext s p xs = stood-is parts.HeadingSetextUnderlineSequence s p xs
@@ -73,21 +73,21 @@ any-has (q ∷ ps) s p xs =
     any-or (is_part q) (is_one_of ps) (kinds xs)
     ∙ (λ t. sym (stood-is q s p xs) t || any-has ps s p xs t)
 
-pub lets-is : (r : Rule) (s : Source) (p : Place) (xs : Items) (what : Acting) → lets r (kinds xs) what ≡ allows r (inner_at s p xs) what
+pub lets-is : (r : Rule) (s : Source) (p : Place) (xs : Items) (what : ItemKind) → lets r (kinds xs) what ≡ allows r (inner_at s p xs) what
 lets-is (only test) s p xs what = refl
-lets-is (once ps) s p xs what = ap (λ b. not (is_one_of ps what) || not b) (any-has ps s p xs)
-lets-is (never ps) s p xs what = refl
+lets-is (at_most_one ps) s p xs what = ap (λ b. not (is_one_of ps what) || not b) (any-has ps s p xs)
+lets-is (none_of ps) s p xs what = refl
 lets-is (only_after ps test) s p xs what = ap (λ b. not b || test what) (any-has ps s p xs)
 lets-is (only_before ps test) s p xs what = ap (λ b. b || (is_one_of ps what || test what)) (any-has ps s p xs)
 
--- ---- All rules of a holder
+-- ---- All rules of a container
 
 -- all rules allow one more item
-abbrev pub all_allow : List Rule → Inner → Acting → Bool
+abbrev pub all_allow : List Rule → Summary → ItemKind → Bool
 all_allow [] i what = true
 all_allow (r ∷ rs) i what = allows r i what && all_allow rs i what
 
-kinds-snoc : (xs : Items) (what : Acting) (a b : Point) (d : Forest) (i : Items) → kinds (xs then item what a b d i none) ≡ kinds xs ++ what ∷ []
+kinds-snoc : (xs : Items) (what : ItemKind) (a b : Point) (d : Forest) (i : Items) → kinds (xs then item what a b d i none) ≡ kinds xs ++ what ∷ []
 kinds-snoc xs what a b d i = kinds-then xs (item what a b d i none)
 
 and-swap : (a b c d : Bool) → ((a && b) && (c && d)) ≡ ((a && c) && (b && d))
@@ -96,20 +96,20 @@ and-swap true true c d = refl
 and-swap true false true d = refl
 and-swap true false false d = refl
 
-all-snoc : (rs : List Rule) (s : Source) (p : Place) (xs : Items) (what : Acting)
+all-snoc : (rs : List Rule) (s : Source) (p : Place) (xs : Items) (what : ItemKind)
     → list_all (λ r. keeps r (kinds xs ++ what ∷ [])) rs ≡ (list_all (λ r. keeps r (kinds xs)) rs && all_allow rs (inner_at s p xs) what)
 all-snoc [] s p xs what = refl
 all-snoc (r ∷ rs) s p xs what =
     (λ t. (keeps-snoc r (kinds xs) what ∙ ap (λ b. keeps r (kinds xs) && b) (lets-is r s p xs what)) t && all-snoc rs s p xs what t)
     ∙ and-swap (keeps r (kinds xs)) (allows r (inner_at s p xs) what) (list_all (λ r'. keeps r' (kinds xs)) rs) (all_allow rs (inner_at s p xs) what)
 
-pub takes-snoc : (h : Holder) (s : Source) (p : Place) (xs : Items) (what : Acting) (a b : Point) (d : Forest) (i : Items)
-    → takes h (kinds (xs then item what a b d i none)) ≡ (takes h (kinds xs) && all_allow (rules h) (inner_at s p xs) what)
-takes-snoc h s p xs what a b d i = ap (takes h) (kinds-snoc xs what a b d i) ∙ all-snoc (rules h) s p xs what
+pub takes-snoc : (h : ContentModel) (s : Source) (p : Place) (xs : Items) (what : ItemKind) (a b : Point) (d : Forest) (i : Items)
+    → conforms h (kinds (xs then item what a b d i none)) ≡ (conforms h (kinds xs) && all_allow (rules h) (inner_at s p xs) what)
+takes-snoc h s p xs what a b d i = ap (conforms h) (kinds-snoc xs what a b d i) ∙ all-snoc (rules h) s p xs what
 
 all-keep-none : (rs : List Rule) → list_all (λ r. keeps r []) rs ≡ true
 all-keep-none [] = refl
 all-keep-none (r ∷ rs) = all-keep-none rs
 
-pub takes-none : (h : Holder) → takes h [] ≡ true
+pub takes-none : (h : ContentModel) → conforms h [] ≡ true
 takes-none h = all-keep-none (rules h)

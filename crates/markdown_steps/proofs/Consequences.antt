@@ -4,10 +4,10 @@ use Rattle.std.specs.Option.{option_or}
 use Rattle.std.specs.Prelude.{codes, ⊤}
 use Rattle.markdown_events.specs.Forest.{Forest}
 use Rattle.markdown_events.specs.Slices.{between}
-use Rattle.markdown_events.specs.Spread.{Shown, shown_of}
+use Rattle.markdown_steps.specs.ChildFacts.{ChildFacts, child_facts_of}
 use Rattle.markdown_nodes.specs.Tree.{Label, Trees, join, node, nothing, only, paragraph, seam, text}
 use Rattle.markdown_events.specs.declared.event.Point.{Point}
-use Rattle.markdown_events.specs.declared.role.Acting.{Acting}
+use Rattle.markdown_events.specs.declared.role.ItemKind.{ItemKind}
 use Rattle.markdown_events.specs.declared.unist.Point.{Point as UnistPoint}
 use Rattle.markdown_events.specs.declared.unist.Position.{Position}
 use Rattle.markdown_steps.proofs.Decorating.{nodes-are}
@@ -17,18 +17,18 @@ use Rattle.markdown_grammar.specs.Items.{Items, item, items, none, same_part}
 use Rattle.markdown_grammar.specs.Items.{marker_of}
 use Rattle.markdown_grammar.specs.Meaning.{extent, meaning}
 use Rattle.markdown_grammar.specs.Nodes.{Media, image_label, link_label, linked}
-use Rattle.markdown_steps.specs.KeptNodes.{autolink, media_of}
+use Rattle.markdown_steps.specs.SummaryNodes.{autolink, media_of}
 use Rattle.markdown_grammar.specs.Decorated.{node_at}
 use Rattle.markdown_grammar.specs.Nodes.{frontmatter}
-use Rattle.markdown_steps.specs.KeptNodes.{node_of, nodes}
-use Rattle.markdown_steps.specs.Kept.{Inner, Kept, Path, address, count_of, inner_of, into, itself, path_to}
+use Rattle.markdown_steps.specs.SummaryNodes.{node_of, nodes}
+use Rattle.markdown_steps.specs.Summaries.{Summary, PartSummary, Path, address, count_of, summary_of, into, itself, path_to}
 use Rattle.markdown_grammar.specs.Attributes.{Place, line_ending_is_text_after, inherited_after, inherited_in, inherited_at_root}
 use Rattle.markdown_grammar.specs.Document.{Source}
 use Rattle.markdown_grammar.specs.Tasks.{after_blank, task, task_if, trimmed_text}
 use Rattle.markdown_nodes.specs.Tree as tree
 use Rattle.markdown_events.specs.declared.role.Content.TheVariants as contents
 use Rattle.markdown_events.specs.declared.role.Part.TheVariants as parts
-use Rattle.markdown_events.specs.declared.role.Acting.TheVariants.{Content as content, Part as part}
+use Rattle.markdown_events.specs.declared.role.ItemKind.TheVariants.{Content as content, Part as part}
 
 -- ---- What the laws speak of
 
@@ -49,7 +49,7 @@ abbrev pub AsksNoMore : (Label → Position → Type 0) → Type 0
 AsksNoMore Is = (label : Label) (position : Position) → is_asked_of label ≡ false → Is label position
 
 -- the label of a span's own node, if it is of such a kind
-abbrev pub asked_label : Acting → Shown → Inner → Option Label
+abbrev pub asked_label : ItemKind → ChildFacts → Summary → Option Label
 asked_label (content contents.HeadingAtx) shown i = Some (tree.heading (count_of (i.part (path_to parts.HeadingAtxSequence))))
 asked_label (content contents.HeadingSetext) shown i = Some (tree.heading (count_of (i.part (path_to parts.HeadingSetextUnderlineSequence))))
 asked_label (content contents.ListOrdered) shown i = Some (tree.list true i.value shown.loose_list)
@@ -63,14 +63,14 @@ IfAsked Is position None = ⊤
 IfAsked Is position (Some label) = Is label position
 
 -- what is kept of the items in an item
-abbrev pub inner_from : Source → Place → Items → Inner
-inner_from s p inner = inner_of s p inner (λ which. nodes s which p inner)
+abbrev pub inner_from : Source → Place → Items → Summary
+inner_from s p inner = summary_of s p inner (λ which. nodes s which p inner)
 
 -- the own node of each item, at any depth, is so
 abbrev pub OwnNodes : (Label → Position → Type 0) → Source → Place → Items → Type 0
 OwnNodes Is s p none = ⊤
 OwnNodes Is s p (item what start end children inner rest) =
-    IfAsked Is (between start end) (asked_label what (shown_of children) (inner_from s (inherited_in what p) inner)) × OwnNodes Is s (inherited_in what p) inner × OwnNodes Is s (inherited_after what p) rest
+    IfAsked Is (between start end) (asked_label what (child_facts_of children) (inner_from s (inherited_in what p) inner)) × OwnNodes Is s (inherited_in what p) inner × OwnNodes Is s (inherited_after what p) rest
 
 -- ---- Lists of nodes
 
@@ -82,12 +82,12 @@ everywhere-then Is Too follows (node l c h r) k = (follows l h k.0, everywhere-t
 -- where two lists meet, at most a text comes about
 seam-everywhere : (Is : Label → Position → Type 0) → AsksNoMore Is → (l : Label) (c : Trees) (h : Option Position) (b : Trees)
     → At Is l h → Everywhere (At Is) c → Everywhere (At Is) b → Everywhere (At Is) (seam l c h b)
-seam-everywhere Is others (text v) c h nothing here below behind = (here, below, tt)
-seam-everywhere Is others (text v) c None (node (text u) c' h' r) here below behind = absurd here
-seam-everywhere Is others (text v) c (Some p) (node (text u) c' None r) here below behind = absurd behind.0
-seam-everywhere Is others (text v) c (Some p) (node (text u) c' (Some q) r) here below behind = (others _ _ refl, below, behind.2)
-seam-everywhere Is others (text v) c h (node l c' h' r) here below behind = (here, below, behind)
-seam-everywhere Is others l c h b here below behind = (here, below, behind)
+seam-everywhere Is others (text v) c h nothing here below after = (here, below, tt)
+seam-everywhere Is others (text v) c None (node (text u) c' h' r) here below after = absurd here
+seam-everywhere Is others (text v) c (Some p) (node (text u) c' None r) here below after = absurd after.0
+seam-everywhere Is others (text v) c (Some p) (node (text u) c' (Some q) r) here below after = (others _ _ refl, below, after.2)
+seam-everywhere Is others (text v) c h (node l c' h' r) here below after = (here, below, after)
+seam-everywhere Is others l c h b here below after = (here, below, after)
 
 pub join-everywhere : (Is : Label → Position → Type 0) → AsksNoMore Is → (a b : Trees) → Everywhere (At Is) a → Everywhere (At Is) b → Everywhere (At Is) (join a b)
 join-everywhere Is others nothing b first second = second
@@ -117,7 +117,7 @@ one-so Is l c a b here below = record { so = (here, below, tt) }
 linked-so : (Is : Label → Position → Type 0) → AsksNoMore Is → (scheme value : List ℕ) (a b from to : Point) → AllSo Is (linked scheme value a b from to)
 linked-so Is asks scheme value a b from to = record { so = (asks _ _ refl, (asks _ _ refl, tt, tt), tt) }
 
-autolink-so : (Is : Label → Position → Type 0) → AsksNoMore Is → (x y : Option Kept) (a b : Point) → AllSo Is (autolink x y a b)
+autolink-so : (Is : Label → Position → Type 0) → AsksNoMore Is → (x y : Option PartSummary) (a b : Point) → AllSo Is (autolink x y a b)
 autolink-so Is asks (Some (address from to value)) y a b = linked-so Is asks (codes "mailto:") value a b from to
 autolink-so Is asks x (Some (address from to value)) a b = linked-so Is asks [] value a b from to
 autolink-so Is asks x y a b = one-so Is (tree.link [] None) nothing a b (asks _ _ refl) tt
@@ -157,7 +157,7 @@ full-so : (Is : Label → Position → Type 0) → AsksNoMore Is → (l : Label)
 full-so Is asks l c a b free below = one-so Is l c a b (asks l (between a b) free) below
 
 -- the nodes of an item, by its own label and the nodes in it
-node-so : (Is : Label → Position → Type 0) → AsksNoMore Is → (s : Source) (p : Place) (what : Acting) (a b : Point) (shown : Shown) (i : Inner)
+node-so : (Is : Label → Position → Type 0) → AsksNoMore Is → (s : Source) (p : Place) (what : ItemKind) (a b : Point) (shown : ChildFacts) (i : Summary)
     → IfAsked Is (between a b) (asked_label what shown i) → Everywhere (At Is) i.nodes → Everywhere (At Is) i.label → AllSo Is (node_of s p what a b shown i)
 node-so Is asks s p (content contents.LineEnding) a b shown i own below label = if-so Is p.line_endings _ (bare-so Is asks _ a b refl)
 node-so Is asks s p (content contents.Autolink) a b shown i own below label = autolink-so Is asks _ _ a b
@@ -197,9 +197,9 @@ own-elsewhere Is s in_table ending other_ending marker other_marker (item what a
   own-elsewhere Is s in_table (line_ending_is_text_after what ending) (line_ending_is_text_after what other_ending) (option_or (marker_of what) marker) (option_or (marker_of what) other_marker) rest own.2,
 )
 
--- so behind an item as before it
-own-behind : (Is : Label → Position → Type 0) (s : Source) (p : Place) (what : Acting) (xs : Items) → OwnNodes Is s (inherited_after what p) xs → OwnNodes Is s p xs
-own-behind Is s p what xs own = own-elsewhere Is s p.in_table (line_ending_is_text_after what p.line_endings) p.line_endings (option_or (marker_of what) p.marker) p.marker xs own
+-- so after an item as before it
+own-after : (Is : Label → Position → Type 0) (s : Source) (p : Place) (what : ItemKind) (xs : Items) → OwnNodes Is s (inherited_after what p) xs → OwnNodes Is s p xs
+own-after Is s p what xs own = own-elsewhere Is s p.in_table (line_ending_is_text_after what p.line_endings) p.line_endings (option_or (marker_of what) p.marker) p.marker xs own
 
 -- if the own nodes of items are so, then all of their nodes are
 pub nodes-everywhere : (Is : Label → Position → Type 0) → AsksNoMore Is → (s : Source) (w : Path) (p : Place) (xs : Items) → OwnNodes Is s p xs → Everywhere (At Is) (nodes s w p xs)
@@ -207,15 +207,15 @@ nodes-everywhere Is asks s w p none own = tt
 nodes-everywhere Is asks s itself p (item (content contents.HardBreak) a b d i (item (content contents.LineEnding) a' b' d' i' rest)) own =
     join-everywhere Is asks (node_at tree.«break» nothing a b') (nodes s itself p rest) (bare-so Is asks tree.«break» a b' refl).so (nodes-everywhere Is asks s itself p rest own.2.2)
 nodes-everywhere Is asks s itself p (item what a b d i rest) own =
-    join-everywhere Is asks (node_of s p what a b (shown_of d) (inner_from s (inherited_in what p) i)) (nodes s itself (inherited_after what p) rest)
-    (node-so Is asks s p what a b (shown_of d) (inner_from s (inherited_in what p) i) own.0 (nodes-everywhere Is asks s itself (inherited_in what p) i own.1) (nodes-everywhere Is asks s (path_to parts.LabelText) (inherited_in what p) i own.1)).so
+    join-everywhere Is asks (node_of s p what a b (child_facts_of d) (inner_from s (inherited_in what p) i)) (nodes s itself (inherited_after what p) rest)
+    (node-so Is asks s p what a b (child_facts_of d) (inner_from s (inherited_in what p) i) own.0 (nodes-everywhere Is asks s itself (inherited_in what p) i own.1) (nodes-everywhere Is asks s (path_to parts.LabelText) (inherited_in what p) i own.1)).so
     (nodes-everywhere Is asks s itself (inherited_after what p) rest own.2)
 nodes-everywhere Is asks s (into q way) p (item (part r) a b d i rest) own =
     elim (same_part q r) as (λ t. Everywhere (At Is) (elim t [ true ↦ nodes s way (inherited_in (part r) p) i | false ↦ nodes s (into q way) p rest ])) [
       | true ↦ nodes-everywhere Is asks s way (inherited_in (part r) p) i own.1
-      | false ↦ nodes-everywhere Is asks s (into q way) p rest (own-behind Is s p (part r) rest own.2)
+      | false ↦ nodes-everywhere Is asks s (into q way) p rest (own-after Is s p (part r) rest own.2)
     ]
-nodes-everywhere Is asks s (into q way) p (item (content c) a b d i rest) own = nodes-everywhere Is asks s (into q way) p rest (own-behind Is s p (content c) rest own.2)
+nodes-everywhere Is asks s (into q way) p (item (content c) a b d i rest) own = nodes-everywhere Is asks s (into q way) p rest (own-after Is s p (content c) rest own.2)
 
 -- and so are all of a meaning
 pub meaning-everywhere : (Is : Label → Position → Type 0) → AsksNoMore Is → (s : Source) (f : Forest) → OwnNodes Is s inherited_at_root (items f) → Everywhere (At Is) (only (meaning s f))

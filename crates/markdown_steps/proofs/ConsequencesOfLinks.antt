@@ -4,7 +4,7 @@ use Rattle.std.specs.Prelude.{codes}
 use Rattle.markdown_events.specs.Forest.{Forest}
 use Rattle.markdown_nodes.specs.Tree.{Trees, join, node, nothing}
 use Rattle.markdown_events.specs.declared.event.Point.{Point}
-use Rattle.markdown_events.specs.declared.role.Acting.{Acting}
+use Rattle.markdown_events.specs.declared.role.ItemKind.{ItemKind}
 use Rattle.markdown_steps.proofs.Decorating.{span_at}
 use Rattle.markdown_steps.specs.Consequences.{IsLinkBefore, is_autolink}
 use Rattle.markdown_grammar.specs.Document.{text_read}
@@ -17,15 +17,15 @@ use Rattle.markdown_grammar.specs.Document.{Source}
 use Rattle.markdown_nodes.specs.Tree as tree
 use Rattle.markdown_events.specs.declared.role.Content.TheVariants as contents
 use Rattle.markdown_events.specs.declared.role.Part.TheVariants as parts
-use Rattle.markdown_events.specs.declared.role.Acting.TheVariants.{Content as content}
+use Rattle.markdown_events.specs.declared.role.ItemKind.TheVariants.{Content as content}
 
 autolink-before : (s : Source) (x : Span) (email address : Option Found) (rest : Trees) → IsLinkBefore (join (autolink s x email address) rest) x.start x.end rest
 autolink-before s x (Some y) o rest = record { url = codes "mailto:" ++ text_read s y.start y.end; children = node_at (tree.text (text_read s y.start y.end)) nothing y.start y.end; is_link = refl }
 autolink-before s x None (Some y) rest = record { url = [] ++ text_read s y.start y.end; children = node_at (tree.text (text_read s y.start y.end)) nothing y.start y.end; is_link = refl }
 autolink-before s x None None rest = record { url = []; children = nothing; is_link = refl }
 
--- the nodes of an autolink and of what is behind it are a link and the nodes of what is behind it
-pub links : (s : Source) (p : Place) (what : Acting) (start end : Point) (children : Forest) (inner rest : Items) → is_autolink what ≡ true
+-- the nodes of an autolink and of what comes after it are a link and the nodes of what comes after it
+pub links : (s : Source) (p : Place) (what : ItemKind) (start end : Point) (children : Forest) (inner rest : Items) → is_autolink what ≡ true
     → IsLinkBefore (nodes_of (decorate s p (item what start end children inner rest))) start end (nodes_of (decorate s (inherited_after what p) rest))
 links s p (content contents.Autolink) a b d inner rest h =
     let x : Span = span_at s p (content contents.Autolink) a b d inner in

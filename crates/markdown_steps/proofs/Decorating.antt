@@ -3,35 +3,35 @@ use Rattle.std.proofs.Common.{◌≡◌, ℕ, Bool, true, false, cond, List, [],
 use Rattle.std.specs.Prelude.{if◌then◌else◌, is_some, option_map, unwrap_or}
 use Rattle.std.specs.Option.{option_and_then, option_or}
 use Rattle.markdown_events.specs.Forest.{Forest}
-use Rattle.markdown_events.specs.Spread.{shown_of}
+use Rattle.markdown_steps.specs.ChildFacts.{child_facts_of}
 use Rattle.markdown_events.specs.Texts.{fold, trim}
 use Rattle.markdown_nodes.specs.Tree.{Trees, join, nothing, plain_label, plain_text}
 use Rattle.markdown_events.specs.declared.event.Point.{Point}
-use Rattle.markdown_events.specs.declared.role.Acting.{Acting}
+use Rattle.markdown_events.specs.declared.role.ItemKind.{ItemKind}
 use Rattle.markdown_events.specs.declared.role.Part.{Part}
-use Rattle.markdown_steps.proofs.Gathered.{is-that-part}
+use Rattle.markdown_steps.proofs.SummaryLaws.{is-that-part}
 use Rattle.markdown_grammar.specs.Decorated.{Decorated, Found, decorated, first, identifier, nodes_of, or_empty, text, undecorated, within}
 use Rattle.markdown_grammar.specs.Attributes.{decoded, mark, value}
 use Rattle.markdown_grammar.specs.Document.{text_read}
 use Rattle.markdown_grammar.specs.Items.{Items, item, none, same_part}
 use Rattle.markdown_grammar.specs.Items.{is_part, marker_of}
 use Rattle.markdown_grammar.specs.Nodes.{Media}
-use Rattle.markdown_steps.specs.KeptNodes.{media_of, reference_kind_of}
+use Rattle.markdown_steps.specs.SummaryNodes.{media_of, reference_kind_of}
 use Rattle.markdown_grammar.specs.Decorated.{node_at}
 use Rattle.markdown_grammar.specs.Nodes.{Span, decorate}
-use Rattle.markdown_steps.specs.KeptNodes.{nodes}
-use Rattle.markdown_steps.specs.Kept.{Inner, Kept, Path, Stretch, address, count, count_of, first_part, identifier_of, inner_of, into, itself, kept_from, named, path_through, path_to, stood, stretch_at, text_of, words, words_of}
+use Rattle.markdown_steps.specs.SummaryNodes.{nodes}
+use Rattle.markdown_steps.specs.Summaries.{Summary, PartSummary, Path, FoundPart, address, count, count_of, first_part, identifier_of, summary_of, into, itself, kept_from, named, path_through, path_to, stood, stretch_at, text_of, words, words_of}
 use Rattle.markdown_grammar.specs.Document.{is_byte}
 use Rattle.markdown_grammar.specs.Attributes.{Place, line_ending_is_text_after, inherited_after, inherited_in}
 use Rattle.markdown_grammar.specs.Document.{length_between}
 use Rattle.markdown_grammar.specs.Document.{Source}
 use Rattle.markdown_grammar.specs.Nodes as new
-use Rattle.markdown_steps.specs.KeptNodes as old
+use Rattle.markdown_steps.specs.SummaryNodes as old
 use Rattle.markdown_nodes.specs.Tree as tree
 use Rattle.markdown_nodes.specs.declared.mdast.ReferenceKind.TheVariants as reference_kind
 use Rattle.markdown_events.specs.declared.role.Content.TheVariants as contents
 use Rattle.markdown_events.specs.declared.role.Part.TheVariants as parts
-use Rattle.markdown_events.specs.declared.role.Acting.TheVariants.{Content as content, Part as part}
+use Rattle.markdown_events.specs.declared.role.ItemKind.TheVariants.{Content as content, Part as part}
 
 -- ---- Look-ups
 
@@ -42,10 +42,10 @@ nodes_at (into q way) undecorated = nothing
 nodes_at (into q way) (decorated what _ _ _ _ inner rest) = cond (is_part q what) (nodes_at way inner) (nodes_at (into q way) rest)
 
 -- what is kept of items, by these nodes
-abbrev kept : Source → Place → Items → Inner
-kept s p xs = inner_of s p xs (λ w. nodes_at w (decorate s p xs))
+abbrev kept : Source → Place → Items → Summary
+kept s p xs = summary_of s p xs (λ w. nodes_at w (decorate s p xs))
 
--- the nodes in a part are the same wherever its holder's items begin
+-- the nodes in a part are the same wherever its container's items begin
 at-elsewhere : (s : Source) (q : Part) (way : Path) (t ending other : Bool) (m n : Option ℕ) (xs : Items)
     → nodes_at (into q way) (decorate s (record { line_endings = ending; in_table = t; marker = m }) xs) ≡ nodes_at (into q way) (decorate s (record { line_endings = other; in_table = t; marker = n }) xs)
 at-elsewhere s q way t ending other m n none = refl
@@ -55,13 +55,13 @@ at-elsewhere s q way t ending other m n (item what a b d i rest) =
 
 -- a part is found where the walk finds it
 found-is : {A : Type 0} (k : Point → Point → Place → Trees → A) (s : Source) (q : Part) (p : Place) (xs : Items)
-    → option_map (λ (x : Stretch). k x.start x.end x.place (nodes_at (path_to q) (decorate s p xs))) (first_part q p xs) ≡ option_map (λ (x : Found). k x.start x.end x.place (nodes_of x.inner)) (first q (decorate s p xs))
+    → option_map (λ (x : FoundPart). k x.start x.end x.place (nodes_at (path_to q) (decorate s p xs))) (first_part q p xs) ≡ option_map (λ (x : Found). k x.start x.end x.place (nodes_of x.inner)) (first q (decorate s p xs))
 found-is k s q p none = refl
 found-is k s q p (item (content c) a b d i rest) = found-is k s q (inherited_after (content c) p) rest
 found-is {A} k s q p (item (part r) a b d i rest) =
     let here : Trees = nodes_of (decorate s (inherited_in (part r) p) i) in
     let later : Decorated = decorate s (inherited_after (part r) p) rest in
-    elim (same_part q r) as (λ t. option_map (λ (x : Stretch). k x.start x.end x.place (cond t here (nodes_at (path_to q) later)))
+    elim (same_part q r) as (λ t. option_map (λ (x : FoundPart). k x.start x.end x.place (cond t here (nodes_at (path_to q) later)))
     (cond t (Some (record { start = a; end = b; place = p; inner = i })) (first_part q (inherited_after (part r) p) rest))
     ≡ option_map (λ (x : Found). k x.start x.end x.place (nodes_of x.inner)) (cond t (Some (record { start = a; end = b; place = p; inner = decorate s (inherited_in (part r) p) i })) (first q later))) [
       | true ↦ refl
@@ -70,7 +70,7 @@ found-is {A} k s q p (item (part r) a b d i rest) =
 
 -- and a part of a part
 through-is : {A : Type 0} (k : Point → Point → Place → Trees → A) (s : Source) (q r : Part) (p : Place) (xs : Items)
-    → option_map (λ (x : Stretch). k x.start x.end x.place (nodes_at (path_through q r) (decorate s p xs))) (stretch_at (path_through q r) p xs)
+    → option_map (λ (x : FoundPart). k x.start x.end x.place (nodes_at (path_through q r) (decorate s p xs))) (stretch_at (path_through q r) p xs)
     ≡ option_map (λ (x : Found). k x.start x.end x.place (nodes_of x.inner)) (first r (within q (decorate s p xs)))
 through-is k s q r p none = refl
 through-is k s q r p (item (content c) a b d i rest) = through-is k s q r (inherited_after (content c) p) rest
@@ -78,13 +78,13 @@ through-is {A} k s q r p (item (part o) a b d i rest) =
     by-same (same_part q o) (λ h. is-that-part q (part o) h) (through-is k s q r (inherited_after (part o) p) rest)
   where
     by-same : (t : Bool) → (t ≡ true → part q ≡ part o)
-        → option_map (λ (x : Stretch). k x.start x.end x.place (nodes_at (path_through q r) (decorate s (inherited_after (part o) p) rest))) (stretch_at (path_through q r) (inherited_after (part o) p) rest)
+        → option_map (λ (x : FoundPart). k x.start x.end x.place (nodes_at (path_through q r) (decorate s (inherited_after (part o) p) rest))) (stretch_at (path_through q r) (inherited_after (part o) p) rest)
         ≡ option_map (λ (x : Found). k x.start x.end x.place (nodes_of x.inner)) (first r (within q (decorate s (inherited_after (part o) p) rest)))
-        → option_map (λ (x : Stretch). k x.start x.end x.place (cond t (nodes_at (path_to r) (decorate s (inherited_in (part o) p) i)) (nodes_at (path_through q r) (decorate s (inherited_after (part o) p) rest))))
-        (option_and_then (λ (x : Stretch). first_part r (inherited_in (part q) x.place) x.inner) (cond t (Some (record { start = a; end = b; place = p; inner = i })) (first_part q (inherited_after (part o) p) rest)))
+        → option_map (λ (x : FoundPart). k x.start x.end x.place (cond t (nodes_at (path_to r) (decorate s (inherited_in (part o) p) i)) (nodes_at (path_through q r) (decorate s (inherited_after (part o) p) rest))))
+        (option_and_then (λ (x : FoundPart). first_part r (inherited_in (part q) x.place) x.inner) (cond t (Some (record { start = a; end = b; place = p; inner = i })) (first_part q (inherited_after (part o) p) rest)))
         ≡ option_map (λ (x : Found). k x.start x.end x.place (nodes_of x.inner)) (first r (cond t (decorate s (inherited_in (part o) p) i) (within q (decorate s (inherited_after (part o) p) rest))))
     by-same true e later =
-        ap (λ (w : Acting). option_map (λ (x : Stretch). k x.start x.end x.place (nodes_at (path_to r) (decorate s (inherited_in (part o) p) i))) (first_part r (inherited_in w p) i)) (e refl)
+        ap (λ (w : ItemKind). option_map (λ (x : FoundPart). k x.start x.end x.place (nodes_at (path_to r) (decorate s (inherited_in (part o) p) i))) (first_part r (inherited_in w p) i)) (e refl)
         ∙ found-is k s r (inherited_in (part o) p) i
     by-same false e later = later
 
@@ -152,37 +152,37 @@ either-text h g g' (Some x) o' = refl
 either-text h g g' None (Some x) = refl
 either-text h g g' None None = refl
 
-stood-map : {A : Type 0} (y : A) (o : Option Found) → option_map (λ (k : Kept). y) (option_map (λ (x : Found). stood) o) ≡ option_map (λ (x : Found). y) o
+stood-map : {A : Type 0} (y : A) (o : Option Found) → option_map (λ (k : PartSummary). y) (option_map (λ (x : Found). stood) o) ≡ option_map (λ (x : Found). y) o
 stood-map y None = refl
 stood-map y (Some x) = refl
 
 target-is : (s : Source) (p : Place) (xs : Items) → media_of (kept s p xs) ≡ new.target s (decorate s p xs)
 target-is s p xs =
     let d : Decorated = decorate s p xs in
-    let spelled : Found → List ℕ = λ x. fold (text_read s x.start x.end) in
+    let folded : Found → List ℕ = λ x. fold (text_read s x.start x.end) in
     let plain : Found → List ℕ = λ x. plain_text (nodes_of x.inner) in
     let as_label : Found → List ℕ = λ x. plain_label (nodes_of x.inner) in
     let string_at : Option Found = first parts.ReferenceString (within parts.Reference d) in
     let label_at : Option Found = first parts.LabelText d in
-    let string : (kept s p xs).part (path_through parts.Reference parts.ReferenceString) ≡ option_map (λ (x : Found). named (spelled x) (plain x)) string_at =
+    let string : (kept s p xs).part (path_through parts.Reference parts.ReferenceString) ≡ option_map (λ (x : Found). named (folded x) (plain x)) string_at =
     through-is (λ a b p ts. kept_from s p parts.ReferenceString a b ts) s parts.Reference parts.ReferenceString p xs in
-    let label : (kept s p xs).part (path_to parts.LabelText) ≡ option_map (λ (x : Found). named (spelled x) (as_label x)) label_at = part-named s parts.LabelText plain_label p xs (λ p a b ts. refl) in
+    let label : (kept s p xs).part (path_to parts.LabelText) ≡ option_map (λ (x : Found). named (folded x) (as_label x)) label_at = part-named s parts.LabelText plain_label p xs (λ p a b ts. refl) in
     let resource : (kept s p xs).part (path_to parts.Resource) ≡ option_map (λ (x : Found). stood) (first parts.Resource d) = found-is (λ a b p ts. stood) s parts.Resource p xs in
     let reference : (kept s p xs).part (path_to parts.Reference) ≡ option_map (λ (x : Found). stood) (first parts.Reference d) = found-is (λ a b p ts. stood) s parts.Reference p xs in
     let url = text-through s parts.Resource parts.ResourceDestinationString p xs (λ p a b ts. refl) in
     let title = text-through s parts.Resource parts.ResourceTitleString p xs (λ p a b ts. refl) in
     λ t. record {
-      resource = ((λ u. option_map (λ (r : Kept). (or_empty (url u), title u)) (resource u))
+      resource = ((λ u. option_map (λ (r : PartSummary). (or_empty (url u), title u)) (resource u))
           ∙ stood-map (or_empty (text parts.ResourceDestinationString (within parts.Resource d)), text parts.ResourceTitleString (within parts.Resource d)) (first parts.Resource d)) t;
-      kind = ((λ u. reference_kind_of (reference u) (string u)) ∙ kind-is spelled plain (first parts.Reference d) string_at) t;
-      identifier = ((λ u. identifier_of (option_or (string u) (label u))) ∙ either-identifier spelled plain as_label string_at label_at) t;
-      label = ((λ u. text_of (option_or (string u) (label u))) ∙ either-text spelled plain as_label string_at label_at) t;
+      kind = ((λ u. reference_kind_of (reference u) (string u)) ∙ kind-is folded plain (first parts.Reference d) string_at) t;
+      identifier = ((λ u. identifier_of (option_or (string u) (label u))) ∙ either-identifier folded plain as_label string_at label_at) t;
+      label = ((λ u. text_of (option_or (string u) (label u))) ∙ either-text folded plain as_label string_at label_at) t;
     }
 
 -- ---- The node of a span
 
 -- a span as it stands
-abbrev pub span_at : Source → Place → Acting → Point → Point → Forest → Items → Span
+abbrev pub span_at : Source → Place → ItemKind → Point → Point → Forest → Items → Span
 span_at s p what a b d inner = record { start = a; end = b; place = p; children = d; items = decorate s (inherited_in what p) inner; mark = mark inner; number = value s inner }
 
 autolink-is : (s : Source) (x : Span) (o o' : Option Found)
@@ -204,8 +204,8 @@ setext-is s None = refl
 setext-is s (Some x) = refl
 
 -- what is kept of its items gives the same node as these items
-node-is : (s : Source) (p : Place) (what : Acting) (a b : Point) (d : Forest) (inner : Items)
-    → old.node_of s p what a b (shown_of d) (kept s (inherited_in what p) inner) ≡ new.node_of s what (span_at s p what a b d inner)
+node-is : (s : Source) (p : Place) (what : ItemKind) (a b : Point) (d : Forest) (inner : Items)
+    → old.node_of s p what a b (child_facts_of d) (kept s (inherited_in what p) inner) ≡ new.node_of s what (span_at s p what a b d inner)
 node-is s p (content contents.CharacterReference) a b d inner =
     let h : Place = inherited_in (content contents.CharacterReference) p in
     ap (λ (v : List ℕ). node_at (tree.text v) nothing a b)
@@ -258,7 +258,7 @@ decorated-at s itself p none = refl
 decorated-at s (into q way) p none = refl
 decorated-at s itself p (item (content contents.HardBreak) a b d i (item (content contents.LineEnding) a' b' d' i' rest)) = ap (λ (t : Trees). join (node_at tree.«break» nothing a b') t) (decorated-at s itself p rest)
 decorated-at s itself p (item what a b d i rest) =
-    λ t. join ((ap (λ (under : Path → Trees). old.node_of s p what a b (shown_of d) (inner_of s (inherited_in what p) i under)) (λ u way. decorated-at s way (inherited_in what p) i u) ∙ node-is s p what a b d i) t)
+    λ t. join ((ap (λ (under : Path → Trees). old.node_of s p what a b (child_facts_of d) (summary_of s (inherited_in what p) i under)) (λ u way. decorated-at s way (inherited_in what p) i u) ∙ node-is s p what a b d i) t)
     (decorated-at s itself (inherited_after what p) rest t)
 decorated-at s (into q way) p (item (part r) a b d i rest) =
     elim (same_part q r) as (λ t. elim t [ true ↦ nodes s way (inherited_in (part r) p) i | false ↦ nodes s (into q way) p rest ] ≡ cond t (nodes_at way (decorate s (inherited_in (part r) p) i)) (nodes_at (into q way) (decorate s (inherited_after (part r) p) rest))) [

@@ -1,7 +1,7 @@
 -- From the first event to the last: of a spelling as of its forest.
 use Rattle.std.proofs.Common.{◌≡◌, ℕ, ◌-◌, List, [], ◌∷◌, ◌++◌, length, Option, Some, arith, refl, sym, ap, ◌∙◌}
 use Rattle.std.specs.Prelude.{slice_get}
-use Rattle.markdown_events.specs.Forest.{Forest, empty, enter, exit, span, spell}
+use Rattle.markdown_events.specs.Forest.{Forest, empty, enter, exit, span, events_of}
 use Rattle.markdown_events.specs.Slices.{between}
 use Rattle.markdown_events.specs.declared.event.Event.{Event}
 use Rattle.markdown_events.specs.declared.event.Name.{Name}
@@ -29,23 +29,23 @@ unfolding last_or
 last_after e d [] fs = refl
 last_after e d (x ∷ es) fs = last_after x d es fs
 
-last_spelled : (n : Name) (p : Point) (f : Forest) → (last_or (exit n p) (spell f)).point ≡ last_end p f
+last_of_events : (n : Name) (p : Point) (f : Forest) → (last_or (exit n p) (events_of f)).point ≡ last_end p f
 unfolding last_or
-last_spelled n p empty = refl
-last_spelled n p (span m a b c r) = ap (λ (x : Event). x.point) (last_after (enter m a) (exit m b) (spell c) (spell r)) ∙ last_spelled m b r
+last_of_events n p empty = refl
+last_of_events n p (span m a b c r) = ap (λ (x : Event). x.point) (last_after (enter m a) (exit m b) (events_of c) (events_of r)) ∙ last_of_events m b r
 
-pub extent-is : (f : Forest) → extent_of (spell f) ≡ extent f
+pub extent-is : (f : Forest) → extent_of (events_of f) ≡ extent f
 extent-is empty = refl
 extent-is (span n a b c r) =
-    let tail = spell c ++ (exit n b ∷ spell r) in
+    let tail = events_of c ++ (exit n b ∷ events_of r) in
     let first = enter n a in
     let count : length (first ∷ tail) - 1 ≡ length tail = omega arith in
     ap (λ (k : ℕ). extent_between (Some first) (slice_get (first ∷ tail) k)) count
     ∙ ap (λ (o : Option Event). extent_between (Some first) o) (last_at first tail)
-    ∙ ap (between a) (ap (λ (x : Event). x.point) (last_after first (exit n b) (spell c) (spell r)) ∙ last_spelled n b r)
+    ∙ ap (between a) (ap (λ (x : Event). x.point) (last_after first (exit n b) (events_of c) (events_of r)) ∙ last_of_events n b r)
 
 -- the last event ends the list
-pub last_part : (es : List Event) (e : Event) → slice_get es (length es - 1) ≡ Some e → (front : List Event) × (es ≡ front ++ (e ∷ []))
+pub last_part : (es : List Event) (e : Event) → slice_get es (length es - 1) ≡ Some e → (prefix : List Event) × (es ≡ prefix ++ (e ∷ []))
 last_part [] e h = absurd cc
 last_part (d ∷ []) e h = ([], ap (λ (x : Event). x ∷ []) (cc))
 last_part (d ∷ x ∷ es) e h =

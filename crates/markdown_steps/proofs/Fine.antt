@@ -1,49 +1,49 @@
 -- With an event that a step takes nothing is wrong, in the words of the grammar.
 use Rattle.std.proofs.Common.{◌≡◌, Bool, true, false, not, ◌&&◌, List, [], ◌∷◌, ◌++◌, Some, Ok, Err, refl, sym, ap, subst, ◌∙◌}
 use Rattle.std.specs.List.{list_all}
-use Rattle.markdown_events.specs.Around.{holds_nothing, may_begin}
+use Rattle.markdown_events.specs.Around.{is_sealed, may_begin}
 use Rattle.markdown_events.specs.Forest.{Forest, is_delimiter_cell_value, is_delimiter_row}
 use Rattle.markdown_events.specs.Names.{is_same_name, role_of}
-use Rattle.markdown_events.specs.Spread.{Shown}
+use Rattle.markdown_steps.specs.ChildFacts.{ChildFacts}
 use Rattle.markdown_events.specs.declared.around.Around.{Around}
 use Rattle.markdown_events.specs.declared.event.Event.{Event}
 use Rattle.markdown_events.specs.declared.event.Kind.{Kind}
 use Rattle.markdown_events.specs.declared.event.Kind.TheVariants.{Enter, Exit}
 use Rattle.markdown_events.specs.declared.event.Name.{Name}
 use Rattle.markdown_events.specs.declared.event.Point.{Point}
-use Rattle.markdown_events.specs.declared.role.Acting.{Acting}
+use Rattle.markdown_events.specs.declared.role.ItemKind.{ItemKind}
 use Rattle.markdown_events.specs.declared.role.Role.{Role}
-use Rattle.markdown_events.specs.declared.role.Role.TheVariants.{Acting as acting}
+use Rattle.markdown_events.specs.declared.role.Role.TheVariants.{Significant as significant}
 use Rattle.markdown_steps.proofs.Allowed.{complete-is, lets-is}
 use Rattle.markdown_steps.proofs.Booleans.{and-both, and-left, and-right, not-both}
-use Rattle.markdown_steps.proofs.Gathered.{inner_at}
+use Rattle.markdown_steps.proofs.SummaryLaws.{inner_at}
 use Rattle.markdown_steps.proofs.Known.{AreOpen, Stands, kept_at_spot, outer_by, stands}
 use Rattle.markdown_steps.proofs.Outcomes.{bind_ok, checked_passes, done, one_ok}
 use Rattle.markdown_steps.proofs.Refused.{run-append}
 use Rattle.markdown_steps.proofs.RuleLists.{keeps-snoc}
 use Rattle.markdown_steps.proofs.Sayings.{breaks-takes}
-use Rattle.markdown_grammar.specs.Accepted.{Occurrence, ends_a_break, has_its_byte, has_its_parts, has_its_value, holds_no_open_break, is_no_inner_table}
-use Rattle.markdown_steps.specs.Columns.{shown}
-use Rattle.markdown_steps.specs.Compiler.{Holds, Open, State, all_stood, allows, closed, enter_as, enter_checks, enter_step, entered, exit_checks, exit_from, exit_step, leave, leave_to, opened, opening, rule_checks, run, shut, step, step_by}
-use Rattle.markdown_grammar.specs.Grammar.{rules, takes}
-use Rattle.markdown_grammar.specs.Grammar.{Holder, model_of}
+use Rattle.markdown_grammar.specs.Accepted.{Occurrence, ends_a_break, has_its_byte, has_its_parts, has_its_value, contains_no_open_break, is_no_inner_table}
+use Rattle.markdown_steps.specs.Columns.{child_facts}
+use Rattle.markdown_steps.specs.Compiler.{ContainerState, OpenSpan, State, all_stood, allows, with_child, enter_as, enter_checks, enter_step, entered, exit_checks, exit_from, exit_step, leave, leave_to, push, opening, rule_checks, run, pop, step, step_by}
+use Rattle.markdown_grammar.specs.Grammar.{rules, conforms}
+use Rattle.markdown_grammar.specs.Grammar.{ContentModel, model_of}
 use Rattle.markdown_grammar.specs.Items.{Items, items, kinds}
 use Rattle.markdown_grammar.specs.Attributes.{Place, inherited_in}
-use Rattle.markdown_grammar.specs.Reasons.{IsHeld, IsWrong, IsWrongAtEnter, IsWrongAtExit, NothingIsWrong, against_a_rule, beginning, after_a_break, break_is_last, closes, enters, exits, held, in_what_holds_nothing, row_in_a_row, table_in_a_table, unmatched, value_in_a_value, without_its_byte, without_its_parts, without_its_value}
+use Rattle.markdown_grammar.specs.Reasons.{IsHeld, IsWrong, IsWrongAtEnter, IsWrongAtExit, NothingIsWrong, against_a_rule, beginning, after_a_break, break_is_last, closes, enters, exits, held, in_a_sealed_span, row_in_a_row, table_in_a_table, unmatched, value_in_a_value, without_its_byte, without_its_parts, without_its_value}
 use Rattle.markdown_steps.specs.Checks.{passes, ◌>>=◌}
 use Rattle.markdown_grammar.specs.Grammar.{Rule, keeps}
 use Rattle.markdown_grammar.specs.Document.{Source}
 use Rattle.markdown_grammar.specs.Spots.{Ancestor, Site, around_of, occurrence, site_in, site_of, events_so_far}
-use Rattle.markdown_grammar.specs.declared.refusal.Refusal.{Refusal}
-use Rattle.markdown_grammar.specs.declared.refusal.Refusal.TheVariants.{Held, InvalidSlice, Misplaced, Unbalanced}
+use Rattle.markdown_grammar.specs.declared.error_kind.ErrorKind.{ErrorKind}
+use Rattle.markdown_grammar.specs.declared.error_kind.ErrorKind.TheVariants.{Held, InvalidSlice, Misplaced, Unbalanced}
 
 -- ---- Enters
 
 -- one more item keeps a rule where what is kept allows it
-pub keeps-now : (s : Source) (p : Place) (xs : Items) (r : Rule) (what : Acting) → keeps r (kinds xs) ≡ true → keeps r (kinds xs ++ what ∷ []) ≡ allows r (inner_at s p xs) what
+pub keeps-now : (s : Source) (p : Place) (xs : Items) (r : Rule) (what : ItemKind) → keeps r (kinds xs) ≡ true → keeps r (kinds xs ++ what ∷ []) ≡ allows r (inner_at s p xs) what
 keeps-now s p xs r what h = keeps-snoc r (kinds xs) what ∙ (λ t. h t && lets-is r s p xs what t)
 
-rules-pass : (s : Source) (h : Holder) (p : Place) (xs : Items) (rs : List Rule) (what : Acting) (cs : List (Bool × Refusal)) → list_all (λ r. keeps r (kinds xs)) rs ≡ true
+rules-pass : (s : Source) (h : ContentModel) (p : Place) (xs : Items) (rs : List Rule) (what : ItemKind) (cs : List (Bool × ErrorKind)) → list_all (λ r. keeps r (kinds xs)) rs ≡ true
     → passes (rule_checks h rs (inner_at s p xs) what cs) ≡ true → (list_all (λ r. keeps r (kinds xs ++ what ∷ [])) rs ≡ true) × (passes cs ≡ true)
 rules-pass s h p xs [] what cs taken pass = (refl, pass)
 rules-pass s h p xs (r ∷ rs) what cs taken pass =
@@ -53,28 +53,28 @@ rules-pass s h p xs (r ∷ rs) what cs taken pass =
     let rest = rules-pass s h p xs rs what cs (and-right (keeps r (kinds xs)) others taken) (and-right (allows r (inner_at s p xs) what) later pass) in
     (and-both (keeps r (kinds xs ++ what ∷ [])) (list_all (λ r'. keeps r' (kinds xs ++ what ∷ [])) rs) now rest.0, rest.1)
 
-enter-fine : (s : Source) (spot : Site) (what : Acting) (p : Point) (why : Refusal) → takes spot.row (kinds spot.before) ≡ true → passes (enter_checks s (kept_at_spot s spot) what p) ≡ true → IsWrongAtEnter s spot what p why → ⊥
+enter-fine : (s : Source) (spot : Site) (what : ItemKind) (p : Point) (why : ErrorKind) → conforms spot.initial_model (kinds spot.before) ≡ true → passes (enter_checks s (kept_at_spot s spot) what p) ≡ true → IsWrongAtEnter s spot what p why → ⊥
 enter-fine s spot what p why taken pass wrong =
     let x : Occurrence = beginning spot what p in
-    let last : List (Bool × Refusal) = (is_no_inner_table x, Misplaced) ∷ (has_its_byte s x, InvalidSlice) ∷ [] in
-    let ruled : Bool = passes (rule_checks spot.row (rules spot.row) (inner_at s spot.place spot.before) what last) in
+    let last : List (Bool × ErrorKind) = (is_no_inner_table x, Misplaced) ∷ (has_its_byte s x, InvalidSlice) ∷ [] in
+    let ruled : Bool = passes (rule_checks spot.initial_model (rules spot.initial_model) (inner_at s spot.place spot.before) what last) in
     let a : ends_a_break x ≡ true = and-left (ends_a_break x) ruled pass in
-    let r = rules-pass s spot.row spot.place spot.before (rules spot.row) what last taken (and-right (ends_a_break x) ruled pass) in
+    let r = rules-pass s spot.initial_model spot.place spot.before (rules spot.initial_model) what last taken (and-right (ends_a_break x) ruled pass) in
     let t : is_no_inner_table x ≡ true = and-left (is_no_inner_table x) (has_its_byte s x && true) r.1 in
     let b : has_its_byte s x ≡ true = and-left (has_its_byte s x) true (and-right (is_no_inner_table x) (has_its_byte s x && true) r.1) in
     elim wrong [
       | after_a_break e w ↦ not-both a e
-      | against_a_rule e f ↦ not-both r.0 (breaks-takes spot.row (rules spot.row) (kinds spot.before ++ what ∷ []) why f)
+      | against_a_rule e f ↦ not-both r.0 (breaks-takes spot.initial_model (rules spot.initial_model) (kinds spot.before ++ what ∷ []) why f)
       | table_in_a_table e k f w ↦ not-both t f
       | without_its_byte e k n f w ↦ not-both b f
     ]
 
-enter-as-fine : (s : Source) (role : Role) (n : Name) (p : Point) (st z : State) (spot : Site) (what : Acting) (why : Refusal) → st.top ≡ kept_at_spot s spot → takes spot.row (kinds spot.before) ≡ true
-    → enter_as s role n p st ≡ Ok z → role ≡ acting what → IsWrongAtEnter s spot what p why → ⊥
+enter-as-fine : (s : Source) (role : Role) (n : Name) (p : Point) (st z : State) (spot : Site) (what : ItemKind) (why : ErrorKind) → st.top ≡ kept_at_spot s spot → conforms spot.initial_model (kinds spot.before) ≡ true
+    → enter_as s role n p st ≡ Ok z → role ≡ significant what → IsWrongAtEnter s spot what p why → ⊥
 enter-as-fine s role n p st z spot what why top taken h is wrong =
-    let acts : enter_as s (acting what) n p st ≡ Ok z = ap (λ (r : Role). enter_as s r n p st) (sym is) ∙ h in
-    let pass : passes (enter_checks s st.top what p) ≡ true = checked_passes (enter_checks s st.top what p) p (done (opened n p st (Some (what, st.top)) (entered st.top what))) z acts in
-    enter-fine s spot what p why taken (ap (λ (t : Holds). passes (enter_checks s t what p)) (sym top) ∙ pass) wrong
+    let is_significant : enter_as s (significant what) n p st ≡ Ok z = ap (λ (r : Role). enter_as s r n p st) (sym is) ∙ h in
+    let pass : passes (enter_checks s st.top what p) ≡ true = checked_passes (enter_checks s st.top what p) p (done (push n p st (Some (what, st.top)) (entered st.top what))) z is_significant in
+    enter-fine s spot what p why taken (ap (λ (t : ContainerState). passes (enter_checks s t what p)) (sym top) ∙ pass) wrong
 
 held-bools : (h y x : Bool) → h ≡ true → ((not h && y) && x) ≡ false
 held-bools true y x e = refl
@@ -96,27 +96,27 @@ value-bools true false c e f = absurd cc
 held-may-not : (role : Role) (path : List Ancestor) → IsHeld path role → may_begin (around_of path) role ≡ false
 held-may-not role path (row_in_a_row r d) =
     let a : Around = around_of path in
-    row-bools a.held a.in_row (is_delimiter_row role) (not (a.in_value && is_delimiter_cell_value role)) r d
+    row-bools a.in_sealed a.in_row (is_delimiter_row role) (not (a.in_value && is_delimiter_cell_value role)) r d
 held-may-not role path (value_in_a_value v c) =
     let a : Around = around_of path in
-    value-bools (not a.held && not (a.in_row && is_delimiter_row role)) a.in_value (is_delimiter_cell_value role) v c
-held-may-not role path (in_what_holds_nothing e outer is h none_in) =
+    value-bools (not a.in_sealed && not (a.in_row && is_delimiter_row role)) a.in_value (is_delimiter_cell_value role) v c
+held-may-not role path (in_a_sealed_span e outer is h none_in) =
     let a : Around = around_of (e ∷ outer) in
     ap (λ (q : List Ancestor). may_begin (around_of q) role) is
-    ∙ held-bools (holds_nothing (role_of e.name)) (not (a.in_row && is_delimiter_row role)) (not (a.in_value && is_delimiter_cell_value role)) h
+    ∙ held-bools (is_sealed (role_of e.name)) (not (a.in_row && is_delimiter_row role)) (not (a.in_value && is_delimiter_cell_value role)) h
 
 -- ---- Exits
 
-exit-fine : (s : Source) (spot : Site) (what : Acting) (a p : Point) (inside : Items) (why : Refusal) → passes (exit_checks s (kept_at_spot s spot) what a p (kept_at_spot s (site_in (acting what) inside spot))) ≡ true
+exit-fine : (s : Source) (spot : Site) (what : ItemKind) (a p : Point) (inside : Items) (why : ErrorKind) → passes (exit_checks s (kept_at_spot s spot) what a p (kept_at_spot s (site_in (significant what) inside spot))) ≡ true
     → IsWrongAtExit s (occurrence spot what a p inside) why → ⊥
 exit-fine s spot what a p inside why pass wrong =
     let x : Occurrence = occurrence spot what a p inside in
-    let row : Holder = model_of x.holder what in
+    let initial_model : ContentModel = model_of x.model what in
     let within : Place = inherited_in what x.place in
-    let stood : Bool = all_stood row (inner_at s within inside) in
-    let b : holds_no_open_break x ≡ true = and-left (holds_no_open_break x) (stood && (has_its_value s x && true)) pass in
-    let later : (stood && (has_its_value s x && true)) ≡ true = and-right (holds_no_open_break x) (stood && (has_its_value s x && true)) pass in
-    let q : has_its_parts s x ≡ true = sym (complete-is row s within inside) ∙ and-left stood (has_its_value s x && true) later in
+    let stood : Bool = all_stood initial_model (inner_at s within inside) in
+    let b : contains_no_open_break x ≡ true = and-left (contains_no_open_break x) (stood && (has_its_value s x && true)) pass in
+    let later : (stood && (has_its_value s x && true)) ≡ true = and-right (contains_no_open_break x) (stood && (has_its_value s x && true)) pass in
+    let q : has_its_parts s x ≡ true = sym (complete-is initial_model s within inside) ∙ and-left stood (has_its_value s x && true) later in
     let v : has_its_value s x ≡ true = and-left (has_its_value s x) true (and-right stood (has_its_value s x && true) later) in
     elim wrong [
       | break_is_last e w ↦ not-both b e
@@ -124,48 +124,48 @@ exit-fine s spot what a p inside why pass wrong =
       | without_its_value c d e w ↦ not-both v e
     ]
 
-leave-fine : (s : Source) (role : Role) (spot : Site) (a p : Point) (c : Shown) (own z : Holds) (inside : Items) (what : Acting) (why : Refusal) → own ≡ kept_at_spot s (site_in role inside spot)
-    → leave_to s a p c own (outer_by s role spot) ≡ Ok z → role ≡ acting what → IsWrongAtExit s (occurrence spot what a p inside) why → ⊥
+leave-fine : (s : Source) (role : Role) (spot : Site) (a p : Point) (c : ChildFacts) (own z : ContainerState) (inside : Items) (what : ItemKind) (why : ErrorKind) → own ≡ kept_at_spot s (site_in role inside spot)
+    → leave_to s a p c own (outer_by s role spot) ≡ Ok z → role ≡ significant what → IsWrongAtExit s (occurrence spot what a p inside) why → ⊥
 unfolding leave
 leave-fine s role spot a p c own z inside what why top h is wrong =
-    let outer : Holds = kept_at_spot s spot in
-    let kept : own ≡ kept_at_spot s (site_in (acting what) inside spot) = top ∙ ap (λ (r : Role). kept_at_spot s (site_in r inside spot)) is in
-    let left : leave_to s a p c own (outer_by s (acting what) spot) ≡ Ok z = ap (λ (r : Role). leave_to s a p c own (outer_by s r spot)) (sym is) ∙ h in
-    let pass : passes (exit_checks s outer what a p own) ≡ true = checked_passes (exit_checks s outer what a p own) p (done (closed s outer what a p c own.inner)) z left in
-    exit-fine s spot what a p inside why (ap (λ (t : Holds). passes (exit_checks s outer what a p t)) (sym kept) ∙ pass) wrong
+    let outer : ContainerState = kept_at_spot s spot in
+    let kept : own ≡ kept_at_spot s (site_in (significant what) inside spot) = top ∙ ap (λ (r : Role). kept_at_spot s (site_in r inside spot)) is in
+    let left : leave_to s a p c own (outer_by s (significant what) spot) ≡ Ok z = ap (λ (r : Role). leave_to s a p c own (outer_by s r spot)) (sym is) ∙ h in
+    let pass : passes (exit_checks s outer what a p own) ≡ true = checked_passes (exit_checks s outer what a p own) p (done (with_child s outer what a p c own.inner)) z left in
+    exit-fine s spot what a p inside why (ap (λ (t : ContainerState). passes (exit_checks s outer what a p t)) (sym kept) ∙ pass) wrong
 
 -- an exit that is taken ends the innermost open span
-exit-closes : (s : Source) (n : Name) (p : Point) (st z : State) (fs : List Open) (forest : Forest) (path : List Ancestor) → AreOpen s fs forest path → exit_from s n p fs st ≡ Ok z → closes path n ≡ false → ⊥
-exit-closes s n p st z [] forest [] open_spans h c = absurd (let wrong : Err (record { refusal = Unbalanced; point = p }) ≡ done z = h in cc)
+exit-closes : (s : Source) (n : Name) (p : Point) (st z : State) (fs : List OpenSpan) (forest : Forest) (path : List Ancestor) → AreOpen s fs forest path → exit_from s n p fs st ≡ Ok z → closes path n ≡ false → ⊥
+exit-closes s n p st z [] forest [] open_spans h c = absurd (let wrong : Err (record { error_kind = Unbalanced; point = p }) ≡ done z = h in cc)
 exit-closes s n p st z (f ∷ fs) forest (e ∷ path) open_spans h c =
-    let out = leave_to s f.start p (shown st.marks st.columns) st.top f.outer >>= λ t. done (shut f fs st t) in
-    not-both (ap (λ (m : Name). is_same_name m n) (sym open_spans.0) ∙ (one_ok (is_same_name f.name n) out z (record { refusal = Unbalanced; point = p }) h).0) c
+    let out = leave_to s f.start p (child_facts st.marks st.columns) st.top f.outer >>= λ t. done (pop f fs st t) in
+    not-both (ap (λ (m : Name). is_same_name m n) (sym open_spans.0) ∙ (one_ok (is_same_name f.name n) out z (record { error_kind = Unbalanced; point = p }) h).0) c
 exit-closes s n p st z [] forest (e ∷ path) open_spans h c = absurd open_spans
 exit-closes s n p st z (f ∷ fs) forest [] open_spans h c = absurd open_spans
 
-exit-open-fine : (s : Source) (n : Name) (p : Point) (st z : State) (fs : List Open) (forest : Forest) (e : Ancestor) (outer : List Ancestor) (what : Acting) (why : Refusal) → AreOpen s fs forest (e ∷ outer)
-    → st.top ≡ kept_at_spot s (site_of forest (e ∷ outer)) → exit_from s n p fs st ≡ Ok z → role_of e.name ≡ acting what → IsWrongAtExit s (occurrence (site_of forest outer) what e.start p (items e.inside)) why → ⊥
+exit-open-fine : (s : Source) (n : Name) (p : Point) (st z : State) (fs : List OpenSpan) (forest : Forest) (e : Ancestor) (outer : List Ancestor) (what : ItemKind) (why : ErrorKind) → AreOpen s fs forest (e ∷ outer)
+    → st.top ≡ kept_at_spot s (site_of forest (e ∷ outer)) → exit_from s n p fs st ≡ Ok z → role_of e.name ≡ significant what → IsWrongAtExit s (occurrence (site_of forest outer) what e.start p (items e.inside)) why → ⊥
 exit-open-fine s n p st z [] forest e outer what why open_spans top h is wrong = absurd open_spans
 exit-open-fine s n p st z (f ∷ fs) forest e outer what why open_spans top h is wrong =
-    let c : Shown = shown st.marks st.columns in
+    let c : ChildFacts = child_facts st.marks st.columns in
     let left = leave_to s f.start p c st.top f.outer in
-    let b = bind_ok left (λ t. done (shut f fs st t)) z (one_ok (is_same_name f.name n) (left >>= λ t. done (shut f fs st t)) z (record { refusal = Unbalanced; point = p }) h).1 in
+    let b = bind_ok left (λ t. done (pop f fs st t)) z (one_ok (is_same_name f.name n) (left >>= λ t. done (pop f fs st t)) z (record { error_kind = Unbalanced; point = p }) h).1 in
     let took : leave_to s e.start p c st.top (outer_by s (role_of e.name) (site_of forest outer)) ≡ Ok b.0 = (λ t. leave_to s (sym open_spans.1 t) p c st.top (sym open_spans.2 t)) ∙ b.1 in
     leave-fine s (role_of e.name) (site_of forest outer) e.start p c st.top b.0 (items e.inside) what why top took is wrong
 
 -- ---- Events
 
-event-fine : (s : Source) (forest : Forest) (path : List Ancestor) (event : Event) (st z : State) (why : Refusal) → Stands s forest path st → step s event st ≡ Ok z → IsWrong s forest path event why → ⊥
+event-fine : (s : Source) (forest : Forest) (path : List Ancestor) (event : Event) (st z : State) (why : ErrorKind) → Stands s forest path st → step s event st ≡ Ok z → IsWrong s forest path event why → ⊥
 unfolding enter_step exit_step
 event-fine s forest path event st z why k h (held kind is w) =
     let role : Role = role_of event.name in
     let entering : step_by Enter s event.name event.point st ≡ Ok z = ap (λ (x : Kind). step_by x s event.name event.point st) (sym kind) ∙ h in
-    let begins = one_ok (may_begin st.around role) (enter_as s role event.name event.point st) z (record { refusal = Held; point = event.point }) entering in
+    let begins = one_ok (may_begin st.around role) (enter_as s role event.name event.point st) z (record { error_kind = Held; point = event.point }) entering in
     not-both begins.0 (ap (λ (a : Around). may_begin a role) k.around ∙ held-may-not role path is)
 event-fine s forest path event st z why k h (enters what kind begun is taken wrong) =
     let role : Role = role_of event.name in
     let entering : step_by Enter s event.name event.point st ≡ Ok z = ap (λ (x : Kind). step_by x s event.name event.point st) (sym kind) ∙ h in
-    let begins = one_ok (may_begin st.around role) (enter_as s role event.name event.point st) z (record { refusal = Held; point = event.point }) entering in
+    let begins = one_ok (may_begin st.around role) (enter_as s role event.name event.point st) z (record { error_kind = Held; point = event.point }) entering in
     enter-as-fine s role event.name event.point st z (site_of forest path) what why k.top k.taken begins.1 is wrong
 event-fine s forest path event st z why k h (unmatched kind other w) =
     let leaving : step_by Exit s event.name event.point st ≡ Ok z = ap (λ (x : Kind). step_by x s event.name event.point st) (sym kind) ∙ h in

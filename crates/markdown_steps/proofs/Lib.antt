@@ -1,12 +1,12 @@
 pub mod Outcomes
 pub mod Extents
-pub mod Shape
+pub mod WellFormed
 pub mod Booleans
 pub mod Conditions
 mod ItemLists
 mod RuleLists
 pub mod BreakEnds
-mod Gathered
+mod SummaryLaws
 mod Allowed
 mod ItemSteps
 mod SiblingMarks
@@ -14,11 +14,11 @@ mod ColumnKinds
 mod TableSteps
 mod ForestSteps
 mod EventRuns
-pub mod WalkCounts
+pub mod VisitCounts
 mod NodeCounts
 pub mod Compiled
-pub mod HeldWalks
-pub mod InsideWalks
+pub mod BufferVisits
+pub mod EventVisits
 pub mod Refused
 pub mod Unbalanced
 pub mod WellKept

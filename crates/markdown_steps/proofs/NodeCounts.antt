@@ -1,26 +1,26 @@
--- How many nodes an item gives, and how many its holder keeps then.
+-- How many nodes an item gives, and how many its container keeps then.
 use Rattle.std.proofs.Common.{◌≡◌, ◌≤◌, ℕ, ◌+◌, Bool, true, false, cond, List, [], ◌∷◌, Option, None, Some, refl, arith}
 use Rattle.markdown_events.specs.Slices.{to_unist}
-use Rattle.markdown_events.specs.Spread.{Shown}
+use Rattle.markdown_steps.specs.ChildFacts.{ChildFacts}
 use Rattle.markdown_events.specs.declared.event.Point.{Point}
-use Rattle.markdown_events.specs.declared.role.Acting.{Acting}
+use Rattle.markdown_events.specs.declared.role.ItemKind.{ItemKind}
 use Rattle.markdown_events.specs.declared.unist.Point.{Point as UnistPoint}
 use Rattle.markdown_events.specs.declared.unist.Position.{Position}
 use Rattle.markdown_nodes.specs.Tree.{Label, Trees, join, node, nothing, paragraph, seam, text}
 use Rattle.markdown_grammar.specs.Buffers.{node_count}
-use Rattle.markdown_steps.specs.Compiler.{Holds, closed, label_with, lengthened, nodes_with}
+use Rattle.markdown_steps.specs.Compiler.{ContainerState, with_child, label_with, lengthened, nodes_with}
 use Rattle.markdown_grammar.specs.Document.{text_read}
 use Rattle.markdown_grammar.specs.Items.{is_part}
-use Rattle.markdown_steps.specs.KeptNodes.{autolink}
+use Rattle.markdown_steps.specs.SummaryNodes.{autolink}
 use Rattle.markdown_grammar.specs.Decorated.{node_at}
-use Rattle.markdown_steps.specs.KeptNodes.{node_of}
-use Rattle.markdown_steps.specs.Kept.{Inner, Kept, address, path_to}
+use Rattle.markdown_steps.specs.SummaryNodes.{node_of}
+use Rattle.markdown_steps.specs.Summaries.{Summary, PartSummary, address, path_to}
 use Rattle.markdown_grammar.specs.Attributes.{Place}
 use Rattle.markdown_grammar.specs.Document.{Source}
 use Rattle.markdown_grammar.specs.Tasks.{after_blank, task, task_if, trimmed_text}
 use Rattle.markdown_events.specs.declared.role.Content.TheVariants as contents
 use Rattle.markdown_events.specs.declared.role.Part.TheVariants as parts
-use Rattle.markdown_events.specs.declared.role.Acting.TheVariants.{Content as content, Part as part}
+use Rattle.markdown_events.specs.declared.role.ItemKind.TheVariants.{Content as content, Part as part}
 
 -- ---- Joining, lengthening, trimming
 
@@ -40,7 +40,7 @@ lengthened-count end nothing = refl
 lengthened-count end (node l k h nothing) = refl
 lengthened-count end (node l k h (node l' k' h' r)) = let e = lengthened-count end (node l' k' h' r) in omega (arith, e)
 
-with-count : (waiting : Bool) (b : Point) (made old : Trees) → node_count (nodes_with waiting b made old) ≤ node_count made + node_count old
+with-count : (after_break : Bool) (b : Point) (made old : Trees) → node_count (nodes_with after_break b made old) ≤ node_count made + node_count old
 with-count true b made old = let e = lengthened-count (to_unist b) old in omega (arith, e)
 with-count false b made old = let e = join-count old made in omega (arith, e)
 
@@ -60,7 +60,7 @@ task_if-count (Some m) t = task-count t
 
 -- ---- The nodes of one item
 
-autolink-count : (x y : Option Kept) (a b : Point) → node_count (autolink x y a b) ≤ 2
+autolink-count : (x y : Option PartSummary) (a b : Point) → node_count (autolink x y a b) ≤ 2
 autolink-count (Some (address from to v)) y a b = omega arith
 autolink-count x (Some (address from to v)) a b = omega arith
 autolink-count x y a b = omega arith
@@ -70,14 +70,14 @@ line-count true l a b = omega arith
 line-count false l a b = omega arith
 
 -- the nodes that an item gives, and its nodes where it is a label
-abbrev given : Source → Place → Acting → Point → Point → Shown → Inner → ℕ
+abbrev given : Source → Place → ItemKind → Point → Point → ChildFacts → Summary → ℕ
 given s p what a b d i = node_count (node_of s p what a b d i) + node_count (cond (is_part parts.LabelText what) i.nodes nothing)
 
 record Few (n m : ℕ) : Type 0 where
   few : n ≤ m
 
 -- at most two more than it keeps
-given-few : (s : Source) (p : Place) (what : Acting) (a b : Point) (d : Shown) (i : Inner) → Few (given s p what a b d i) (2 + (node_count i.nodes + node_count i.label))
+given-few : (s : Source) (p : Place) (what : ItemKind) (a b : Point) (d : ChildFacts) (i : Summary) → Few (given s p what a b d i) (2 + (node_count i.nodes + node_count i.label))
 given-few s p (content contents.LineEnding) a b d i = let e = line-count p.line_endings (text (text_read s a b)) a b in record { few = omega (arith, e) }
 given-few s p (content contents.Autolink) a b d i = let e = autolink-count (i.part (path_to parts.AutolinkEmail)) (i.part (path_to parts.AutolinkProtocol)) a b in record { few = omega (arith, e) }
 given-few s p (content contents.ListItem) a b d i = let e = task_if-count i.mark i.nodes in record { few = omega (arith, e) }
@@ -86,18 +86,18 @@ given-few s p (part parts.HeadingSetextText) a b d i = record { few = omega arit
 given-few s p (part parts.LabelText) a b d i = record { few = omega arith }
 given-few s p (part _) a b d i = record { few = omega arith }
 
--- the nodes that a holder keeps, those of its label too
-abbrev pub kept_nodes : Holds → ℕ
+-- the nodes that a container keeps, those of its label too
+abbrev pub kept_nodes : ContainerState → ℕ
 kept_nodes t = node_count t.inner.nodes + node_count t.inner.label
 
-label-few : (what : Acting) (ts old : Trees) (k : Option Kept) → node_count (label_with what ts k old) ≤ node_count old + node_count (cond (is_part parts.LabelText what) ts nothing)
+label-few : (what : ItemKind) (ts old : Trees) (k : Option PartSummary) → node_count (label_with what ts k old) ≤ node_count old + node_count (cond (is_part parts.LabelText what) ts nothing)
 label-few what ts old (Some k) = omega arith
 label-few what ts old None = omega arith
 
--- an item adds at most two to what it keeps and its holder kept
-pub closed-few : (s : Source) (top : Holds) (what : Acting) (a b : Point) (d : Shown) (own : Holds) → kept_nodes (closed s top what a b d own.inner) ≤ 2 + (kept_nodes top + kept_nodes own)
+-- an item adds at most two to what it keeps and its container kept
+pub closed-few : (s : Source) (top : ContainerState) (what : ItemKind) (a b : Point) (d : ChildFacts) (own : ContainerState) → kept_nodes (with_child s top what a b d own.inner) ≤ 2 + (kept_nodes top + kept_nodes own)
 closed-few s top what a b d own =
     let one = (given-few s top.place what a b d own.inner).few in
     let two = label-few what own.inner.nodes top.inner.label (top.inner.part (path_to parts.LabelText)) in
-    let three = with-count top.waiting b (node_of s top.place what a b d own.inner) top.inner.nodes in
+    let three = with-count top.after_break b (node_of s top.place what a b d own.inner) top.inner.nodes in
     omega (arith, one, two, three)

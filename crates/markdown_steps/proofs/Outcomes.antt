@@ -9,7 +9,7 @@ use Rattle.markdown_events.specs.declared.event.Point.{Point}
 use Rattle.markdown_steps.proofs.Booleans.{and-both}
 use Rattle.markdown_grammar.specs.Refusals.{ErrorAt}
 use Rattle.markdown_steps.specs.Checks.{checked, passes, refused, ◌>>=◌}
-use Rattle.markdown_grammar.specs.declared.refusal.Refusal.{Refusal}
+use Rattle.markdown_grammar.specs.declared.error_kind.ErrorKind.{ErrorKind}
 
 -- what a step gives
 abbrev pub done : {A : Type 0} → A → Result A ErrorAt
@@ -30,9 +30,9 @@ pub one-check : {A : Type 0} (b q : Bool) (r x : Result A ErrorAt) (e : ErrorAt)
 one-check true q r x e h = h
 one-check false q r x e h = refl
 
-pub ok-checked : {A : Type 0} (cs : List (Bool × Refusal)) (p : Point) (r : Result A ErrorAt) → ok (checked cs p r) ≡ when (passes cs) (ok r)
+pub ok-checked : {A : Type 0} (cs : List (Bool × ErrorKind)) (p : Point) (r : Result A ErrorAt) → ok (checked cs p r) ≡ when (passes cs) (ok r)
 ok-checked [] p r = refl
-ok-checked (c ∷ cs) p r = one-check c.0 (passes cs) r (checked cs p r) (record { refusal = c.1; point = p }) (ok-checked cs p r)
+ok-checked (c ∷ cs) p r = one-check c.0 (passes cs) r (checked cs p r) (record { error_kind = c.1; point = p }) (ok-checked cs p r)
 
 -- ---- Without why nothing was given
 
@@ -121,9 +121,9 @@ pub one_bind : {A B : Type 0} (b : Bool) (x : Result A ErrorAt) (y : Result B Er
 one_bind true x y e f h = h
 one_bind false x y e f h = refl
 
-pub checked_bind : {A B : Type 0} (cs : List (Bool × Refusal)) (p : Point) (r : Result A ErrorAt) (f : A → Result B ErrorAt) → (checked cs p r >>= f) ≡ checked cs p (r >>= f)
+pub checked_bind : {A B : Type 0} (cs : List (Bool × ErrorKind)) (p : Point) (r : Result A ErrorAt) (f : A → Result B ErrorAt) → (checked cs p r >>= f) ≡ checked cs p (r >>= f)
 checked_bind [] p r f = refl
-checked_bind (c ∷ cs) p r f = one_bind c.0 (checked cs p r) (checked cs p (r >>= f)) (record { refusal = c.1; point = p }) f (checked_bind cs p r f)
+checked_bind (c ∷ cs) p r f = one_bind c.0 (checked cs p r) (checked cs p (r >>= f)) (record { error_kind = c.1; point = p }) f (checked_bind cs p r f)
 
 pub bind_ok : {A B : Type 0} (r : Result A ErrorAt) (f : A → Result B ErrorAt) (y : B) → (r >>= f) ≡ Ok y → (x : A) × (r ≡ Ok x) × (f x ≡ Ok y)
 bind_ok (Ok x) f y e = (x, refl, e)
@@ -136,14 +136,14 @@ pub one_ok : {A : Type 0} (b : Bool) (x : Result A ErrorAt) (y : A) (e : ErrorAt
 one_ok true x y e h = (refl, h)
 one_ok false x y e h = absurd cc
 
-pub checked_ok : {A : Type 0} (cs : List (Bool × Refusal)) (p : Point) (r : Result A ErrorAt) (y : A) → checked cs p r ≡ Ok y → r ≡ Ok y
+pub checked_ok : {A : Type 0} (cs : List (Bool × ErrorKind)) (p : Point) (r : Result A ErrorAt) (y : A) → checked cs p r ≡ Ok y → r ≡ Ok y
 checked_ok [] p r y h = h
-checked_ok (c ∷ cs) p r y h = checked_ok cs p r y (one_ok c.0 (checked cs p r) y (record { refusal = c.1; point = p }) h).1
+checked_ok (c ∷ cs) p r y h = checked_ok cs p r y (one_ok c.0 (checked cs p r) y (record { error_kind = c.1; point = p }) h).1
 
-pub checked_passes : {A : Type 0} (cs : List (Bool × Refusal)) (p : Point) (r : Result A ErrorAt) (y : A) → checked cs p r ≡ Ok y → passes cs ≡ true
+pub checked_passes : {A : Type 0} (cs : List (Bool × ErrorKind)) (p : Point) (r : Result A ErrorAt) (y : A) → checked cs p r ≡ Ok y → passes cs ≡ true
 checked_passes [] p r y h = refl
 checked_passes (c ∷ cs) p r y h =
-    let g = one_ok c.0 (checked cs p r) y (record { refusal = c.1; point = p }) h in
+    let g = one_ok c.0 (checked cs p r) y (record { error_kind = c.1; point = p }) h in
     and-both c.0 (passes cs) g.0 (checked_passes cs p r y g.1)
 
 -- ---- What is refused
@@ -154,11 +154,11 @@ err_clash r x why a b = let e : done x ≡ Err why = sym a ∙ b in absurd cc
 pub err_is : {A : Type 0} (k m : ErrorAt) → ◌≡◌ {A = Result A ErrorAt} (Err k) (Err m) → k ≡ m
 err_is k m e = cc
 
-pub one_point : {A : Type 0} (b : Bool) (x : Result A ErrorAt) (why : Refusal) (p : Point) (m : ErrorAt) → (x ≡ Err m → m.point ≡ p) → cond b x (refused why p) ≡ Err m → m.point ≡ p
+pub one_point : {A : Type 0} (b : Bool) (x : Result A ErrorAt) (why : ErrorKind) (p : Point) (m : ErrorAt) → (x ≡ Err m → m.point ≡ p) → cond b x (refused why p) ≡ Err m → m.point ≡ p
 one_point true x why p m f h = f h
-one_point false x why p m f h = ap (λ (k : ErrorAt). k.point) (sym (err_is {A = _} (record { refusal = why; point = p }) m h))
+one_point false x why p m f h = ap (λ (k : ErrorAt). k.point) (sym (err_is {A = _} (record { error_kind = why; point = p }) m h))
 
-pub checked_point : {A : Type 0} (cs : List (Bool × Refusal)) (p : Point) (r : Result A ErrorAt) (m : ErrorAt) → (r ≡ Err m → m.point ≡ p) → checked cs p r ≡ Err m → m.point ≡ p
+pub checked_point : {A : Type 0} (cs : List (Bool × ErrorKind)) (p : Point) (r : Result A ErrorAt) (m : ErrorAt) → (r ≡ Err m → m.point ≡ p) → checked cs p r ≡ Err m → m.point ≡ p
 checked_point [] p r m f h = f h
 checked_point (c ∷ cs) p r m f h = one_point c.0 (checked cs p r) c.1 p m (checked_point cs p r m f) h
 

@@ -3,47 +3,47 @@ use Rattle.std.proofs.Common.{◌≡◌, ◌≢◌, ◌⊎◌, inl, inr, Bool, t
 use Rattle.std.specs.List.{list_all}
 use Rattle.markdown_events.specs.Forest.{Forest, empty, is_delimiter_cell_value, is_delimiter_row, span}
 use Rattle.markdown_events.specs.Names.{is_same_name, role_of}
-use Rattle.markdown_events.specs.Spread.{Shown}
+use Rattle.markdown_steps.specs.ChildFacts.{ChildFacts}
 use Rattle.markdown_nodes.specs.Tree.{Tree}
 use Rattle.markdown_events.specs.declared.event.Event.{Event}
 use Rattle.markdown_events.specs.declared.event.Kind.{Kind}
 use Rattle.markdown_events.specs.declared.event.Name.{Name}
 use Rattle.markdown_events.specs.declared.event.Point.{Point}
-use Rattle.markdown_events.specs.declared.role.Acting.{Acting}
+use Rattle.markdown_events.specs.declared.role.ItemKind.{ItemKind}
 use Rattle.markdown_events.specs.declared.role.Role.{Role}
 use Rattle.markdown_steps.proofs.Allowed.{complete-is}
 use Rattle.markdown_steps.proofs.Booleans.{and-both, and-left, and-right}
-use Rattle.markdown_steps.proofs.Gathered.{inner_at}
-use Rattle.markdown_steps.proofs.Known.{AreOpen, AreShaped, Stands, kept_at_spot, known, outer_by}
+use Rattle.markdown_steps.proofs.SummaryLaws.{inner_at}
+use Rattle.markdown_steps.proofs.Known.{AreOpen, AreWellFormed, Stands, kept_at_spot, known, outer_by}
 use Rattle.markdown_steps.proofs.OpenSpans.{FailsFirst, checked_why, no_err}
 use Rattle.markdown_steps.proofs.Outcomes.{done, err_is, same_name_is}
 use Rattle.markdown_steps.proofs.Refused.{none-begins, step_point, stopped, stops-last}
 use Rattle.markdown_steps.proofs.Fine.{keeps-now, taken-so-far}
-use Rattle.markdown_steps.proofs.Shape.{shaped}
+use Rattle.markdown_steps.proofs.WellFormed.{is_well_formed_in}
 use Rattle.markdown_grammar.specs.Accepted.{Occurrence, ends_with_break, has_its_byte, is_no_inner_table}
 use Rattle.markdown_events.specs.Around.{may_begin, under}
-use Rattle.markdown_steps.specs.Columns.{shown}
-use Rattle.markdown_steps.specs.Compiler.{Holds, Open, State, all_stood, closed, compiled, enter_as, enter_checks, enter_step, entered, exit_checks, exit_from, exit_step, is_shut, last_checks, leave, leave_to, opened, opening, point_of, rule_checks, run, shut, step_by, tree_of}
+use Rattle.markdown_steps.specs.Columns.{child_facts}
+use Rattle.markdown_steps.specs.Compiler.{ContainerState, OpenSpan, State, all_stood, with_child, compiled, enter_as, enter_checks, enter_step, entered, exit_checks, exit_from, exit_step, no_open_span, last_checks, leave, leave_to, push, opening, point_of, rule_checks, run, pop, step_by, tree_of}
 use Rattle.markdown_steps.specs.Extents.{last_event}
-use Rattle.markdown_grammar.specs.Grammar.{has_required, rules, takes}
-use Rattle.markdown_grammar.specs.Grammar.{Holder, model_of}
+use Rattle.markdown_grammar.specs.Grammar.{has_required, rules, conforms}
+use Rattle.markdown_grammar.specs.Grammar.{ContentModel, model_of}
 use Rattle.markdown_grammar.specs.Items.{Items, items, kinds}
 use Rattle.markdown_grammar.specs.Attributes.{Place, inherited_in}
-use Rattle.markdown_grammar.specs.Reasons.{BreaksFirst, EndsOpen, IsHeld, IsWrong, IsWrongAtEnter, IsWrongAtExit, NothingIsWrong, StopsAtFirstError, against_a_rule, beginning, after_a_break, break_is_last, enters, exits, held, in_what_holds_nothing, row_in_a_row, table_in_a_table, unmatched, value_in_a_value, without_its_byte, without_its_parts, without_its_value}
+use Rattle.markdown_grammar.specs.Reasons.{BreaksFirst, EndsOpen, IsHeld, IsWrong, IsWrongAtEnter, IsWrongAtExit, NothingIsWrong, StopsAtFirstError, against_a_rule, beginning, after_a_break, break_is_last, enters, exits, held, in_a_sealed_span, row_in_a_row, table_in_a_table, unmatched, value_in_a_value, without_its_byte, without_its_parts, without_its_value}
 use Rattle.markdown_grammar.specs.Refusals.{ErrorAt}
 use Rattle.markdown_steps.specs.Checks.{checked, refused, ◌>>=◌}
 use Rattle.markdown_grammar.specs.Grammar.{Rule, keeps}
 use Rattle.markdown_grammar.specs.Document.{Source}
 use Rattle.markdown_grammar.specs.Spots.{Ancestor, Site, around_of, model_after_all, occurrence, inherited_after_all, site_in, site_of}
 use Rattle.markdown_events.specs.declared.around.Around.{Around}
-use Rattle.markdown_grammar.specs.declared.refusal.Refusal.{Refusal}
+use Rattle.markdown_grammar.specs.declared.error_kind.ErrorKind.{ErrorKind}
 use Rattle.markdown_events.specs.declared.event.Kind.TheVariants.{Enter, Exit}
-use Rattle.markdown_events.specs.declared.role.Role.TheVariants.{Plain as plain, Acting as acting}
-use Rattle.markdown_grammar.specs.declared.refusal.Refusal.TheVariants.{Held, InvalidSlice, Misplaced, Unbalanced, UnfinishedBreak}
+use Rattle.markdown_events.specs.declared.role.Role.TheVariants.{Transparent as transparent, Significant as significant}
+use Rattle.markdown_grammar.specs.declared.error_kind.ErrorKind.TheVariants.{Held, InvalidSlice, Misplaced, Unbalanced, UnfinishedBreak}
 
 -- ---- Enters
 
-rules-fail : (s : Source) (h : Holder) (p : Place) (xs : Items) (rs : List Rule) (what : Acting) (cs : List (Bool × Refusal)) (why : Refusal) → list_all (λ r. keeps r (kinds xs)) rs ≡ true
+rules-fail : (s : Source) (h : ContentModel) (p : Place) (xs : Items) (rs : List Rule) (what : ItemKind) (cs : List (Bool × ErrorKind)) (why : ErrorKind) → list_all (λ r. keeps r (kinds xs)) rs ≡ true
     → FailsFirst (rule_checks h rs (inner_at s p xs) what cs) why → BreaksFirst h rs (kinds xs ++ what ∷ []) why ⊎ ((list_all (λ r. keeps r (kinds xs ++ what ∷ [])) rs ≡ true) × FailsFirst cs why)
 unfolding FailsFirst
 rules-fail s h p xs [] what cs why taken f = inr (refl, f)
@@ -56,12 +56,12 @@ rules-fail s h p xs (r ∷ rs) what cs why taken (inr f) =
       | inr g ↦ inr (and-both (keeps r (kinds xs ++ what ∷ [])) (list_all (λ r'. keeps r' (kinds xs ++ what ∷ [])) rs) now g.0, g.1)
     ]
 
-enter-wrong : (s : Source) (spot : Site) (what : Acting) (p : Point) (why : Refusal) → takes spot.row (kinds spot.before) ≡ true → FailsFirst (enter_checks s (kept_at_spot s spot) what p) why → IsWrongAtEnter s spot what p why
+enter-wrong : (s : Source) (spot : Site) (what : ItemKind) (p : Point) (why : ErrorKind) → conforms spot.initial_model (kinds spot.before) ≡ true → FailsFirst (enter_checks s (kept_at_spot s spot) what p) why → IsWrongAtEnter s spot what p why
 unfolding FailsFirst
 enter-wrong s spot what p why taken (inl f) = after_a_break f.0 (sym f.1)
 enter-wrong s spot what p why taken (inr f) =
     let x : Occurrence = beginning spot what p in
-    elim (rules-fail s spot.row spot.place spot.before (rules spot.row) what ((is_no_inner_table x, Misplaced) ∷ (has_its_byte s x, InvalidSlice) ∷ []) why taken f.1) [
+    elim (rules-fail s spot.initial_model spot.place spot.before (rules spot.initial_model) what ((is_no_inner_table x, Misplaced) ∷ (has_its_byte s x, InvalidSlice) ∷ []) why taken f.1) [
       | inl b ↦ against_a_rule f.0 b
       | inr (k, inl g) ↦ table_in_a_table f.0 k g.0 (sym g.1)
       | inr (k, inr (n, inl g)) ↦ without_its_byte f.0 k n g.0 (sym g.1)
@@ -69,14 +69,14 @@ enter-wrong s spot what p why taken (inr f) =
     ]
 
 -- the reason of an enter that is refused
-enter-as-wrong : (s : Source) (role : Role) (n : Name) (p : Point) (st : State) (m : ErrorAt) (spot : Site) → st.top ≡ kept_at_spot s spot → takes spot.row (kinds spot.before) ≡ true → enter_as s role n p st ≡ Err m
-    → (what : Acting) × (role ≡ acting what) × IsWrongAtEnter s spot what p m.refusal
-enter-as-wrong s (plain k) n p st m spot top taken h = absurd (no_err (opened n p st None st.top) m h)
-enter-as-wrong s (acting what) n p st m spot top taken h =
-    let out : State = opened n p st (Some (what, st.top)) (entered st.top what) in
+enter-as-wrong : (s : Source) (role : Role) (n : Name) (p : Point) (st : State) (m : ErrorAt) (spot : Site) → st.top ≡ kept_at_spot s spot → conforms spot.initial_model (kinds spot.before) ≡ true → enter_as s role n p st ≡ Err m
+    → (what : ItemKind) × (role ≡ significant what) × IsWrongAtEnter s spot what p m.error_kind
+enter-as-wrong s (transparent k) n p st m spot top taken h = absurd (no_err (push n p st None st.top) m h)
+enter-as-wrong s (significant what) n p st m spot top taken h =
+    let out : State = push n p st (Some (what, st.top)) (entered st.top what) in
     elim (checked_why (enter_checks s st.top what p) p (done out) m h) [
       | inl e ↦ absurd (no_err out m e.1)
-      | inr f ↦ (what, refl, enter-wrong s spot what p m.refusal taken (subst (λ (x : Holds). FailsFirst (enter_checks s x what p) m.refusal) top f))
+      | inr f ↦ (what, refl, enter-wrong s spot what p m.error_kind taken (subst (λ (x : ContainerState). FailsFirst (enter_checks s x what p) m.error_kind) top f))
     ]
 
 begin-bools : (h r d v c : Bool) → ((not h && not (r && d)) && not (v && c)) ≡ false → (h ≡ true) ⊎ (((r ≡ true) × (d ≡ true)) ⊎ ((v ≡ true) × (c ≡ true)))
@@ -90,27 +90,27 @@ begin-bools false false d true false e = absurd cc
 begin-bools false false d false c e = absurd cc
 
 -- what holds nothing is empty
-held-empty : (a : Around) (f : Forest) → a.held ≡ true → shaped a f ≡ true → f ≡ empty
+held-empty : (a : Around) (f : Forest) → a.in_sealed ≡ true → is_well_formed_in a f ≡ true → f ≡ empty
 held-empty a empty h e = refl
 held-empty a (span n p q c r) h e =
     let role : Role = role_of n in
-    let free : not a.held ≡ true =
-    and-left (not a.held) (not (a.in_row && is_delimiter_row role))
-    (and-left (not a.held && not (a.in_row && is_delimiter_row role)) (not (a.in_value && is_delimiter_cell_value role)) (and-left (may_begin a role) (shaped (under a role) c && shaped a r) e)) in
+    let free : not a.in_sealed ≡ true =
+    and-left (not a.in_sealed) (not (a.in_row && is_delimiter_row role))
+    (and-left (not a.in_sealed && not (a.in_row && is_delimiter_row role)) (not (a.in_value && is_delimiter_cell_value role)) (and-left (may_begin a role) (is_well_formed_in (under a role) c && is_well_formed_in a r) e)) in
     let z : false ≡ true = ap not (sym h) ∙ free in absurd cc
 
-held-by : (role : Role) (path : List Ancestor) → AreShaped path → (around_of path).held ≡ true → IsHeld path role
+held-by : (role : Role) (path : List Ancestor) → AreWellFormed path → (around_of path).in_sealed ≡ true → IsHeld path role
 held-by role [] t h = absurd cc
-held-by role (e ∷ outer) t h = in_what_holds_nothing e outer refl h (held-empty (around_of (e ∷ outer)) e.inside h t.0)
+held-by role (e ∷ outer) t h = in_a_sealed_span e outer refl h (held-empty (around_of (e ∷ outer)) e.inside h t.0)
 
-held-so : (role : Role) (path : List Ancestor) → AreShaped path → may_begin (around_of path) role ≡ false → IsHeld path role
-held-so role path t e = elim (begin-bools (around_of path).held (around_of path).in_row (is_delimiter_row role) (around_of path).in_value (is_delimiter_cell_value role) e) [
+held-so : (role : Role) (path : List Ancestor) → AreWellFormed path → may_begin (around_of path) role ≡ false → IsHeld path role
+held-so role path t e = elim (begin-bools (around_of path).in_sealed (around_of path).in_row (is_delimiter_row role) (around_of path).in_value (is_delimiter_cell_value role) e) [
   | inl h ↦ held-by role path t h
   | inr (inl h) ↦ row_in_a_row h.0 h.1
   | inr (inr h) ↦ value_in_a_value h.0 h.1
 ]
 
-enter-reason : (s : Source) (n : Name) (p : Point) (st : State) (m : ErrorAt) (forest : Forest) (path : List Ancestor) → Stands s forest path st → enter_step s n p st ≡ Err m → IsWrong s forest path (record { kind = Enter; name = n; point = p }) m.refusal
+enter-reason : (s : Source) (n : Name) (p : Point) (st : State) (m : ErrorAt) (forest : Forest) (path : List Ancestor) → Stands s forest path st → enter_step s n p st ≡ Err m → IsWrong s forest path (record { kind = Enter; name = n; point = p }) m.error_kind
 unfolding enter_step FailsFirst
 enter-reason s n p st m forest path k h =
     let around : may_begin st.around (role_of n) ≡ may_begin (around_of path) (role_of n) = ap (λ (a : Around). may_begin a (role_of n)) k.around in
@@ -118,18 +118,18 @@ enter-reason s n p st m forest path k h =
       | inl e ↦
           let w = enter-as-wrong s (role_of n) n p st m (site_of forest path) k.top k.taken e.1 in
           enters w.0 refl (sym around ∙ and-left (may_begin st.around (role_of n)) true e.0) w.1 k.taken w.2
-      | inr (inl f) ↦ held refl (held-so (role_of n) path k.right_shape (sym around ∙ f.0)) (sym f.1)
+      | inr (inl f) ↦ held refl (held-so (role_of n) path k.well_formed (sym around ∙ f.0)) (sym f.1)
       | inr (inr f) ↦ absurd f.1
     ]
 
 -- ---- Exits
 
 -- what must stand in a span of a spot
-whole-is : (s : Source) (spot : Site) (what : Acting) (inside : Items) → all_stood (model_of (model_after_all spot.before spot.row) what) (inner_at s (inherited_in what (inherited_after_all spot.before spot.place)) inside)
-    ≡ has_required s (model_of (model_after_all spot.before spot.row) what) inside
-whole-is s spot what inside = complete-is (model_of (model_after_all spot.before spot.row) what) s (inherited_in what (inherited_after_all spot.before spot.place)) inside
+whole-is : (s : Source) (spot : Site) (what : ItemKind) (inside : Items) → all_stood (model_of (model_after_all spot.before spot.initial_model) what) (inner_at s (inherited_in what (inherited_after_all spot.before spot.place)) inside)
+    ≡ has_required s (model_of (model_after_all spot.before spot.initial_model) what) inside
+whole-is s spot what inside = complete-is (model_of (model_after_all spot.before spot.initial_model) what) s (inherited_in what (inherited_after_all spot.before spot.place)) inside
 
-exit-wrong : (s : Source) (spot : Site) (what : Acting) (a p : Point) (inside : Items) (why : Refusal) → FailsFirst (exit_checks s (kept_at_spot s spot) what a p (kept_at_spot s (site_in (acting what) inside spot))) why
+exit-wrong : (s : Source) (spot : Site) (what : ItemKind) (a p : Point) (inside : Items) (why : ErrorKind) → FailsFirst (exit_checks s (kept_at_spot s spot) what a p (kept_at_spot s (site_in (significant what) inside spot))) why
     → IsWrongAtExit s (occurrence spot what a p inside) why
 unfolding FailsFirst
 exit-wrong s spot what a p inside why (inl f) = break_is_last f.0 (sym f.1)
@@ -137,50 +137,50 @@ exit-wrong s spot what a p inside why (inr (b, inl f)) = without_its_parts b (sy
 exit-wrong s spot what a p inside why (inr (b, inr (c, inl f))) = without_its_value b (sym (whole-is s spot what inside) ∙ c) f.0 (sym f.1)
 exit-wrong s spot what a p inside why (inr (b, inr (c, inr f))) = absurd f.1
 
-leave-wrong : (s : Source) (role : Role) (spot : Site) (a p : Point) (c : Shown) (own : Holds) (inside : Items) (m : ErrorAt) → own ≡ kept_at_spot s (site_in role inside spot) → leave_to s a p c own (outer_by s role spot) ≡ Err m
-    → (what : Acting) × (role ≡ acting what) × IsWrongAtExit s (occurrence spot what a p inside) m.refusal
+leave-wrong : (s : Source) (role : Role) (spot : Site) (a p : Point) (c : ChildFacts) (own : ContainerState) (inside : Items) (m : ErrorAt) → own ≡ kept_at_spot s (site_in role inside spot) → leave_to s a p c own (outer_by s role spot) ≡ Err m
+    → (what : ItemKind) × (role ≡ significant what) × IsWrongAtExit s (occurrence spot what a p inside) m.error_kind
 unfolding leave
-leave-wrong s (plain k) spot a p c own inside m top h = absurd (no_err own m h)
-leave-wrong s (acting what) spot a p c own inside m top h =
-    let outer : Holds = kept_at_spot s spot in
-    let made : Holds = closed s outer what a p c own.inner in
+leave-wrong s (transparent k) spot a p c own inside m top h = absurd (no_err own m h)
+leave-wrong s (significant what) spot a p c own inside m top h =
+    let outer : ContainerState = kept_at_spot s spot in
+    let made : ContainerState = with_child s outer what a p c own.inner in
     elim (checked_why (exit_checks s outer what a p own) p (done made) m h) [
       | inl e ↦ absurd (no_err made m e.1)
-      | inr f ↦ (what, refl, exit-wrong s spot what a p inside m.refusal (subst (λ (x : Holds). FailsFirst (exit_checks s outer what a p x) m.refusal) top f))
+      | inr f ↦ (what, refl, exit-wrong s spot what a p inside m.error_kind (subst (λ (x : ContainerState). FailsFirst (exit_checks s outer what a p x) m.error_kind) top f))
     ]
 
 bind_err : {A B : Type 0} (r : Result A ErrorAt) (f : A → B) (m : ErrorAt) → (r >>= λ x. done (f x)) ≡ Err m → r ≡ Err m
 bind_err (Ok x) f m h = absurd cc
 bind_err (Err k) f m h = ap (λ (j : ErrorAt). Err j) (err_is k m h)
 
-unless-same : (b : Bool) (x : Result State ErrorAt) (p : Point) (m : ErrorAt) → cond b x (refused Unbalanced p) ≡ Err m → ((b ≡ false) × (m.refusal ≡ Unbalanced)) ⊎ ((b ≡ true) × (x ≡ Err m))
+unless-same : (b : Bool) (x : Result State ErrorAt) (p : Point) (m : ErrorAt) → cond b x (refused Unbalanced p) ≡ Err m → ((b ≡ false) × (m.error_kind ≡ Unbalanced)) ⊎ ((b ≡ true) × (x ≡ Err m))
 unless-same true x p m h = inr (refl, h)
-unless-same false x p m h = inl (refl, ap (λ (k : ErrorAt). k.refusal) (sym (err_is {A = State} (record { refusal = Unbalanced; point = p }) m h)))
+unless-same false x p m h = inl (refl, ap (λ (k : ErrorAt). k.error_kind) (sym (err_is {A = State} (record { error_kind = Unbalanced; point = p }) m h)))
 
 -- the innermost open span and its exit
-exit-open : (s : Source) (n : Name) (p : Point) (st : State) (m : ErrorAt) (f : Open) (fs : List Open) (forest : Forest) (e : Ancestor) (outer : List Ancestor)
-    → AreOpen s (f ∷ fs) forest (e ∷ outer) → st.top ≡ kept_at_spot s (site_of forest (e ∷ outer)) → exit_from s n p (f ∷ fs) st ≡ Err m → IsWrong s forest (e ∷ outer) (record { kind = Exit; name = n; point = p }) m.refusal
+exit-open : (s : Source) (n : Name) (p : Point) (st : State) (m : ErrorAt) (f : OpenSpan) (fs : List OpenSpan) (forest : Forest) (e : Ancestor) (outer : List Ancestor)
+    → AreOpen s (f ∷ fs) forest (e ∷ outer) → st.top ≡ kept_at_spot s (site_of forest (e ∷ outer)) → exit_from s n p (f ∷ fs) st ≡ Err m → IsWrong s forest (e ∷ outer) (record { kind = Exit; name = n; point = p }) m.error_kind
 exit-open s n p st m f fs forest e outer open_spans top h =
-    let out = leave_to s f.start p (shown st.marks st.columns) st.top f.outer in
+    let out = leave_to s f.start p (child_facts st.marks st.columns) st.top f.outer in
     let name : is_same_name e.name n ≡ is_same_name f.name n = ap (λ (k : Name). is_same_name k n) (sym open_spans.0) in
-    elim (unless-same (is_same_name f.name n) (out >>= λ x. done (shut f fs st x)) p m h) [
+    elim (unless-same (is_same_name f.name n) (out >>= λ x. done (pop f fs st x)) p m h) [
       | inl u ↦ unmatched refl (name ∙ u.0) u.1
       | inr g ↦
-          let fails : leave_to s e.start p (shown st.marks st.columns) st.top (outer_by s (role_of e.name) (site_of forest outer)) ≡ Err m =
-          (λ t. leave_to s (sym open_spans.1 t) p (shown st.marks st.columns) st.top (sym open_spans.2 t)) ∙ bind_err out (λ x. shut f fs st x) m g.1 in
-          let w = leave-wrong s (role_of e.name) (site_of forest outer) e.start p (shown st.marks st.columns) st.top (items e.inside) m top fails in
+          let fails : leave_to s e.start p (child_facts st.marks st.columns) st.top (outer_by s (role_of e.name) (site_of forest outer)) ≡ Err m =
+          (λ t. leave_to s (sym open_spans.1 t) p (child_facts st.marks st.columns) st.top (sym open_spans.2 t)) ∙ bind_err out (λ x. pop f fs st x) m g.1 in
+          let w = leave-wrong s (role_of e.name) (site_of forest outer) e.start p (child_facts st.marks st.columns) st.top (items e.inside) m top fails in
           exits e outer w.0 refl refl (sym open_spans.0 ∙ same_name_is f.name n g.0) w.1 w.2
     ]
 
-exit-by : (s : Source) (n : Name) (p : Point) (st : State) (m : ErrorAt) (fs : List Open) (forest : Forest) (path : List Ancestor)
-    → AreOpen s fs forest path → st.top ≡ kept_at_spot s (site_of forest path) → exit_from s n p fs st ≡ Err m → IsWrong s forest path (record { kind = Exit; name = n; point = p }) m.refusal
-exit-by s n p st m [] forest [] open_spans top h = unmatched refl refl (ap (λ (k : ErrorAt). k.refusal) (sym (err_is {A = State} (record { refusal = Unbalanced; point = p }) m h)))
+exit-by : (s : Source) (n : Name) (p : Point) (st : State) (m : ErrorAt) (fs : List OpenSpan) (forest : Forest) (path : List Ancestor)
+    → AreOpen s fs forest path → st.top ≡ kept_at_spot s (site_of forest path) → exit_from s n p fs st ≡ Err m → IsWrong s forest path (record { kind = Exit; name = n; point = p }) m.error_kind
+exit-by s n p st m [] forest [] open_spans top h = unmatched refl refl (ap (λ (k : ErrorAt). k.error_kind) (sym (err_is {A = State} (record { error_kind = Unbalanced; point = p }) m h)))
 exit-by s n p st m (f ∷ fs) forest (e ∷ outer) open_spans top h = exit-open s n p st m f fs forest e outer open_spans top h
 exit-by s n p st m [] forest (e ∷ outer) open_spans top h = absurd open_spans
 exit-by s n p st m (f ∷ fs) forest [] open_spans top h = absurd open_spans
 
 step-reason : (kind : Kind) (s : Source) (n : Name) (p : Point) (st : State) (m : ErrorAt) (forest : Forest) (path : List Ancestor) → Stands s forest path st → step_by kind s n p st ≡ Err m
-    → IsWrong s forest path (record { kind = kind; name = n; point = p }) m.refusal
+    → IsWrong s forest path (record { kind = kind; name = n; point = p }) m.error_kind
 unfolding exit_step
 step-reason Enter s n p st m forest path k h = enter-reason s n p st m forest path k h
 step-reason Exit s n p st m forest path k h = exit-by s n p st m st.frames forest path k.frames k.top h
@@ -188,16 +188,16 @@ step-reason Exit s n p st m forest path k h = exit-by s n p st m st.frames fores
 -- ---- The end of the list
 
 last-wrong : (a b : Bool) (p : Point) (t : Tree) (m : ErrorAt) → checked ((a, Unbalanced) ∷ (not b, UnfinishedBreak) ∷ []) p (done t) ≡ Err m
-    → ((a ≡ false) × (m.refusal ≡ Unbalanced)) ⊎ ((a ≡ true) × (b ≡ true) × (m.refusal ≡ UnfinishedBreak))
-last-wrong false b p t m h = inl (refl, ap (λ (k : ErrorAt). k.refusal) (sym (err_is {A = Tree} (record { refusal = Unbalanced; point = p }) m h)))
-last-wrong true true p t m h = inr (refl, refl, ap (λ (k : ErrorAt). k.refusal) (sym (err_is {A = Tree} (record { refusal = UnfinishedBreak; point = p }) m h)))
+    → ((a ≡ false) × (m.error_kind ≡ Unbalanced)) ⊎ ((a ≡ true) × (b ≡ true) × (m.error_kind ≡ UnfinishedBreak))
+last-wrong false b p t m h = inl (refl, ap (λ (k : ErrorAt). k.error_kind) (sym (err_is {A = Tree} (record { error_kind = Unbalanced; point = p }) m h)))
+last-wrong true true p t m h = inr (refl, refl, ap (λ (k : ErrorAt). k.error_kind) (sym (err_is {A = Tree} (record { error_kind = UnfinishedBreak; point = p }) m h)))
 last-wrong true false p t m h = absurd cc
 
-ends-by : (s : Source) (fs : List Open) (forest : Forest) (path : List Ancestor) (top : Holds) (why : Refusal) → AreOpen s fs forest path → top ≡ kept_at_spot s (site_of forest path)
-    → ((is_shut fs ≡ false) × (why ≡ Unbalanced)) ⊎ ((is_shut fs ≡ true) × (top.waiting ≡ true) × (why ≡ UnfinishedBreak))
+ends-by : (s : Source) (fs : List OpenSpan) (forest : Forest) (path : List Ancestor) (top : ContainerState) (why : ErrorKind) → AreOpen s fs forest path → top ≡ kept_at_spot s (site_of forest path)
+    → ((no_open_span fs ≡ false) × (why ≡ Unbalanced)) ⊎ ((no_open_span fs ≡ true) × (top.after_break ≡ true) × (why ≡ UnfinishedBreak))
     → ((path ≢ []) × (why ≡ Unbalanced)) ⊎ ((path ≡ []) × (ends_with_break (items forest) ≡ true) × (why ≡ UnfinishedBreak))
 ends-by s [] forest [] top why open_spans is (inl w) = absurd cc
-ends-by s [] forest [] top why open_spans is (inr w) = inr (refl, ap (λ (x : Holds). x.waiting) (sym is) ∙ w.1, w.2)
+ends-by s [] forest [] top why open_spans is (inr w) = inr (refl, ap (λ (x : ContainerState). x.after_break) (sym is) ∙ w.1, w.2)
 ends-by s (f ∷ fs) forest (e ∷ path) top why open_spans is (inl w) = inl (λ h. absurd cc, w.1)
 ends-by s (f ∷ fs) forest (e ∷ path) top why open_spans is (inr w) = absurd cc
 ends-by s [] forest (e ∷ path) top why open_spans is w = absurd open_spans
@@ -213,27 +213,27 @@ explained-by (Ok st) s es m one h =
     inr (record {
       forest = k.forest;
       path = k.path;
-      parts = sym k.told_is;
+      parts = sym k.so_far_is;
       fine = taken-so-far s es st one;
-      front = l.front;
+      prefix = l.prefix;
       event = l.event;
       last = l.parts;
       named = l.named;
-      wrong = ends-by s st.frames k.forest k.path st.top m.refusal k.at_path.frames k.at_path.top (last-wrong (is_shut st.frames) st.top.waiting (point_of (last_event es)) (tree_of es st) m h);
+      wrong = ends-by s st.frames k.forest k.path st.top m.error_kind k.at_path.frames k.at_path.top (last-wrong (no_open_span st.frames) st.top.after_break (point_of (last_event es)) (tree_of es st) m h);
     })
 explained-by (Err j) s es m one h =
     let stop = stopped s es opening m (one ∙ ap (λ (x : ErrorAt). Err x) (err_is {A = Tree} j m h)) in
-    let k = known s stop.front stop.reached stop.ran_front in
+    let k = known s stop.prefix stop.reached stop.ran_front in
     inl (record {
       forest = k.forest;
       path = k.path;
       event = stop.event;
       back = stop.back;
-      parts = stop.parts ∙ ap (λ (x : List Event). x ++ (stop.event ∷ stop.back)) (sym k.told_is);
+      parts = stop.parts ∙ ap (λ (x : List Event). x ++ (stop.event ∷ stop.back)) (sym k.so_far_is);
       named = step_point stop.event.kind s stop.event.name stop.event.point stop.reached m stop.failed;
       wrong = step-reason stop.event.kind s stop.event.name stop.event.point stop.reached m k.forest k.path k.at_path stop.failed;
-      fine_before = subst (NothingIsWrong s) (sym k.told_is) (taken-so-far s stop.front stop.reached stop.ran_front);
-      none_accepted = λ other others e a. none-begins s es m stop other others (e ∙ ap (λ (x : List Event). x ++ (stop.event ∷ others)) k.told_is) a;
+      fine_before = subst (NothingIsWrong s) (sym k.so_far_is) (taken-so-far s stop.prefix stop.reached stop.ran_front);
+      none_accepted = λ other others e a. none-begins s es m stop other others (e ∙ ap (λ (x : List Event). x ++ (stop.event ∷ others)) k.so_far_is) a;
     })
 
 -- a list is refused for the first event at which something is wrong, or for what is left open at the last

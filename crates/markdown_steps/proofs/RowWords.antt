@@ -59,9 +59,9 @@ abbrev pub over_blank : List ℕ → Source
 over_blank bytes = record { bytes = bytes; text = λ value marker. if length value == 0 then Some (32 ∷ []) else None }
 
 -- the rule and the place of a refusal
-abbrev pub refusal_of : Result Tree ErrorAt → Option (List ℕ × UnistPoint)
-refusal_of (Ok tree) = None
-refusal_of (Err rejection) = Some (rule_of rejection.refusal, to_unist rejection.point)
+abbrev pub error_kind_of : Result Tree ErrorAt → Option (List ℕ × UnistPoint)
+error_kind_of (Ok tree) = None
+error_kind_of (Err rejection) = Some (rule_of rejection.error_kind, to_unist rejection.point)
 
-abbrev pub refusal : List ℕ → ℕ → ℕ → ℕ → Option (List ℕ × UnistPoint)
-refusal rule line column offset = Some (rule, record { line = line; column = column; offset = offset })
+abbrev pub error_kind : List ℕ → ℕ → ℕ → ℕ → Option (List ℕ × UnistPoint)
+error_kind rule line column offset = Some (rule, record { line = line; column = column; offset = offset })

@@ -5,7 +5,7 @@ use Rattle.std.specs.Str.{is_utf8, chars}
 use lib.Utf8.{encode}
 use Rattle.caseless.proofs.Computing.{caseless}
 use Rattle.markdown_events.specs.declared.event.Name.TheVariants as n
-use Rattle.markdown_events.specs.Forest.{Forest, empty, span, spell}
+use Rattle.markdown_events.specs.Forest.{Forest, empty, span, events_of}
 use Rattle.markdown_events.specs.Slices.{slice}
 use Rattle.markdown_events.specs.Texts.{fold}
 use Rattle.markdown_nodes.specs.Tree.{node, nothing, only}
@@ -16,7 +16,7 @@ use Rattle.markdown_steps.specs.Compiler.{compiled, enter_step, exit_step, leave
 use Rattle.markdown_grammar.specs.Meaning.{meaning}
 use Rattle.markdown_grammar.specs.Ordered.{IsOrdered}
 use Rattle.markdown_steps.proofs.Orderly.{is-ordered}
-use Rattle.markdown_steps.proofs.RowWords.{at, position, over, refusal, refusal_of}
+use Rattle.markdown_steps.proofs.RowWords.{at, position, over, error_kind, error_kind_of}
 
 abbrev a_hard_break_and_its_line_ending : Forest
 a_hard_break_and_its_line_ending = (span n.Paragraph (at 1 1 0) (at 2 2 4) (span n.Data (at 1 1 0) (at 1 2 1) empty (span n.HardBreakEscape (at 1 2 1) (at 1 3 2) empty (span n.LineEnding (at 1 3 2) (at 2 1 3) empty (span n.Data (at 2 1 3) (at 2 2 4) empty empty)))) empty)
@@ -40,7 +40,7 @@ a_hard_break_at_the_end-accepted : ¬ (Accepted (over (97 ∷ 92 ∷ [])) a_hard
 unfolding is_utf8 chars encode slice fold caseless
 a_hard_break_at_the_end-accepted = conditions-fail (over (97 ∷ 92 ∷ [])) a_hard_break_at_the_end refl
 
-a_hard_break_at_the_end-refused : refusal_of (compiled (over (97 ∷ 92 ∷ [])) (spell a_hard_break_at_the_end)) ≡ refusal (codes "break-unfinished") 1 3 2
+a_hard_break_at_the_end-refused : error_kind_of (compiled (over (97 ∷ 92 ∷ [])) (events_of a_hard_break_at_the_end)) ≡ error_kind (codes "break-unfinished") 1 3 2
 unfolding is_utf8 chars encode slice fold caseless run enter_step exit_step leave
 a_hard_break_at_the_end-refused = refl
 
@@ -51,6 +51,6 @@ a_hard_break_at_the_end_of_a_heading-accepted : ¬ (Accepted (over (97 ∷ 92 �
 unfolding is_utf8 chars encode slice fold caseless
 a_hard_break_at_the_end_of_a_heading-accepted = conditions-fail (over (97 ∷ 92 ∷ 10 ∷ 45 ∷ 45 ∷ 45 ∷ [])) a_hard_break_at_the_end_of_a_heading refl
 
-a_hard_break_at_the_end_of_a_heading-refused : refusal_of (compiled (over (97 ∷ 92 ∷ 10 ∷ 45 ∷ 45 ∷ 45 ∷ [])) (spell a_hard_break_at_the_end_of_a_heading)) ≡ refusal (codes "break-unfinished") 1 3 2
+a_hard_break_at_the_end_of_a_heading-refused : error_kind_of (compiled (over (97 ∷ 92 ∷ 10 ∷ 45 ∷ 45 ∷ 45 ∷ [])) (events_of a_hard_break_at_the_end_of_a_heading)) ≡ error_kind (codes "break-unfinished") 1 3 2
 unfolding is_utf8 chars encode slice fold caseless run enter_step exit_step leave
 a_hard_break_at_the_end_of_a_heading-refused = refl

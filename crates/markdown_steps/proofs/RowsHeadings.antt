@@ -5,7 +5,7 @@ use Rattle.std.specs.Str.{is_utf8, chars}
 use lib.Utf8.{encode}
 use Rattle.caseless.proofs.Computing.{caseless}
 use Rattle.markdown_events.specs.declared.event.Name.TheVariants as n
-use Rattle.markdown_events.specs.Forest.{Forest, empty, span, spell}
+use Rattle.markdown_events.specs.Forest.{Forest, empty, span, events_of}
 use Rattle.markdown_events.specs.Slices.{slice}
 use Rattle.markdown_events.specs.Texts.{fold}
 use Rattle.markdown_nodes.specs.Tree.{node, nothing, only}
@@ -16,7 +16,7 @@ use Rattle.markdown_steps.specs.Compiler.{compiled, enter_step, exit_step, leave
 use Rattle.markdown_grammar.specs.Meaning.{meaning}
 use Rattle.markdown_grammar.specs.Ordered.{IsOrdered}
 use Rattle.markdown_steps.proofs.Orderly.{is-ordered}
-use Rattle.markdown_steps.proofs.RowWords.{at, position, over, refusal, refusal_of}
+use Rattle.markdown_steps.proofs.RowWords.{at, position, over, error_kind, error_kind_of}
 
 abbrev an_atx_heading_with_emphasis : Forest
 an_atx_heading_with_emphasis = (span n.HeadingAtx (at 1 1 0) (at 1 14 13) (span n.HeadingAtxSequence (at 1 1 0) (at 1 2 1) empty (span n.SpaceOrTab (at 1 2 1) (at 1 3 2) empty (span n.HeadingAtxText (at 1 3 2) (at 1 14 13) (span n.Data (at 1 3 2) (at 1 6 5) empty (span n.Emphasis (at 1 6 5) (at 1 13 12) (span n.EmphasisSequence (at 1 6 5) (at 1 7 6) empty (span n.EmphasisText (at 1 7 6) (at 1 12 11) (span n.Data (at 1 7 6) (at 1 12 11) empty empty) (span n.EmphasisSequence (at 1 12 11) (at 1 13 12) empty empty))) (span n.Data (at 1 13 12) (at 1 14 13) empty empty))) empty))) empty)
@@ -51,7 +51,7 @@ a_sequence_of_seven-accepted : ¬ (Accepted (over (35 ∷ 35 ∷ 35 ∷ 35 ∷ 3
 unfolding is_utf8 chars encode slice fold caseless
 a_sequence_of_seven-accepted = conditions-fail (over (35 ∷ 35 ∷ 35 ∷ 35 ∷ 35 ∷ 35 ∷ 35 ∷ [])) a_sequence_of_seven refl
 
-a_sequence_of_seven-refused : refusal_of (compiled (over (35 ∷ 35 ∷ 35 ∷ 35 ∷ 35 ∷ 35 ∷ 35 ∷ [])) (spell a_sequence_of_seven)) ≡ refusal (codes "heading-depth") 1 8 7
+a_sequence_of_seven-refused : error_kind_of (compiled (over (35 ∷ 35 ∷ 35 ∷ 35 ∷ 35 ∷ 35 ∷ 35 ∷ [])) (events_of a_sequence_of_seven)) ≡ error_kind (codes "heading-depth") 1 8 7
 unfolding is_utf8 chars encode slice fold caseless run enter_step exit_step leave
 a_sequence_of_seven-refused = refl
 
@@ -73,7 +73,7 @@ a_reversed_sequence-accepted : ¬ (Accepted (over (35 ∷ 35 ∷ [])) a_reversed
 unfolding is_utf8 chars encode slice fold caseless
 a_reversed_sequence-accepted = conditions-fail (over (35 ∷ 35 ∷ [])) a_reversed_sequence refl
 
-a_reversed_sequence-refused : refusal_of (compiled (over (35 ∷ 35 ∷ [])) (spell a_reversed_sequence)) ≡ refusal (codes "slice-invalid") 1 2 1
+a_reversed_sequence-refused : error_kind_of (compiled (over (35 ∷ 35 ∷ [])) (events_of a_reversed_sequence)) ≡ error_kind (codes "slice-invalid") 1 2 1
 unfolding is_utf8 chars encode slice fold caseless run enter_step exit_step leave
 a_reversed_sequence-refused = refl
 
@@ -84,7 +84,7 @@ no_sequence-accepted : ¬ (Accepted (over (35 ∷ 35 ∷ 35 ∷ 35 ∷ 35 ∷ 35
 unfolding is_utf8 chars encode slice fold caseless
 no_sequence-accepted = conditions-fail (over (35 ∷ 35 ∷ 35 ∷ 35 ∷ 35 ∷ 35 ∷ 35 ∷ [])) no_sequence refl
 
-no_sequence-refused : refusal_of (compiled (over (35 ∷ 35 ∷ 35 ∷ 35 ∷ 35 ∷ 35 ∷ 35 ∷ [])) (spell no_sequence)) ≡ refusal (codes "heading-depth") 1 8 7
+no_sequence-refused : error_kind_of (compiled (over (35 ∷ 35 ∷ 35 ∷ 35 ∷ 35 ∷ 35 ∷ 35 ∷ [])) (events_of no_sequence)) ≡ error_kind (codes "heading-depth") 1 8 7
 unfolding is_utf8 chars encode slice fold caseless run enter_step exit_step leave
 no_sequence-refused = refl
 
@@ -121,7 +121,7 @@ two_setext_texts-accepted : ¬ (Accepted (over (97 ∷ 10 ∷ 45 ∷ 45 ∷ 45 �
 unfolding is_utf8 chars encode slice fold caseless
 two_setext_texts-accepted = conditions-fail (over (97 ∷ 10 ∷ 45 ∷ 45 ∷ 45 ∷ [])) two_setext_texts refl
 
-two_setext_texts-refused : refusal_of (compiled (over (97 ∷ 10 ∷ 45 ∷ 45 ∷ 45 ∷ [])) (spell two_setext_texts)) ≡ refusal (codes "part-repeated") 1 1 0
+two_setext_texts-refused : error_kind_of (compiled (over (97 ∷ 10 ∷ 45 ∷ 45 ∷ 45 ∷ [])) (events_of two_setext_texts)) ≡ error_kind (codes "part-repeated") 1 1 0
 unfolding is_utf8 chars encode slice fold caseless run enter_step exit_step leave
 two_setext_texts-refused = refl
 
@@ -132,6 +132,6 @@ two_underlines-accepted : ¬ (Accepted (over (97 ∷ 10 ∷ 45 ∷ 45 ∷ 45 ∷
 unfolding is_utf8 chars encode slice fold caseless
 two_underlines-accepted = conditions-fail (over (97 ∷ 10 ∷ 45 ∷ 45 ∷ 45 ∷ [])) two_underlines refl
 
-two_underlines-refused : refusal_of (compiled (over (97 ∷ 10 ∷ 45 ∷ 45 ∷ 45 ∷ [])) (spell two_underlines)) ≡ refusal (codes "part-repeated") 2 1 2
+two_underlines-refused : error_kind_of (compiled (over (97 ∷ 10 ∷ 45 ∷ 45 ∷ 45 ∷ [])) (events_of two_underlines)) ≡ error_kind (codes "part-repeated") 2 1 2
 unfolding is_utf8 chars encode slice fold caseless run enter_step exit_step leave
 two_underlines-refused = refl

@@ -5,13 +5,13 @@ use Rattle.std.specs.Str.{is_utf8, chars}
 use lib.Utf8.{encode}
 use Rattle.caseless.proofs.Computing.{caseless}
 use Rattle.markdown_events.specs.declared.event.Name.TheVariants as n
-use Rattle.markdown_events.specs.Forest.{Forest, empty, span, spell}
+use Rattle.markdown_events.specs.Forest.{Forest, empty, span, events_of}
 use Rattle.markdown_events.specs.Slices.{slice}
 use Rattle.markdown_events.specs.Texts.{fold}
 use Rattle.markdown_grammar.specs.Accepted.{Accepted}
 use Rattle.markdown_steps.proofs.Conditions.{conditions-fail}
 use Rattle.markdown_steps.specs.Compiler.{compiled, enter_step, exit_step, leave, run}
-use Rattle.markdown_steps.proofs.RowWords.{at, at_spaces, over, refusal, refusal_of}
+use Rattle.markdown_steps.proofs.RowWords.{at, at_spaces, over, error_kind, error_kind_of}
 
 abbrev a_space_that_holds_data : Forest
 a_space_that_holds_data = (span n.Paragraph (at 1 1 0) (at 1 3 2) (span n.SpaceOrTab (at 1 1 0) (at 1 2 1) (span n.Data (at 1 1 0) (at 1 2 1) empty empty) empty) empty)
@@ -20,7 +20,7 @@ a_space_that_holds_data-accepted : ¬ (Accepted (over (97 ∷ 98 ∷ [])) a_spac
 unfolding is_utf8 chars encode slice fold caseless
 a_space_that_holds_data-accepted = conditions-fail (over (97 ∷ 98 ∷ [])) a_space_that_holds_data refl
 
-a_space_that_holds_data-refused : refusal_of (compiled (over (97 ∷ 98 ∷ [])) (spell a_space_that_holds_data)) ≡ refusal (codes "span-held") 1 1 0
+a_space_that_holds_data-refused : error_kind_of (compiled (over (97 ∷ 98 ∷ [])) (events_of a_space_that_holds_data)) ≡ error_kind (codes "span-held") 1 1 0
 unfolding is_utf8 chars encode slice fold caseless run enter_step exit_step leave
 a_space_that_holds_data-refused = refl
 
@@ -31,7 +31,7 @@ a_delimiter_row_in_another-accepted : ¬ (Accepted (over (97 ∷ 98 ∷ [])) a_d
 unfolding is_utf8 chars encode slice fold caseless
 a_delimiter_row_in_another-accepted = conditions-fail (over (97 ∷ 98 ∷ [])) a_delimiter_row_in_another refl
 
-a_delimiter_row_in_another-refused : refusal_of (compiled (over (97 ∷ 98 ∷ [])) (spell a_delimiter_row_in_another)) ≡ refusal (codes "span-held") 1 2 1
+a_delimiter_row_in_another-refused : error_kind_of (compiled (over (97 ∷ 98 ∷ [])) (events_of a_delimiter_row_in_another)) ≡ error_kind (codes "span-held") 1 2 1
 unfolding is_utf8 chars encode slice fold caseless run enter_step exit_step leave
 a_delimiter_row_in_another-refused = refl
 
@@ -42,7 +42,7 @@ a_cell_value_in_another-accepted : ¬ (Accepted (over (97 ∷ 98 ∷ [])) a_cell
 unfolding is_utf8 chars encode slice fold caseless
 a_cell_value_in_another-accepted = conditions-fail (over (97 ∷ 98 ∷ [])) a_cell_value_in_another refl
 
-a_cell_value_in_another-refused : refusal_of (compiled (over (97 ∷ 98 ∷ [])) (spell a_cell_value_in_another)) ≡ refusal (codes "span-held") 1 2 1
+a_cell_value_in_another-refused : error_kind_of (compiled (over (97 ∷ 98 ∷ [])) (events_of a_cell_value_in_another)) ≡ error_kind (codes "span-held") 1 2 1
 unfolding is_utf8 chars encode slice fold caseless run enter_step exit_step leave
 a_cell_value_in_another-refused = refl
 
@@ -53,20 +53,20 @@ two_labels_in_an_image-accepted : ¬ (Accepted (over (97 ∷ 98 ∷ [])) two_lab
 unfolding is_utf8 chars encode slice fold caseless
 two_labels_in_an_image-accepted = conditions-fail (over (97 ∷ 98 ∷ [])) two_labels_in_an_image refl
 
-two_labels_in_an_image-refused : refusal_of (compiled (over (97 ∷ 98 ∷ [])) (spell two_labels_in_an_image)) ≡ refusal (codes "part-repeated") 1 2 1
+two_labels_in_an_image-refused : error_kind_of (compiled (over (97 ∷ 98 ∷ [])) (events_of two_labels_in_an_image)) ≡ error_kind (codes "part-repeated") 1 2 1
 unfolding is_utf8 chars encode slice fold caseless run enter_step exit_step leave
 two_labels_in_an_image-refused = refl
 
-abbrev a_label_behind_a_resource : Forest
-a_label_behind_a_resource = (span n.Link (at 1 1 0) (at 1 3 2) (span n.Resource (at 1 1 0) (at 1 2 1) empty (span n.LabelText (at 1 2 1) (at 1 3 2) empty empty)) empty)
+abbrev a_label_after_a_resource : Forest
+a_label_after_a_resource = (span n.Link (at 1 1 0) (at 1 3 2) (span n.Resource (at 1 1 0) (at 1 2 1) empty (span n.LabelText (at 1 2 1) (at 1 3 2) empty empty)) empty)
 
-a_label_behind_a_resource-accepted : ¬ (Accepted (over (97 ∷ 98 ∷ [])) a_label_behind_a_resource)
+a_label_after_a_resource-accepted : ¬ (Accepted (over (97 ∷ 98 ∷ [])) a_label_after_a_resource)
 unfolding is_utf8 chars encode slice fold caseless
-a_label_behind_a_resource-accepted = conditions-fail (over (97 ∷ 98 ∷ [])) a_label_behind_a_resource refl
+a_label_after_a_resource-accepted = conditions-fail (over (97 ∷ 98 ∷ [])) a_label_after_a_resource refl
 
-a_label_behind_a_resource-refused : refusal_of (compiled (over (97 ∷ 98 ∷ [])) (spell a_label_behind_a_resource)) ≡ refusal (codes "name-misplaced") 1 2 1
+a_label_after_a_resource-refused : error_kind_of (compiled (over (97 ∷ 98 ∷ [])) (events_of a_label_after_a_resource)) ≡ error_kind (codes "name-misplaced") 1 2 1
 unfolding is_utf8 chars encode slice fold caseless run enter_step exit_step leave
-a_label_behind_a_resource-refused = refl
+a_label_after_a_resource-refused = refl
 
 abbrev a_reversed_slice : Forest
 a_reversed_slice = (span n.Paragraph (at 1 1 0) (at 1 3 2) (span n.Data (at 1 3 2) (at 1 1 0) empty empty) empty)
@@ -75,7 +75,7 @@ a_reversed_slice-accepted : ¬ (Accepted (over (97 ∷ 98 ∷ [])) a_reversed_sl
 unfolding is_utf8 chars encode slice fold caseless
 a_reversed_slice-accepted = conditions-fail (over (97 ∷ 98 ∷ [])) a_reversed_slice refl
 
-a_reversed_slice-refused : refusal_of (compiled (over (97 ∷ 98 ∷ [])) (spell a_reversed_slice)) ≡ refusal (codes "slice-invalid") 1 1 0
+a_reversed_slice-refused : error_kind_of (compiled (over (97 ∷ 98 ∷ [])) (events_of a_reversed_slice)) ≡ error_kind (codes "slice-invalid") 1 1 0
 unfolding is_utf8 chars encode slice fold caseless run enter_step exit_step leave
 a_reversed_slice-refused = refl
 
@@ -86,7 +86,7 @@ a_slice_past_the_document-accepted : ¬ (Accepted (over (97 ∷ 98 ∷ [])) a_sl
 unfolding is_utf8 chars encode slice fold caseless
 a_slice_past_the_document-accepted = conditions-fail (over (97 ∷ 98 ∷ [])) a_slice_past_the_document refl
 
-a_slice_past_the_document-refused : refusal_of (compiled (over (97 ∷ 98 ∷ [])) (spell a_slice_past_the_document)) ≡ refusal (codes "slice-invalid") 1 4 3
+a_slice_past_the_document-refused : error_kind_of (compiled (over (97 ∷ 98 ∷ [])) (events_of a_slice_past_the_document)) ≡ error_kind (codes "slice-invalid") 1 4 3
 unfolding is_utf8 chars encode slice fold caseless run enter_step exit_step leave
 a_slice_past_the_document-refused = refl
 
@@ -97,20 +97,20 @@ a_slice_that_would_wrap-accepted : ¬ (Accepted (over (97 ∷ 98 ∷ [])) a_slic
 unfolding is_utf8 chars encode slice fold caseless
 a_slice_that_would_wrap-accepted = conditions-fail (over (97 ∷ 98 ∷ [])) a_slice_that_would_wrap refl
 
-a_slice_that_would_wrap-refused : refusal_of (compiled (over (97 ∷ 98 ∷ [])) (spell a_slice_that_would_wrap)) ≡ refusal (codes "slice-invalid") 1 1 18446744073709551615
+a_slice_that_would_wrap-refused : error_kind_of (compiled (over (97 ∷ 98 ∷ [])) (events_of a_slice_that_would_wrap)) ≡ error_kind (codes "slice-invalid") 1 1 18446744073709551615
 unfolding is_utf8 chars encode slice fold caseless run enter_step exit_step leave
 a_slice_that_would_wrap-refused = refl
 
-abbrev data_behind_a_break : Forest
-data_behind_a_break = (span n.Paragraph (at 1 1 0) (at 1 3 2) (span n.HardBreakEscape (at 1 1 0) (at 1 2 1) empty (span n.Data (at 1 2 1) (at 1 3 2) empty empty)) empty)
+abbrev data_after_a_break : Forest
+data_after_a_break = (span n.Paragraph (at 1 1 0) (at 1 3 2) (span n.HardBreakEscape (at 1 1 0) (at 1 2 1) empty (span n.Data (at 1 2 1) (at 1 3 2) empty empty)) empty)
 
-data_behind_a_break-accepted : ¬ (Accepted (over (97 ∷ 98 ∷ [])) data_behind_a_break)
+data_after_a_break-accepted : ¬ (Accepted (over (97 ∷ 98 ∷ [])) data_after_a_break)
 unfolding is_utf8 chars encode slice fold caseless
-data_behind_a_break-accepted = conditions-fail (over (97 ∷ 98 ∷ [])) data_behind_a_break refl
+data_after_a_break-accepted = conditions-fail (over (97 ∷ 98 ∷ [])) data_after_a_break refl
 
-data_behind_a_break-refused : refusal_of (compiled (over (97 ∷ 98 ∷ [])) (spell data_behind_a_break)) ≡ refusal (codes "break-unfinished") 1 2 1
+data_after_a_break-refused : error_kind_of (compiled (over (97 ∷ 98 ∷ [])) (events_of data_after_a_break)) ≡ error_kind (codes "break-unfinished") 1 2 1
 unfolding is_utf8 chars encode slice fold caseless run enter_step exit_step leave
-data_behind_a_break-refused = refl
+data_after_a_break-refused = refl
 
 abbrev a_break_alone : Forest
 a_break_alone = (span n.HardBreakTrailing (at 1 1 0) (at 1 3 2) empty empty)
@@ -119,7 +119,7 @@ a_break_alone-accepted : ¬ (Accepted (over (97 ∷ 98 ∷ [])) a_break_alone)
 unfolding is_utf8 chars encode slice fold caseless
 a_break_alone-accepted = conditions-fail (over (97 ∷ 98 ∷ [])) a_break_alone refl
 
-a_break_alone-refused : refusal_of (compiled (over (97 ∷ 98 ∷ [])) (spell a_break_alone)) ≡ refusal (codes "break-unfinished") 1 3 2
+a_break_alone-refused : error_kind_of (compiled (over (97 ∷ 98 ∷ [])) (events_of a_break_alone)) ≡ error_kind (codes "break-unfinished") 1 3 2
 unfolding is_utf8 chars encode slice fold caseless run enter_step exit_step leave
 a_break_alone-refused = refl
 
@@ -130,7 +130,7 @@ a_mark_outside_an_item-accepted : ¬ (Accepted (over (97 ∷ 98 ∷ [])) a_mark_
 unfolding is_utf8 chars encode slice fold caseless
 a_mark_outside_an_item-accepted = conditions-fail (over (97 ∷ 98 ∷ [])) a_mark_outside_an_item refl
 
-a_mark_outside_an_item-refused : refusal_of (compiled (over (97 ∷ 98 ∷ [])) (spell a_mark_outside_an_item)) ≡ refusal (codes "name-misplaced") 1 1 0
+a_mark_outside_an_item-refused : error_kind_of (compiled (over (97 ∷ 98 ∷ [])) (events_of a_mark_outside_an_item)) ≡ error_kind (codes "name-misplaced") 1 1 0
 unfolding is_utf8 chars encode slice fold caseless run enter_step exit_step leave
 a_mark_outside_an_item-refused = refl
 
@@ -141,7 +141,7 @@ two_marks_in_an_item-accepted : ¬ (Accepted (over (97 ∷ 98 ∷ [])) two_marks
 unfolding is_utf8 chars encode slice fold caseless
 two_marks_in_an_item-accepted = conditions-fail (over (97 ∷ 98 ∷ [])) two_marks_in_an_item refl
 
-two_marks_in_an_item-refused : refusal_of (compiled (over (97 ∷ 98 ∷ [])) (spell two_marks_in_an_item)) ≡ refusal (codes "part-repeated") 1 2 1
+two_marks_in_an_item-refused : error_kind_of (compiled (over (97 ∷ 98 ∷ [])) (events_of two_marks_in_an_item)) ≡ error_kind (codes "part-repeated") 1 2 1
 unfolding is_utf8 chars encode slice fold caseless run enter_step exit_step leave
 two_marks_in_an_item-refused = refl
 
@@ -152,7 +152,7 @@ a_value_outside_a_list-accepted : ¬ (Accepted (over (97 ∷ 98 ∷ [])) a_value
 unfolding is_utf8 chars encode slice fold caseless
 a_value_outside_a_list-accepted = conditions-fail (over (97 ∷ 98 ∷ [])) a_value_outside_a_list refl
 
-a_value_outside_a_list-refused : refusal_of (compiled (over (97 ∷ 98 ∷ [])) (spell a_value_outside_a_list)) ≡ refusal (codes "name-misplaced") 1 1 0
+a_value_outside_a_list-refused : error_kind_of (compiled (over (97 ∷ 98 ∷ [])) (events_of a_value_outside_a_list)) ≡ error_kind (codes "name-misplaced") 1 1 0
 unfolding is_utf8 chars encode slice fold caseless run enter_step exit_step leave
 a_value_outside_a_list-refused = refl
 
@@ -163,7 +163,7 @@ a_value_of_letters-accepted : ¬ (Accepted (over (97 ∷ 98 ∷ [])) a_value_of_
 unfolding is_utf8 chars encode slice fold caseless
 a_value_of_letters-accepted = conditions-fail (over (97 ∷ 98 ∷ [])) a_value_of_letters refl
 
-a_value_of_letters-refused : refusal_of (compiled (over (97 ∷ 98 ∷ [])) (spell a_value_of_letters)) ≡ refusal (codes "list-value-invalid") 1 2 1
+a_value_of_letters-refused : error_kind_of (compiled (over (97 ∷ 98 ∷ [])) (events_of a_value_of_letters)) ≡ error_kind (codes "list-value-invalid") 1 2 1
 unfolding is_utf8 chars encode slice fold caseless run enter_step exit_step leave
 a_value_of_letters-refused = refl
 
@@ -174,7 +174,7 @@ a_list_without_a_value-accepted : ¬ (Accepted (over (97 ∷ 98 ∷ [])) a_list_
 unfolding is_utf8 chars encode slice fold caseless
 a_list_without_a_value-accepted = conditions-fail (over (97 ∷ 98 ∷ [])) a_list_without_a_value refl
 
-a_list_without_a_value-refused : refusal_of (compiled (over (97 ∷ 98 ∷ [])) (spell a_list_without_a_value)) ≡ refusal (codes "list-value-missing") 1 3 2
+a_list_without_a_value-refused : error_kind_of (compiled (over (97 ∷ 98 ∷ [])) (events_of a_list_without_a_value)) ≡ error_kind (codes "list-value-missing") 1 3 2
 unfolding is_utf8 chars encode slice fold caseless run enter_step exit_step leave
 a_list_without_a_value-refused = refl
 
@@ -185,7 +185,7 @@ a_reference_of_letters-accepted : ¬ (Accepted (over (97 ∷ 98 ∷ [])) a_refer
 unfolding is_utf8 chars encode slice fold caseless
 a_reference_of_letters-accepted = conditions-fail (over (97 ∷ 98 ∷ [])) a_reference_of_letters refl
 
-a_reference_of_letters-refused : refusal_of (compiled (over (97 ∷ 98 ∷ [])) (spell a_reference_of_letters)) ≡ refusal (codes "reference-unknown") 1 3 2
+a_reference_of_letters-refused : error_kind_of (compiled (over (97 ∷ 98 ∷ [])) (events_of a_reference_of_letters)) ≡ error_kind (codes "reference-unknown") 1 3 2
 unfolding is_utf8 chars encode slice fold caseless run enter_step exit_step leave
 a_reference_of_letters-refused = refl
 
@@ -196,7 +196,7 @@ a_reference_without_a_value-accepted : ¬ (Accepted (over (97 ∷ 98 ∷ [])) a_
 unfolding is_utf8 chars encode slice fold caseless
 a_reference_without_a_value-accepted = conditions-fail (over (97 ∷ 98 ∷ [])) a_reference_without_a_value refl
 
-a_reference_without_a_value-refused : refusal_of (compiled (over (97 ∷ 98 ∷ [])) (spell a_reference_without_a_value)) ≡ refusal (codes "reference-incomplete") 1 3 2
+a_reference_without_a_value-refused : error_kind_of (compiled (over (97 ∷ 98 ∷ [])) (events_of a_reference_without_a_value)) ≡ error_kind (codes "reference-incomplete") 1 3 2
 unfolding is_utf8 chars encode slice fold caseless run enter_step exit_step leave
 a_reference_without_a_value-refused = refl
 
@@ -207,7 +207,7 @@ a_value_before_any_marker-accepted : ¬ (Accepted (over (97 ∷ 98 ∷ [])) a_va
 unfolding is_utf8 chars encode slice fold caseless
 a_value_before_any_marker-accepted = conditions-fail (over (97 ∷ 98 ∷ [])) a_value_before_any_marker refl
 
-a_value_before_any_marker-refused : refusal_of (compiled (over (97 ∷ 98 ∷ [])) (spell a_value_before_any_marker)) ≡ refusal (codes "reference-incomplete") 1 2 1
+a_value_before_any_marker-refused : error_kind_of (compiled (over (97 ∷ 98 ∷ [])) (events_of a_value_before_any_marker)) ≡ error_kind (codes "reference-incomplete") 1 2 1
 unfolding is_utf8 chars encode slice fold caseless run enter_step exit_step leave
 a_value_before_any_marker-refused = refl
 
@@ -218,7 +218,7 @@ a_line_ending_in_a_reference-accepted : ¬ (Accepted (over (97 ∷ 98 ∷ [])) a
 unfolding is_utf8 chars encode slice fold caseless
 a_line_ending_in_a_reference-accepted = conditions-fail (over (97 ∷ 98 ∷ [])) a_line_ending_in_a_reference refl
 
-a_line_ending_in_a_reference-refused : refusal_of (compiled (over (97 ∷ 98 ∷ [])) (spell a_line_ending_in_a_reference)) ≡ refusal (codes "name-misplaced") 1 1 0
+a_line_ending_in_a_reference-refused : error_kind_of (compiled (over (97 ∷ 98 ∷ [])) (events_of a_line_ending_in_a_reference)) ≡ error_kind (codes "name-misplaced") 1 1 0
 unfolding is_utf8 chars encode slice fold caseless run enter_step exit_step leave
 a_line_ending_in_a_reference-refused = refl
 
@@ -229,7 +229,7 @@ code_without_a_fence-accepted : ¬ (Accepted (over (97 ∷ 98 ∷ [])) code_with
 unfolding is_utf8 chars encode slice fold caseless
 code_without_a_fence-accepted = conditions-fail (over (97 ∷ 98 ∷ [])) code_without_a_fence refl
 
-code_without_a_fence-refused : refusal_of (compiled (over (97 ∷ 98 ∷ [])) (spell code_without_a_fence)) ≡ refusal (codes "fence-missing") 1 3 2
+code_without_a_fence-refused : error_kind_of (compiled (over (97 ∷ 98 ∷ [])) (events_of code_without_a_fence)) ≡ error_kind (codes "fence-missing") 1 3 2
 unfolding is_utf8 chars encode slice fold caseless run enter_step exit_step leave
 code_without_a_fence-refused = refl
 
@@ -240,17 +240,17 @@ a_heading_without_a_sequence-accepted : ¬ (Accepted (over (97 ∷ 98 ∷ [])) a
 unfolding is_utf8 chars encode slice fold caseless
 a_heading_without_a_sequence-accepted = conditions-fail (over (97 ∷ 98 ∷ [])) a_heading_without_a_sequence refl
 
-a_heading_without_a_sequence-refused : refusal_of (compiled (over (97 ∷ 98 ∷ [])) (spell a_heading_without_a_sequence)) ≡ refusal (codes "heading-depth") 1 3 2
+a_heading_without_a_sequence-refused : error_kind_of (compiled (over (97 ∷ 98 ∷ [])) (events_of a_heading_without_a_sequence)) ≡ error_kind (codes "heading-depth") 1 3 2
 unfolding is_utf8 chars encode slice fold caseless run enter_step exit_step leave
 a_heading_without_a_sequence-refused = refl
 
-abbrev data_behind_a_setext_text : Forest
-data_behind_a_setext_text = (span n.HeadingSetext (at 1 1 0) (at 1 3 2) (span n.HeadingSetextText (at 1 1 0) (at 1 2 1) empty (span n.Data (at 1 2 1) (at 1 3 2) empty empty)) empty)
+abbrev data_after_a_setext_text : Forest
+data_after_a_setext_text = (span n.HeadingSetext (at 1 1 0) (at 1 3 2) (span n.HeadingSetextText (at 1 1 0) (at 1 2 1) empty (span n.Data (at 1 2 1) (at 1 3 2) empty empty)) empty)
 
-data_behind_a_setext_text-accepted : ¬ (Accepted (over (97 ∷ 98 ∷ [])) data_behind_a_setext_text)
+data_after_a_setext_text-accepted : ¬ (Accepted (over (97 ∷ 98 ∷ [])) data_after_a_setext_text)
 unfolding is_utf8 chars encode slice fold caseless
-data_behind_a_setext_text-accepted = conditions-fail (over (97 ∷ 98 ∷ [])) data_behind_a_setext_text refl
+data_after_a_setext_text-accepted = conditions-fail (over (97 ∷ 98 ∷ [])) data_after_a_setext_text refl
 
-data_behind_a_setext_text-refused : refusal_of (compiled (over (97 ∷ 98 ∷ [])) (spell data_behind_a_setext_text)) ≡ refusal (codes "name-misplaced") 1 2 1
+data_after_a_setext_text-refused : error_kind_of (compiled (over (97 ∷ 98 ∷ [])) (events_of data_after_a_setext_text)) ≡ error_kind (codes "name-misplaced") 1 2 1
 unfolding is_utf8 chars encode slice fold caseless run enter_step exit_step leave
-data_behind_a_setext_text-refused = refl
+data_after_a_setext_text-refused = refl

@@ -5,7 +5,7 @@ use Rattle.std.specs.Str.{is_utf8, chars}
 use lib.Utf8.{encode}
 use Rattle.caseless.proofs.Computing.{caseless}
 use Rattle.markdown_events.specs.declared.event.Name.TheVariants as n
-use Rattle.markdown_events.specs.Forest.{Forest, empty, span, spell}
+use Rattle.markdown_events.specs.Forest.{Forest, empty, span, events_of}
 use Rattle.markdown_events.specs.Slices.{slice}
 use Rattle.markdown_events.specs.Texts.{fold}
 use Rattle.markdown_nodes.specs.Tree.{node, nothing, only}
@@ -16,7 +16,7 @@ use Rattle.markdown_steps.specs.Compiler.{compiled, enter_step, exit_step, leave
 use Rattle.markdown_grammar.specs.Meaning.{meaning}
 use Rattle.markdown_grammar.specs.Ordered.{IsOrdered}
 use Rattle.markdown_steps.proofs.Orderly.{is-ordered}
-use Rattle.markdown_steps.proofs.RowWords.{at, position, over, refusal, refusal_of}
+use Rattle.markdown_steps.proofs.RowWords.{at, position, over, error_kind, error_kind_of}
 
 abbrev the_greatest_list_value : Forest
 the_greatest_list_value = (span n.ListOrdered (at 1 1 0) (at 1 11 10) (span n.ListItem (at 1 1 0) (at 1 11 10) (span n.ListItemPrefix (at 1 1 0) (at 1 11 10) (span n.ListItemValue (at 1 1 0) (at 1 11 10) empty empty) empty) empty) empty)
@@ -55,7 +55,7 @@ a_list_value_too_great-accepted : ¬ (Accepted (over (52 ∷ 50 ∷ 57 ∷ 52 �
 unfolding is_utf8 chars encode slice fold caseless
 a_list_value_too_great-accepted = conditions-fail (over (52 ∷ 50 ∷ 57 ∷ 52 ∷ 57 ∷ 54 ∷ 55 ∷ 50 ∷ 57 ∷ 54 ∷ [])) a_list_value_too_great refl
 
-a_list_value_too_great-refused : refusal_of (compiled (over (52 ∷ 50 ∷ 57 ∷ 52 ∷ 57 ∷ 54 ∷ 55 ∷ 50 ∷ 57 ∷ 54 ∷ [])) (spell a_list_value_too_great)) ≡ refusal (codes "list-value-invalid") 1 11 10
+a_list_value_too_great-refused : error_kind_of (compiled (over (52 ∷ 50 ∷ 57 ∷ 52 ∷ 57 ∷ 54 ∷ 55 ∷ 50 ∷ 57 ∷ 54 ∷ [])) (events_of a_list_value_too_great)) ≡ error_kind (codes "list-value-invalid") 1 11 10
 unfolding is_utf8 chars encode slice fold caseless run enter_step exit_step leave
 a_list_value_too_great-refused = refl
 
@@ -66,7 +66,7 @@ a_list_value_with_a_sign-accepted : ¬ (Accepted (over (43 ∷ 49 ∷ [])) a_lis
 unfolding is_utf8 chars encode slice fold caseless
 a_list_value_with_a_sign-accepted = conditions-fail (over (43 ∷ 49 ∷ [])) a_list_value_with_a_sign refl
 
-a_list_value_with_a_sign-refused : refusal_of (compiled (over (43 ∷ 49 ∷ [])) (spell a_list_value_with_a_sign)) ≡ refusal (codes "list-value-invalid") 1 3 2
+a_list_value_with_a_sign-refused : error_kind_of (compiled (over (43 ∷ 49 ∷ [])) (events_of a_list_value_with_a_sign)) ≡ error_kind (codes "list-value-invalid") 1 3 2
 unfolding is_utf8 chars encode slice fold caseless run enter_step exit_step leave
 a_list_value_with_a_sign-refused = refl
 
@@ -77,7 +77,7 @@ an_empty_list_value-accepted : ¬ (Accepted (over ([])) an_empty_list_value)
 unfolding is_utf8 chars encode slice fold caseless
 an_empty_list_value-accepted = conditions-fail (over ([])) an_empty_list_value refl
 
-an_empty_list_value-refused : refusal_of (compiled (over ([])) (spell an_empty_list_value)) ≡ refusal (codes "list-value-invalid") 1 1 0
+an_empty_list_value-refused : error_kind_of (compiled (over ([])) (events_of an_empty_list_value)) ≡ error_kind (codes "list-value-invalid") 1 1 0
 unfolding is_utf8 chars encode slice fold caseless run enter_step exit_step leave
 an_empty_list_value-refused = refl
 
@@ -88,7 +88,7 @@ a_list_value_with_a_space-accepted : ¬ (Accepted (over (49 ∷ 32 ∷ [])) a_li
 unfolding is_utf8 chars encode slice fold caseless
 a_list_value_with_a_space-accepted = conditions-fail (over (49 ∷ 32 ∷ [])) a_list_value_with_a_space refl
 
-a_list_value_with_a_space-refused : refusal_of (compiled (over (49 ∷ 32 ∷ [])) (spell a_list_value_with_a_space)) ≡ refusal (codes "list-value-invalid") 1 3 2
+a_list_value_with_a_space-refused : error_kind_of (compiled (over (49 ∷ 32 ∷ [])) (events_of a_list_value_with_a_space)) ≡ error_kind (codes "list-value-invalid") 1 3 2
 unfolding is_utf8 chars encode slice fold caseless run enter_step exit_step leave
 a_list_value_with_a_space-refused = refl
 
@@ -99,7 +99,7 @@ a_list_value_of_other_digits-accepted : ¬ (Accepted (over (217 ∷ 163 ∷ []))
 unfolding is_utf8 chars encode slice fold caseless
 a_list_value_of_other_digits-accepted = conditions-fail (over (217 ∷ 163 ∷ [])) a_list_value_of_other_digits refl
 
-a_list_value_of_other_digits-refused : refusal_of (compiled (over (217 ∷ 163 ∷ [])) (spell a_list_value_of_other_digits)) ≡ refusal (codes "list-value-invalid") 1 3 2
+a_list_value_of_other_digits-refused : error_kind_of (compiled (over (217 ∷ 163 ∷ [])) (events_of a_list_value_of_other_digits)) ≡ error_kind (codes "list-value-invalid") 1 3 2
 unfolding is_utf8 chars encode slice fold caseless run enter_step exit_step leave
 a_list_value_of_other_digits-refused = refl
 
@@ -110,7 +110,7 @@ an_ordered_list_without_a_value-accepted : ¬ (Accepted (over (49 ∷ [])) an_or
 unfolding is_utf8 chars encode slice fold caseless
 an_ordered_list_without_a_value-accepted = conditions-fail (over (49 ∷ [])) an_ordered_list_without_a_value refl
 
-an_ordered_list_without_a_value-refused : refusal_of (compiled (over (49 ∷ [])) (spell an_ordered_list_without_a_value)) ≡ refusal (codes "list-value-missing") 1 2 1
+an_ordered_list_without_a_value-refused : error_kind_of (compiled (over (49 ∷ [])) (events_of an_ordered_list_without_a_value)) ≡ error_kind (codes "list-value-missing") 1 2 1
 unfolding is_utf8 chars encode slice fold caseless run enter_step exit_step leave
 an_ordered_list_without_a_value-refused = refl
 
@@ -121,7 +121,7 @@ a_value_in_an_unordered_list-accepted : ¬ (Accepted (over (49 ∷ [])) a_value_
 unfolding is_utf8 chars encode slice fold caseless
 a_value_in_an_unordered_list-accepted = conditions-fail (over (49 ∷ [])) a_value_in_an_unordered_list refl
 
-a_value_in_an_unordered_list-refused : refusal_of (compiled (over (49 ∷ [])) (spell a_value_in_an_unordered_list)) ≡ refusal (codes "name-misplaced") 1 1 0
+a_value_in_an_unordered_list-refused : error_kind_of (compiled (over (49 ∷ [])) (events_of a_value_in_an_unordered_list)) ≡ error_kind (codes "name-misplaced") 1 1 0
 unfolding is_utf8 chars encode slice fold caseless run enter_step exit_step leave
 a_value_in_an_unordered_list-refused = refl
 

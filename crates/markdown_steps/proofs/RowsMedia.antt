@@ -6,7 +6,7 @@ use lib.Utf8.{encode}
 use Rattle.caseless.proofs.Computing.{caseless}
 use Rattle.markdown_events.specs.declared.event.Name.TheVariants as n
 use Rattle.markdown_nodes.specs.declared.mdast.ReferenceKind.TheVariants as r
-use Rattle.markdown_events.specs.Forest.{Forest, empty, span, spell}
+use Rattle.markdown_events.specs.Forest.{Forest, empty, span, events_of}
 use Rattle.markdown_events.specs.Slices.{slice}
 use Rattle.markdown_events.specs.Texts.{fold}
 use Rattle.markdown_nodes.specs.Tree.{node, nothing, only}
@@ -15,7 +15,7 @@ use Rattle.markdown_grammar.specs.Accepted.{Accepted}
 use Rattle.markdown_steps.proofs.Conditions.{conditions-hold, conditions-fail}
 use Rattle.markdown_steps.specs.Compiler.{compiled, enter_step, exit_step, leave, run}
 use Rattle.markdown_grammar.specs.Meaning.{meaning}
-use Rattle.markdown_steps.proofs.RowWords.{at, position, over, refusal, refusal_of}
+use Rattle.markdown_steps.proofs.RowWords.{at, position, over, error_kind, error_kind_of}
 
 abbrev an_image_in_a_label : Forest
 an_image_in_a_label = (span n.Image (at 1 1 0) (at 1 18 17) (span n.LabelText (at 1 3 2) (at 1 14 13) (span n.Data (at 1 3 2) (at 1 5 4) empty (span n.Image (at 1 5 4) (at 1 12 11) (span n.LabelText (at 1 7 6) (at 1 8 7) (span n.Data (at 1 7 6) (at 1 8 7) empty empty) (span n.Resource (at 1 9 8) (at 1 12 11) (span n.ResourceDestinationString (at 1 10 9) (at 1 11 10) (span n.Data (at 1 10 9) (at 1 11 10) empty empty) empty) empty)) (span n.Data (at 1 12 11) (at 1 14 13) empty empty))) (span n.Resource (at 1 15 14) (at 1 18 17) (span n.ResourceDestinationString (at 1 16 15) (at 1 17 16) (span n.Data (at 1 16 15) (at 1 17 16) empty empty) empty) empty)) empty)
@@ -94,16 +94,16 @@ a_link_without_a_label-means : only (meaning (over (91 ∷ 93 ∷ [])) a_link_wi
 unfolding is_utf8 chars encode slice fold caseless
 a_link_without_a_label-means = refl
 
-abbrev a_reference_behind_a_resource : Forest
-a_reference_behind_a_resource = (span n.Link (at 1 1 0) (at 1 3 2) (span n.Resource (at 1 1 0) (at 1 2 1) empty (span n.Reference (at 1 2 1) (at 1 3 2) empty empty)) empty)
+abbrev a_reference_after_a_resource : Forest
+a_reference_after_a_resource = (span n.Link (at 1 1 0) (at 1 3 2) (span n.Resource (at 1 1 0) (at 1 2 1) empty (span n.Reference (at 1 2 1) (at 1 3 2) empty empty)) empty)
 
-a_reference_behind_a_resource-accepted : ¬ (Accepted (over (91 ∷ 93 ∷ [])) a_reference_behind_a_resource)
+a_reference_after_a_resource-accepted : ¬ (Accepted (over (91 ∷ 93 ∷ [])) a_reference_after_a_resource)
 unfolding is_utf8 chars encode slice fold caseless
-a_reference_behind_a_resource-accepted = conditions-fail (over (91 ∷ 93 ∷ [])) a_reference_behind_a_resource refl
+a_reference_after_a_resource-accepted = conditions-fail (over (91 ∷ 93 ∷ [])) a_reference_after_a_resource refl
 
-a_reference_behind_a_resource-refused : refusal_of (compiled (over (91 ∷ 93 ∷ [])) (spell a_reference_behind_a_resource)) ≡ refusal (codes "name-misplaced") 1 2 1
+a_reference_after_a_resource-refused : error_kind_of (compiled (over (91 ∷ 93 ∷ [])) (events_of a_reference_after_a_resource)) ≡ error_kind (codes "name-misplaced") 1 2 1
 unfolding is_utf8 chars encode slice fold caseless run enter_step exit_step leave
-a_reference_behind_a_resource-refused = refl
+a_reference_after_a_resource-refused = refl
 
 abbrev two_labels : Forest
 two_labels = (span n.Link (at 1 1 0) (at 1 3 2) (span n.LabelText (at 1 1 0) (at 1 2 1) empty (span n.LabelText (at 1 2 1) (at 1 3 2) empty empty)) empty)
@@ -112,7 +112,7 @@ two_labels-accepted : ¬ (Accepted (over (91 ∷ 93 ∷ [])) two_labels)
 unfolding is_utf8 chars encode slice fold caseless
 two_labels-accepted = conditions-fail (over (91 ∷ 93 ∷ [])) two_labels refl
 
-two_labels-refused : refusal_of (compiled (over (91 ∷ 93 ∷ [])) (spell two_labels)) ≡ refusal (codes "part-repeated") 1 2 1
+two_labels-refused : error_kind_of (compiled (over (91 ∷ 93 ∷ [])) (events_of two_labels)) ≡ error_kind (codes "part-repeated") 1 2 1
 unfolding is_utf8 chars encode slice fold caseless run enter_step exit_step leave
 two_labels-refused = refl
 

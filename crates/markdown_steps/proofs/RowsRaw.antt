@@ -5,7 +5,7 @@ use Rattle.std.specs.Str.{is_utf8, chars}
 use lib.Utf8.{encode}
 use Rattle.caseless.proofs.Computing.{caseless}
 use Rattle.markdown_events.specs.declared.event.Name.TheVariants as n
-use Rattle.markdown_events.specs.Forest.{Forest, empty, span, spell}
+use Rattle.markdown_events.specs.Forest.{Forest, empty, span, events_of}
 use Rattle.markdown_events.specs.Slices.{slice}
 use Rattle.markdown_events.specs.Texts.{fold}
 use Rattle.markdown_nodes.specs.Tree.{node, nothing, only}
@@ -16,7 +16,7 @@ use Rattle.markdown_steps.specs.Compiler.{compiled, enter_step, exit_step, leave
 use Rattle.markdown_grammar.specs.Meaning.{meaning}
 use Rattle.markdown_grammar.specs.Ordered.{IsOrdered}
 use Rattle.markdown_steps.proofs.Orderly.{is-ordered}
-use Rattle.markdown_steps.proofs.RowWords.{at, position, over, refusal, refusal_of}
+use Rattle.markdown_steps.proofs.RowWords.{at, position, over, error_kind, error_kind_of}
 
 abbrev fenced_code_with_info_and_meta : Forest
 fenced_code_with_info_and_meta = (span n.CodeFenced (at 1 1 0) (at 3 4 13) (span n.CodeFencedFence (at 1 1 0) (at 1 8 7) (span n.CodeFencedFenceSequence (at 1 1 0) (at 1 4 3) empty (span n.CodeFencedFenceInfo (at 1 4 3) (at 1 6 5) (span n.Data (at 1 4 3) (at 1 6 5) empty empty) (span n.SpaceOrTab (at 1 6 5) (at 1 7 6) empty (span n.CodeFencedFenceMeta (at 1 7 6) (at 1 8 7) (span n.Data (at 1 7 6) (at 1 8 7) empty empty) empty)))) (span n.LineEnding (at 1 8 7) (at 2 1 8) empty (span n.CodeFlowChunk (at 2 1 8) (at 2 2 9) empty (span n.LineEnding (at 2 2 9) (at 3 1 10) empty (span n.CodeFencedFence (at 3 1 10) (at 3 4 13) empty empty))))) empty)
@@ -62,7 +62,7 @@ a_chunk_before_any_fence-accepted : ¬ (Accepted (over (126 ∷ 126 ∷ 126 ∷ 
 unfolding is_utf8 chars encode slice fold caseless
 a_chunk_before_any_fence-accepted = conditions-fail (over (126 ∷ 126 ∷ 126 ∷ 106 ∷ 115 ∷ 32 ∷ 120 ∷ 10 ∷ 97 ∷ 10 ∷ 126 ∷ 126 ∷ 126 ∷ [])) a_chunk_before_any_fence refl
 
-a_chunk_before_any_fence-refused : refusal_of (compiled (over (126 ∷ 126 ∷ 126 ∷ 106 ∷ 115 ∷ 32 ∷ 120 ∷ 10 ∷ 97 ∷ 10 ∷ 126 ∷ 126 ∷ 126 ∷ [])) (spell a_chunk_before_any_fence)) ≡ refusal (codes "name-misplaced") 2 1 8
+a_chunk_before_any_fence-refused : error_kind_of (compiled (over (126 ∷ 126 ∷ 126 ∷ 106 ∷ 115 ∷ 32 ∷ 120 ∷ 10 ∷ 97 ∷ 10 ∷ 126 ∷ 126 ∷ 126 ∷ [])) (events_of a_chunk_before_any_fence)) ≡ error_kind (codes "name-misplaced") 2 1 8
 unfolding is_utf8 chars encode slice fold caseless run enter_step exit_step leave
 a_chunk_before_any_fence-refused = refl
 
@@ -73,7 +73,7 @@ no_fence-accepted : ¬ (Accepted (over (126 ∷ 126 ∷ 126 ∷ 106 ∷ 115 ∷ 
 unfolding is_utf8 chars encode slice fold caseless
 no_fence-accepted = conditions-fail (over (126 ∷ 126 ∷ 126 ∷ 106 ∷ 115 ∷ 32 ∷ 120 ∷ 10 ∷ 97 ∷ 10 ∷ 126 ∷ 126 ∷ 126 ∷ [])) no_fence refl
 
-no_fence-refused : refusal_of (compiled (over (126 ∷ 126 ∷ 126 ∷ 106 ∷ 115 ∷ 32 ∷ 120 ∷ 10 ∷ 97 ∷ 10 ∷ 126 ∷ 126 ∷ 126 ∷ [])) (spell no_fence)) ≡ refusal (codes "fence-missing") 3 4 13
+no_fence-refused : error_kind_of (compiled (over (126 ∷ 126 ∷ 126 ∷ 106 ∷ 115 ∷ 32 ∷ 120 ∷ 10 ∷ 97 ∷ 10 ∷ 126 ∷ 126 ∷ 126 ∷ [])) (events_of no_fence)) ≡ error_kind (codes "fence-missing") 3 4 13
 unfolding is_utf8 chars encode slice fold caseless run enter_step exit_step leave
 no_fence-refused = refl
 
@@ -106,7 +106,7 @@ frontmatter_without_its_byte-accepted : ¬ (Accepted (over ([])) frontmatter_wit
 unfolding is_utf8 chars encode slice fold caseless
 frontmatter_without_its_byte-accepted = conditions-fail (over ([])) frontmatter_without_its_byte refl
 
-frontmatter_without_its_byte-refused : refusal_of (compiled (over ([])) (spell frontmatter_without_its_byte)) ≡ refusal (codes "slice-invalid") 1 1 0
+frontmatter_without_its_byte-refused : error_kind_of (compiled (over ([])) (events_of frontmatter_without_its_byte)) ≡ error_kind (codes "slice-invalid") 1 1 0
 unfolding is_utf8 chars encode slice fold caseless run enter_step exit_step leave
 frontmatter_without_its_byte-refused = refl
 
@@ -183,7 +183,7 @@ a_fence_of_the_other_name-accepted : ¬ (Accepted (over (126 ∷ 126 ∷ 126 ∷
 unfolding is_utf8 chars encode slice fold caseless
 a_fence_of_the_other_name-accepted = conditions-fail (over (126 ∷ 126 ∷ 126 ∷ 126 ∷ 126 ∷ 126 ∷ 98 ∷ 97 ∷ [])) a_fence_of_the_other_name refl
 
-a_fence_of_the_other_name-refused : refusal_of (compiled (over (126 ∷ 126 ∷ 126 ∷ 126 ∷ 126 ∷ 126 ∷ 98 ∷ 97 ∷ [])) (spell a_fence_of_the_other_name)) ≡ refusal (codes "name-misplaced") 1 1 0
+a_fence_of_the_other_name-refused : error_kind_of (compiled (over (126 ∷ 126 ∷ 126 ∷ 126 ∷ 126 ∷ 126 ∷ 98 ∷ 97 ∷ [])) (events_of a_fence_of_the_other_name)) ≡ error_kind (codes "name-misplaced") 1 1 0
 unfolding is_utf8 chars encode slice fold caseless run enter_step exit_step leave
 a_fence_of_the_other_name-refused = refl
 
@@ -194,7 +194,7 @@ an_info_in_a_later_fence-accepted : ¬ (Accepted (over (126 ∷ 126 ∷ 126 ∷ 
 unfolding is_utf8 chars encode slice fold caseless
 an_info_in_a_later_fence-accepted = conditions-fail (over (126 ∷ 126 ∷ 126 ∷ 126 ∷ 126 ∷ 126 ∷ 98 ∷ 97 ∷ [])) an_info_in_a_later_fence refl
 
-an_info_in_a_later_fence-refused : refusal_of (compiled (over (126 ∷ 126 ∷ 126 ∷ 126 ∷ 126 ∷ 126 ∷ 98 ∷ 97 ∷ [])) (spell an_info_in_a_later_fence)) ≡ refusal (codes "name-misplaced") 1 7 6
+an_info_in_a_later_fence-refused : error_kind_of (compiled (over (126 ∷ 126 ∷ 126 ∷ 126 ∷ 126 ∷ 126 ∷ 98 ∷ 97 ∷ [])) (events_of an_info_in_a_later_fence)) ≡ error_kind (codes "name-misplaced") 1 7 6
 unfolding is_utf8 chars encode slice fold caseless run enter_step exit_step leave
 an_info_in_a_later_fence-refused = refl
 
@@ -231,16 +231,16 @@ a_pipe_between_line_endings_in_code_in_a_table-means : only (meaning (over (96 �
 unfolding is_utf8 chars encode slice fold caseless
 a_pipe_between_line_endings_in_code_in_a_table-means = refl
 
-abbrev a_pipe_in_code_behind_a_table : Forest
-a_pipe_in_code_behind_a_table = (span n.GfmTable (at 1 1 0) (at 1 1 0) (span n.GfmTableRow (at 1 1 0) (at 1 1 0) empty empty) (span n.CodeText (at 1 1 0) (at 1 7 6) (span n.CodeTextSequence (at 1 1 0) (at 1 2 1) empty (span n.CodeTextData (at 1 2 1) (at 1 6 5) empty (span n.CodeTextSequence (at 1 6 5) (at 1 7 6) empty empty))) empty))
+abbrev a_pipe_in_code_after_a_table : Forest
+a_pipe_in_code_after_a_table = (span n.GfmTable (at 1 1 0) (at 1 1 0) (span n.GfmTableRow (at 1 1 0) (at 1 1 0) empty empty) (span n.CodeText (at 1 1 0) (at 1 7 6) (span n.CodeTextSequence (at 1 1 0) (at 1 2 1) empty (span n.CodeTextData (at 1 2 1) (at 1 6 5) empty (span n.CodeTextSequence (at 1 6 5) (at 1 7 6) empty empty))) empty))
 
-a_pipe_in_code_behind_a_table-accepted : Accepted (over (96 ∷ 97 ∷ 92 ∷ 124 ∷ 98 ∷ 96 ∷ [])) a_pipe_in_code_behind_a_table
+a_pipe_in_code_after_a_table-accepted : Accepted (over (96 ∷ 97 ∷ 92 ∷ 124 ∷ 98 ∷ 96 ∷ [])) a_pipe_in_code_after_a_table
 unfolding is_utf8 chars encode slice fold caseless
-a_pipe_in_code_behind_a_table-accepted = conditions-hold (over (96 ∷ 97 ∷ 92 ∷ 124 ∷ 98 ∷ 96 ∷ [])) a_pipe_in_code_behind_a_table refl
+a_pipe_in_code_after_a_table-accepted = conditions-hold (over (96 ∷ 97 ∷ 92 ∷ 124 ∷ 98 ∷ 96 ∷ [])) a_pipe_in_code_after_a_table refl
 
-a_pipe_in_code_behind_a_table-means : only (meaning (over (96 ∷ 97 ∷ 92 ∷ 124 ∷ 98 ∷ 96 ∷ [])) a_pipe_in_code_behind_a_table) ≡ (node t.root (node (t.table ([])) (node t.table_row nothing (position 1 1 0 1 1 0) nothing) (position 1 1 0 1 1 0) (node (t.inline_code (97 ∷ 92 ∷ 124 ∷ 98 ∷ [])) nothing (position 1 1 0 1 7 6) nothing)) (position 1 1 0 1 7 6) nothing)
+a_pipe_in_code_after_a_table-means : only (meaning (over (96 ∷ 97 ∷ 92 ∷ 124 ∷ 98 ∷ 96 ∷ [])) a_pipe_in_code_after_a_table) ≡ (node t.root (node (t.table ([])) (node t.table_row nothing (position 1 1 0 1 1 0) nothing) (position 1 1 0 1 1 0) (node (t.inline_code (97 ∷ 92 ∷ 124 ∷ 98 ∷ [])) nothing (position 1 1 0 1 7 6) nothing)) (position 1 1 0 1 7 6) nothing)
 unfolding is_utf8 chars encode slice fold caseless
-a_pipe_in_code_behind_a_table-means = refl
+a_pipe_in_code_after_a_table-means = refl
 
 abbrev line_endings_around_inline_code : Forest
 line_endings_around_inline_code = (span n.CodeText (at 1 1 0) (at 3 2 5) (span n.CodeTextSequence (at 1 1 0) (at 1 2 1) empty (span n.LineEnding (at 1 2 1) (at 2 1 2) empty (span n.CodeTextData (at 2 1 2) (at 2 2 3) empty (span n.LineEnding (at 2 2 3) (at 3 1 4) empty (span n.CodeTextSequence (at 3 1 4) (at 3 2 5) empty empty))))) empty)

@@ -6,7 +6,7 @@ use lib.Utf8.{encode}
 use Rattle.caseless.proofs.Computing.{caseless}
 use Rattle.markdown_events.specs.declared.event.Name.TheVariants as n
 use Rattle.markdown_events.specs.declared.infer.AlignKind.TheVariants as a
-use Rattle.markdown_events.specs.Forest.{Forest, empty, span, spell}
+use Rattle.markdown_events.specs.Forest.{Forest, empty, span, events_of}
 use Rattle.markdown_events.specs.Slices.{slice}
 use Rattle.markdown_events.specs.Texts.{fold}
 use Rattle.markdown_nodes.specs.Tree.{node, nothing, only}
@@ -17,7 +17,7 @@ use Rattle.markdown_steps.specs.Compiler.{compiled, enter_step, exit_step, leave
 use Rattle.markdown_grammar.specs.Meaning.{meaning}
 use Rattle.markdown_grammar.specs.Ordered.{IsOrdered}
 use Rattle.markdown_steps.proofs.Orderly.{is-ordered}
-use Rattle.markdown_steps.proofs.RowWords.{at, position, over, refusal, refusal_of}
+use Rattle.markdown_steps.proofs.RowWords.{at, position, over, error_kind, error_kind_of}
 
 abbrev a_table : Forest
 a_table = (span n.GfmTable (at 1 1 0) (at 2 4 7) (span n.GfmTableRow (at 1 1 0) (at 1 4 3) (span n.GfmTableCell (at 1 1 0) (at 1 4 3) (span n.Data (at 1 2 1) (at 1 3 2) empty empty) empty) (span n.LineEnding (at 1 4 3) (at 2 1 4) empty (span n.GfmTableDelimiterRow (at 2 1 4) (at 2 4 7) (span n.GfmTableDelimiterCellValue (at 2 2 5) (at 2 3 6) (span n.GfmTableDelimiterFiller (at 2 2 5) (at 2 3 6) empty empty) empty) empty))) empty)
@@ -63,7 +63,7 @@ a_table_in_a_cell-accepted : ¬ (Accepted (over ([])) a_table_in_a_cell)
 unfolding is_utf8 chars encode slice fold caseless
 a_table_in_a_cell-accepted = conditions-fail (over ([])) a_table_in_a_cell refl
 
-a_table_in_a_cell-refused : refusal_of (compiled (over ([])) (spell a_table_in_a_cell)) ≡ refusal (codes "name-misplaced") 1 1 0
+a_table_in_a_cell-refused : error_kind_of (compiled (over ([])) (events_of a_table_in_a_cell)) ≡ error_kind (codes "name-misplaced") 1 1 0
 unfolding is_utf8 chars encode slice fold caseless run enter_step exit_step leave
 a_table_in_a_cell-refused = refl
 
@@ -74,6 +74,6 @@ a_table_in_a_label_in_a_cell-accepted : ¬ (Accepted (over ([])) a_table_in_a_la
 unfolding is_utf8 chars encode slice fold caseless
 a_table_in_a_label_in_a_cell-accepted = conditions-fail (over ([])) a_table_in_a_label_in_a_cell refl
 
-a_table_in_a_label_in_a_cell-refused : refusal_of (compiled (over ([])) (spell a_table_in_a_label_in_a_cell)) ≡ refusal (codes "name-misplaced") 1 1 0
+a_table_in_a_label_in_a_cell-refused : error_kind_of (compiled (over ([])) (events_of a_table_in_a_label_in_a_cell)) ≡ error_kind (codes "name-misplaced") 1 1 0
 unfolding is_utf8 chars encode slice fold caseless run enter_step exit_step leave
 a_table_in_a_label_in_a_cell-refused = refl

@@ -46,35 +46,35 @@ an_unchecked_item-ordered : IsOrdered (only (meaning (over (42 ∷ 32 ∷ 91 ∷
 unfolding is_utf8 chars encode slice fold caseless
 an_unchecked_item-ordered = is-ordered (only (meaning (over (42 ∷ 32 ∷ 91 ∷ 32 ∷ 93 ∷ 32 ∷ 97 ∷ [])) an_unchecked_item)) refl
 
-abbrev a_tab_behind_the_mark : Forest
-a_tab_behind_the_mark = (span n.ListUnordered (at 1 1 0) (at 1 8 7) (span n.ListItem (at 1 1 0) (at 1 8 7) (span n.ListItemPrefix (at 1 1 0) (at 1 3 2) empty (span n.Paragraph (at 1 3 2) (at 1 8 7) (span n.GfmTaskListItemCheck (at 1 3 2) (at 1 6 5) (span n.GfmTaskListItemValueChecked (at 1 4 3) (at 1 5 4) empty empty) (span n.Data (at 1 6 5) (at 1 8 7) empty empty)) empty)) empty) empty)
+abbrev a_tab_after_the_mark : Forest
+a_tab_after_the_mark = (span n.ListUnordered (at 1 1 0) (at 1 8 7) (span n.ListItem (at 1 1 0) (at 1 8 7) (span n.ListItemPrefix (at 1 1 0) (at 1 3 2) empty (span n.Paragraph (at 1 3 2) (at 1 8 7) (span n.GfmTaskListItemCheck (at 1 3 2) (at 1 6 5) (span n.GfmTaskListItemValueChecked (at 1 4 3) (at 1 5 4) empty empty) (span n.Data (at 1 6 5) (at 1 8 7) empty empty)) empty)) empty) empty)
 
-a_tab_behind_the_mark-accepted : Accepted (over (42 ∷ 32 ∷ 91 ∷ 120 ∷ 93 ∷ 9 ∷ 97 ∷ [])) a_tab_behind_the_mark
+a_tab_after_the_mark-accepted : Accepted (over (42 ∷ 32 ∷ 91 ∷ 120 ∷ 93 ∷ 9 ∷ 97 ∷ [])) a_tab_after_the_mark
 unfolding is_utf8 chars encode slice fold caseless
-a_tab_behind_the_mark-accepted = conditions-hold (over (42 ∷ 32 ∷ 91 ∷ 120 ∷ 93 ∷ 9 ∷ 97 ∷ [])) a_tab_behind_the_mark refl
+a_tab_after_the_mark-accepted = conditions-hold (over (42 ∷ 32 ∷ 91 ∷ 120 ∷ 93 ∷ 9 ∷ 97 ∷ [])) a_tab_after_the_mark refl
 
-a_tab_behind_the_mark-means : only (meaning (over (42 ∷ 32 ∷ 91 ∷ 120 ∷ 93 ∷ 9 ∷ 97 ∷ [])) a_tab_behind_the_mark) ≡ (node t.root (node (t.list false None false) (node (t.list_item false (Some true)) (node t.paragraph (node (t.text (97 ∷ [])) nothing (position 1 7 6 1 8 7) nothing) (position 1 7 6 1 8 7) nothing) (position 1 1 0 1 8 7) nothing) (position 1 1 0 1 8 7) nothing) (position 1 1 0 1 8 7) nothing)
+a_tab_after_the_mark-means : only (meaning (over (42 ∷ 32 ∷ 91 ∷ 120 ∷ 93 ∷ 9 ∷ 97 ∷ [])) a_tab_after_the_mark) ≡ (node t.root (node (t.list false None false) (node (t.list_item false (Some true)) (node t.paragraph (node (t.text (97 ∷ [])) nothing (position 1 7 6 1 8 7) nothing) (position 1 7 6 1 8 7) nothing) (position 1 1 0 1 8 7) nothing) (position 1 1 0 1 8 7) nothing) (position 1 1 0 1 8 7) nothing)
 unfolding is_utf8 chars encode slice fold caseless
-a_tab_behind_the_mark-means = refl
+a_tab_after_the_mark-means = refl
 
-a_tab_behind_the_mark-ordered : IsOrdered (only (meaning (over (42 ∷ 32 ∷ 91 ∷ 120 ∷ 93 ∷ 9 ∷ 97 ∷ [])) a_tab_behind_the_mark))
+a_tab_after_the_mark-ordered : IsOrdered (only (meaning (over (42 ∷ 32 ∷ 91 ∷ 120 ∷ 93 ∷ 9 ∷ 97 ∷ [])) a_tab_after_the_mark))
 unfolding is_utf8 chars encode slice fold caseless
-a_tab_behind_the_mark-ordered = is-ordered (only (meaning (over (42 ∷ 32 ∷ 91 ∷ 120 ∷ 93 ∷ 9 ∷ 97 ∷ [])) a_tab_behind_the_mark)) refl
+a_tab_after_the_mark-ordered = is-ordered (only (meaning (over (42 ∷ 32 ∷ 91 ∷ 120 ∷ 93 ∷ 9 ∷ 97 ∷ [])) a_tab_after_the_mark)) refl
 
-abbrev a_line_ending_behind_the_mark : Forest
-a_line_ending_behind_the_mark = (span n.ListUnordered (at 1 1 0) (at 2 2 8) (span n.ListItem (at 1 1 0) (at 2 2 8) (span n.ListItemPrefix (at 1 1 0) (at 1 3 2) empty (span n.Paragraph (at 1 3 2) (at 2 2 8) (span n.GfmTaskListItemCheck (at 1 3 2) (at 1 6 5) (span n.GfmTaskListItemValueChecked (at 1 4 3) (at 1 5 4) empty empty) (span n.LineEnding (at 1 6 5) (at 2 1 7) empty (span n.Data (at 2 1 7) (at 2 2 8) empty empty))) empty)) empty) empty)
+abbrev a_line_ending_after_the_mark : Forest
+a_line_ending_after_the_mark = (span n.ListUnordered (at 1 1 0) (at 2 2 8) (span n.ListItem (at 1 1 0) (at 2 2 8) (span n.ListItemPrefix (at 1 1 0) (at 1 3 2) empty (span n.Paragraph (at 1 3 2) (at 2 2 8) (span n.GfmTaskListItemCheck (at 1 3 2) (at 1 6 5) (span n.GfmTaskListItemValueChecked (at 1 4 3) (at 1 5 4) empty empty) (span n.LineEnding (at 1 6 5) (at 2 1 7) empty (span n.Data (at 2 1 7) (at 2 2 8) empty empty))) empty)) empty) empty)
 
-a_line_ending_behind_the_mark-accepted : Accepted (over (42 ∷ 32 ∷ 91 ∷ 120 ∷ 93 ∷ 13 ∷ 10 ∷ 97 ∷ [])) a_line_ending_behind_the_mark
+a_line_ending_after_the_mark-accepted : Accepted (over (42 ∷ 32 ∷ 91 ∷ 120 ∷ 93 ∷ 13 ∷ 10 ∷ 97 ∷ [])) a_line_ending_after_the_mark
 unfolding is_utf8 chars encode slice fold caseless
-a_line_ending_behind_the_mark-accepted = conditions-hold (over (42 ∷ 32 ∷ 91 ∷ 120 ∷ 93 ∷ 13 ∷ 10 ∷ 97 ∷ [])) a_line_ending_behind_the_mark refl
+a_line_ending_after_the_mark-accepted = conditions-hold (over (42 ∷ 32 ∷ 91 ∷ 120 ∷ 93 ∷ 13 ∷ 10 ∷ 97 ∷ [])) a_line_ending_after_the_mark refl
 
-a_line_ending_behind_the_mark-means : only (meaning (over (42 ∷ 32 ∷ 91 ∷ 120 ∷ 93 ∷ 13 ∷ 10 ∷ 97 ∷ [])) a_line_ending_behind_the_mark) ≡ (node t.root (node (t.list false None false) (node (t.list_item false (Some true)) (node t.paragraph (node (t.text (97 ∷ [])) nothing (position 2 1 7 2 2 8) nothing) (position 2 1 7 2 2 8) nothing) (position 1 1 0 2 2 8) nothing) (position 1 1 0 2 2 8) nothing) (position 1 1 0 2 2 8) nothing)
+a_line_ending_after_the_mark-means : only (meaning (over (42 ∷ 32 ∷ 91 ∷ 120 ∷ 93 ∷ 13 ∷ 10 ∷ 97 ∷ [])) a_line_ending_after_the_mark) ≡ (node t.root (node (t.list false None false) (node (t.list_item false (Some true)) (node t.paragraph (node (t.text (97 ∷ [])) nothing (position 2 1 7 2 2 8) nothing) (position 2 1 7 2 2 8) nothing) (position 1 1 0 2 2 8) nothing) (position 1 1 0 2 2 8) nothing) (position 1 1 0 2 2 8) nothing)
 unfolding is_utf8 chars encode slice fold caseless
-a_line_ending_behind_the_mark-means = refl
+a_line_ending_after_the_mark-means = refl
 
-a_line_ending_behind_the_mark-ordered : IsOrdered (only (meaning (over (42 ∷ 32 ∷ 91 ∷ 120 ∷ 93 ∷ 13 ∷ 10 ∷ 97 ∷ [])) a_line_ending_behind_the_mark))
+a_line_ending_after_the_mark-ordered : IsOrdered (only (meaning (over (42 ∷ 32 ∷ 91 ∷ 120 ∷ 93 ∷ 13 ∷ 10 ∷ 97 ∷ [])) a_line_ending_after_the_mark))
 unfolding is_utf8 chars encode slice fold caseless
-a_line_ending_behind_the_mark-ordered = is-ordered (only (meaning (over (42 ∷ 32 ∷ 91 ∷ 120 ∷ 93 ∷ 13 ∷ 10 ∷ 97 ∷ [])) a_line_ending_behind_the_mark)) refl
+a_line_ending_after_the_mark-ordered = is-ordered (only (meaning (over (42 ∷ 32 ∷ 91 ∷ 120 ∷ 93 ∷ 13 ∷ 10 ∷ 97 ∷ [])) a_line_ending_after_the_mark)) refl
 
 abbrev a_text_that_becomes_empty : Forest
 a_text_that_becomes_empty = (span n.ListUnordered (at 1 1 0) (at 1 10 9) (span n.ListItem (at 1 1 0) (at 1 10 9) (span n.ListItemPrefix (at 1 1 0) (at 1 3 2) empty (span n.Paragraph (at 1 3 2) (at 1 10 9) (span n.GfmTaskListItemCheck (at 1 3 2) (at 1 6 5) (span n.GfmTaskListItemValueChecked (at 1 4 3) (at 1 5 4) empty empty) (span n.Data (at 1 6 5) (at 1 7 6) empty (span n.Emphasis (at 1 7 6) (at 1 10 9) (span n.EmphasisSequence (at 1 7 6) (at 1 8 7) empty (span n.EmphasisText (at 1 8 7) (at 1 9 8) (span n.Data (at 1 8 7) (at 1 9 8) empty empty) (span n.EmphasisSequence (at 1 9 8) (at 1 10 9) empty empty))) empty))) empty)) empty) empty)

@@ -5,7 +5,7 @@ use Rattle.std.specs.Str.{is_utf8, chars}
 use lib.Utf8.{encode}
 use Rattle.caseless.proofs.Computing.{caseless}
 use Rattle.markdown_events.specs.declared.event.Name.TheVariants as n
-use Rattle.markdown_events.specs.Forest.{Forest, empty, span, spell}
+use Rattle.markdown_events.specs.Forest.{Forest, empty, span, events_of}
 use Rattle.markdown_events.specs.Slices.{slice}
 use Rattle.markdown_events.specs.Texts.{fold}
 use Rattle.markdown_nodes.specs.Tree.{node, nothing, only}
@@ -16,7 +16,7 @@ use Rattle.markdown_steps.specs.Compiler.{compiled, enter_step, exit_step, leave
 use Rattle.markdown_grammar.specs.Meaning.{meaning}
 use Rattle.markdown_grammar.specs.Ordered.{IsOrdered}
 use Rattle.markdown_steps.proofs.Orderly.{is-ordered, is-unordered}
-use Rattle.markdown_steps.proofs.RowWords.{at, at_spaces, position, over, refusal, refusal_of}
+use Rattle.markdown_steps.proofs.RowWords.{at, at_spaces, position, over, error_kind, error_kind_of}
 
 abbrev no_events : Forest
 no_events = empty
@@ -48,16 +48,16 @@ a_text_in_a_paragraph-ordered : IsOrdered (only (meaning (over (72 ∷ 105 ∷ [
 unfolding is_utf8 chars encode slice fold caseless
 a_text_in_a_paragraph-ordered = is-ordered (only (meaning (over (72 ∷ 105 ∷ [])) a_text_in_a_paragraph)) refl
 
-abbrev plain_spans_do_not_split_a_text : Forest
-plain_spans_do_not_split_a_text = (span n.Paragraph (at 1 1 0) (at 1 3 2) (span n.EmphasisText (at 1 1 0) (at 1 3 2) (span n.Data (at 1 1 0) (at 1 2 1) empty (span n.EmphasisSequence (at 1 2 1) (at 1 2 1) empty (span n.Data (at 1 2 1) (at 1 3 2) empty empty))) empty) empty)
+abbrev transparent_spans_do_not_split_a_text : Forest
+transparent_spans_do_not_split_a_text = (span n.Paragraph (at 1 1 0) (at 1 3 2) (span n.EmphasisText (at 1 1 0) (at 1 3 2) (span n.Data (at 1 1 0) (at 1 2 1) empty (span n.EmphasisSequence (at 1 2 1) (at 1 2 1) empty (span n.Data (at 1 2 1) (at 1 3 2) empty empty))) empty) empty)
 
-plain_spans_do_not_split_a_text-accepted : Accepted (over (72 ∷ 105 ∷ [])) plain_spans_do_not_split_a_text
+transparent_spans_do_not_split_a_text-accepted : Accepted (over (72 ∷ 105 ∷ [])) transparent_spans_do_not_split_a_text
 unfolding is_utf8 chars encode slice fold caseless
-plain_spans_do_not_split_a_text-accepted = conditions-hold (over (72 ∷ 105 ∷ [])) plain_spans_do_not_split_a_text refl
+transparent_spans_do_not_split_a_text-accepted = conditions-hold (over (72 ∷ 105 ∷ [])) transparent_spans_do_not_split_a_text refl
 
-plain_spans_do_not_split_a_text-means : only (meaning (over (72 ∷ 105 ∷ [])) plain_spans_do_not_split_a_text) ≡ (node t.root (node t.paragraph (node (t.text (72 ∷ 105 ∷ [])) nothing (position 1 1 0 1 3 2) nothing) (position 1 1 0 1 3 2) nothing) (position 1 1 0 1 3 2) nothing)
+transparent_spans_do_not_split_a_text-means : only (meaning (over (72 ∷ 105 ∷ [])) transparent_spans_do_not_split_a_text) ≡ (node t.root (node t.paragraph (node (t.text (72 ∷ 105 ∷ [])) nothing (position 1 1 0 1 3 2) nothing) (position 1 1 0 1 3 2) nothing) (position 1 1 0 1 3 2) nothing)
 unfolding is_utf8 chars encode slice fold caseless
-plain_spans_do_not_split_a_text-means = refl
+transparent_spans_do_not_split_a_text-means = refl
 
 abbrev data_in_the_root : Forest
 data_in_the_root = (span n.Data (at 1 1 0) (at 1 3 2) empty empty)
@@ -147,7 +147,7 @@ a_character_cut_in_two-accepted : ¬ (Accepted (over (195 ∷ 169 ∷ [])) a_cha
 unfolding is_utf8 chars encode slice fold caseless
 a_character_cut_in_two-accepted = conditions-fail (over (195 ∷ 169 ∷ [])) a_character_cut_in_two refl
 
-a_character_cut_in_two-refused : refusal_of (compiled (over (195 ∷ 169 ∷ [])) (spell a_character_cut_in_two)) ≡ refusal (codes "slice-invalid") 1 2 1
+a_character_cut_in_two-refused : error_kind_of (compiled (over (195 ∷ 169 ∷ [])) (events_of a_character_cut_in_two)) ≡ error_kind (codes "slice-invalid") 1 2 1
 unfolding is_utf8 chars encode slice fold caseless run enter_step exit_step leave
 a_character_cut_in_two-refused = refl
 

@@ -4,16 +4,16 @@ use Rattle.std.specs.Prelude.{is_some}
 use Rattle.std.specs.List.{list_all}
 use Rattle.markdown_events.specs.Slices.{slice}
 use Rattle.markdown_events.specs.declared.event.Point.{Point}
-use Rattle.markdown_events.specs.declared.role.Acting.{Acting}
+use Rattle.markdown_events.specs.declared.role.ItemKind.{ItemKind}
 use Rattle.markdown_events.specs.declared.role.Part.{Part}
 use Rattle.markdown_grammar.specs.Accepted.{Occurrence, ends_with_break, has_its_parts}
 use Rattle.markdown_grammar.specs.Refusals.{rule_error, missing_error, value_error}
 use Rattle.markdown_grammar.specs.Attributes.{decoded, value}
 use Rattle.markdown_steps.proofs.Booleans.{and-left, and-right, not-both}
-use Rattle.markdown_steps.proofs.Gathered.{is-that-part}
+use Rattle.markdown_steps.proofs.SummaryLaws.{is-that-part}
 use Rattle.markdown_steps.proofs.RuleLists.{keeps-snoc, lets}
-use Rattle.markdown_grammar.specs.Grammar.{has_required, markers, rules, takes}
-use Rattle.markdown_grammar.specs.Grammar.{Holder, character_reference, code_fenced, content_model, heading_atx, model_of, list_item, list_ordered, marked_item, marked_numbered_item, math_flow, numbered_item, part_model}
+use Rattle.markdown_grammar.specs.Grammar.{has_required, markers, rules, conforms}
+use Rattle.markdown_grammar.specs.Grammar.{ContentModel, character_reference, code_fenced, content_model, heading_atx, model_of, list_item, list_ordered, marked_item, marked_numbered_item, math_flow, numbered_item, part_model}
 use Rattle.markdown_grammar.specs.Items.{Items, kinds}
 use Rattle.markdown_grammar.specs.Items.{is_frontmatter, is_line_ending, is_one_of, is_part, no_item, ◌or◌}
 use Rattle.markdown_grammar.specs.Document.{is_depth, is_item_number}
@@ -22,14 +22,14 @@ use Rattle.markdown_grammar.specs.Document.{byte_at, length_between}
 use Rattle.markdown_grammar.specs.Values.{is_read}
 use Rattle.markdown_grammar.specs.Reasons.{BreaksFirst, IsWrongAtEnter, IsWrongAtExit, against_a_rule, after_a_break, break_is_last, table_in_a_table, without_its_byte, without_its_parts, without_its_value}
 use Rattle.markdown_steps.specs.Consequences.{EnterSays, ExitSays}
-use Rattle.markdown_grammar.specs.Grammar.{Rule, any_item, keeps, never, once, only, only_before, only_after}
+use Rattle.markdown_grammar.specs.Grammar.{Rule, any_item, keeps, none_of, at_most_one, only, only_before, only_after}
 use Rattle.markdown_grammar.specs.Document.{Source}
 use Rattle.markdown_grammar.specs.Spots.{Site}
-use Rattle.markdown_grammar.specs.declared.refusal.Refusal.{Refusal}
-use Rattle.markdown_events.specs.declared.role.Acting.TheVariants.{Content as content, Part as part}
+use Rattle.markdown_grammar.specs.declared.error_kind.ErrorKind.{ErrorKind}
+use Rattle.markdown_events.specs.declared.role.ItemKind.TheVariants.{Content as content, Part as part}
 use Rattle.markdown_events.specs.declared.role.Content.TheVariants as contents
 use Rattle.markdown_events.specs.declared.role.Part.TheVariants as parts
-use Rattle.markdown_grammar.specs.declared.refusal.Refusal.TheVariants.{Misplaced, Repeated, InvalidSlice, InvalidListValue, UnknownReference, IncompleteReference, HeadingDepth}
+use Rattle.markdown_grammar.specs.declared.error_kind.ErrorKind.TheVariants.{Misplaced, Repeated, InvalidSlice, InvalidListValue, UnknownReference, IncompleteReference, HeadingDepth}
 
 -- ---- Exits: what must stand does not
 
@@ -37,19 +37,19 @@ is-none : {A : Type 0} (o : Option A) → is_some o ≡ false → o ≡ None
 is-none None h = refl
 is-none (Some x) h = absurd cc
 
--- only six kinds of holders want something
-complete-item : (s : Source) (h : Holder) (xs : Items) → has_required s (content_model h contents.ListItem) xs ≡ true
+-- only six kinds of containers want something
+complete-item : (s : Source) (h : ContentModel) (xs : Items) → has_required s (content_model h contents.ListItem) xs ≡ true
 complete-item s list_ordered xs = refl
 complete-item s h xs = refl
 
-complete-paragraph : (s : Source) (h : Holder) (xs : Items) → has_required s (content_model h contents.Paragraph) xs ≡ true
+complete-paragraph : (s : Source) (h : ContentModel) (xs : Items) → has_required s (content_model h contents.Paragraph) xs ≡ true
 complete-paragraph s list_item xs = refl
 complete-paragraph s numbered_item xs = refl
 complete-paragraph s marked_item xs = refl
 complete-paragraph s marked_numbered_item xs = refl
 complete-paragraph s h xs = refl
 
-complete-part : (s : Source) (h : Holder) (q : Part) (xs : Items) → has_required s (part_model h q) xs ≡ true
+complete-part : (s : Source) (h : ContentModel) (q : Part) (xs : Items) → has_required s (part_model h q) xs ≡ true
 complete-part s code_fenced parts.CodeFencedFence xs = refl
 complete-part s math_flow parts.MathFlowFence xs = refl
 complete-part s h parts.CodeFencedFence xs = refl
@@ -57,10 +57,10 @@ complete-part s h parts.MathFlowFence xs = refl
 complete-part s h q xs = refl
 
 -- an item of these ends without what must stand in it
-abbrev of : Holder → Place → Bool → Acting → Point → Point → Items → Occurrence
-of h p w what a b inner = record { holder = h; place = p; after_break = w; what = what; start = a; end = b; inner = inner }
+abbrev of : ContentModel → Place → Bool → ItemKind → Point → Point → Items → Occurrence
+of h p w what a b inner = record { model = h; place = p; after_break = w; what = what; start = a; end = b; inner = inner }
 
-parts-say : (s : Source) (h : Holder) (p : Place) (w : Bool) (what : Acting) (a b : Point) (inner : Items) → has_its_parts s (of h p w what a b inner) ≡ false → ExitSays s (of h p w what a b inner) (missing_error (model_of h what))
+parts-say : (s : Source) (h : ContentModel) (p : Place) (w : Bool) (what : ItemKind) (a b : Point) (inner : Items) → has_its_parts s (of h p w what a b inner) ≡ false → ExitSays s (of h p w what a b inner) (missing_error (model_of h what))
 parts-say s h p w (content contents.CharacterReference) a b inner e = (refl, e)
 parts-say s h p w (content contents.CodeFenced) a b inner e = inl (refl, e)
 parts-say s h p w (content contents.MathFlow) a b inner e = inr (refl, e)
@@ -79,12 +79,12 @@ or-false-right true b h = let z : ⊥ = cc in absurd z
 or-false-right false b h = h
 
 -- a value whose slice is there, and one whose slice is not
-reference-says : (s : Source) (h : Holder) (p : Place) (w : Bool) (a b : Point) (inner : Items) (there : Bool) → is_some (slice s.bytes a b) ≡ there → (is_some (slice s.bytes a b) && is_some (decoded s p a b)) ≡ false
+reference-says : (s : Source) (h : ContentModel) (p : Place) (w : Bool) (a b : Point) (inner : Items) (there : Bool) → is_some (slice s.bytes a b) ≡ there → (is_some (slice s.bytes a b) && is_some (decoded s p a b)) ≡ false
     → ExitSays s (of h p w (part parts.CharacterReferenceValue) a b inner) (cond there UnknownReference InvalidSlice)
 reference-says s h p w a b inner true e k = (refl, is-none (decoded s p a b) ((λ t. sym e t && is_some (decoded s p a b)) ∙ k))
 reference-says s h p w a b inner false e k = (k, inl (is-none (slice s.bytes a b) e))
 
-number-says : (s : Source) (h : Holder) (p : Place) (w : Bool) (a b : Point) (inner : Items) (there : Bool) → is_some (slice s.bytes a b) ≡ there → is_item_number (slice s.bytes a b) ≡ false
+number-says : (s : Source) (h : ContentModel) (p : Place) (w : Bool) (a b : Point) (inner : Items) (there : Bool) → is_some (slice s.bytes a b) ≡ there → is_item_number (slice s.bytes a b) ≡ false
     → ExitSays s (of h p w (part parts.ListItemValue) a b inner) (cond there InvalidListValue InvalidSlice)
 number-says s h p w a b inner true e k = (refl, k)
 number-says s h p w a b inner false e k = (k, inl (is-none (slice s.bytes a b) e))
@@ -94,7 +94,7 @@ depth-says : (s : Source) (p : Place) (w : Bool) (a b : Point) (inner : Items) (
 depth-says s p w a b inner true e k = inr (inr (refl, refl, k))
 depth-says s p w a b inner false e k = (k, inr (inl (is-none (length_between s.bytes a b) e)))
 
-value-says : (s : Source) (h : Holder) (p : Place) (w : Bool) (what : Acting) (a b : Point) (inner : Items) → is_read s h p w what a b ≡ false → ExitSays s (of h p w what a b inner) (value_error s what a b)
+value-says : (s : Source) (h : ContentModel) (p : Place) (w : Bool) (what : ItemKind) (a b : Point) (inner : Items) → is_read s h p w what a b ≡ false → ExitSays s (of h p w what a b inner) (value_error s what a b)
 value-says s h p w (content contents.Data) a b inner e = (e, inl (is-none (slice s.bytes a b) e))
 value-says s h p w (content contents.AutolinkLiteralEmail) a b inner e = (e, inl (is-none (slice s.bytes a b) e))
 value-says s h p w (content contents.AutolinkLiteralWww) a b inner e = (e, inl (is-none (slice s.bytes a b) e))
@@ -118,49 +118,49 @@ not-false true h = refl
 not-false false h = sym h
 
 -- what is wrong at an exit is what the refusal says
-pub exit_says : (s : Source) (x : Occurrence) (why : Refusal) → IsWrongAtExit s x why → ExitSays s x why
-exit_says s x why (break_is_last e w) = subst (λ (r : Refusal). ExitSays s x r) (sym w) (not-false (ends_with_break x.inner) e)
-exit_says s x why (without_its_parts b e w) = subst (λ (r : Refusal). ExitSays s x r) (sym w) (parts-say s x.holder x.place x.after_break x.what x.start x.end x.inner e)
-exit_says s x why (without_its_value b k e w) = subst (λ (r : Refusal). ExitSays s x r) (sym w) (value-says s x.holder x.place x.after_break x.what x.start x.end x.inner e)
+pub exit_says : (s : Source) (x : Occurrence) (why : ErrorKind) → IsWrongAtExit s x why → ExitSays s x why
+exit_says s x why (break_is_last e w) = subst (λ (r : ErrorKind). ExitSays s x r) (sym w) (not-false (ends_with_break x.inner) e)
+exit_says s x why (without_its_parts b e w) = subst (λ (r : ErrorKind). ExitSays s x r) (sym w) (parts-say s x.model x.place x.after_break x.what x.start x.end x.inner e)
+exit_says s x why (without_its_value b k e w) = subst (λ (r : ErrorKind). ExitSays s x r) (sym w) (value-says s x.model x.place x.after_break x.what x.start x.end x.inner e)
 
 -- ---- Enters
 
--- a rule that is broken is one of the row's
-pub breaks-takes : (h : Holder) (rs : List Rule) (xs : List Acting) (why : Refusal) → BreaksFirst h rs xs why → list_all (λ r. keeps r xs) rs ≡ false
+-- a rule that is broken is one of the content model's
+pub breaks-takes : (h : ContentModel) (rs : List Rule) (xs : List ItemKind) (why : ErrorKind) → BreaksFirst h rs xs why → list_all (λ r. keeps r xs) rs ≡ false
 breaks-takes h [] xs why b = absurd b
 breaks-takes h (r ∷ rs) xs why (inl b) = ap (λ k. k && list_all (λ r'. keeps r' xs) rs) b.0
 breaks-takes h (r ∷ rs) xs why (inr b) = (λ t. b.0 t && breaks-takes h rs xs why b.1 t)
 
 -- the refusals that rules give
-data OfRules (h : Holder) (why : Refusal) : Type 0 where
+data OfRules (h : ContentModel) (why : ErrorKind) : Type 0 where
   repeated : why ≡ Repeated → OfRules h why
   misplaced : why ≡ Misplaced → OfRules h why
   incomplete : why ≡ IncompleteReference → h ≡ character_reference → OfRules h why
 
-rule-says : (h : Holder) (r : Rule) → OfRules h (rule_error h r)
-rule-says h (once ps) = repeated refl
-rule-says h (never ps) = repeated refl
+rule-says : (h : ContentModel) (r : Rule) → OfRules h (rule_error h r)
+rule-says h (at_most_one ps) = repeated refl
+rule-says h (none_of ps) = repeated refl
 rule-says character_reference (only_before ps test) = incomplete refl refl
 rule-says h (only_before ps test) = misplaced refl
 rule-says h (only_after ps test) = misplaced refl
 rule-says h (only test) = misplaced refl
 
-breaks-say : (h : Holder) (rs : List Rule) (xs : List Acting) (why : Refusal) → BreaksFirst h rs xs why → OfRules h why
+breaks-say : (h : ContentModel) (rs : List Rule) (xs : List ItemKind) (why : ErrorKind) → BreaksFirst h rs xs why → OfRules h why
 breaks-say h [] xs why b = absurd b
-breaks-say h (r ∷ rs) xs why (inl b) = subst (λ (w : Refusal). OfRules h w) (sym b.1) (rule-says h r)
+breaks-say h (r ∷ rs) xs why (inl b) = subst (λ (w : ErrorKind). OfRules h w) (sym b.1) (rule-says h r)
 breaks-say h (r ∷ rs) xs why (inr b) = breaks-say h rs xs why b.1
 
 -- one more item of a reference, which its marker rule alone refuses, is a value
-value-alone : (xs : List Acting) (what : Acting) → takes character_reference xs ≡ true → BreaksFirst character_reference (rules character_reference) (xs ++ what ∷ []) IncompleteReference → what ≡ part parts.CharacterReferenceValue
+value-alone : (xs : List ItemKind) (what : ItemKind) → conforms character_reference xs ≡ true → BreaksFirst character_reference (rules character_reference) (xs ++ what ∷ []) IncompleteReference → what ≡ part parts.CharacterReferenceValue
 value-alone xs what taken (inl b) = absurd (let z : IncompleteReference ≡ Repeated = b.1 in cc)
 value-alone xs what taken (inr (k, inl b)) = absurd (let z : IncompleteReference ≡ Misplaced = b.1 in cc)
 value-alone xs what taken (inr (k, inr (l, inl b))) = absurd (let z : IncompleteReference ≡ Misplaced = b.1 in cc)
 value-alone xs what taken (inr (k, inr (l, inr (m, inl b)))) =
     let rule : Rule = only_before markers no_item in
-    let such : Acting → Bool = is_one_of markers or is_part parts.CharacterReferenceValue in
+    let such : ItemKind → Bool = is_one_of markers or is_part parts.CharacterReferenceValue in
     let one : such what ≡ true = and-right (keeps (only such) xs) (such what) (sym (keeps-snoc (only such) xs what) ∙ l) in
     let kept : keeps rule xs ≡ true =
-    fourth-of (keeps (once (parts.CharacterReferenceValue ∷ [])) xs) (keeps (only such) xs) (keeps (only_after (parts.CharacterReferenceValue ∷ []) no_item) xs) (keeps rule xs) taken in
+    fourth-of (keeps (at_most_one (parts.CharacterReferenceValue ∷ [])) xs) (keeps (only such) xs) (keeps (only_after (parts.CharacterReferenceValue ∷ []) no_item) xs) (keeps rule xs) taken in
     let none_let : lets rule xs what ≡ false = (λ t. sym kept t && lets rule xs what) ∙ sym (keeps-snoc rule xs what) ∙ b.0 in
     sym (is-that-part parts.CharacterReferenceValue what (other-of (is_one_of markers what) (is_part parts.CharacterReferenceValue what) one (first-false (is_one_of markers what) false (or-false-right (any_item (is_one_of markers) xs) (is_one_of markers what || false) none_let))))
   where
@@ -176,26 +176,26 @@ value-alone xs what taken (inr (k, inr (l, inr (m, inl b)))) =
     fourth-of a b c d h = and-left d true (and-right c (d && true) (and-right b (c && (d && true)) (and-right a (b && (c && (d && true))) h)))
 value-alone xs what taken (inr (k, inr (l, inr (m, inr b)))) = absurd b.1
 
-breaks-enter : (s : Source) (spot : Site) (what : Acting) (a : Point) (why : Refusal) → takes spot.row (kinds spot.before) ≡ true → BreaksFirst spot.row (rules spot.row) (kinds spot.before ++ what ∷ []) why → OfRules spot.row why → EnterSays s spot what a why
-breaks-enter s spot what a why taken b (repeated w) = subst (λ (r : Refusal). EnterSays s spot what a r) (sym w) (breaks-takes spot.row (rules spot.row) (kinds spot.before ++ what ∷ []) why b)
-breaks-enter s spot what a why taken b (misplaced w) = subst (λ (r : Refusal). EnterSays s spot what a r) (sym w) (inl (breaks-takes spot.row (rules spot.row) (kinds spot.before ++ what ∷ []) why b))
+breaks-enter : (s : Source) (spot : Site) (what : ItemKind) (a : Point) (why : ErrorKind) → conforms spot.initial_model (kinds spot.before) ≡ true → BreaksFirst spot.initial_model (rules spot.initial_model) (kinds spot.before ++ what ∷ []) why → OfRules spot.initial_model why → EnterSays s spot what a why
+breaks-enter s spot what a why taken b (repeated w) = subst (λ (r : ErrorKind). EnterSays s spot what a r) (sym w) (breaks-takes spot.initial_model (rules spot.initial_model) (kinds spot.before ++ what ∷ []) why b)
+breaks-enter s spot what a why taken b (misplaced w) = subst (λ (r : ErrorKind). EnterSays s spot what a r) (sym w) (inl (breaks-takes spot.initial_model (rules spot.initial_model) (kinds spot.before ++ what ∷ []) why b))
 breaks-enter s spot what a why taken b (incomplete w h) =
-    subst (λ (r : Refusal). EnterSays s spot what a r) (sym w)
-    (value-alone (kinds spot.before) what (ap (λ (r : Holder). takes r (kinds spot.before)) (sym h) ∙ taken)
-    (subst (λ (r : Refusal). BreaksFirst character_reference (rules character_reference) (kinds spot.before ++ what ∷ []) r) w (subst (λ (r : Holder). BreaksFirst r (rules r) (kinds spot.before ++ what ∷ []) why) h b)))
+    subst (λ (r : ErrorKind). EnterSays s spot what a r) (sym w)
+    (value-alone (kinds spot.before) what (ap (λ (r : ContentModel). conforms r (kinds spot.before)) (sym h) ∙ taken)
+    (subst (λ (r : ErrorKind). BreaksFirst character_reference (rules character_reference) (kinds spot.before ++ what ∷ []) r) w (subst (λ (r : ContentModel). BreaksFirst r (rules r) (kinds spot.before ++ what ∷ []) why) h b)))
 
 break-bools : (w l : Bool) → (not w || l) ≡ false → (w ≡ true) × (l ≡ false)
 break-bools true l h = (refl, h)
 break-bools false l h = absurd cc
 
-byte-says : (s : Source) (what : Acting) (a : Point) → (not (is_frontmatter what) || is_some (byte_at s.bytes a)) ≡ false → (what ≡ content contents.Frontmatter) × (byte_at s.bytes a ≡ None)
+byte-says : (s : Source) (what : ItemKind) (a : Point) → (not (is_frontmatter what) || is_some (byte_at s.bytes a)) ≡ false → (what ≡ content contents.Frontmatter) × (byte_at s.bytes a ≡ None)
 byte-says s (content contents.Frontmatter) a h = (refl, is-none (byte_at s.bytes a) h)
 byte-says s (content c) a h = absurd cc
 byte-says s (part q) a h = absurd cc
 
 -- what is wrong at an enter is what the refusal says
-pub enter_says : (s : Source) (spot : Site) (what : Acting) (a : Point) (why : Refusal) → takes spot.row (kinds spot.before) ≡ true → IsWrongAtEnter s spot what a why → EnterSays s spot what a why
-enter_says s spot what a why taken (after_a_break e w) = subst (λ (r : Refusal). EnterSays s spot what a r) (sym w) (break-bools (ends_with_break spot.before) (is_line_ending what) e)
-enter_says s spot what a why taken (against_a_rule k b) = breaks-enter s spot what a why taken b (breaks-say spot.row (rules spot.row) (kinds spot.before ++ what ∷ []) why b)
-enter_says s spot what a why taken (table_in_a_table k l e w) = subst (λ (r : Refusal). EnterSays s spot what a r) (sym w) (inr e)
-enter_says s spot what a why taken (without_its_byte k l m e w) = subst (λ (r : Refusal). EnterSays s spot what a r) (sym w) (byte-says s what a e)
+pub enter_says : (s : Source) (spot : Site) (what : ItemKind) (a : Point) (why : ErrorKind) → conforms spot.initial_model (kinds spot.before) ≡ true → IsWrongAtEnter s spot what a why → EnterSays s spot what a why
+enter_says s spot what a why taken (after_a_break e w) = subst (λ (r : ErrorKind). EnterSays s spot what a r) (sym w) (break-bools (ends_with_break spot.before) (is_line_ending what) e)
+enter_says s spot what a why taken (against_a_rule k b) = breaks-enter s spot what a why taken b (breaks-say spot.initial_model (rules spot.initial_model) (kinds spot.before ++ what ∷ []) why b)
+enter_says s spot what a why taken (table_in_a_table k l e w) = subst (λ (r : ErrorKind). EnterSays s spot what a r) (sym w) (inr e)
+enter_says s spot what a why taken (without_its_byte k l m e w) = subst (λ (r : ErrorKind). EnterSays s spot what a r) (sym w) (byte-says s what a e)

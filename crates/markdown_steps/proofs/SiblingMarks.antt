@@ -4,15 +4,15 @@ use Rattle.std.specs.Prelude.{unwrap_or}
 use Rattle.std.specs.Option.{option_or}
 use Rattle.markdown_events.specs.Forest.{Forest, empty, span}
 use Rattle.markdown_events.specs.Names.{role_of}
-use Rattle.markdown_events.specs.Spread.{align_kind_of, begins_with, ends_bare, follows_bare_item, from_behind, is_bare_end, is_blank_line, is_delimiter_marker, is_item_prefix, is_quote_prefix, is_space_or_tab, loose, loose_item, reversed_onto, skip_space, some_blank_line}
+use Rattle.markdown_events.specs.Spread.{align_kind_of, begins_with, ends_bare, follows_bare_item, last_first, is_bare_end, is_blank_line, is_delimiter_marker, is_item_prefix, is_quote_prefix, is_space_or_tab, loose, loose_item, reversed_onto, skip_space, some_blank_line}
 use Rattle.markdown_events.specs.declared.role.Role.{Role}
 use Rattle.markdown_steps.specs.Siblings.{Marks, Sibling, bare_by, item_by, kind_by, marks_with, no_marks, no_sibling, sibling_of}
-use Rattle.markdown_events.specs.declared.role.Acting.TheVariants.{Content as content}
+use Rattle.markdown_events.specs.declared.role.ItemKind.TheVariants.{Content as content}
 use Rattle.markdown_events.specs.declared.role.Content.TheVariants as contents
-use Rattle.markdown_events.specs.declared.role.Plain.TheVariants as plains
-use Rattle.markdown_events.specs.declared.role.Role.TheVariants.{Plain as plain, Acting as acting}
+use Rattle.markdown_events.specs.declared.role.TransparentKind.TheVariants as transparents
+use Rattle.markdown_events.specs.declared.role.Role.TheVariants.{Transparent as transparent, Significant as significant}
 
--- what a frame keeps behind more children
+-- what a frame keeps after more children
 abbrev pub marks_onto : Marks → Forest → Marks
 marks_onto m empty = m
 marks_onto m (span n a b c r) = marks_onto (marks_with m (role_of n) (marks_onto no_marks c)) r
@@ -35,16 +35,16 @@ second (span n a b c r) = head r
 abbrev nearest : Sibling → Sibling → Sibling
 nearest near far = cond near.space far near
 
--- the marks see the children from behind
+-- the marks see the children last first
 near-is : (f before : Forest) (m : Marks) → head before ≡ m.near → second before ≡ m.far → (head (reversed_onto before f) ≡ (marks_onto m f).near) × (second (reversed_onto before f) ≡ (marks_onto m f).far)
 near-is empty before m h k = (h, k)
 near-is (span n a b c r) before m h k = near-is r (span n a b c before) (marks_with m (role_of n) (marks c)) refl h
 
-behind-near : (f : Forest) → head (from_behind f) ≡ (marks f).near
-behind-near f = (near-is f empty no_marks refl refl).0
+after-near : (f : Forest) → head (last_first f) ≡ (marks f).near
+after-near f = (near-is f empty no_marks refl refl).0
 
-behind-far : (f : Forest) → second (from_behind f) ≡ (marks f).far
-behind-far f = (near-is f empty no_marks refl refl).1
+after-far : (f : Forest) → second (last_first f) ≡ (marks f).far
+after-far f = (near-is f empty no_marks refl refl).1
 
 begins-quote : (f : Forest) → begins_with is_quote_prefix f ≡ (head f).quote_prefix
 begins-quote empty = refl
@@ -55,8 +55,8 @@ begins-prefix empty = refl
 begins-prefix (span n a b c r) = refl
 
 bare-is : (role : Role) (c : Forest) → is_bare_end role c ≡ bare_by role (marks c).near.quote_prefix
-bare-is (plain plains.ListItemPrefix) c = refl
-bare-is (acting (content contents.BlockQuote)) c = begins-quote (from_behind c) ∙ ap (λ (x : Sibling). x.quote_prefix) (behind-near c)
+bare-is (transparent transparents.ListItemPrefix) c = refl
+bare-is (significant (content contents.BlockQuote)) c = begins-quote (last_first c) ∙ ap (λ (x : Sibling). x.quote_prefix) (after-near c)
 bare-is role c = refl
 
 ends-is : (f : Forest) → ends_bare f ≡ (head f).bare_end
@@ -68,11 +68,11 @@ skipped empty B g k h = h empty
 skipped (span n a b c r) B g k h =
     elim (is_space_or_tab (role_of n)) as (λ t. g (elim t [ true ↦ r | false ↦ span n a b c r ]) ≡ k (cond t (head r) (sibling_of (role_of n) (marks c)))) [ true ↦ h r | false ↦ h (span n a b c r) ]
 
-item-bare : (role : Role) (c : Forest) → elim role [ acting (content contents.ListItem) ↦ ends_bare (skip_space (from_behind c)) | _ ↦ false ] ≡ item_by role (nearest (marks c).near (marks c).far).bare_end
-item-bare (acting (content contents.ListItem)) c =
-    skipped (from_behind c) Bool ends_bare (λ x. x.bare_end) ends-is ∙ (λ t. (nearest (behind-near c t) (behind-far c t)).bare_end)
-item-bare (acting (content contents.Data)) c = refl
-item-bare (plain plains.BlankLineEnding) c = refl
+item-bare : (role : Role) (c : Forest) → elim role [ significant (content contents.ListItem) ↦ ends_bare (skip_space (last_first c)) | _ ↦ false ] ≡ item_by role (nearest (marks c).near (marks c).far).bare_end
+item-bare (significant (content contents.ListItem)) c =
+    skipped (last_first c) Bool ends_bare (λ x. x.bare_end) ends-is ∙ (λ t. (nearest (after-near c t) (after-far c t)).bare_end)
+item-bare (significant (content contents.Data)) c = refl
+item-bare (transparent transparents.BlankLineEnding) c = refl
 item-bare role c = refl
 
 follows-is : (f : Forest) → follows_bare_item f ≡ (head f).bare_item
@@ -131,5 +131,5 @@ begins-marker : (f : Forest) → begins_with is_delimiter_marker f ≡ (head f).
 begins-marker empty = refl
 begins-marker (span n a b c r) = refl
 
-pub kind-is : (c : Forest) → align_kind_of (begins_with is_delimiter_marker c) (begins_with is_delimiter_marker (from_behind c)) ≡ kind_by (marks c)
-kind-is c = λ t. align_kind_of (begins-first c t) ((begins-marker (from_behind c) ∙ ap (λ (x : Sibling). x.marker) (behind-near c)) t)
+pub kind-is : (c : Forest) → align_kind_of (begins_with is_delimiter_marker c) (begins_with is_delimiter_marker (last_first c)) ≡ kind_by (marks c)
+kind-is c = λ t. align_kind_of (begins-first c t) ((begins-marker (last_first c) ∙ ap (λ (x : Sibling). x.marker) (after-near c)) t)

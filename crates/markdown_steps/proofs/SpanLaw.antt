@@ -4,15 +4,16 @@ use Rattle.std.proofs.Common.{◌≡◌, ◌≤◌, ◌<◌, ℕ, ◌-◌, ◌^�
 use Rattle.std.proofs.Common.{subst}
 use Rattle.std.specs.Prelude.{⊤}
 use lib.Chars.{codes}
-use Rattle.markdown_events.specs.Forest.{Forest, empty, span, spell}
+use Rattle.markdown_events.specs.Forest.{Forest, empty, span, events_of}
 use Rattle.markdown_events.specs.Names.{role_of}
-use Rattle.markdown_events.specs.Spread.{loose_item, shown_of}
+use Rattle.markdown_events.specs.Spread.{loose_item}
+use Rattle.markdown_steps.specs.ChildFacts.{child_facts_of}
 use Rattle.markdown_nodes.specs.Tree.{Label, Trees, join, list_item, node, nothing, only, paragraph, seam, text}
 use Rattle.markdown_events.specs.declared.event.Event.{Event}
 use Rattle.markdown_events.specs.declared.event.Kind.TheVariants.{Enter, Exit}
 use Rattle.markdown_events.specs.declared.event.Name.{Name}
 use Rattle.markdown_events.specs.declared.event.Point.{Point}
-use Rattle.markdown_events.specs.declared.role.Acting.{Acting}
+use Rattle.markdown_events.specs.declared.role.ItemKind.{ItemKind}
 use Rattle.markdown_events.specs.declared.role.Part.{Part}
 use Rattle.markdown_events.specs.declared.role.Role.{Role}
 use Rattle.markdown_events.specs.declared.unist.Point.{Point as UnistPoint}
@@ -20,24 +21,24 @@ use Rattle.markdown_events.specs.declared.unist.Position.{Position}
 use Rattle.markdown_steps.proofs.ItemLists.{regroup}
 use Rattle.markdown_grammar.specs.Attributes.{mark}
 use Rattle.markdown_grammar.specs.Document.{text_read}
-use Rattle.markdown_steps.specs.KeptNodes.{autolink, media_of}
+use Rattle.markdown_steps.specs.SummaryNodes.{autolink, media_of}
 use Rattle.markdown_grammar.specs.Nodes.{Media, image_label, link_label, linked}
 use Rattle.markdown_grammar.specs.Decorated.{node_at}
 use Rattle.markdown_grammar.specs.Items.{Items, item, items, none, place_items, same_part, ◌then◌}
-use Rattle.markdown_grammar.specs.Meaning.{last_end, meaning}
+use Rattle.markdown_grammar.specs.Meaning.{extent, last_end, meaning}
 use Rattle.markdown_steps.proofs.Decorating.{nodes-are}
 use Rattle.markdown_grammar.specs.Nodes.{frontmatter}
-use Rattle.markdown_steps.specs.KeptNodes.{node_of, nodes}
-use Rattle.markdown_grammar.specs.Ordered.{InOrder, IsBefore, IsOrdered, NeverGoesBack, RisesTo, Standing, elsewhere, first_child, first_in_paragraph, first_in_task}
-use Rattle.markdown_steps.specs.Kept.{Path, Stretch, address, first_part, inner_of, into, itself, path_to}
+use Rattle.markdown_steps.specs.SummaryNodes.{node_of, nodes}
+use Rattle.markdown_grammar.specs.Ordered.{InOrder, IsBefore, IsOrdered, NeverGoesBack, RisesFrom, Standing, elsewhere, first_child, first_in_paragraph, first_in_task}
+use Rattle.markdown_steps.specs.Summaries.{Path, FoundPart, address, first_part, summary_of, into, itself, path_to}
 use Rattle.markdown_grammar.specs.Attributes.{Place, inherited_after, inherited_in, inherited_at_root}
 use Rattle.markdown_grammar.specs.Document.{Source}
 use Rattle.markdown_grammar.specs.Tasks.{after_blank, capped_sum, task, task_if, trimmed_text}
 use Rattle.markdown_nodes.specs.Tree as tree
 use Rattle.markdown_events.specs.declared.role.Content.TheVariants as contents
 use Rattle.markdown_events.specs.declared.role.Part.TheVariants as parts
-use Rattle.markdown_events.specs.declared.role.Role.TheVariants.{Plain as plain, Acting as acting}
-use Rattle.markdown_events.specs.declared.role.Acting.TheVariants.{Content as content, Part as part}
+use Rattle.markdown_events.specs.declared.role.Role.TheVariants.{Transparent as transparent, Significant as significant}
+use Rattle.markdown_events.specs.declared.role.ItemKind.TheVariants.{Content as content, Part as part}
 
 -- ---- Lists of nodes
 
@@ -52,7 +53,7 @@ widen st lo hi lo' hi' (node l k None r) le le' h = h
 widen st lo hi lo' hi' (node l k (Some p) r) le le' h =
     (record { begins = λ f. omega (arith, h.0.begins f); ends = omega (arith, h.0.ends); forward = h.0.forward }, h.1, h.2, widen elsewhere lo hi lo' hi' r le le' h.3)
 
--- nodes in order from an offset on begin behind it
+-- nodes in order from an offset on begin after it
 starts : (lo hi : ℕ) (t : Trees) → InOrder elsewhere false lo hi t → IsBefore lo t
 starts lo hi nothing h = tt
 starts lo hi (node l k None r) h = h
@@ -72,7 +73,7 @@ join-before n (node l k None (node l' k' q r)) b h h' = absurd h
 join-before n (node l k (Some p) nothing) b h h' = seam-before n l k p b h.0 h'
 join-before n (node l k (Some p) (node l' k' q r)) b h h' = (h.0, join-before n (node l' k' q r) b h.1 h')
 
--- a node and a list behind it
+-- a node and a list after it
 put-before : (l : Label) (k : Trees) (p : Position) (lo mid hi : ℕ) (t : Trees) → lo ≤ mid → mid ≤ hi → InOrder elsewhere false lo mid (node l k (Some p) nothing) → InOrder elsewhere false mid hi t → InOrder elsewhere false lo hi (node l k (Some p) t)
 put-before l k p lo mid hi t le le' h h' =
     (record { begins = h.0.begins; ends = omega (arith, h.0.ends); forward = h.0.forward }, before-mono p.end.offset mid t h.0.ends (starts mid hi t h'), h.2, widen elsewhere mid hi lo hi t le (omega arith) h')
@@ -130,7 +131,7 @@ in-task lo hi (node (list_item x None) k (Some p) r) h = h
 in-task lo hi (node l k None r) h = h
 in-task lo hi (node l k (Some p) r) h = h
 
--- the point behind a blank is not before it
+-- the point after a blank is not before it
 late-cond : (m : ℕ) (b : Bool) (x y : List ℕ × UnistPoint) → m ≤ x.1.offset → m ≤ y.1.offset → m ≤ (cond b x y).1.offset
 late-cond m true x y h h' = h
 late-cond m false x y h h' = h'
@@ -173,15 +174,15 @@ rises-le lo none hi h = h
 rises-le lo (item w a b d i rest) hi h = omega (arith, h.0, rises-le a.index i b.index h.1, rises-le b.index rest hi h.2)
 
 -- a stretch lies between two offsets
-abbrev LiesIn : ℕ → ℕ → Option Stretch → Type 0
+abbrev LiesIn : ℕ → ℕ → Option FoundPart → Type 0
 LiesIn lo hi None = ⊤
 LiesIn lo hi (Some x) = (lo ≤ x.start.index) × (x.start.index ≤ x.end.index) × (x.end.index ≤ hi)
 
-lies-mono : (lo lo' hi : ℕ) (o : Option Stretch) → lo' ≤ lo → LiesIn lo hi o → LiesIn lo' hi o
+lies-mono : (lo lo' hi : ℕ) (o : Option FoundPart) → lo' ≤ lo → LiesIn lo hi o → LiesIn lo' hi o
 lies-mono lo lo' hi None le h = tt
 lies-mono lo lo' hi (Some x) le h = (omega (arith, h.0), h.1, h.2)
 
-lies-cond : (lo hi : ℕ) (b : Bool) (x y : Option Stretch) → LiesIn lo hi x → LiesIn lo hi y → LiesIn lo hi (cond b x y)
+lies-cond : (lo hi : ℕ) (b : Bool) (x y : Option FoundPart) → LiesIn lo hi x → LiesIn lo hi y → LiesIn lo hi (cond b x y)
 lies-cond lo hi true x y h h' = h
 lies-cond lo hi false x y h h' = h'
 
@@ -206,8 +207,8 @@ linked-ordered : (scheme value : List ℕ) (a b c d : Point) → a.index ≤ c.i
 linked-ordered scheme value a b c d h h' h'' =
     one-ordered (tree.link (scheme ++ value) None) (node_at (text value) nothing c d) a b (omega arith) (widen elsewhere c.index d.index a.index b.index (node_at (text value) nothing c d) h h'' (one-ordered (text value) nothing c d h' tt).ok)
 
-autolink-ordered : (s : Source) (x y : Option Stretch) (a b : Point) → a.index ≤ b.index → LiesIn a.index b.index x → LiesIn a.index b.index y
-    → Fine a.index b.index (autolink (option_map (λ (z : Stretch). address z.start z.end (text_read s z.start z.end)) x) (option_map (λ (z : Stretch). address z.start z.end (text_read s z.start z.end)) y) a b)
+autolink-ordered : (s : Source) (x y : Option FoundPart) (a b : Point) → a.index ≤ b.index → LiesIn a.index b.index x → LiesIn a.index b.index y
+    → Fine a.index b.index (autolink (option_map (λ (z : FoundPart). address z.start z.end (text_read s z.start z.end)) x) (option_map (λ (z : FoundPart). address z.start z.end (text_read s z.start z.end)) y) a b)
 autolink-ordered s (Some x) y a b le h h' = linked-ordered (codes "mailto:") (text_read s x.start x.end) a b x.start x.end h.0 h.1 h.2
 autolink-ordered s None (Some y) a b le h h' = linked-ordered [] (text_read s y.start y.end) a b y.start y.end h'.0 h'.1 h'.2
 autolink-ordered s None None a b le h h' = one-ordered (tree.link [] None) nothing a b le tt
@@ -237,7 +238,7 @@ media-image alt m a b le = elim m.resource as (λ o. Fine a.index b.index (node_
 ]
 
 -- The node of a span nests in it, where the nodes of its items do
-node-ordered : (s : Source) (p from : Place) (what : Acting) (a b : Point) (d : Forest) (i : Items) (under : Path → Trees) → b.index < 2 ^ 64 → Rises a.index i b.index → ((w : Path) → InOrder elsewhere false a.index b.index (under w)) → Fine a.index b.index (node_of s p what a b (shown_of d) (inner_of s from i under))
+node-ordered : (s : Source) (p from : Place) (what : ItemKind) (a b : Point) (d : Forest) (i : Items) (under : Path → Trees) → b.index < 2 ^ 64 → Rises a.index i b.index → ((w : Path) → InOrder elsewhere false a.index b.index (under w)) → Fine a.index b.index (node_of s p what a b (child_facts_of d) (summary_of s from i under))
 node-ordered s p from (content contents.Data) a b d i under small h k = one-ordered _ nothing a b (rises-le _ i _ h) tt
 node-ordered s p from (content contents.CharacterReference) a b d i under small h k = one-ordered _ nothing a b (rises-le _ i _ h) tt
 node-ordered s p from (content contents.LineEnding) a b d i under small h k = if-ordered p.line_endings a.index b.index _ (one-ordered (text (text_read s a b)) nothing a b (rises-le _ i _ h) tt)
@@ -247,8 +248,8 @@ node-ordered s p from (content contents.AutolinkLiteralWww) a b d i under small 
 node-ordered s p from (content contents.AutolinkLiteralWhole) a b d i under small h k = linked-ordered [] (text_read s a b) a b a b (omega arith) (rises-le _ i _ h) (omega arith)
 node-ordered s p from (content contents.ListItem) a b d i under small h k = item-ordered (loose_item d) (mark i) (under itself) a b (rises-le _ i _ h) small (k itself)
 node-ordered s p from (content contents.Frontmatter) a b d i under small h k = matter-ordered _ _ a b (rises-le _ i _ h)
-node-ordered s p from (content contents.Link) a b d i under small h k = media-link (media_of (inner_of s from i under)) _ a b (rises-le _ i _ h) (k (path_to parts.LabelText))
-node-ordered s p from (content contents.Image) a b d i under small h k = media-image _ (media_of (inner_of s from i under)) a b (rises-le _ i _ h)
+node-ordered s p from (content contents.Link) a b d i under small h k = media-link (media_of (summary_of s from i under)) _ a b (rises-le _ i _ h) (k (path_to parts.LabelText))
+node-ordered s p from (content contents.Image) a b d i under small h k = media-image _ (media_of (summary_of s from i under)) a b (rises-le _ i _ h)
 node-ordered s p from (content contents.HardBreak) a b d i under small h k = one-ordered _ nothing a b (rises-le _ i _ h) tt
 node-ordered s p from (content contents.ThematicBreak) a b d i under small h k = one-ordered _ nothing a b (rises-le _ i _ h) tt
 node-ordered s p from (content contents.CodeFenced) a b d i under small h k = one-ordered _ nothing a b (rises-le _ i _ h) tt
@@ -278,8 +279,8 @@ nodes-ordered s itself p (item what a b d i rest) lo hi small h =
     let ab : a.index ≤ b.index = rises-le a.index i b.index h.1 in
     let bh : b.index ≤ hi = rises-le b.index rest hi h.2 in
     let on_next_line : b.index < 2 ^ 64 = omega arith in
-    join-ordered lo b.index hi (node_of s p what a b (shown_of d) (inner_of s (inherited_in what p) i (λ which. nodes s which (inherited_in what p) i))) (nodes s itself (inherited_after what p) rest) (omega (arith, h.0)) bh
-    (widen elsewhere a.index b.index lo b.index (node_of s p what a b (shown_of d) (inner_of s (inherited_in what p) i (λ which. nodes s which (inherited_in what p) i))) h.0 (omega arith) (node-ordered s p (inherited_in what p) what a b d i (λ which. nodes s which (inherited_in what p) i) on_next_line h.1 (λ which. nodes-ordered s which (inherited_in what p) i a.index b.index on_next_line h.1)).ok)
+    join-ordered lo b.index hi (node_of s p what a b (child_facts_of d) (summary_of s (inherited_in what p) i (λ which. nodes s which (inherited_in what p) i))) (nodes s itself (inherited_after what p) rest) (omega (arith, h.0)) bh
+    (widen elsewhere a.index b.index lo b.index (node_of s p what a b (child_facts_of d) (summary_of s (inherited_in what p) i (λ which. nodes s which (inherited_in what p) i))) h.0 (omega arith) (node-ordered s p (inherited_in what p) what a b d i (λ which. nodes s which (inherited_in what p) i) on_next_line h.1 (λ which. nodes-ordered s which (inherited_in what p) i a.index b.index on_next_line h.1)).ok)
     (nodes-ordered s itself (inherited_after what p) rest b.index hi small h.2)
 nodes-ordered s (into q way) p (item (part r) a b d i rest) lo hi small h =
     let ab : a.index ≤ b.index = rises-le a.index i b.index h.1 in
@@ -302,21 +303,21 @@ rises-then lo mid hi none ys h h' = rises-widen mid hi lo hi ys h (omega arith) 
 rises-then lo mid hi (item w a b d i rest) ys h h' = (h.0, h.1, rises-then b.index mid hi rest ys h.2 h')
 
 place-rises : (r : Role) (a b : Point) (c : Forest) (i rest : Items) (lo hi : ℕ) → lo ≤ a.index → Rises a.index i b.index → Rises b.index rest hi → Rises lo (place_items r a b c i rest) hi
-place-rises (acting what) a b c i rest lo hi h h' h'' = (h, h', h'')
-place-rises (plain k) a b c i rest lo hi h h' h'' = rises-then lo b.index hi i rest (rises-widen a.index b.index lo b.index i h (omega arith) h') h''
+place-rises (significant what) a b c i rest lo hi h h' h'' = (h, h', h'')
+place-rises (transparent k) a b c i rest lo hi h h' h'' = rises-then lo b.index hi i rest (rises-widen a.index b.index lo b.index i h (omega arith) h') h''
 
 -- the index at which a forest ends
 abbrev end_index : ℕ → Forest → ℕ
 end_index low empty = low
 end_index low (span _ _ end _ rest) = end_index end.index rest
 
-forest-rises : (f : Forest) (es : List Event) (lo hi : ℕ) → RisesTo lo (spell f ++ es) hi → Rises lo (items f) (end_index lo f) × RisesTo (end_index lo f) es hi
-forest-rises empty es lo hi h = (omega arith, h)
-forest-rises (span n a b c r) es lo hi h =
-    let flat : RisesTo lo (record { kind = Enter; name = n; point = a } ∷ (spell c ++ (record { kind = Exit; name = n; point = b } ∷ (spell r ++ es)))) hi =
-    subst (λ l. RisesTo lo l hi) (regroup (record { kind = Enter; name = n; point = a }) (record { kind = Exit; name = n; point = b }) (spell c) (spell r) es) h in
-    let on_next_line = forest-rises c (record { kind = Exit; name = n; point = b } ∷ (spell r ++ es)) a.index hi flat.1 in
-    let after = forest-rises r es b.index hi on_next_line.1.1 in
+forest-rises : (f : Forest) (es : List Event) (lo : ℕ) → RisesFrom lo (events_of f ++ es) → Rises lo (items f) (end_index lo f) × RisesFrom (end_index lo f) es
+forest-rises empty es lo h = (omega arith, h)
+forest-rises (span n a b c r) es lo h =
+    let flat : RisesFrom lo (record { kind = Enter; name = n; point = a } ∷ (events_of c ++ (record { kind = Exit; name = n; point = b } ∷ (events_of r ++ es)))) =
+    subst (λ l. RisesFrom lo l) (regroup (record { kind = Enter; name = n; point = a }) (record { kind = Exit; name = n; point = b }) (events_of c) (events_of r) es) h in
+    let on_next_line = forest-rises c (record { kind = Exit; name = n; point = b } ∷ (events_of r ++ es)) a.index flat.1 in
+    let after = forest-rises r es b.index on_next_line.1.1 in
     (place-rises (role_of n) a b c (items c) (items r) lo (end_index b.index r) flat.0 (rises-widen a.index (end_index a.index c) a.index b.index (items c) (omega arith) on_next_line.1.0 on_next_line.0) after.0, after.1)
 
 last_end-index : (b : Point) (r : Forest) → (last_end b r).index ≡ end_index b.index r
@@ -327,15 +328,16 @@ append-nil : (xs : List Event) → xs ++ [] ≡ xs
 append-nil [] = refl
 append-nil (x ∷ xs) = ap (λ l. x ∷ l) (append-nil xs)
 
--- where the indexes never go back, the nodes of the meaning nest and stand in order
-pub span_law : (s : Source) (f : Forest) → NeverGoesBack (spell f) → IsOrdered (only (meaning s f))
-span_law s empty h = tt
-span_law s (span n a b c r) h =
-    let all_ = forest-rises (span n a b c r) [] a.index (2 ^ 64 - 1) (from_first n a b c r (subst NeverGoesBack (sym (append-nil (spell (span n a b c r)))) h)) in
+-- where the indexes never go back and fit a usize, the nodes of the meaning nest and stand in order
+pub span_law : (s : Source) (f : Forest) → NeverGoesBack (events_of f) → (extent f).end.offset < 2 ^ 64 → IsOrdered (only (meaning s f))
+span_law s empty h fits = tt
+span_law s (span n a b c r) h fits =
+    let last_fits : (last_end b r).index < 2 ^ 64 = fits in
+    let all_ = forest-rises (span n a b c r) [] a.index (from_first n a b c r (subst NeverGoesBack (sym (append-nil (events_of (span n a b c r)))) h)) in
     let end : (last_end b r).index ≡ end_index b.index r = last_end-index b r in
     let rises : Rises a.index (items (span n a b c r)) (last_end b r).index = subst (λ m. Rises a.index (items (span n a b c r)) m) (sym end) all_.0 in
     subst (λ (ts : Trees). InOrder elsewhere false a.index (last_end b r).index ts) (nodes-are s inherited_at_root (items (span n a b c r)))
-    (nodes-ordered s itself inherited_at_root (items (span n a b c r)) a.index (last_end b r).index (omega (arith, all_.1, end)) rises)
+    (nodes-ordered s itself inherited_at_root (items (span n a b c r)) a.index (last_end b r).index (omega (arith, last_fits)) rises)
   where
-    from_first : (n : Name) (a b : Point) (c r : Forest) → NeverGoesBack (spell (span n a b c r) ++ []) → RisesTo a.index (spell (span n a b c r) ++ []) (2 ^ 64 - 1)
+    from_first : (n : Name) (a b : Point) (c r : Forest) → NeverGoesBack (events_of (span n a b c r) ++ []) → RisesFrom a.index (events_of (span n a b c r) ++ [])
     from_first n a b c r h = (omega arith, h.1)

@@ -1,7 +1,7 @@
 -- What a step answers, and tests in their order.
 use Rattle.std.specs.Prelude.{Bool, Err, List, Ok, Result, [], cond, true, ◌&&◌, ◌∷◌}
 use Rattle.markdown_events.specs.declared.event.Point.{Point}
-use Rattle.markdown_grammar.specs.declared.refusal.Refusal.{Refusal}
+use Rattle.markdown_grammar.specs.declared.error_kind.ErrorKind.{ErrorKind}
 use Rattle.markdown_grammar.specs.Refusals.{ErrorAt}
 
 -- what goes on with what was given
@@ -11,15 +11,15 @@ abbrev pub ◌>>=◌ : {A B : Type 0} → Result A ErrorAt → (A → Result B E
 (Err e) >>= f = Err e
 
 -- an event at a point is refused
-abbrev pub refused : {A : Type 0} → Refusal → Point → Result A ErrorAt
-refused why point = Err (record { refusal = why; point = point })
+abbrev pub refused : {A : Type 0} → ErrorKind → Point → Result A ErrorAt
+refused why point = Err (record { error_kind = why; point = point })
 
 -- tests in their order, each with what it refuses by
-abbrev pub checked : {A : Type 0} → List (Bool × Refusal) → Point → Result A ErrorAt → Result A ErrorAt
+abbrev pub checked : {A : Type 0} → List (Bool × ErrorKind) → Point → Result A ErrorAt → Result A ErrorAt
 checked [] point result = result
 checked (test ∷ tests) point result = cond test.0 (checked tests point result) (refused test.1 point)
 
 -- all tests pass
-abbrev pub passes : List (Bool × Refusal) → Bool
+abbrev pub passes : List (Bool × ErrorKind) → Bool
 passes [] = true
 passes (test ∷ tests) = test.0 && passes tests

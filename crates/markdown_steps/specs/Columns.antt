@@ -1,16 +1,16 @@
 -- How the columns of the table are aligned, as far as its events are read. Tables do not stand in tables, so that one place for it does.
 use Rattle.std.specs.Prelude.{Bool, List, [], cond, ◌++◌, ◌∷◌}
-use Rattle.markdown_events.specs.Spread.{Shown}
+use Rattle.markdown_steps.specs.ChildFacts.{ChildFacts}
 use Rattle.markdown_events.specs.declared.infer.AlignKind.{AlignKind}
 use Rattle.markdown_events.specs.declared.role.Role.{Role}
 use Rattle.markdown_grammar.specs.Items.{is_table}
 use Rattle.markdown_steps.specs.Siblings.{Marks, kind_by}
-use Rattle.markdown_events.specs.declared.role.Role.TheVariants.{Acting as acting, Plain as plain}
-use Rattle.markdown_events.specs.declared.role.Plain.TheVariants as plains
+use Rattle.markdown_events.specs.declared.role.Role.TheVariants.{Significant as significant, Transparent as transparent}
+use Rattle.markdown_events.specs.declared.role.TransparentKind.TheVariants as transparents
 
--- before the first delimiter row of the table, inside it, or behind it
+-- before the first delimiter row of the table, inside it, or after it
 pub data Rows : Type 0 where
-  before inside behind : Rows
+  before inside after : Rows
 
 -- where the table's first row is, and the entries of its values so far
 pub record Columns : Type 0 where
@@ -27,7 +27,7 @@ row_begun columns = elim columns.rows [ before ↦ record columns { rows = insid
 
 -- the first row ends, if it is open
 abbrev pub row_ended : Columns → Columns
-row_ended columns = elim columns.rows [ inside ↦ record columns { rows = behind } | _ ↦ columns ]
+row_ended columns = elim columns.rows [ inside ↦ record columns { rows = after } | _ ↦ columns ]
 
 -- a value ends: it has an entry in the first row alone
 abbrev pub value_ended : AlignKind → Columns → Columns
@@ -35,17 +35,17 @@ value_ended kind columns = elim columns.rows [ inside ↦ record columns { kinds
 
 -- at an enter, by whether it is in a table
 abbrev pub columns_entered : Bool → Role → Columns → Columns
-columns_entered in_table (plain plains.DelimiterRow) columns = cond in_table (row_begun columns) columns
-columns_entered in_table (acting what) columns = cond (is_table what) no_columns columns
+columns_entered in_table (transparent transparents.DelimiterRow) columns = cond in_table (row_begun columns) columns
+columns_entered in_table (significant what) columns = cond (is_table what) no_columns columns
 columns_entered in_table role columns = columns
 
--- at an exit, by what the children say. Behind a table there are none
+-- at an exit, by what the children say. After a table there are none
 abbrev pub columns_left : Role → Marks → Columns → Columns
-columns_left (acting what) inner columns = cond (is_table what) no_columns columns
-columns_left (plain plains.DelimiterRow) inner columns = row_ended columns
-columns_left (plain plains.DelimiterCellValue) inner columns = value_ended (kind_by inner) columns
+columns_left (significant what) inner columns = cond (is_table what) no_columns columns
+columns_left (transparent transparents.DelimiterRow) inner columns = row_ended columns
+columns_left (transparent transparents.DelimiterCellValue) inner columns = value_ended (kind_by inner) columns
 columns_left role inner columns = columns
 
 -- what the node of a span wants to know of its children
-abbrev pub shown : Marks → Columns → Shown
-shown m columns = record { loose_list = m.list_blank; loose_item = m.item_blank; align = columns.kinds }
+abbrev pub child_facts : Marks → Columns → ChildFacts
+child_facts m columns = record { loose_list = m.list_blank; loose_item = m.item_blank; align = columns.kinds }

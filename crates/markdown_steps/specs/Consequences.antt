@@ -7,11 +7,11 @@ use Rattle.markdown_events.specs.Slices.{between, slice}
 use Rattle.markdown_events.specs.Spread.{align, first_row}
 use Rattle.markdown_events.specs.declared.event.Point.{Point}
 use Rattle.markdown_events.specs.declared.infer.AlignKind.{AlignKind}
-use Rattle.markdown_events.specs.declared.role.Acting.{Acting}
+use Rattle.markdown_events.specs.declared.role.ItemKind.{ItemKind}
 use Rattle.markdown_events.specs.declared.role.Role.{Role}
 use Rattle.markdown_events.specs.declared.unist.Position.{Position}
-use Rattle.markdown_events.specs.declared.role.Acting.TheVariants.{Content as content, Part as part}
-use Rattle.markdown_events.specs.declared.role.Role.TheVariants.{Acting as acting}
+use Rattle.markdown_events.specs.declared.role.ItemKind.TheVariants.{Content as content, Part as part}
+use Rattle.markdown_events.specs.declared.role.Role.TheVariants.{Significant as significant}
 use Rattle.markdown_events.specs.declared.role.Content.TheVariants as contents
 use Rattle.markdown_nodes.specs.Tree as tree
 use Rattle.markdown_grammar.specs.Accepted.{Occurrence, ends_with_break, has_its_value, is_no_inner_table}
@@ -19,10 +19,10 @@ use Rattle.markdown_events.specs.declared.role.Part.{Part}
 use Rattle.markdown_grammar.specs.Attributes.{decoded, value}
 use Rattle.markdown_grammar.specs.Items.{is_line_ending, kinds}
 use Rattle.markdown_grammar.specs.Document.{Source, byte_at, is_depth, is_item_number, length_between}
-use Rattle.markdown_grammar.specs.Grammar.{has_part, heading_atx, takes}
+use Rattle.markdown_grammar.specs.Grammar.{has_part, heading_atx, conforms}
 use Rattle.markdown_grammar.specs.Spots.{Site}
-use Rattle.markdown_grammar.specs.declared.refusal.Refusal.{Refusal}
-use Rattle.markdown_grammar.specs.declared.refusal.Refusal.TheVariants.{HeadingDepth, IncompleteReference, InvalidListValue, InvalidSlice, Misplaced, MissingFence, MissingListValue, Repeated, UnfinishedBreak, UnknownReference}
+use Rattle.markdown_grammar.specs.declared.error_kind.ErrorKind.{ErrorKind}
+use Rattle.markdown_grammar.specs.declared.error_kind.ErrorKind.TheVariants.{HeadingDepth, IncompleteReference, InvalidListValue, InvalidSlice, Misplaced, MissingFence, MissingListValue, Repeated, UnfinishedBreak, UnknownReference}
 use Rattle.markdown_events.specs.declared.role.Part.TheVariants as parts
 use Rattle.markdown_grammar.specs.Reasons.{beginning}
 
@@ -43,10 +43,10 @@ abbrev pub begins_with_text : Trees → Bool
 begins_with_text nothing = false
 begins_with_text (node label _ _ _) = is_text label
 
--- no text stands directly behind a text among siblings, at any depth
-abbrev pub NoTextBehindText : Trees → Type 0
-NoTextBehindText nothing = ⊤
-NoTextBehindText (node label children _ rest) = NoTextBehindText children × IsFalse (is_text label && begins_with_text rest) × NoTextBehindText rest
+-- no text comes directly after a text among siblings, at any depth
+abbrev pub NoTextAfterText : Trees → Type 0
+NoTextAfterText nothing = ⊤
+NoTextAfterText (node label children _ rest) = NoTextAfterText children × IsFalse (is_text label && begins_with_text rest) × NoTextAfterText rest
 
 -- ---- Fields of nodes
 
@@ -83,7 +83,7 @@ cell_values_in_row (Some row) = cell_values row
 
 -- a span is a table that lies there, and its first delimiter row says these alignments, one for each cell value
 pub record DeclaresColumns (alignments : List AlignKind) (position : Option Position) (role : Role) (start end : Point) (children : Forest) : Type 0 where
-  pub is_table : role ≡ acting (content contents.Table)
+  pub is_table : role ≡ significant (content contents.Table)
   pub lies_there : position ≡ Some (between start end)
   pub said_by_row : alignments ≡ align children
   pub one_for_each : length alignments ≡ cell_values_in_row (first_row children)
@@ -96,14 +96,14 @@ HasColumnsOf forest _ position = ⊤
 -- ---- Links
 
 -- an Autolink, or a literal autolink
-abbrev pub is_autolink : Acting → Bool
+abbrev pub is_autolink : ItemKind → Bool
 is_autolink (content contents.Autolink) = true
 is_autolink (content contents.AutolinkLiteralEmail) = true
 is_autolink (content contents.AutolinkLiteralWww) = true
 is_autolink (content contents.AutolinkLiteralWhole) = true
 is_autolink _ = false
 
--- the nodes are one Link without a title, from a point to another, and others behind it
+-- the nodes are one Link without a title, from a point to another, and others after it
 pub record IsLinkBefore (nodes : Trees) (start end : Point) (others : Trees) : Type 0 where
   pub url : List ℕ
   pub children : Trees
@@ -112,10 +112,10 @@ pub record IsLinkBefore (nodes : Trees) (start end : Point) (others : Trees) : T
 -- ---- Refusals
 
 -- what a refusal says of an item that begins
-abbrev pub EnterSays : Source → Site → Acting → Point → Refusal → Type 0
+abbrev pub EnterSays : Source → Site → ItemKind → Point → ErrorKind → Type 0
 EnterSays s spot what start UnfinishedBreak = (ends_with_break spot.before ≡ true) × (is_line_ending what ≡ false)
-EnterSays s spot what start Repeated = takes spot.row (kinds spot.before ++ what ∷ []) ≡ false
-EnterSays s spot what start Misplaced = (takes spot.row (kinds spot.before ++ what ∷ []) ≡ false) ⊎ (is_no_inner_table (beginning spot what start) ≡ false)
+EnterSays s spot what start Repeated = conforms spot.initial_model (kinds spot.before ++ what ∷ []) ≡ false
+EnterSays s spot what start Misplaced = (conforms spot.initial_model (kinds spot.before ++ what ∷ []) ≡ false) ⊎ (is_no_inner_table (beginning spot what start) ≡ false)
 EnterSays s spot what start IncompleteReference = what ≡ part parts.CharacterReferenceValue
 EnterSays s spot what start InvalidSlice = (what ≡ content contents.Frontmatter) × (byte_at s.bytes start ≡ None)
 EnterSays s spot what start _ = ⊥
@@ -129,14 +129,14 @@ abbrev pub IsNotThere : Source → Occurrence → Type 0
 IsNotThere s x = (slice s.bytes x.start x.end ≡ None) ⊎ (length_between s.bytes x.start x.end ≡ None) ⊎ (byte_at s.bytes x.start ≡ None)
 
 -- what a refusal says of an item that ends
-abbrev pub ExitSays : Source → Occurrence → Refusal → Type 0
+abbrev pub ExitSays : Source → Occurrence → ErrorKind → Type 0
 ExitSays s x UnfinishedBreak = ends_with_break x.inner ≡ true
 ExitSays s x IncompleteReference = (x.what ≡ content contents.CharacterReference) × Lacks x parts.CharacterReferenceValue
 ExitSays s x MissingFence = ((x.what ≡ content contents.CodeFenced) × Lacks x parts.CodeFencedFence) ⊎ ((x.what ≡ content contents.MathFlow) × Lacks x parts.MathFlowFence)
 ExitSays s x MissingListValue = (x.what ≡ content contents.ListOrdered) × (value s x.inner ≡ None)
 ExitSays s x HeadingDepth =
     ((x.what ≡ content contents.HeadingAtx) × Lacks x parts.HeadingAtxSequence) ⊎ ((x.what ≡ content contents.HeadingSetext) × Lacks x parts.HeadingSetextUnderlineSequence)
-    ⊎ ((x.holder ≡ heading_atx) × (x.what ≡ part parts.HeadingAtxSequence) × (is_depth (length_between s.bytes x.start x.end) ≡ false))
+    ⊎ ((x.model ≡ heading_atx) × (x.what ≡ part parts.HeadingAtxSequence) × (is_depth (length_between s.bytes x.start x.end) ≡ false))
 ExitSays s x InvalidSlice = (has_its_value s x ≡ false) × IsNotThere s x
 ExitSays s x InvalidListValue = (x.what ≡ part parts.ListItemValue) × (is_item_number (slice s.bytes x.start x.end) ≡ false)
 ExitSays s x UnknownReference = (x.what ≡ part parts.CharacterReferenceValue) × (decoded s x.place x.start x.end ≡ None)

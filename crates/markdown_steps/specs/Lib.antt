@@ -1,6 +1,7 @@
+pub mod ChildFacts
 pub mod Consequences
-pub mod Kept
-pub mod KeptNodes
+pub mod Summaries
+pub mod SummaryNodes
 pub mod OneTest
 pub mod TextNodes
 pub mod Extents
@@ -8,5 +9,5 @@ pub mod Checks
 pub mod Siblings
 pub mod Columns
 pub mod Compiler
-pub mod Walked
+pub mod Visits
 pub mod Well

@@ -1,13 +1,13 @@
--- What a frame keeps of the children of its span, plain ones too, in place of the children.
+-- What a frame keeps of the children of its span, transparent ones too, in place of the children.
 use Rattle.std.specs.Prelude.{Bool, None, Option, Some, cond, false, not, true, unwrap_or, ◌&&◌, ◌||◌}
 use Rattle.std.specs.Option.{option_or}
 use Rattle.markdown_events.specs.Spread.{align_kind_of, is_blank_line, is_delimiter_marker, is_item_prefix, is_quote_prefix, is_space_or_tab}
 use Rattle.markdown_events.specs.declared.infer.AlignKind.{AlignKind}
 use Rattle.markdown_events.specs.declared.role.Role.{Role}
-use Rattle.markdown_events.specs.declared.role.Acting.TheVariants.{Content as content}
-use Rattle.markdown_events.specs.declared.role.Role.TheVariants.{Acting as acting, Plain as plain}
+use Rattle.markdown_events.specs.declared.role.ItemKind.TheVariants.{Content as content}
+use Rattle.markdown_events.specs.declared.role.Role.TheVariants.{Significant as significant, Transparent as transparent}
 use Rattle.markdown_events.specs.declared.role.Content.TheVariants as contents
-use Rattle.markdown_events.specs.declared.role.Plain.TheVariants as plains
+use Rattle.markdown_events.specs.declared.role.TransparentKind.TheVariants as transparents
 
 -- what one child says of itself
 pub record Sibling : Type 0 where
@@ -44,13 +44,13 @@ past_space m = cond m.near.space m.far m.near
 
 -- whether a child leaves an item that it ends without content, by whether its own last child is a quote's prefix
 abbrev pub bare_by : Role → Bool → Bool
-bare_by (plain plains.ListItemPrefix) quoted = true
-bare_by (acting (content contents.BlockQuote)) quoted = quoted
+bare_by (transparent transparents.ListItemPrefix) quoted = true
+bare_by (significant (content contents.BlockQuote)) quoted = quoted
 bare_by role quoted = false
 
 -- whether a child is an item without content at its end, by what its own last child leaves
 abbrev pub item_by : Role → Bool → Bool
-item_by (acting (content contents.ListItem)) bare = bare
+item_by (significant (content contents.ListItem)) bare = bare
 item_by role bare = false
 
 -- what a child says, by its role and what its own children say

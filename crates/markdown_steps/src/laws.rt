@@ -1,19 +1,19 @@
 //! What holds of every tree and of every refusal, whatever the document: laws, each the contract of
 //! a function that takes and gives nothing.
 //!
-//! A tree that `compile` gives is the meaning of an accepted forest that the events spell, and with
+//! A tree that `compile` gives is the meaning of an accepted forest that has these events, and with
 //! a message something is wrong at an event, or left open at the last. So each law here is one about
 //! what it answers.
 
 ghost use Rattle.std.specs.Prelude.{◌≡◌, ◌++◌, ◌∷◌, [], true};
 ghost use Rattle.markdown_events.specs.Forest.{Forest};
 ghost use Rattle.markdown_events.specs.declared.event.Point.{Point};
-ghost use Rattle.markdown_events.specs.declared.role.Acting.{Acting};
+ghost use Rattle.markdown_events.specs.declared.role.ItemKind.{ItemKind};
 ghost use Rattle.markdown_nodes.specs.Tree.{only};
 ghost use Rattle.markdown_grammar.specs.Accepted.{Accepted, Occurrence};
 ghost use Rattle.markdown_grammar.specs.Decorated.{nodes_of};
-ghost use Rattle.markdown_steps.specs.Consequences.{Everywhere, HasColumnsOf, HasDepthToSix, HasPosition, HasStartIfOrdered, IsLinkBefore, NoTextBehindText, is_autolink};
-ghost use Rattle.markdown_grammar.specs.Grammar.{takes};
+ghost use Rattle.markdown_steps.specs.Consequences.{Everywhere, HasColumnsOf, HasDepthToSix, HasPosition, HasStartIfOrdered, IsLinkBefore, NoTextAfterText, is_autolink};
+ghost use Rattle.markdown_grammar.specs.Grammar.{conforms};
 ghost use Rattle.markdown_grammar.specs.Items.{Items, item, kinds};
 ghost use Rattle.markdown_grammar.specs.Meaning.{meaning};
 ghost use Rattle.markdown_grammar.specs.Nodes.{decorate};
@@ -22,9 +22,9 @@ ghost use Rattle.markdown_grammar.specs.Reasons.{IsWrongAtEnter, IsWrongAtExit};
 ghost use Rattle.markdown_steps.specs.Consequences.{EnterSays, ExitSays};
 ghost use Rattle.markdown_grammar.specs.Document.{Source};
 ghost use Rattle.markdown_grammar.specs.Spots.{Site};
-ghost use Rattle.markdown_grammar.specs.declared.refusal.Refusal.{Refusal};
+ghost use Rattle.markdown_grammar.specs.declared.error_kind.ErrorKind.{ErrorKind};
 
-/// No Text stands directly behind a Text among siblings, at any depth.
+/// No Text comes directly after a Text among siblings, at any depth.
 ///
 /// A tokenizer cuts text wherever it stops to look: at an escape, at a character reference, at a
 /// line ending. Parsers to mdast join the pieces, so that one Text is all of the text that stands
@@ -34,9 +34,9 @@ ghost use Rattle.markdown_grammar.specs.declared.refusal.Refusal.{Refusal};
 /// is `a*b`.
 ///
 /// It holds of every forest, accepted or not.
-#[tactic(auto, using(crate::proofs::Merged::no_text_behind_text))]
-pub fn no_text_behind_text()
-    ensures { (s : Source) (f : Forest) → NoTextBehindText (only (meaning s f)) }
+#[tactic(auto, using(crate::proofs::Merged::no_text_after_text))]
+pub fn no_text_after_text()
+    ensures { (s : Source) (f : Forest) → NoTextAfterText (only (meaning s f)) }
 {}
 
 /// Every node has a position.
@@ -92,7 +92,7 @@ pub fn tables_have_an_alignment_for_each_column()
     ensures { (s : Source) (f : Forest) → Accepted s f → Everywhere (HasColumnsOf f) (only (meaning s f)) }
 {}
 
-/// An autolink gives a Link, from its start to its end, before the nodes of what stands behind it.
+/// An autolink gives a Link, from its start to its end, before the nodes of what comes after it.
 ///
 /// CommonMark has autolinks in angle brackets, and GFM has addresses that stand bare in a text,
 /// which it calls autolinks too. mdast has no kind for either: both are Links, without a title.
@@ -102,14 +102,14 @@ pub fn tables_have_an_alignment_for_each_column()
 /// It holds of every item of a forest, accepted or not, wherever it stands.
 #[tactic(auto, using(crate::proofs::ConsequencesOfLinks::links))]
 pub fn autolinks_give_links()
-    ensures { (s : Source) (p : Place) (what : Acting) (start end : Point) (children : Forest) (inner rest : Items) → is_autolink what ≡ true
+    ensures { (s : Source) (p : Place) (what : ItemKind) (start end : Point) (children : Forest) (inner rest : Items) → is_autolink what ≡ true
         → IsLinkBefore (nodes_of (decorate s p (item what start end children inner rest))) start end (nodes_of (decorate s (inherited_after what p) rest)) }
 {}
 
-/// A span that acts and is refused where it begins has what the refusal's reason says.
+/// A significant span that is refused where it begins has what the refusal's reason says.
 ///
-/// Behind a hard break stands no line ending (`break-unfinished`). The holder does not take the
-/// span behind what stands in it (`part-repeated`, `name-misplaced`), or the span is a table in a
+/// It is no line ending, and a hard break is before it (`break-unfinished`). The container does not
+/// take the span after what stands in it (`part-repeated`, `name-misplaced`), or the span is a table in a
 /// table (`name-misplaced`). The value of a character reference has no marker before it
 /// (`reference-incomplete`). A Frontmatter begins at no byte of the document (`slice-invalid`). No
 /// other refusal comes there. The reasons are ours.
@@ -117,10 +117,10 @@ pub fn autolinks_give_links()
 /// A second `LabelText` in a Link is refused by `part-repeated`.
 #[tactic(auto, using(crate::proofs::Sayings::enter_says))]
 pub fn refused_enters_are_as_said()
-    ensures { (s : Source) (spot : Site) (what : Acting) (start : Point) (why : Refusal) → takes spot.row (kinds spot.before) ≡ true → IsWrongAtEnter s spot what start why → EnterSays s spot what start why }
+    ensures { (s : Source) (spot : Site) (what : ItemKind) (start : Point) (why : ErrorKind) → conforms spot.initial_model (kinds spot.before) ≡ true → IsWrongAtEnter s spot what start why → EnterSays s spot what start why }
 {}
 
-/// A span that acts and is refused where it ends has what the refusal's reason says.
+/// A significant span that is refused where it ends has what the refusal's reason says.
 ///
 /// Its last item is a hard break (`break-unfinished`). It lacks a value (`reference-incomplete`,
 /// `list-value-missing`), a fence (`fence-missing`) or the sequence that sets its depth
@@ -132,5 +132,5 @@ pub fn refused_enters_are_as_said()
 /// An ordered list in which no item has a value is refused by `list-value-missing`.
 #[tactic(auto, using(crate::proofs::Sayings::exit_says))]
 pub fn refused_exits_are_as_said()
-    ensures { (s : Source) (x : Occurrence) (why : Refusal) → IsWrongAtExit s x why → ExitSays s x why }
+    ensures { (s : Source) (x : Occurrence) (why : ErrorKind) → IsWrongAtExit s x why → ExitSays s x why }
 {}

@@ -4,26 +4,26 @@ use Rattle.std.proofs.lemmas.List.{reverse-append}
 use Rattle.markdown_events.specs.Names.{role_of}
 use Rattle.markdown_events.specs.declared.event.Name.{Name}
 use Rattle.markdown_events.specs.declared.event.Point.{Point}
-use Rattle.markdown_events.specs.declared.role.Acting.{Acting}
-use Rattle.markdown_events.specs.declared.role.Acting.TheVariants.{Content as content, Part as part}
+use Rattle.markdown_events.specs.declared.role.ItemKind.{ItemKind}
+use Rattle.markdown_events.specs.declared.role.ItemKind.TheVariants.{Content as content, Part as part}
 use Rattle.markdown_events.specs.declared.role.Content.TheVariants as contents
 use Rattle.markdown_events.specs.declared.role.Part.TheVariants as parts
 use Rattle.markdown_events.specs.declared.role.Role.{Role}
-use Rattle.markdown_events.specs.declared.role.Role.TheVariants.{Acting as acting}
+use Rattle.markdown_events.specs.declared.role.Role.TheVariants.{Significant as significant}
 use Rattle.markdown_events.specs.declared.unist.Position.{Position}
 use Rattle.markdown_nodes.specs.View.{views}
-use Rattle.markdown_tree.specs.declared.holder.Holder.{Holder as OpenHolder}
-use Rattle.markdown_tree.specs.declared.holder.Holder.TheVariants as holders
-use Rattle.markdown_grammar.specs.declared.refusal.Refusal.TheVariants.{Held, UnfinishedBreak}
-use Rattle.markdown_grammar.specs.declared.refusal.Stop.{Stop}
-use Rattle.markdown_grammar.specs.declared.refusal.Stop.TheVariants as stops
+use Rattle.markdown_tree.specs.declared.container.Container.{Container}
+use Rattle.markdown_tree.specs.declared.container.Container.TheVariants as containers
+use Rattle.markdown_grammar.specs.declared.error_kind.ErrorKind.TheVariants.{Held, UnfinishedBreak}
+use Rattle.markdown_grammar.specs.declared.error_kind.Stop.{Stop}
+use Rattle.markdown_grammar.specs.declared.error_kind.Stop.TheVariants as stops
 use Rattle.markdown_tree.specs.declared.context.Context.{Context}
 use Rattle.markdown_tree.specs.declared.context.Frame.{Frame}
-use Rattle.markdown_tree.specs.declared.holding.Holding.{Holding}
-use Rattle.markdown_grammar.specs.declared.refusal.Refusal.{Refusal}
-use Rattle.markdown_steps.specs.Compiler.{Holds, Open, State, enter_as, enter_checks, enter_step, entered, fresh, opened}
-use Rattle.markdown_grammar.specs.Grammar.{Holder, code_fenced, model_of, leaf, list_ordered, math_flow}
-use Rattle.markdown_tree.specs.Holdings.{IsFresh, first_failing, moved_of, row_of}
+use Rattle.markdown_tree.specs.declared.open_container.OpenContainer.{OpenContainer}
+use Rattle.markdown_grammar.specs.declared.error_kind.ErrorKind.{ErrorKind}
+use Rattle.markdown_steps.specs.Compiler.{ContainerState, OpenSpan, State, enter_as, enter_checks, enter_step, entered, fresh, push}
+use Rattle.markdown_grammar.specs.Grammar.{ContentModel, code_fenced, model_of, leaf, list_ordered, math_flow}
+use Rattle.markdown_tree.specs.Containers.{IsFresh, first_failing, current_model_of, initial_model_of}
 use Rattle.markdown_events.specs.Around.{may_begin, under}
 use Rattle.markdown_steps.specs.Columns.{columns_entered}
 use Rattle.markdown_grammar.specs.Items.{is_line_ending, is_table}
@@ -31,35 +31,35 @@ use Rattle.markdown_grammar.specs.Attributes.{Place, line_ending_is_text}
 use Rattle.markdown_grammar.specs.Refusals.{ErrorAt}
 use Rattle.markdown_steps.specs.Checks.{checked, refused}
 use Rattle.markdown_grammar.specs.Document.{Source}
-use Rattle.markdown_tree.specs.States.{Begun, Opened, OpenedHolder, Stops, OpenedLeaf, columns_of, holdings_left, holds_of, kept_top, leaf_left, leaf_place, marks_of, opens, outer_of, state_of, top_of, with_break}
+use Rattle.markdown_tree.specs.States.{Begun, Opened, OpenedContainer, Stops, OpenedLeaf, columns_of, containers_left, container_state_of, kept_top, leaf_left, leaf_place, marks_of, opens, outer_of, state_of, top_of, with_break}
 
 -- tests that all pass, and a first one that fails
-pub checked_through : {A : Type 0} (tests : List (Bool × Refusal)) (p : Point) (r : Result A ErrorAt) → first_failing tests ≡ None → checked tests p r ≡ r
+pub checked_through : {A : Type 0} (tests : List (Bool × ErrorKind)) (p : Point) (r : Result A ErrorAt) → first_failing tests ≡ None → checked tests p r ≡ r
 checked_through [] p r h = refl
 checked_through (test ∷ tests) p r h = by-test test.0 (checked_through tests p r) h
   where
     by-test : (b : Bool) → (first_failing tests ≡ None → checked tests p r ≡ r) → cond b (first_failing tests) (Some test.1) ≡ None → cond b (checked tests p r) (refused test.1 p) ≡ r
-    by-test true behind h = behind h
-    by-test false behind h = let z : ⊥ = cc in absurd z
+    by-test true after h = after h
+    by-test false after h = let z : ⊥ = cc in absurd z
 
-some_same : (x y : Refusal) → Some x ≡ Some y → x ≡ y
-some_same x y h = ap (λ (o : Option Refusal). elim o [ Some z ↦ z | None ↦ x ]) h
+some_same : (x y : ErrorKind) → Some x ≡ Some y → x ≡ y
+some_same x y h = ap (λ (o : Option ErrorKind). elim o [ Some z ↦ z | None ↦ x ]) h
 
-pub checked_fails : {A : Type 0} (tests : List (Bool × Refusal)) (p : Point) (r : Result A ErrorAt) (why : Refusal) → first_failing tests ≡ Some why → checked tests p r ≡ refused why p
+pub checked_fails : {A : Type 0} (tests : List (Bool × ErrorKind)) (p : Point) (r : Result A ErrorAt) (why : ErrorKind) → first_failing tests ≡ Some why → checked tests p r ≡ refused why p
 checked_fails [] p r why h = let z : ⊥ = cc in absurd z
 checked_fails (test ∷ tests) p r why h = by-test test.0 (checked_fails tests p r why) h
   where
     by-test : (b : Bool) → (first_failing tests ≡ Some why → checked tests p r ≡ refused why p) → cond b (first_failing tests) (Some test.1) ≡ Some why → cond b (checked tests p r) (refused test.1 p) ≡ refused why p
-    by-test true behind h = behind h
-    by-test false behind h = ap (λ (x : Refusal). refused x p) (some_same test.1 why h)
+    by-test true after h = after h
+    by-test false after h = ap (λ (x : ErrorKind). refused x p) (some_same test.1 why h)
 
 -- where an item is taken, no leaf is open
-no_leaf : (s : Source) (what : Acting) (point : Point) (p : Place) (kept : Holds) (b : Bool) → first_failing (enter_checks s (cond b (fresh leaf p) kept) what point) ≡ None → b ≡ false
+no_leaf : (s : Source) (what : ItemKind) (point : Point) (p : Place) (kept : ContainerState) (b : Bool) → first_failing (enter_checks s (cond b (fresh leaf p) kept) what point) ≡ None → b ≡ false
 no_leaf s what point p kept true h = let z : ⊥ = cc in absurd z
 no_leaf s what point p kept false h = refl
 
 -- what a leaf is
-leaf_speaks : (h : Holder) (what : Acting) → model_of h what ≡ leaf → line_ending_is_text what ≡ true
+leaf_speaks : (h : ContentModel) (what : ItemKind) → model_of h what ≡ leaf → line_ending_is_text what ≡ true
 leaf_speaks h (content contents.Table) e = let z : ⊥ = cc in absurd z
 leaf_speaks h (content contents.BlockQuote) e = let z : ⊥ = cc in absurd z
 leaf_speaks h (content contents.TableRow) e = let z : ⊥ = cc in absurd z
@@ -85,7 +85,7 @@ leaf_speaks h (part parts.Reference) e = let z : ⊥ = cc in absurd z
 leaf_speaks h (content c) e = refl
 leaf_speaks h (part q) e = refl
 
-pub leaf_no_table : (h : Holder) (what : Acting) → model_of h what ≡ leaf → is_table what ≡ false
+pub leaf_no_table : (h : ContentModel) (what : ItemKind) → model_of h what ≡ leaf → is_table what ≡ false
 leaf_no_table h (content contents.Table) e = let z : ⊥ = cc in absurd z
 leaf_no_table h (content c) e = refl
 leaf_no_table h (part q) e = refl
@@ -97,24 +97,24 @@ or_false : (b c : Bool) → c ≡ false → (b || c) ≡ b
 or_false true c h = refl
 or_false false c h = h
 
--- ---- Acting spans
+-- ---- Significant spans
 
--- behind the enter of an acting span
-acting_opened : (s : Source) (name : Name) (what : Acting) (point : Point) (old : Context) (z : State) → first_failing (enter_checks s (top_of old) what point) ≡ None
-    → opened name point (state_of old) (Some (what, top_of old)) (entered (top_of old) what) ≡ z → enter_as s (acting what) name point (state_of old) ≡ Ok z
-acting_opened s name what point old z taken is =
-    checked_through (enter_checks s (top_of old) what point) point (Ok (opened name point (state_of old) (Some (what, top_of old)) (entered (top_of old) what))) taken ∙ ap Ok is
+-- after the enter of a significant span
+significant_opened : (s : Source) (name : Name) (what : ItemKind) (point : Point) (old : Context) (z : State) → first_failing (enter_checks s (top_of old) what point) ≡ None
+    → push name point (state_of old) (Some (what, top_of old)) (entered (top_of old) what) ≡ z → enter_as s (significant what) name point (state_of old) ≡ Ok z
+significant_opened s name what point old z taken is =
+    checked_through (enter_checks s (top_of old) what point) point (Ok (push name point (state_of old) (Some (what, top_of old)) (entered (top_of old) what))) taken ∙ ap Ok is
 
--- an acting span that may not begin
-pub acting_refused : (s : Source) (name : Name) (what : Acting) (point : Point) (old : Context) (why : Refusal) → first_failing (enter_checks s (top_of old) what point) ≡ Some why
-    → enter_as s (acting what) name point (state_of old) ≡ refused why point
-acting_refused s name what point old why fails =
-    checked_fails (enter_checks s (top_of old) what point) point (Ok (opened name point (state_of old) (Some (what, top_of old)) (entered (top_of old) what))) why fails
+-- a significant span that may not begin
+pub significant_refused : (s : Source) (name : Name) (what : ItemKind) (point : Point) (old : Context) (why : ErrorKind) → first_failing (enter_checks s (top_of old) what point) ≡ Some why
+    → enter_as s (significant what) name point (state_of old) ≡ refused why point
+significant_refused s name what point old why fails =
+    checked_fails (enter_checks s (top_of old) what point) point (Ok (push name point (state_of old) (Some (what, top_of old)) (entered (top_of old) what))) why fails
 
 -- the open spans with a leaf more
-leaf_frames : (what : Acting) (f : Frame) (fs fs' : List Frame) (hs : List Holding) (kept : Holds) → role_of f.name ≡ acting what → fs' ≡ fs ++ f ∷ []
+leaf_frames : (what : ItemKind) (f : Frame) (fs fs' : List Frame) (hs : List OpenContainer) (kept : ContainerState) → role_of f.name ≡ significant what → fs' ≡ fs ++ f ∷ []
     → opens (reverse fs') (Some kept) hs ≡ record { name = f.name; start = f.start; around = f.around; before = marks_of f.marks; outer = Some (what, kept) } ∷ opens (reverse fs) None hs
-leaf_frames what f fs fs' hs kept acts is =
+leaf_frames what f fs fs' hs kept is_significant is =
     ap (λ (x : List Frame). opens (reverse x) (Some kept) hs) is
     ∙ ap (λ (x : List Frame). opens x (Some kept) hs) (pushed fs f)
     ∙ (λ t. record {
@@ -122,15 +122,15 @@ leaf_frames what f fs fs' hs kept acts is =
       start = f.start;
       around = f.around;
       before = marks_of f.marks;
-      outer = outer_of (acts t) f.in_table (Some kept) hs;
+      outer = outer_of (is_significant t) f.in_table (Some kept) hs;
     }
-    ∷ opens (reverse fs) (leaf_left (acts t) (Some kept)) (holdings_left (acts t) (Some kept) hs))
+    ∷ opens (reverse fs) (leaf_left (is_significant t) (Some kept)) (containers_left (is_significant t) (Some kept) hs))
 
--- the open spans with a holder more
-holder_frames : (what : Acting) (f : Frame) (fs fs' : List Frame) (h : Holding) (hs hs' : List Holding) → role_of f.name ≡ acting what → fs' ≡ fs ++ f ∷ [] → hs' ≡ hs ++ h ∷ []
+-- the open spans with a container more
+container_frames : (what : ItemKind) (f : Frame) (fs fs' : List Frame) (h : OpenContainer) (hs hs' : List OpenContainer) → role_of f.name ≡ significant what → fs' ≡ fs ++ f ∷ [] → hs' ≡ hs ++ h ∷ []
     → opens (reverse fs') None (reverse hs')
-    ≡ record { name = f.name; start = f.start; around = f.around; before = marks_of f.marks; outer = Some (what, holds_of f.in_table None h) } ∷ opens (reverse fs) None (reverse hs)
-holder_frames what f fs fs' h hs hs' acts is held =
+    ≡ record { name = f.name; start = f.start; around = f.around; before = marks_of f.marks; outer = Some (what, container_state_of f.in_table None h) } ∷ opens (reverse fs) None (reverse hs)
+container_frames what f fs fs' h hs hs' is_significant is held =
     (λ t. opens (reverse (is t)) None (reverse (held t)))
     ∙ (λ t. opens (pushed fs f t) None (reverse-append hs (h ∷ []) t))
     ∙ (λ t. record {
@@ -138,65 +138,65 @@ holder_frames what f fs fs' h hs hs' acts is held =
       start = f.start;
       around = f.around;
       before = marks_of f.marks;
-      outer = outer_of (acts t) f.in_table None (h ∷ reverse hs);
+      outer = outer_of (is_significant t) f.in_table None (h ∷ reverse hs);
     }
-    ∷ opens (reverse fs) (leaf_left (acts t) None) (holdings_left (acts t) None (h ∷ reverse hs)))
+    ∷ opens (reverse fs) (leaf_left (is_significant t) None) (containers_left (is_significant t) None (h ∷ reverse hs)))
 
 -- a leaf begins
-pub leaf_entered : (s : Source) (name : Name) (what : Acting) (point : Point) (old mid new : Context) (in_table : Bool) → role_of name ≡ acting what → OpenedLeaf s what point old mid
-    → Begun name (acting what) point true in_table mid new → in_table ≡ (mid.in_table || is_table what) → enter_as s (acting what) name point (state_of old) ≡ Ok (state_of new)
-leaf_entered s name what point old mid new in_table acts o b is =
-    let begun : Begun name (acting what) point true in_table old new = subst (λ (m : Context). Begun name (acting what) point true in_table m new) o.same b in
+pub leaf_entered : (s : Source) (name : Name) (what : ItemKind) (point : Point) (old mid new : Context) (in_table : Bool) → role_of name ≡ significant what → OpenedLeaf s what point old mid
+    → Begun name (significant what) point true in_table mid new → in_table ≡ (mid.in_table || is_table what) → enter_as s (significant what) name point (state_of old) ≡ Ok (state_of new)
+leaf_entered s name what point old mid new in_table is_significant o b is =
+    let begun : Begun name (significant what) point true in_table old new = subst (λ (m : Context). Begun name (significant what) point true in_table m new) o.same b in
     let flag : old.is_leaf ≡ false = no_leaf s what point (leaf_place old.in_table) (kept_top old) old.is_leaf o.taken in
     let inside : in_table ≡ (old.in_table || is_table what) = is ∙ ap (λ (m : Context). m.in_table || is_table what) o.same in
-    let same : in_table ≡ old.in_table = inside ∙ or_false old.in_table (is_table what) (leaf_no_table (moved_of old.top.holder) what o.leaf_row) in
+    let same : in_table ≡ old.in_table = inside ∙ or_false old.in_table (is_table what) (leaf_no_table (current_model_of old.top.container) what o.leaf_row) in
     let f : Frame = record { name = name; start = point; around = old.around; in_table = old.in_table; marks = old.marks } in
-    let kept : Holds = holds_of in_table old.pending old.top in
-    let now_top : top_of old ≡ kept = (λ t. cond (flag t) (fresh leaf (leaf_place old.in_table)) (kept_top old)) ∙ sym (λ t. holds_of (same t) old.pending old.top) in
-    let spans : List Open = opens (reverse old.frames.items) None (reverse old.holdings.items) in
-    acting_opened s name what point old (state_of new) o.taken
+    let kept : ContainerState = container_state_of in_table old.pending old.top in
+    let now_top : top_of old ≡ kept = (λ t. cond (flag t) (fresh leaf (leaf_place old.in_table)) (kept_top old)) ∙ sym (λ t. container_state_of (same t) old.pending old.top) in
+    let spans : List OpenSpan = opens (reverse old.frames.items) None (reverse old.open_containers.items) in
+    significant_opened s name what point old (state_of new) o.taken
     ((λ t. record {
       frames = ((λ u. record { name = name; start = point; around = old.around; before = marks_of old.marks; outer = Some (what, now_top u) }
-          ∷ opens (reverse old.frames.items) (cond (flag u) (Some (kept_top old)) None) (reverse old.holdings.items))
-          ∙ sym (leaf_frames what f old.frames.items new.frames.items (reverse old.holdings.items) kept acts begun.frames)) t;
-      around = under old.around (acts t);
+          ∷ opens (reverse old.frames.items) (cond (flag u) (Some (kept_top old)) None) (reverse old.open_containers.items))
+          ∙ sym (leaf_frames what f old.frames.items new.frames.items (reverse old.open_containers.items) kept is_significant begun.frames)) t;
+      around = under old.around (is_significant t);
       marks = sym begun.marks t;
-      columns = ((λ u. columns_entered (cond (flag u) (fresh leaf (leaf_place old.in_table)) (kept_top old)).place.in_table (acts u) (columns_of old.columns)) ∙ sym begun.columns) t;
+      columns = ((λ u. columns_entered (cond (flag u) (fresh leaf (leaf_place old.in_table)) (kept_top old)).place.in_table (is_significant u) (columns_of old.columns)) ∙ sym begun.columns) t;
       top = ((λ u. entered (cond (flag u) (fresh leaf (leaf_place old.in_table)) (kept_top old)) what)
-          ∙ (λ u. fresh (o.leaf_row u) (record { line_endings = leaf_speaks (moved_of old.top.holder) what o.leaf_row u; in_table = sym inside u; marker = None }))) t;
+          ∙ (λ u. fresh (o.leaf_row u) (record { line_endings = leaf_speaks (current_model_of old.top.container) what o.leaf_row u; in_table = sym inside u; marker = None }))) t;
     }) ∙ sym (ap state_of begun.others))
 
--- no holder of the program is a leaf
-pub no_leaf_row : (h : OpenHolder) → row_of h ≡ leaf → ⊥
-no_leaf_row holders.AnyContent e = cc
-no_leaf_row (holders.Autolink x) e = cc
-no_leaf_row (holders.Media x) e = cc
-no_leaf_row (holders.FootnoteCall x) e = cc
-no_leaf_row (holders.Resource x) e = cc
-no_leaf_row (holders.Reference x) e = cc
-no_leaf_row (holders.Definition x) e = cc
-no_leaf_row (holders.CharacterReference x) e = cc
-no_leaf_row (holders.CodeFence x) e = cc
-no_leaf_row (holders.MathFence x) e = cc
-no_leaf_row (holders.ListOrdered x) e = cc
-no_leaf_row (holders.ListItem x) e = cc
-no_leaf_row (holders.NumberedItem x) e = cc
-no_leaf_row (holders.TaskParagraph x) e = cc
-no_leaf_row holders.MarkedParagraph e = cc
-no_leaf_row (holders.FootnoteDefinition x) e = cc
-no_leaf_row (holders.HeadingAtx x) e = cc
-no_leaf_row (holders.HeadingSetext x) e = cc
-no_leaf_row (holders.CodeFenced x) e = cc
-no_leaf_row (holders.MathFlow x) e = cc
+-- no container of the program is a leaf
+pub no_leaf_row : (h : Container) → initial_model_of h ≡ leaf → ⊥
+no_leaf_row containers.AnyContent e = cc
+no_leaf_row (containers.Autolink x) e = cc
+no_leaf_row (containers.Media x) e = cc
+no_leaf_row (containers.FootnoteCall x) e = cc
+no_leaf_row (containers.Resource x) e = cc
+no_leaf_row (containers.Reference x) e = cc
+no_leaf_row (containers.Definition x) e = cc
+no_leaf_row (containers.CharacterReference x) e = cc
+no_leaf_row (containers.CodeFence x) e = cc
+no_leaf_row (containers.MathFence x) e = cc
+no_leaf_row (containers.ListOrdered x) e = cc
+no_leaf_row (containers.ListItem x) e = cc
+no_leaf_row (containers.NumberedItem x) e = cc
+no_leaf_row (containers.TaskParagraph x) e = cc
+no_leaf_row containers.MarkedParagraph e = cc
+no_leaf_row (containers.FootnoteDefinition x) e = cc
+no_leaf_row (containers.HeadingAtx x) e = cc
+no_leaf_row (containers.HeadingSetext x) e = cc
+no_leaf_row (containers.CodeFenced x) e = cc
+no_leaf_row (containers.MathFlow x) e = cc
 
--- what opens a holder is no line ending
-holder_no_ending : (h : OpenHolder) (row : Holder) (what : Acting) → row_of h ≡ model_of row what → is_line_ending what ≡ false
-holder_no_ending h row (content contents.LineEnding) e = absurd (no_leaf_row h e)
-holder_no_ending h row (content c) e = refl
-holder_no_ending h row (part q) e = refl
+-- what opens a container is no line ending
+container_no_ending : (h : Container) (initial_model : ContentModel) (what : ItemKind) → initial_model_of h ≡ model_of initial_model what → is_line_ending what ≡ false
+container_no_ending h initial_model (content contents.LineEnding) e = absurd (no_leaf_row h e)
+container_no_ending h initial_model (content c) e = refl
+container_no_ending h initial_model (part q) e = refl
 
 -- where an item that is no line ending is taken, no break waits
-first_passes : (b : Bool) (rest : Option Refusal) (why : Refusal) → cond b rest (Some why) ≡ None → b ≡ true
+first_passes : (b : Bool) (rest : Option ErrorKind) (why : ErrorKind) → cond b rest (Some why) ≡ None → b ≡ true
 first_passes true rest why h = refl
 first_passes false rest why h = let z : ⊥ = cc in absurd z
 
@@ -204,36 +204,36 @@ nothing_waits : (pending : Option Position) (ending : Bool) → (not (is_some pe
 nothing_waits None ending h e = refl
 nothing_waits (Some p) ending h e = let wrong : true ≡ false = sym h ∙ e in absurd cc
 
--- a holder begins
-pub holder_entered : (s : Source) (name : Name) (what : Acting) (point : Point) (old mid new : Context) (in_table : Bool) → role_of name ≡ acting what → OpenedHolder s what point old mid
-    → Begun name (acting what) point false in_table mid new → in_table ≡ (mid.in_table || is_table what) → enter_as s (acting what) name point (state_of old) ≡ Ok (state_of new)
-holder_entered s name what point old mid new in_table acts o b is =
-    let between : Context = record old { top = o.top; holdings = mid.holdings } in
-    let begun : Begun name (acting what) point false in_table between new = subst (λ (m : Context). Begun name (acting what) point false in_table m new) o.others b in
+-- a container begins
+pub container_entered : (s : Source) (name : Name) (what : ItemKind) (point : Point) (old mid new : Context) (in_table : Bool) → role_of name ≡ significant what → OpenedContainer s what point old mid
+    → Begun name (significant what) point false in_table mid new → in_table ≡ (mid.in_table || is_table what) → enter_as s (significant what) name point (state_of old) ≡ Ok (state_of new)
+container_entered s name what point old mid new in_table is_significant o b is =
+    let between : Context = record old { top = o.top; open_containers = mid.open_containers } in
+    let begun : Begun name (significant what) point false in_table between new = subst (λ (m : Context). Begun name (significant what) point false in_table m new) o.others b in
     let flag : old.is_leaf ≡ false = no_leaf s what point (leaf_place old.in_table) (kept_top old) old.is_leaf o.taken in
     let inside : in_table ≡ (old.in_table || is_table what) = is ∙ ap (λ (m : Context). m.in_table || is_table what) o.others in
-    let made : IsFresh o.top.holder (model_of (moved_of old.top.holder) what) = o.fresh_holder in
+    let made : IsFresh o.top.container (model_of (current_model_of old.top.container) what) = o.fresh_container in
     let kept_taken : first_failing (enter_checks s (kept_top old) what point) ≡ None =
     (λ t. first_failing (enter_checks s (cond (sym flag t) (fresh leaf (leaf_place old.in_table)) (kept_top old)) what point)) ∙ o.taken in
     let no_break : old.pending ≡ None = nothing_waits old.pending (is_line_ending what) (first_passes (not (is_some old.pending) || is_line_ending what) _ UnfinishedBreak kept_taken)
-    (holder_no_ending o.top.holder (moved_of old.top.holder) what made.row) in
+    (container_no_ending o.top.container (current_model_of old.top.container) what made.initial_model) in
     let f : Frame = record { name = name; start = point; around = old.around; in_table = old.in_table; marks = old.marks } in
-    let now_top : top_of old ≡ holds_of old.in_table None old.top =
-    (λ t. cond (flag t) (fresh leaf (leaf_place old.in_table)) (kept_top old)) ∙ (λ t. holds_of old.in_table (no_break t) old.top) in
-    acting_opened s name what point old (state_of new) o.taken
+    let now_top : top_of old ≡ container_state_of old.in_table None old.top =
+    (λ t. cond (flag t) (fresh leaf (leaf_place old.in_table)) (kept_top old)) ∙ (λ t. container_state_of old.in_table (no_break t) old.top) in
+    significant_opened s name what point old (state_of new) o.taken
     ((λ t. record {
       frames = ((λ u. record { name = name; start = point; around = old.around; before = marks_of old.marks; outer = Some (what, now_top u) }
-          ∷ opens (reverse old.frames.items) (cond (flag u) (Some (kept_top old)) None) (reverse old.holdings.items))
-          ∙ sym (holder_frames what f old.frames.items new.frames.items old.top old.holdings.items mid.holdings.items acts begun.frames o.holdings)) t;
-      around = under old.around (acts t);
+          ∷ opens (reverse old.frames.items) (cond (flag u) (Some (kept_top old)) None) (reverse old.open_containers.items))
+          ∙ sym (container_frames what f old.frames.items new.frames.items old.top old.open_containers.items mid.open_containers.items is_significant begun.frames o.open_containers)) t;
+      around = under old.around (is_significant t);
       marks = sym begun.marks t;
-      columns = ((λ u. columns_entered (cond (flag u) (fresh leaf (leaf_place old.in_table)) (kept_top old)).place.in_table (acts u) (columns_of old.columns)) ∙ sym begun.columns) t;
+      columns = ((λ u. columns_entered (cond (flag u) (fresh leaf (leaf_place old.in_table)) (kept_top old)).place.in_table (is_significant u) (columns_of old.columns)) ∙ sym begun.columns) t;
       top = ((λ u. entered (cond (flag u) (fresh leaf (leaf_place old.in_table)) (kept_top old)) what)
           ∙ (λ u. record {
-            row = sym made.row u;
-            holder = sym made.moved u;
+            initial_model = sym made.initial_model u;
+            model = sym made.current_model u;
             place = record { line_endings = sym o.line_endings u; in_table = sym inside u; marker = sym made.marker u };
-            waiting = is_some (sym no_break u);
+            after_break = is_some (sym no_break u);
             inner = record {
               nodes = (sym (λ v. with_break (no_break v) (views (o.nodes v)))) u;
               label = sym made.label u;
@@ -244,16 +244,16 @@ holder_entered s name what point old mid new in_table acts o b is =
           })) t;
     }) ∙ sym (ap state_of begun.others))
 
--- a leaf or a holder begins
-pub acting_entered : (s : Source) (name : Name) (what : Acting) (point : Point) (is_leaf : Bool) (old mid new : Context) (in_table : Bool) → role_of name ≡ acting what → Opened s what point old mid (Ok is_leaf)
-    → Begun name (acting what) point is_leaf in_table mid new → in_table ≡ (mid.in_table || is_table what) → enter_as s (acting what) name point (state_of old) ≡ Ok (state_of new)
-acting_entered s name what point true old mid new in_table acts o b is = leaf_entered s name what point old mid new in_table acts o b is
-acting_entered s name what point false old mid new in_table acts o b is = holder_entered s name what point old mid new in_table acts o b is
+-- a leaf or a container begins
+pub significant_entered : (s : Source) (name : Name) (what : ItemKind) (point : Point) (is_leaf : Bool) (old mid new : Context) (in_table : Bool) → role_of name ≡ significant what → Opened s what point old mid (Ok is_leaf)
+    → Begun name (significant what) point is_leaf in_table mid new → in_table ≡ (mid.in_table || is_table what) → enter_as s (significant what) name point (state_of old) ≡ Ok (state_of new)
+significant_entered s name what point true old mid new in_table is_significant o b is = leaf_entered s name what point old mid new in_table is_significant o b is
+significant_entered s name what point false old mid new in_table is_significant o b is = container_entered s name what point old mid new in_table is_significant o b is
 
 -- or it stops there
-pub acting_stops : (s : Source) (name : Name) (what : Acting) (point : Point) (stop : Stop) (old mid : Context) → Opened s what point old mid (Err stop) → Stops stop point (enter_as s (acting what) name point (state_of old))
-acting_stops s name what point (stops.Refused why) old mid o = acting_refused s name what point old why o
-acting_stops s name what point (stops.Memory error) old mid o = tt
+pub significant_stops : (s : Source) (name : Name) (what : ItemKind) (point : Point) (stop : Stop) (old mid : Context) → Opened s what point old mid (Err stop) → Stops stop point (enter_as s (significant what) name point (state_of old))
+significant_stops s name what point (stops.Refused why) old mid o = significant_refused s name what point old why o
+significant_stops s name what point (stops.Memory error) old mid o = tt
 
 -- ---- Any span
 

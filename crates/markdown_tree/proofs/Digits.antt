@@ -6,7 +6,7 @@ use Rattle.std.proofs.lemmas.List.{at_drop_more, at_drop_all}
 use Rattle.std.proofs.lemmas.Bool.Decides.{nat_tests}
 use Rattle.markdown_grammar.specs.Document.{is_item_number, is_number, number}
 
--- the number that digits behind another number make
+-- the number that digits after another number make
 abbrev pub number_from : ℕ → List ℕ → ℕ
 number_from start digits = fold_list (λ n d. 10 * n + (d - 48)) start digits
 

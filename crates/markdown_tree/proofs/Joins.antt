@@ -1,4 +1,4 @@
--- What is put behind siblings, where a text stands at their end and where none does.
+-- What is put after siblings, where a text stands at their end and where none does.
 use Rattle.std.proofs.Common.{◌≡◌, ◌<◌, ℕ, ◌+◌, ◌-◌, false, true, zero, suc, List, [], ◌∷◌, ◌++◌, length, slice_index_or, slice_set, Option, refl, sym, ap, ◌∙◌, arith}
 use Rattle.markdown_nodes.specs.declared.mdast.Node.{Node}
 use Rattle.markdown_nodes.specs.declared.mdast.Node.TheVariants as nodes
@@ -12,7 +12,7 @@ use Rattle.markdown_nodes.proofs.Views.{view-Text}
 use Rattle.markdown_steps.specs.Consequences.{is_text}
 use Rattle.markdown_steps.specs.TextNodes.{text_node}
 
--- the last of the nodes grows by what is put behind it
+-- the last of the nodes grows by what is put after it
 grown_at : (ns : List Node) (i : ℕ) (d new : Node) (t : Trees) → length ns ≡ i + 1
     → only (view new) ≡ join (only (view (slice_index_or ns i d))) t → views (slice_set ns i new) ≡ join (views ns) t
 grown_at [] i d new t h grows = absurd (omega arith)
@@ -33,7 +33,7 @@ apart : (l : Label) (c : Trees) (p : Option Position) (t : Trees) → is_text l 
 apart (text v) c p t h = let z : ⊥ = cc in absurd z
 apart l c p t h = refl
 
--- behind it another begins
+-- after it another begins
 begun_at : (ns : List Node) (i : ℕ) (last new : Node) (t : Trees) → length ns ≡ i + 1 → last ≡ slice_index_or ns i last → is_text (view last).label ≡ false
     → only (view new) ≡ t → views (slice_set ns i last ++ new ∷ []) ≡ join (views ns) t
 begun_at [] i last new t h at none made = absurd (omega arith)
@@ -53,38 +53,38 @@ pub first_begun : (ns items new_items : List Node) (n : ℕ) (new : Node) (t : T
 first_begun [] items new_items n new t count empty kept put made = ap views (put ∙ ap (λ (xs : List Node). xs ++ new ∷ []) kept) ∙ made
 first_begun (m ∷ ns) items new_items n new t count empty kept put made = let h = empty (omega arith) in cc
 
--- trees behind others, where none meet
-behind : Trees → Trees → Trees
-behind nothing us = us
-behind (node l c p r) us = node l c p (behind r us)
+-- trees after others, where none meet
+after : Trees → Trees → Trees
+after nothing us = us
+after (node l c p r) us = node l c p (after r us)
 
-views_behind : (ns os : List Node) → views (ns ++ os) ≡ behind (views ns) (views os)
-unfolding behind
-views_behind [] os = refl
-views_behind (n ∷ ns) os = ap (before (view n)) (views_behind ns os)
+views_after : (ns os : List Node) → views (ns ++ os) ≡ after (views ns) (views os)
+unfolding after
+views_after [] os = refl
+views_after (n ∷ ns) os = ap (before (view n)) (views_after ns os)
 
 -- only the first of what comes meets what is there
-seam_behind : (l m : Label) (c d : Trees) (p q : Option Position) (us : Trees) → behind (seam l c p (node m d q nothing)) us ≡ seam l c p (node m d q us)
-unfolding behind
-seam_behind (text v) (text w) c d p q us = refl
-seam_behind (text v) m c d p q us = refl
-seam_behind l m c d p q us = refl
+seam_after : (l m : Label) (c d : Trees) (p q : Option Position) (us : Trees) → after (seam l c p (node m d q nothing)) us ≡ seam l c p (node m d q us)
+unfolding after
+seam_after (text v) (text w) c d p q us = refl
+seam_after (text v) m c d p q us = refl
+seam_after l m c d p q us = refl
 
-join_behind : (ts : Trees) (t : Tree) (us : Trees) → behind (join ts (only t)) us ≡ join ts (before t us)
-unfolding behind
-join_behind nothing t us = refl
-join_behind (node l c p nothing) t us = seam_behind l t.label c t.children p t.position us
-join_behind (node l c p (node m d q r)) t us = ap (node l c p) (join_behind (node m d q r) t us)
+join_after : (ts : Trees) (t : Tree) (us : Trees) → after (join ts (only t)) us ≡ join ts (before t us)
+unfolding after
+join_after nothing t us = refl
+join_after (node l c p nothing) t us = seam_after l t.label c t.children p t.position us
+join_after (node l c p (node m d q r)) t us = ap (node l c p) (join_after (node m d q r) t us)
 
--- once the first is put, the rest are behind it
+-- once the first is put, the rest are after it
 pub appended : (ns mid new os rest : List Node) (n k : ℕ) (first : Node) → n ≡ length os → k + 1 ≡ n → first ≡ slice_index_or os 0 first → rest ≡ remove os 0
     → views mid ≡ join (views ns) (only (view first)) → new ≡ mid ++ rest → views new ≡ join (views ns) (views os)
 appended ns mid new [] rest n k first count some at left put more = absurd (omega arith)
 appended ns mid new (o ∷ os) rest n k first count some at left put more =
-    ap views (more ∙ ap (λ (xs : List Node). mid ++ xs) left) ∙ views_behind mid os ∙ ap (λ (ts : Trees). behind ts (views os)) put
-    ∙ join_behind (views ns) (view first) (views os) ∙ ap (λ (x : Node). join (views ns) (before (view x) (views os))) at
+    ap views (more ∙ ap (λ (xs : List Node). mid ++ xs) left) ∙ views_after mid os ∙ ap (λ (ts : Trees). after ts (views os)) put
+    ∙ join_after (views ns) (view first) (views os) ∙ ap (λ (x : Node). join (views ns) (before (view x) (views os))) at
 
--- behind them none change nothing
+-- after them none change nothing
 pub none_appended : (ns os : List Node) → length os ≡ 0 → views ns ≡ join (views ns) (views os)
 none_appended ns [] h = sym (join-nothing (views ns))
 none_appended ns (o ∷ os) h = absurd (omega arith)

@@ -1,28 +1,28 @@
--- What the holders of the program keep, behind items that give them nothing.
+-- What the containers of the program keep, after items that give them nothing.
 use Rattle.std.proofs.Common.{◌≡◌, ℕ, Bool, true, false, Option, None, Some, refl, sym, ap, ◌∙◌}
 use Rattle.std.specs.Prelude.{is_some}
 use Rattle.std.specs.Option.{option_or}
 use Rattle.markdown_nodes.specs.Tree.{Trees, nothing}
 use Rattle.markdown_events.specs.declared.event.Point.{Point}
-use Rattle.markdown_events.specs.declared.role.Acting.TheVariants.{Content as content}
+use Rattle.markdown_events.specs.declared.role.ItemKind.TheVariants.{Content as content}
 use Rattle.markdown_events.specs.declared.role.Content.{Content}
 use Rattle.markdown_events.specs.declared.role.Content.TheVariants as contents
 use Rattle.markdown_events.specs.declared.role.Part.{Part}
 use Rattle.markdown_events.specs.declared.role.Part.TheVariants as parts
-use Rattle.markdown_tree.specs.declared.holder.Holder.{Holder as Open}
-use Rattle.markdown_tree.specs.declared.holder.Holder.TheVariants as holders
-use Rattle.markdown_tree.specs.declared.holder.Target.{Target}
-use Rattle.markdown_tree.specs.declared.holder.Target.TheVariants as targets
+use Rattle.markdown_tree.specs.declared.container.Container.{Container}
+use Rattle.markdown_tree.specs.declared.container.Container.TheVariants as containers
+use Rattle.markdown_tree.specs.declared.container.Target.{Target}
+use Rattle.markdown_tree.specs.declared.container.Target.TheVariants as targets
 use Rattle.markdown_steps.specs.Compiler.{label_with, part_with}
 use Rattle.markdown_grammar.specs.Attributes.{mark_given, value_given}
-use Rattle.markdown_grammar.specs.Grammar.{Holder, model_after, list_item, numbered_item}
-use Rattle.markdown_tree.specs.Holdings.{Keeps, inner_with, is_parent, part_of, label_of, mark_of, value_of, moved_of, ending, nodes_of_label, label_kept, resource_of, reference_of, in_code_fence, in_math_fence, fence_of}
-use Rattle.markdown_steps.specs.Kept.{Inner, Kept, Path, into, itself, path_to}
+use Rattle.markdown_grammar.specs.Grammar.{ContentModel, model_after, list_item, numbered_item}
+use Rattle.markdown_tree.specs.Containers.{Keeps, summary_with, is_parent, part_of, label_of, mark_of, value_of, current_model_of, ending, nodes_of_label, label_kept, resource_of, reference_of, in_code_fence, in_math_fence, fence_of}
+use Rattle.markdown_steps.specs.Summaries.{Summary, PartSummary, Path, into, itself, path_to}
 use Rattle.markdown_grammar.specs.Attributes.{Place}
 use Rattle.markdown_grammar.specs.Document.{Source}
 
 -- nothing stands below a part that is not there
-below_ending : (k : Option Kept) (way : Path) → k ≡ None → ending k way ≡ None
+below_ending : (k : Option PartSummary) (way : Path) → k ≡ None → ending k way ≡ None
 below_ending k itself h = h
 below_ending k (into p way) h = refl
 
@@ -36,77 +36,77 @@ below_reference (targets.Reference r) way h = let z : ⊥ = cc in absurd z
 below_reference targets.Label way h = refl
 below_reference (targets.Resource r) way h = refl
 
-below_fence : {A : Type 0} (inside : A → Path → Option Kept) (f : Option A) (way : Path) → fence_of inside f itself ≡ None → fence_of inside f way ≡ None
+below_fence : {A : Type 0} (inside : A → Path → Option PartSummary) (f : Option A) (way : Path) → fence_of inside f itself ≡ None → fence_of inside f way ≡ None
 below_fence inside None way h = refl
 below_fence inside (Some f) way h = let z : ⊥ = cc in absurd z
 
-pub below_none : (h : Open) (q : Part) (way : Path) → part_of h (path_to q) ≡ None → part_of h (into q way) ≡ None
-below_none (holders.Autolink x) parts.AutolinkEmail way none = below_ending _ way none
-below_none (holders.Autolink x) parts.AutolinkProtocol way none = below_ending _ way none
-below_none (holders.Media x) parts.LabelText way none = below_ending _ way none
-below_none (holders.Media x) parts.Resource way none = below_resource x.target way none
-below_none (holders.Media x) parts.Reference way none = below_reference x.target way none
-below_none (holders.FootnoteCall x) parts.LabelText way none = below_ending _ way none
-below_none (holders.Resource x) parts.ResourceDestinationString way none = below_ending _ way none
-below_none (holders.Resource x) parts.ResourceTitleString way none = below_ending _ way none
-below_none (holders.Reference x) parts.ReferenceString way none = below_ending _ way none
-below_none (holders.Definition x) parts.DefinitionLabelString way none = below_ending _ way none
-below_none (holders.Definition x) parts.DefinitionDestinationString way none = below_ending _ way none
-below_none (holders.Definition x) parts.DefinitionTitleString way none = below_ending _ way none
-below_none (holders.CharacterReference x) parts.CharacterReferenceMarker way none = below_ending _ way none
-below_none (holders.CharacterReference x) parts.CharacterReferenceMarkerNumeric way none = below_ending _ way none
-below_none (holders.CharacterReference x) parts.CharacterReferenceMarkerHexadecimal way none = below_ending _ way none
-below_none (holders.CharacterReference x) parts.CharacterReferenceValue way none = below_ending _ way none
-below_none (holders.CodeFence x) parts.CodeFencedFenceInfo way none = below_ending _ way none
-below_none (holders.CodeFence x) parts.CodeFencedFenceMeta way none = below_ending _ way none
-below_none (holders.MathFence x) parts.MathFlowFenceMeta way none = below_ending _ way none
-below_none (holders.NumberedItem x) parts.ListItemValue way none = below_ending _ way none
-below_none (holders.TaskParagraph x) parts.TaskMarkChecked way none = below_ending _ way none
-below_none (holders.TaskParagraph x) parts.TaskMarkUnchecked way none = below_ending _ way none
-below_none (holders.FootnoteDefinition x) parts.FootnoteDefinitionLabelString way none = below_ending _ way none
-below_none (holders.HeadingAtx x) parts.HeadingAtxSequence way none = below_ending _ way none
-below_none (holders.HeadingSetext x) parts.HeadingSetextUnderlineSequence way none = below_ending _ way none
-below_none (holders.HeadingSetext x) parts.HeadingSetextText way none = below_ending _ way none
-below_none (holders.CodeFenced x) parts.CodeFencedFence way none = below_fence in_code_fence x way none
-below_none (holders.MathFlow x) parts.MathFlowFence way none = below_fence in_math_fence x way none
+pub below_none : (h : Container) (q : Part) (way : Path) → part_of h (path_to q) ≡ None → part_of h (into q way) ≡ None
+below_none (containers.Autolink x) parts.AutolinkEmail way none = below_ending _ way none
+below_none (containers.Autolink x) parts.AutolinkProtocol way none = below_ending _ way none
+below_none (containers.Media x) parts.LabelText way none = below_ending _ way none
+below_none (containers.Media x) parts.Resource way none = below_resource x.target way none
+below_none (containers.Media x) parts.Reference way none = below_reference x.target way none
+below_none (containers.FootnoteCall x) parts.LabelText way none = below_ending _ way none
+below_none (containers.Resource x) parts.ResourceDestinationString way none = below_ending _ way none
+below_none (containers.Resource x) parts.ResourceTitleString way none = below_ending _ way none
+below_none (containers.Reference x) parts.ReferenceString way none = below_ending _ way none
+below_none (containers.Definition x) parts.DefinitionLabelString way none = below_ending _ way none
+below_none (containers.Definition x) parts.DefinitionDestinationString way none = below_ending _ way none
+below_none (containers.Definition x) parts.DefinitionTitleString way none = below_ending _ way none
+below_none (containers.CharacterReference x) parts.CharacterReferenceMarker way none = below_ending _ way none
+below_none (containers.CharacterReference x) parts.CharacterReferenceMarkerNumeric way none = below_ending _ way none
+below_none (containers.CharacterReference x) parts.CharacterReferenceMarkerHexadecimal way none = below_ending _ way none
+below_none (containers.CharacterReference x) parts.CharacterReferenceValue way none = below_ending _ way none
+below_none (containers.CodeFence x) parts.CodeFencedFenceInfo way none = below_ending _ way none
+below_none (containers.CodeFence x) parts.CodeFencedFenceMeta way none = below_ending _ way none
+below_none (containers.MathFence x) parts.MathFlowFenceMeta way none = below_ending _ way none
+below_none (containers.NumberedItem x) parts.ListItemValue way none = below_ending _ way none
+below_none (containers.TaskParagraph x) parts.TaskMarkChecked way none = below_ending _ way none
+below_none (containers.TaskParagraph x) parts.TaskMarkUnchecked way none = below_ending _ way none
+below_none (containers.FootnoteDefinition x) parts.FootnoteDefinitionLabelString way none = below_ending _ way none
+below_none (containers.HeadingAtx x) parts.HeadingAtxSequence way none = below_ending _ way none
+below_none (containers.HeadingSetext x) parts.HeadingSetextUnderlineSequence way none = below_ending _ way none
+below_none (containers.HeadingSetext x) parts.HeadingSetextText way none = below_ending _ way none
+below_none (containers.CodeFenced x) parts.CodeFencedFence way none = below_fence in_code_fence x way none
+below_none (containers.MathFlow x) parts.MathFlowFence way none = below_fence in_math_fence x way none
 below_none h q way none = refl
 
 -- no part is the whole
-pub itself_none : (h : Open) → part_of h itself ≡ None
-itself_none (holders.Resource x) = refl
+pub itself_none : (h : Container) → part_of h itself ≡ None
+itself_none (containers.Resource x) = refl
 itself_none h = refl
 
 -- content leaves the parts as they are
-same_below : (old : Option Kept) (kept : Option Kept) → (old ≡ None → kept ≡ None) → kept ≡ elim old [ Some k ↦ kept | None ↦ None ]
+same_below : (old : Option PartSummary) (kept : Option PartSummary) → (old ≡ None → kept ≡ None) → kept ≡ elim old [ Some k ↦ kept | None ↦ None ]
 same_below (Some k) kept below = refl
 same_below None kept below = below refl
 
-content_parts : (s : Source) (p : Place) (c : Content) (a b : Point) (i : Inner) (h : Open) (way : Path) → part_of h way ≡ part_with s p (content c) a b i (part_of h) way
+content_parts : (s : Source) (p : Place) (c : Content) (a b : Point) (i : Summary) (h : Container) (way : Path) → part_of h way ≡ part_with s p (content c) a b i (part_of h) way
 content_parts s p c a b i h itself = itself_none h
 content_parts s p c a b i h (into q way) = same_below (part_of h (path_to q)) (part_of h (into q way)) (below_none h q way)
 
-no_label : (h : Open) → part_of h (path_to parts.LabelText) ≡ None → label_of h ≡ nothing
-no_label (holders.Media x) none = no_label_nodes x.label none
+no_label : (h : Container) → part_of h (path_to parts.LabelText) ≡ None → label_of h ≡ nothing
+no_label (containers.Media x) none = no_label_nodes x.label none
   where
     no_label_nodes : (l : _) → label_kept l ≡ None → nodes_of_label l ≡ nothing
     no_label_nodes None h = refl
     no_label_nodes (Some l) h = let z : ⊥ = cc in absurd z
-no_label (holders.FootnoteCall x) none = no_label_nodes x none
+no_label (containers.FootnoteCall x) none = no_label_nodes x none
   where
     no_label_nodes : (l : _) → label_kept l ≡ None → nodes_of_label l ≡ nothing
     no_label_nodes None h = refl
     no_label_nodes (Some l) h = let z : ⊥ = cc in absurd z
 no_label h none = refl
 
-same_label : (old : Option Kept) (nodes ts : Trees) → (old ≡ None → nodes ≡ nothing) → (c : Content) → nodes ≡ label_with (content c) ts old nodes
+same_label : (old : Option PartSummary) (nodes ts : Trees) → (old ≡ None → nodes ≡ nothing) → (c : Content) → nodes ≡ label_with (content c) ts old nodes
 same_label (Some k) nodes ts below c = refl
 same_label None nodes ts below c = below refl
 
-behind_content : (h : Holder) (c : Content) (m : Bool) → (c ≡ contents.Paragraph → ⊥) → model_after h (content c) m ≡ h
-behind_content h contents.Paragraph m other = absurd (other refl)
-behind_content list_item c m other = refl
-behind_content numbered_item c m other = refl
-behind_content h c m other = refl
+after_content : (h : ContentModel) (c : Content) (m : Bool) → (c ≡ contents.Paragraph → ⊥) → model_after h (content c) m ≡ h
+after_content h contents.Paragraph m other = absurd (other refl)
+after_content list_item c m other = refl
+after_content numbered_item c m other = refl
+after_content h c m other = refl
 
 or_none : {A : Type 0} (x : Option A) → option_or x None ≡ x
 or_none None = refl
@@ -120,11 +120,11 @@ no_value : (s : Source) (c : Content) (a b : Point) (v : Option ℕ) → (c ≡ 
 no_value s contents.ListItem a b v other = absurd (other refl)
 no_value s c a b v other = refl
 
--- a parent of which nothing but nodes is kept gives its holder nothing else
-unmarked_behind : (h : Holder) (c : Content) → model_after h (content c) false ≡ h
-unmarked_behind list_item contents.Paragraph = refl
-unmarked_behind numbered_item contents.Paragraph = refl
-unmarked_behind h c = refl
+-- a parent of which nothing but nodes is kept gives its container nothing else
+unmarked_after : (h : ContentModel) (c : Content) → model_after h (content c) false ≡ h
+unmarked_after list_item contents.Paragraph = refl
+unmarked_after numbered_item contents.Paragraph = refl
+unmarked_after h c = refl
 
 no_mark_given : (c : Content) → mark_given (content c) None ≡ None
 no_mark_given contents.Paragraph = refl
@@ -134,22 +134,22 @@ parent_value : (s : Source) (c : Content) (a b : Point) → is_parent c ≡ true
 parent_value s contents.ListItem a b such = let z : ⊥ = cc in absurd z
 parent_value s c a b such = refl
 
-pub parent_keeps : (s : Source) (p : Place) (c : Content) (a b : Point) (ts : Trees) (h : Open) → is_parent c ≡ true → Keeps s p (content c) a b (inner_with holders.AnyContent ts) h h
+pub parent_keeps : (s : Source) (p : Place) (c : Content) (a b : Point) (ts : Trees) (h : Container) → is_parent c ≡ true → Keeps s p (content c) a b (summary_with containers.AnyContent ts) h h
 parent_keeps s p c a b ts h such = record {
-  row = refl;
-  moved = sym (unmarked_behind (moved_of h) c);
+  initial_model = refl;
+  current_model = sym (unmarked_after (current_model_of h) c);
   marker = refl;
-  kept = content_parts s p c a b (inner_with holders.AnyContent ts) h;
+  kept = content_parts s p c a b (summary_with containers.AnyContent ts) h;
   label = same_label (part_of h (path_to parts.LabelText)) (label_of h) ts (no_label h) c;
   mark = sym (ap (option_or (mark_of h)) (no_mark_given c) ∙ or_none (mark_of h));
   value = sym (ap (option_or (value_of h)) (parent_value s c a b such) ∙ or_none (value_of h));
 }
 
--- content that is no paragraph and no item gives its holder nothing but nodes
-pub content_keeps : (s : Source) (p : Place) (c : Content) (a b : Point) (i : Inner) (h : Open) → (c ≡ contents.Paragraph → ⊥) → (c ≡ contents.ListItem → ⊥) → Keeps s p (content c) a b i h h
+-- content that is no paragraph and no item gives its container nothing but nodes
+pub content_keeps : (s : Source) (p : Place) (c : Content) (a b : Point) (i : Summary) (h : Container) → (c ≡ contents.Paragraph → ⊥) → (c ≡ contents.ListItem → ⊥) → Keeps s p (content c) a b i h h
 content_keeps s p c a b i h no_paragraph no_item = record {
-  row = refl;
-  moved = sym (behind_content (moved_of h) c (is_some i.mark) no_paragraph);
+  initial_model = refl;
+  current_model = sym (after_content (current_model_of h) c (is_some i.mark) no_paragraph);
   marker = refl;
   kept = content_parts s p c a b i h;
   label = same_label (part_of h (path_to parts.LabelText)) (label_of h) i.nodes (no_label h) c;

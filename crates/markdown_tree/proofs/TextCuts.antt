@@ -4,7 +4,7 @@ use Rattle.std.specs.List.{list_all}
 use Rattle.std.specs.String.Boundary.{IsSplitPoint}
 use Rattle.std.proofs.lemmas.Bool.Decides.{nat_tests}
 use Rattle.std.proofs.lemmas.List.{append-nil, reverse-append, reverse-reverse}
-use Rattle.markdown_events.specs.Texts.{is_line_ending, is_space, raw, spaces, starts_with_byte, without_escapes, without_last_line_ending, without_line_ending_behind, without_padding}
+use Rattle.markdown_events.specs.Texts.{is_line_ending, is_space, raw, spaces, starts_with_byte, without_escapes, without_last_line_ending, without_line_ending_reversed, without_padding}
 use Rattle.markdown_tree.specs.ValueTexts.{is_kept, is_unpadded}
 
 -- ---- A text that is a value as it stands
@@ -67,9 +67,9 @@ IsLow : List ℕ → Type 0
 IsLow [] = Unit {0}
 IsLow (b ∷ bs) = b < 128
 
-record Ends (bs front : List ℕ) : Type 0 where
+record Ends (bs prefix : List ℕ) : Type 0 where
   cut : List ℕ
-  is : bs ≡ front ++ cut
+  is : bs ≡ prefix ++ cut
   low : IsLow cut
 
 nothing_cut : (bs : List ℕ) → Ends bs bs
@@ -89,11 +89,11 @@ low_return b c h = let e = (both (b == 10) (c == 13) h).1 in grind (arith, nat_t
 turned : (b : ℕ) (bs : List ℕ) → reverse (b ∷ bs) ≡ reverse bs ++ b ∷ []
 turned b bs = reverse-append (b ∷ []) bs
 
-ends_behind : (bs : List ℕ) → Ends (reverse bs) (reverse (without_line_ending_behind bs))
+ends_after : (bs : List ℕ) → Ends (reverse bs) (reverse (without_line_ending_reversed bs))
 unfolding IsLow
-ends_behind [] = nothing_cut []
-ends_behind (b ∷ []) = choose (is_line_ending b) (b ∷ []) [] (b ∷ []) (λ e. record { cut = b ∷ []; is = refl; low = low_ending b e }) (λ e. nothing_cut (b ∷ []))
-ends_behind (b ∷ c ∷ bs) =
+ends_after [] = nothing_cut []
+ends_after (b ∷ []) = choose (is_line_ending b) (b ∷ []) [] (b ∷ []) (λ e. record { cut = b ∷ []; is = refl; low = low_ending b e }) (λ e. nothing_cut (b ∷ []))
+ends_after (b ∷ c ∷ bs) =
     choose (b == 10 && c == 13) (reverse (b ∷ c ∷ bs)) bs (if is_line_ending b then c ∷ bs else b ∷ c ∷ bs)
     (λ e. record { cut = c ∷ b ∷ []; is = turned b (c ∷ bs) ∙ ap (λ (xs : List ℕ). xs ++ b ∷ []) (turned c bs) ∙ append_assoc (reverse bs) (c ∷ []) (b ∷ []); low = low_return b c e })
     (λ e. choose (is_line_ending b) (reverse (b ∷ c ∷ bs)) (c ∷ bs) (b ∷ c ∷ bs)
@@ -101,29 +101,29 @@ ends_behind (b ∷ c ∷ bs) =
     (λ e'. nothing_cut (reverse (b ∷ c ∷ bs))))
 
 ends_at : (bs : List ℕ) → Ends bs (without_last_line_ending bs)
-ends_at bs = subst (λ (x : List ℕ). Ends x (without_last_line_ending bs)) (reverse-reverse bs) (ends_behind (reverse bs))
+ends_at bs = subst (λ (x : List ℕ). Ends x (without_last_line_ending bs)) (reverse-reverse bs) (ends_after (reverse bs))
 
-taken : (front cut : List ℕ) → take (length front) (front ++ cut) ≡ front
+taken : (prefix cut : List ℕ) → take (length prefix) (prefix ++ cut) ≡ prefix
 taken [] cut = refl
-taken (b ∷ front) cut = ap (λ (xs : List ℕ). b ∷ xs) (taken front cut)
+taken (b ∷ prefix) cut = ap (λ (xs : List ℕ). b ∷ xs) (taken prefix cut)
 
-at_seam : (front cut : List ℕ) (c : ℕ) → slice_index (front ++ c ∷ cut) (length front) ≡ c
+at_seam : (prefix cut : List ℕ) (c : ℕ) → slice_index (prefix ++ c ∷ cut) (length prefix) ≡ c
 at_seam [] cut c = refl
-at_seam (b ∷ front) cut c = at_seam front cut c
+at_seam (b ∷ prefix) cut c = at_seam prefix cut c
 
-splits : (front cut : List ℕ) → IsLow cut → IsSplitPoint (front ++ cut) (length front)
+splits : (prefix cut : List ℕ) → IsLow cut → IsSplitPoint (prefix ++ cut) (length prefix)
 unfolding IsLow
-splits front [] low = (omega (arith, length-append front []), λ _ lt _. absurd (omega (arith, length-append front [])))
-splits front (c ∷ cut) low = (omega (arith, length-append front (c ∷ cut)), λ _ _ high. absurd (omega (arith, at_seam front cut c)))
+splits prefix [] low = (omega (arith, length-append prefix []), λ _ lt _. absurd (omega (arith, length-append prefix [])))
+splits prefix (c ∷ cut) low = (omega (arith, length-append prefix (c ∷ cut)), λ _ _ high. absurd (omega (arith, at_seam prefix cut c)))
 
 pub end_splits : (bs kept : List ℕ) → kept ≡ without_last_line_ending bs → IsSplitPoint bs (length kept)
 end_splits bs kept is =
     let ends = ends_at bs in
-    subst (λ (front : List ℕ). IsSplitPoint bs (length front)) (sym is)
+    subst (λ (prefix : List ℕ). IsSplitPoint bs (length prefix)) (sym is)
     (subst (λ (whole : List ℕ). IsSplitPoint whole (length (without_last_line_ending bs))) (sym ends.is) (splits (without_last_line_ending bs) ends.cut ends.low))
 
 pub end_taken : (bs kept : List ℕ) → kept ≡ without_last_line_ending bs → take (length kept) bs ≡ without_last_line_ending bs
 end_taken bs kept is =
     let ends = ends_at bs in
-    let front = without_last_line_ending bs in
-    ap (λ (xs : List ℕ). take (length xs) bs) is ∙ ap (take (length front)) ends.is ∙ taken front ends.cut
+    let prefix = without_last_line_ending bs in
+    ap (λ (xs : List ℕ). take (length xs) bs) is ∙ ap (take (length prefix)) ends.is ∙ taken prefix ends.cut

@@ -1,6 +1,6 @@
 pub mod Readings
 pub mod TaskWalks
 pub mod ValueTexts
-pub mod Holdings
+pub mod Containers
 pub mod States
 pub mod Takings

@@ -1,29 +1,29 @@
 -- What the program's values are to the steps of a compilation.
 use Rattle.std.specs.Prelude.{◌≡◌, ◌||◌, is_some, not, ℕ, Bool, true, false, Option, Some, None, Result, Ok, Err, List, [], ◌∷◌, ◌++◌, cond, reverse}
 use Rattle.markdown_events.specs.Names.{role_of}
-use Rattle.markdown_events.specs.declared.role.Acting.{Acting}
+use Rattle.markdown_events.specs.declared.role.ItemKind.{ItemKind}
 use Rattle.markdown_events.specs.declared.role.Role.{Role}
-use Rattle.markdown_events.specs.declared.role.Role.TheVariants.{Plain as plain, Acting as acting}
+use Rattle.markdown_events.specs.declared.role.Role.TheVariants.{Transparent as transparent, Significant as significant}
 use Rattle.markdown_events.specs.declared.message.Fault.{Fault}
 use Rattle.markdown_events.specs.declared.message.Fault.TheVariants as faults
 use Rattle.markdown_grammar.specs.Refusals.{Says}
-use Rattle.markdown_steps.specs.Walked.{walked_by}
+use Rattle.markdown_steps.specs.Visits.{visits_by_owner}
 use Rattle.markdown_tree.specs.declared.context.Context.{Context}
 use Rattle.markdown_tree.specs.declared.context.Frame.{Frame}
 use Rattle.markdown_nodes.specs.View.{views}
-use Rattle.markdown_tree.specs.declared.holding.Holding.{Holding}
-use Rattle.markdown_grammar.specs.declared.refusal.Refusal.{Refusal}
-use Rattle.markdown_grammar.specs.declared.refusal.Stop.{Stop}
-use Rattle.markdown_grammar.specs.declared.refusal.Stop.TheVariants as stops
+use Rattle.markdown_tree.specs.declared.open_container.OpenContainer.{OpenContainer}
+use Rattle.markdown_grammar.specs.declared.error_kind.ErrorKind.{ErrorKind}
+use Rattle.markdown_grammar.specs.declared.error_kind.Stop.{Stop}
+use Rattle.markdown_grammar.specs.declared.error_kind.Stop.TheVariants as stops
 use Rattle.markdown_nodes.specs.Tree.{Trees, join, node, nothing, «break»}
 use Rattle.markdown_events.specs.declared.event.Point.{Point}
 use Rattle.markdown_events.specs.declared.unist.Position.{Position}
-use Rattle.markdown_steps.specs.Compiler.{Holds, Open, State, enter_checks, fresh, leave_to}
-use Rattle.markdown_grammar.specs.Grammar.{Holder, model_of, leaf}
-use Rattle.markdown_tree.specs.Holdings.{IsFresh, first_failing, inner_with, marker_of, misfit_of, moved_of, row_of}
+use Rattle.markdown_steps.specs.Compiler.{ContainerState, OpenSpan, State, enter_checks, fresh, leave_to}
+use Rattle.markdown_grammar.specs.Grammar.{ContentModel, model_of, leaf}
+use Rattle.markdown_tree.specs.Containers.{IsFresh, first_failing, summary_with, marker_of, misfit_of, current_model_of, initial_model_of}
 use Rattle.markdown_grammar.specs.Refusals.{ErrorAt}
 use Rattle.markdown_steps.specs.Checks.{refused}
-use Rattle.markdown_steps.specs.Kept.{Inner}
+use Rattle.markdown_steps.specs.Summaries.{Summary}
 use Rattle.markdown_grammar.specs.Attributes.{Place, line_ending_is_text}
 use Rattle.markdown_grammar.specs.Document.{Source}
 use Rattle.markdown_tree.specs.declared.columns.Columns.{Columns as OpenColumns}
@@ -36,7 +36,7 @@ use Rattle.markdown_tree.specs.declared.marks.Sibling.{Sibling as OpenSibling}
 use Rattle.markdown_tree.specs.declared.marks.Sibling.TheVariants as siblings
 use Rattle.markdown_events.specs.declared.event.Name.{Name}
 use Rattle.markdown_events.specs.Around.{under}
-use Rattle.markdown_steps.specs.Columns.{Columns, Rows, before, behind, columns_entered, columns_left, inside, shown}
+use Rattle.markdown_steps.specs.Columns.{Columns, Rows, before, after, columns_entered, columns_left, inside, child_facts}
 use Rattle.markdown_grammar.specs.Items.{is_line_ending}
 use Rattle.markdown_steps.specs.Siblings.{Marks, Sibling, no_marks, no_sibling}
 
@@ -64,7 +64,7 @@ marks_of m = record { near = sibling_in m.near; far = sibling_in m.far; item_bla
 abbrev pub rows_of : OpenRows → Rows
 rows_of rows.Before = before
 rows_of rows.Inside = inside
-rows_of rows.Behind = behind
+rows_of rows.After = after
 
 -- the columns of the table
 abbrev pub columns_of : OpenColumns → Columns
@@ -74,33 +74,33 @@ columns_of c = record { rows = rows_of c.rows; kinds = c.kinds.items }
 abbrev pub place_with : Bool → Bool → Option ℕ → Place
 place_with line_endings in_table marker = record { line_endings = line_endings; in_table = in_table; marker = marker }
 
--- what such a holder keeps, with its nodes
-abbrev pub inner_of_holding : Holding → Inner
-inner_of_holding h = inner_with h.holder (views h.nodes.items)
+-- what such a container keeps, with its nodes
+abbrev pub summary_of_container : OpenContainer → Summary
+summary_of_container h = summary_with h.container (views h.nodes.items)
 
 -- a thing is made, if what has to stand there does
-abbrev pub Makes : {X : Type 0} → Result X Stop → Bool → Refusal → (X → Type 0) → Type 0
+abbrev pub Makes : {X : Type 0} → Result X Stop → Bool → ErrorKind → (X → Type 0) → Type 0
 Makes (Ok x) complete why Is = (complete ≡ true) × Is x
-Makes (Err (stops.Refused refusal)) complete why Is = (complete ≡ false) × (refusal ≡ why)
+Makes (Err (stops.Refused error_kind)) complete why Is = (complete ≡ false) × (error_kind ≡ why)
 Makes (Err (stops.Memory error)) complete why Is = Unit {0}
 
--- where the next item of a holder stands
-abbrev pub place_of : Bool → Holding → Place
-place_of in_table h = place_with h.line_endings in_table (marker_of h.holder)
+-- where the next item of a container stands
+abbrev pub place_of : Bool → OpenContainer → Place
+place_of in_table h = place_with h.line_endings in_table (marker_of h.container)
 
 -- the nodes, with the break that waits for its line ending
 abbrev pub with_break : Option Position → Trees → Trees
 with_break None ts = ts
 with_break (Some here) ts = join ts (node «break» nothing (Some here) nothing)
 
--- a holder, by whether it is in a table, and the break that is its last item
-abbrev pub holds_of : Bool → Option Position → Holding → Holds
-holds_of in_table pending h = record {
-  row = row_of h.holder;
-  holder = moved_of h.holder;
+-- a container, by whether it is in a table, and the break that is its last item
+abbrev pub container_state_of : Bool → Option Position → OpenContainer → ContainerState
+container_state_of in_table pending h = record {
+  initial_model = initial_model_of h.container;
+  model = current_model_of h.container;
   place = place_of in_table h;
-  waiting = is_some pending;
-  inner = inner_with h.holder (with_break pending (views h.nodes.items));
+  after_break = is_some pending;
+  inner = summary_with h.container (with_break pending (views h.nodes.items));
 }
 
 -- how a step that stops at a point agrees with what is expected
@@ -116,38 +116,38 @@ Gives seen point (Err stop) expected = Stops stop point expected
 -- how a fault agrees with what is expected: it names the refusal and its point
 abbrev pub Fails : {Y : Type 0} → Fault → Result Y ErrorAt → Type 0
 Fails (faults.Memory error) expected = Unit {0}
-Fails (faults.Message message) expected = (why : ErrorAt) × (expected ≡ Err why) × Says message why.refusal why.point
+Fails (faults.Message message) expected = (why : ErrorAt) × (expected ≡ Err why) × Says message why.error_kind why.point
 
 -- a function gave, by this view, what is expected, or a fault that agrees with it
 abbrev pub Completes : {X Y : Type 0} → (X → Y) → Result X Fault → Result Y ErrorAt → Type 0
 Completes seen (Ok x) expected = expected ≡ Ok (seen x)
 Completes seen (Err fault) expected = Fails fault expected
 
--- a holder of that row at its end, where no break waits
-abbrev pub ended_with : Holder → Place → Inner → Holds
-ended_with row place inner = record { row = row; holder = row; place = place; waiting = false; inner = inner }
+-- a container of that content model at its end, where no break waits
+abbrev pub ended_with : ContentModel → Place → Summary → ContainerState
+ended_with initial_model place inner = record { initial_model = initial_model; model = initial_model; place = place; after_break = false; inner = inner }
 
 -- ---- The state
 
--- the holder around an open span that acts: that of the innermost leaf, or the next on the stack
-abbrev pub outer_of : Role → Bool → Option Holds → List Holding → Option (Acting × Holds)
-outer_of (plain k) in_table held hs = None
-outer_of (acting what) in_table (Some around) hs = Some (what, around)
-outer_of (acting what) in_table None [] = None
-outer_of (acting what) in_table None (h ∷ hs) = Some (what, holds_of in_table None h)
+-- the container around an open significant span: that of the innermost leaf, or the next on the stack
+abbrev pub outer_of : Role → Bool → Option ContainerState → List OpenContainer → Option (ItemKind × ContainerState)
+outer_of (transparent k) in_table held hs = None
+outer_of (significant what) in_table (Some around) hs = Some (what, around)
+outer_of (significant what) in_table None [] = None
+outer_of (significant what) in_table None (h ∷ hs) = Some (what, container_state_of in_table None h)
 
 -- the same is left for the spans outside
-abbrev pub leaf_left : Role → Option Holds → Option Holds
-leaf_left (plain k) held = held
-leaf_left (acting what) held = None
+abbrev pub leaf_left : Role → Option ContainerState → Option ContainerState
+leaf_left (transparent k) held = held
+leaf_left (significant what) held = None
 
--- the holdings that are left for the spans outside
-abbrev pub holdings_left : Role → Option Holds → List Holding → List Holding
-holdings_left (acting what) None (h ∷ hs) = hs
-holdings_left role held hs = hs
+-- the open containers that are left for the spans outside
+abbrev pub containers_left : Role → Option ContainerState → List OpenContainer → List OpenContainer
+containers_left (significant what) None (h ∷ hs) = hs
+containers_left role held hs = hs
 
 -- the open spans, the innermost first
-abbrev pub opens : List Frame → Option Holds → List Holding → List Open
+abbrev pub opens : List Frame → Option ContainerState → List OpenContainer → List OpenSpan
 opens [] held hs = []
 opens (f ∷ fs) held hs = record {
   name = f.name;
@@ -155,28 +155,28 @@ opens (f ∷ fs) held hs = record {
   around = f.around;
   before = marks_of f.marks;
   outer = outer_of (role_of f.name) f.in_table held hs;
-} ∷ opens fs (leaf_left (role_of f.name) held) (holdings_left (role_of f.name) held hs)
+} ∷ opens fs (leaf_left (role_of f.name) held) (containers_left (role_of f.name) held hs)
 
--- the innermost holder that the program keeps: a leaf has none of its own
-abbrev pub kept_top : Context → Holds
-kept_top c = holds_of c.in_table c.pending c.top
+-- the innermost container that the program keeps: a leaf has none of its own
+abbrev pub kept_top : Context → ContainerState
+kept_top c = container_state_of c.in_table c.pending c.top
 
 -- the place of the items in a leaf, of which it has none
 abbrev pub leaf_place : Bool → Place
 leaf_place in_table = place_with true in_table None
 
--- the innermost holder: a leaf has kept nothing
-abbrev pub top_of : Context → Holds
+-- the innermost container: a leaf has kept nothing
+abbrev pub top_of : Context → ContainerState
 top_of c = cond c.is_leaf (fresh leaf (leaf_place c.in_table)) (kept_top c)
 
--- the holder around a leaf
-abbrev pub leaf_holder : Context → Option Holds
-leaf_holder c = cond c.is_leaf (Some (kept_top c)) None
+-- the container around a leaf
+abbrev pub leaf_container : Context → Option ContainerState
+leaf_container c = cond c.is_leaf (Some (kept_top c)) None
 
 -- the state of a compilation
 abbrev pub state_of : Context → State
 state_of c = record {
-  frames = opens (reverse c.frames.items) (leaf_holder c) (reverse c.holdings.items);
+  frames = opens (reverse c.frames.items) (leaf_container c) (reverse c.open_containers.items);
   around = c.around;
   marks = marks_of c.marks;
   columns = columns_of c.columns;
@@ -184,25 +184,25 @@ state_of c = record {
 }
 
 -- a leaf begins: nothing of the program's changes
-pub record OpenedLeaf (s : Source) (what : Acting) (point : Point) (old new : Context) : Type 0 where
+pub record OpenedLeaf (s : Source) (what : ItemKind) (point : Point) (old new : Context) : Type 0 where
   pub taken : first_failing (enter_checks s (top_of old) what point) ≡ None
-  pub leaf_row : model_of (moved_of old.top.holder) what ≡ leaf
+  pub leaf_row : model_of (current_model_of old.top.container) what ≡ leaf
   pub same : new ≡ old
 
--- a holder begins: it is the innermost, over the one that was
-pub record OpenedHolder (s : Source) (what : Acting) (point : Point) (old new : Context) : Type 0 where
+-- a container begins: it is the innermost, over the one that was
+pub record OpenedContainer (s : Source) (what : ItemKind) (point : Point) (old new : Context) : Type 0 where
   pub taken : first_failing (enter_checks s (top_of old) what point) ≡ None
-  pub top : Holding
-  pub fresh_holder : IsFresh top.holder (model_of (moved_of old.top.holder) what)
+  pub top : OpenContainer
+  pub fresh_container : IsFresh top.container (model_of (current_model_of old.top.container) what)
   pub line_endings : top.line_endings ≡ line_ending_is_text what
   pub nodes : top.nodes.items ≡ []
-  pub holdings : new.holdings.items ≡ old.holdings.items ++ old.top ∷ []
-  pub others : new ≡ record old { top = top; holdings = new.holdings }
+  pub open_containers : new.open_containers.items ≡ old.open_containers.items ++ old.top ∷ []
+  pub others : new ≡ record old { top = top; open_containers = new.open_containers }
 
--- an acting span begins, as a leaf or as a holder, if it may
-abbrev pub Opened : Source → Acting → Point → Context → Context → Result Bool Stop → Type 0
+-- a significant span begins, as a leaf or as a container, if it may
+abbrev pub Opened : Source → ItemKind → Point → Context → Context → Result Bool Stop → Type 0
 Opened s what point old new (Ok true) = OpenedLeaf s what point old new
-Opened s what point old new (Ok false) = OpenedHolder s what point old new
+Opened s what point old new (Ok false) = OpenedContainer s what point old new
 Opened s what point old new (Err (stops.Refused why)) = first_failing (enter_checks s (top_of old) what point) ≡ Some why
 Opened s what point old new (Err (stops.Memory error)) = Unit {0}
 
@@ -215,42 +215,42 @@ pub record Begun (name : Name) (role : Role) (point : Point) (is_leaf in_table :
 
 -- ---- The end of a span
 
--- the innermost span, a leaf, ends: the innermost holder took it
-pub record LeafEnds (what : Acting) (c : Context) : Type 0 where
-  pub row : model_of (moved_of c.top.holder) what ≡ leaf
-  pub fits : misfit_of c.top.holder what ≡ None
+-- the innermost span, a leaf, ends: the innermost container took it
+pub record LeafEnds (what : ItemKind) (c : Context) : Type 0 where
+  pub initial_model : model_of (current_model_of c.top.container) what ≡ leaf
+  pub fits : misfit_of c.top.container what ≡ None
   pub awaited : (not (is_some c.pending) || is_line_ending what) ≡ true
 
--- the innermost span, which has a holder of its own, ends: the holder around it took it
-pub record HolderEnds (what : Acting) (c : Context) : Type 0 where
-  pub outer : Holding
-  pub others : List Holding
-  pub holdings : reverse c.holdings.items ≡ outer ∷ others
-  pub row : row_of c.top.holder ≡ model_of (moved_of outer.holder) what
-  pub fits : misfit_of outer.holder what ≡ None
+-- the innermost span, which has a container of its own, ends: the container around it took it
+pub record ContainerEnds (what : ItemKind) (c : Context) : Type 0 where
+  pub outer : OpenContainer
+  pub others : List OpenContainer
+  pub open_containers : reverse c.open_containers.items ≡ outer ∷ others
+  pub initial_model : initial_model_of c.top.container ≡ model_of (current_model_of outer.container) what
+  pub fits : misfit_of outer.container what ≡ None
 
--- the innermost span may end, by whether it is a leaf, and by its role: of a plain one nothing is asked
+-- the innermost span may end, by whether it is a leaf, and by its role: of a transparent one nothing is asked
 abbrev pub EndsAs : Bool → Role → Context → Type 0
-EndsAs leaves (plain k) c = Unit {0}
-EndsAs true (acting what) c = LeafEnds what c
-EndsAs false (acting what) c = HolderEnds what c
+EndsAs leaves (transparent k) c = Unit {0}
+EndsAs true (significant what) c = LeafEnds what c
+EndsAs false (significant what) c = ContainerEnds what c
 
 -- the innermost span may end, by its role
 abbrev pub Ends : Role → Context → Type 0
 Ends role c = EndsAs c.is_leaf role c
 
 -- what the innermost span belongs to, and what is made of that at its end
-abbrev pub left_to : Source → Role → Frame → Point → Context → Result Holds ErrorAt
-left_to s role f end c = leave_to s f.start end (shown (marks_of c.marks) (columns_of c.columns)) (top_of c) (outer_of role f.in_table (leaf_holder c) (reverse c.holdings.items))
+abbrev pub left_to : Source → Role → Frame → Point → Context → Result ContainerState ErrorAt
+left_to s role f end c = leave_to s f.start end (child_facts (marks_of c.marks) (columns_of c.columns)) (top_of c) (outer_of role f.in_table (leaf_container c) (reverse c.open_containers.items))
 
 -- how many nodes are walked over there
-abbrev pub left_walks : Role → Frame → Context → ℕ
-left_walks role f c = walked_by (outer_of role f.in_table (leaf_holder c) (reverse c.holdings.items)) (top_of c).inner
+abbrev pub left_visits : Role → Frame → Context → ℕ
+left_visits role f c = visits_by_owner (outer_of role f.in_table (leaf_container c) (reverse c.open_containers.items)) (top_of c).inner
 
--- the innermost span has left the stack, and the holder around it is on top
+-- the innermost span has left the stack, and the container around it is on top
 pub record Closed (role : Role) (old new : Context) : Type 0 where
   pub frames : new.frames ≡ old.frames
   pub marks : new.marks ≡ old.marks
   pub columns : columns_of new.columns ≡ columns_left role (marks_of old.marks) (columns_of old.columns)
-  pub leaf : leaf_holder new ≡ leaf_left role (leaf_holder old)
-  pub holdings : reverse new.holdings.items ≡ holdings_left role (leaf_holder old) (reverse old.holdings.items)
+  pub leaf : leaf_container new ≡ leaf_left role (leaf_container old)
+  pub open_containers : reverse new.open_containers.items ≡ containers_left role (leaf_container old) (reverse old.open_containers.items)

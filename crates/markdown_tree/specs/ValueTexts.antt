@@ -5,7 +5,7 @@ use Rattle.std.specs.Prelude.{Bool, List, [], not, true, ℕ, ◌==◌, ◌||◌
 abbrev pub is_kept : ℕ → Bool
 is_kept b = not (b == 10 || b == 13 || b == 92)
 
--- no space at the front
+-- no space at the beginning
 abbrev pub is_unpadded : List ℕ → Bool
 is_unpadded [] = true
 is_unpadded (b ∷ bs) = not (b == 32)

@@ -61,7 +61,7 @@ fn text_of(
     Ok(text)
 }
 
-/// Puts what nodes read as behind a text. After an error an unknown part of it stands there.
+/// Puts what nodes read as after a text. After an error an unknown part of it stands there.
 fn add_text(
     steps: &mut Steps<'_>,
     form: Form,

@@ -5,14 +5,14 @@ ghost use Rattle.markdown_nodes.specs.Tree.{nothing};
 ghost use Rattle.markdown_nodes.specs.Tree as tree;
 ghost use Rattle.markdown_nodes.specs.View.{view, views};
 ghost use Rattle.markdown_grammar.specs.Buffers.{node_count};
-ghost use Rattle.markdown_tree.specs.Holdings.{definition_label, footnote_label, identified_kept, inner_with, is_parent, label_kept, nodes_of_label, parent_label, placed};
+ghost use Rattle.markdown_tree.specs.Containers.{definition_label, footnote_label, identified_kept, summary_with, is_parent, label_kept, nodes_of_label, parent_label, placed};
 ghost use Rattle.markdown_grammar.specs.Nodes.{image_label, link_label};
-ghost use Rattle.markdown_steps.specs.KeptNodes.{media_of};
-ghost use Rattle.markdown_steps.specs.Kept.{identifier_of, text_of, words_of};
-ghost use Rattle.markdown_tree.specs.declared.holder.Holder.TheVariants as holders;
+ghost use Rattle.markdown_steps.specs.SummaryNodes.{media_of};
+ghost use Rattle.markdown_steps.specs.Summaries.{identifier_of, text_of, words_of};
+ghost use Rattle.markdown_tree.specs.declared.container.Container.TheVariants as containers;
 
 use crate::buffer::label_of;
-use crate::holder::{DefinitionParts, Identified, Label, MediaParts, ResourceParts, Target};
+use crate::container::{DefinitionParts, Identified, Label, MediaParts, ResourceParts, Target};
 use markdown_nodes::mdast::{
     AlignKind, Blockquote, Definition, Delete, Emphasis, FootnoteDefinition, FootnoteReference,
     Heading, Image, ImageReference, Link, LinkReference, List, ListItem, Node, Paragraph,
@@ -299,7 +299,7 @@ pub fn link_node(
     parts: MediaParts<'_>,
     position: Position,
 ) -> Result<Node, AllocError>
-    ensures node { IfOk result (λ node. view node ≡ placed (link_label (media_of (inner_with (holders.Media parts.entry) nothing))) (nodes_of_label parts.entry.label) position) }
+    ensures node { IfOk result (λ node. view node ≡ placed (link_label (media_of (summary_with (containers.Media parts.entry) nothing))) (nodes_of_label parts.entry.label) position) }
     ensures list { steps.new.events ≡ steps.old.events }
     ensures bound { steps.new.count ≤ steps.old.count + node_count (nodes_of_label parts.entry.label) }
 {
@@ -368,7 +368,7 @@ pub fn image_node(
     parts: MediaParts<'_>,
     position: Position,
 ) -> Result<Node, AllocError>
-    ensures node { IfOk result (λ node. view node ≡ placed (image_label (text_of (label_kept parts.entry.label)) (media_of (inner_with (holders.Media parts.entry) nothing))) nothing position) }
+    ensures node { IfOk result (λ node. view node ≡ placed (image_label (text_of (label_kept parts.entry.label)) (media_of (summary_with (containers.Media parts.entry) nothing))) nothing position) }
     ensures list { steps.new.events ≡ steps.old.events }
     ensures bound { steps.new.count ≤ steps.old.count + node_count (nodes_of_label parts.entry.label) }
 {

@@ -7,7 +7,7 @@ ghost use Rattle.markdown_tree.specs.States.{columns_of, marks_of};
 
 use crate::marks::Marks;
 use markdown_nodes::mdast::AlignKind;
-use markdown_nodes::role::{Acting, Content, Plain, Role};
+use markdown_nodes::role::{Content, ItemKind, Role, TransparentKind};
 use std::alloc::{AllocError, Global};
 use std::mem;
 
@@ -19,7 +19,7 @@ pub enum Rows {
     /// The first is open.
     Inside,
     /// The first has ended.
-    Behind,
+    After,
 }
 
 /// The entries of the first delimiter row of the open table. Tables do not stand in tables, so that
@@ -45,26 +45,26 @@ impl Columns {
         ensures { columns_of self.new ≡ columns_entered in_table role (columns_of self.old) }
     {
         match role {
-            Role::Plain(Plain::DelimiterRow) => {
+            Role::Transparent(TransparentKind::DelimiterRow) => {
                 if in_table && matches!(self.rows, Rows::Before) {
                     self.rows = Rows::Inside;
                 }
             }
-            Role::Acting(Acting::Content(Content::Table)) => *self = Columns::new(alloc),
+            Role::Significant(ItemKind::Content(Content::Table)) => *self = Columns::new(alloc),
             _ => {}
         }
     }
 
-    /// A plain span ends, with what the spans in it said.
-    pub fn exit(&mut self, plain: Plain, inner: Marks) -> Result<(), AllocError>
-        ensures { OnOk result (columns_of self.new ≡ columns_left (roles.Plain plain) (marks_of inner) (columns_of self.old)) }
+    /// A transparent span ends, with what the spans in it said.
+    pub fn exit(&mut self, plain: TransparentKind, inner: Marks) -> Result<(), AllocError>
+        ensures { OnOk result (columns_of self.new ≡ columns_left (roles.Transparent plain) (marks_of inner) (columns_of self.old)) }
     {
         if !matches!(self.rows, Rows::Inside) {
             return Ok(());
         }
         match plain {
-            Plain::DelimiterRow => self.rows = Rows::Behind,
-            Plain::DelimiterCellValue => self.kinds.push(inner.align_kind())?,
+            TransparentKind::DelimiterRow => self.rows = Rows::After,
+            TransparentKind::DelimiterCellValue => self.kinds.push(inner.align_kind())?,
             _ => {}
         }
         Ok(())

@@ -2,29 +2,29 @@
 
 ghost use Rattle.std.specs.Prelude.{◌≡◌, ◌≤◌, ◌+◌, ◌||◌, [], None, Ok, OnOk, false, is_some, not, true};
 ghost use Rattle.markdown_events.specs.Names.{role_of};
-ghost use Rattle.markdown_events.specs.declared.role.Acting.TheVariants as acting;
+ghost use Rattle.markdown_events.specs.declared.role.ItemKind.TheVariants as item_kinds;
 ghost use Rattle.markdown_events.specs.declared.role.Role.TheVariants as roles;
 ghost use Rattle.markdown_steps.specs.Compiler;
 ghost use Rattle.markdown_steps.specs.Compiler.{enter_as, enter_checks, enter_step, exit_step, last_checks, opening};
-ghost use Rattle.markdown_tree.specs.Holdings.{first_failing, is_parent};
-ghost use Rattle.markdown_tree.specs.declared.holder.Holder.TheVariants as holders;
+ghost use Rattle.markdown_tree.specs.Containers.{first_failing, is_parent};
+ghost use Rattle.markdown_tree.specs.declared.container.Container.TheVariants as containers;
 ghost use Rattle.markdown_grammar.specs.Items as Kinds;
 ghost use Rattle.markdown_grammar.specs.Document.{Source, source};
-ghost use Rattle.markdown_tree.specs.States.{Begun, Closed, Ends, Gives, HolderEnds, LeafEnds, Opened, left_to, left_walks, state_of, top_of};
-ghost use Rattle.markdown_steps.specs.Walked.{exit_walks, step_visits};
-ghost use Rattle.markdown_steps.specs.Well.{Well, is_plain};
+ghost use Rattle.markdown_tree.specs.States.{Begun, Closed, Ends, Gives, ContainerEnds, LeafEnds, Opened, left_to, left_visits, state_of, top_of};
+ghost use Rattle.markdown_steps.specs.Visits.{exit_visits, step_visits};
+ghost use Rattle.markdown_steps.specs.Well.{Well, is_transparent};
 
 use crate::closing::is_parent;
 use crate::columns::Columns;
-use crate::holder::Holder;
-use crate::holding::{Ending, Holding, has_line_endings};
+use crate::container::Container;
 use crate::marks::Marks;
+use crate::open_container::{Ending, OpenContainer, has_line_endings};
 use crate::references::References;
 use crate::slice::byte_at;
-use markdown_grammar::refusal::{Refusal, Stop};
+use markdown_grammar::error_kind::{ErrorKind, Stop};
 use markdown_nodes::around::Around;
 use markdown_nodes::event::{Event, Kind, Name, Point};
-use markdown_nodes::role::{Acting, Content, Role};
+use markdown_nodes::role::{Content, ItemKind, Role};
 use markdown_nodes::steps::Steps;
 use markdown_nodes::unist::Position;
 use std::alloc::{AllocError, Global};
@@ -43,14 +43,14 @@ pub struct Frame {
     pub marks: Marks,
 }
 
-/// The open spans, with the innermost holder and the holders around it.
+/// The open spans, with the innermost container and the containers around it.
 #[derive(Drop)]
 pub struct Context<'a> {
     pub frames: Vec<Frame>,
-    /// The holders around the innermost one.
-    pub holdings: Vec<Holding<'a>>,
+    /// The containers around the innermost one.
+    pub open_containers: Vec<OpenContainer<'a>>,
     pub around: Around,
-    /// Whether the innermost acting span is a leaf, which has no holder of its own.
+    /// Whether the innermost significant span is a leaf, which has no container of its own.
     pub is_leaf: bool,
     /// Whether a table is around, at any depth.
     pub in_table: bool,
@@ -59,22 +59,22 @@ pub struct Context<'a> {
     pub columns: Columns,
     /// A break that waits for its line ending.
     pub pending: Option<Position>,
-    /// The innermost holder.
-    pub top: Holding<'a>,
+    /// The innermost container.
+    pub top: OpenContainer<'a>,
 }
 
 /// Whether a span is a line ending.
-fn is_line_ending(what: Acting) -> bool
+fn is_line_ending(what: ItemKind) -> bool
     ensures { result ≡ Kinds.is_line_ending what }
 {
-    matches!(what, Acting::Content(Content::LineEnding))
+    matches!(what, ItemKind::Content(Content::LineEnding))
 }
 
 /// Whether a span is a table.
-fn is_table(what: Acting) -> bool
+fn is_table(what: ItemKind) -> bool
     ensures { result ≡ Kinds.is_table what }
 {
-    matches!(what, Acting::Content(Content::Table))
+    matches!(what, ItemKind::Content(Content::Table))
 }
 
 impl<'a> Context<'a> {
@@ -84,15 +84,15 @@ impl<'a> Context<'a> {
     {
         Context {
             frames: Vec::new(alloc),
-            holdings: Vec::new(alloc),
+            open_containers: Vec::new(alloc),
             around: Around::in_the_open(),
             is_leaf: false,
             in_table: false,
             marks: Marks::new(),
             columns: Columns::new(alloc),
             pending: None,
-            top: Holding {
-                holder: Holder::AnyContent,
+            top: OpenContainer {
+                container: Container::AnyContent,
                 line_endings: false,
                 nodes: Vec::new(alloc),
             },
@@ -100,66 +100,66 @@ impl<'a> Context<'a> {
     }
 
     /// Whether a break waits for its line ending, and the span is none.
-    fn interrupts_break(&self, what: Acting) -> bool
+    fn interrupts_break(&self, what: ItemKind) -> bool
         ensures { result ≡ not (not (is_some self.now.pending) || Kinds.is_line_ending what) }
     {
         self.pending.is_some() && !is_line_ending(what)
     }
 
-    /// Whether a table is around the spans in an acting span, or is this span.
-    fn is_in_table(&self, what: Acting) -> bool
+    /// Whether a table is around the spans in a significant span, or is this span.
+    fn is_in_table(&self, what: ItemKind) -> bool
         ensures { result ≡ (self.now.in_table || Kinds.is_table what) }
     {
         self.in_table || is_table(what)
     }
 
-    /// Why an acting span may not begin here, if it may not.
-    fn misfit(&self, bytes: &[u8], what: Acting, point: Point) -> Option<Refusal>
+    /// Why a significant span may not begin here, if it may not.
+    fn misfit(&self, bytes: &[u8], what: ItemKind, point: Point) -> Option<ErrorKind>
         ensures { (s : Source) → s.bytes ≡ bytes.now → result ≡ first_failing (enter_checks s (state_of self.now).top what point) }
     {
         if self.is_leaf {
-            return Some(Refusal::Misplaced);
+            return Some(ErrorKind::Misplaced);
         }
         if self.interrupts_break(what) {
-            return Some(Refusal::UnfinishedBreak);
+            return Some(ErrorKind::UnfinishedBreak);
         }
-        if let Some(refusal) = self.top.holder.misfit(what) {
-            return Some(refusal);
+        if let Some(error_kind) = self.top.container.misfit(what) {
+            return Some(error_kind);
         }
         if self.in_table && is_table(what) {
-            return Some(Refusal::Misplaced);
+            return Some(ErrorKind::Misplaced);
         }
         match what {
-            Acting::Content(Content::Frontmatter) if byte_at(bytes, point).is_none() => {
-                Some(Refusal::InvalidSlice)
+            ItemKind::Content(Content::Frontmatter) if byte_at(bytes, point).is_none() => {
+                Some(ErrorKind::InvalidSlice)
             }
             _ => None,
         }
     }
 
-    /// Opens an acting span, if the innermost holder takes it, and says whether it is a leaf.
+    /// Opens a significant span, if the innermost container takes it, and says whether it is a leaf.
     fn open(
         &mut self,
         alloc: Global,
         bytes: &[u8],
-        what: Acting,
+        what: ItemKind,
         point: Point,
     ) -> Result<bool, Stop>
         ensures { (s : Source) → s.bytes ≡ bytes.now → Opened s what point self.old self.new result }
     {
-        if let Some(refusal) = self.misfit(bytes, what, point) {
-            return Err(Stop::Refused(refusal));
+        if let Some(error_kind) = self.misfit(bytes, what, point) {
+            return Err(Stop::Refused(error_kind));
         }
-        if self.top.holder.has_leaf(what) {
+        if self.top.container.has_leaf(what) {
             return Ok(true);
         }
-        let inner = Holding {
-            holder: self.top.holder.opened(what),
+        let inner = OpenContainer {
+            container: self.top.container.opened(what),
             line_endings: has_line_endings(what),
             nodes: Vec::new(alloc),
         };
         let outer = mem::replace(&mut self.top, inner);
-        self.holdings.push(outer)?;
+        self.open_containers.push(outer)?;
         Ok(false)
     }
 
@@ -183,17 +183,17 @@ impl<'a> Context<'a> {
         }
     }
 
-    /// What is wrong behind the last event, if anything is: a span is open, or a break waits for its
+    /// What is wrong after the last event, if anything is: a span is open, or a break waits for its
     /// line ending.
-    pub fn unfinished(&self) -> Option<Refusal>
+    pub fn unfinished(&self) -> Option<ErrorKind>
         requires { self.now.frames.items ≡ [] → self.now.is_leaf ≡ false }
         ensures { result ≡ first_failing (last_checks (state_of self.now)) }
     {
         if !self.frames.is_empty() {
-            return Some(Refusal::Unbalanced);
+            return Some(ErrorKind::Unbalanced);
         }
         if self.pending.is_some() {
-            return Some(Refusal::UnfinishedBreak);
+            return Some(ErrorKind::UnfinishedBreak);
         }
         None
     }
@@ -204,16 +204,16 @@ impl<'a> Context<'a> {
     {
         let role = name.role();
         if !self.around.allows(role) {
-            return Err(Stop::Refused(Refusal::Held));
+            return Err(Stop::Refused(ErrorKind::Held));
         }
         match role {
-            Role::Plain(_) => self.enter_plain(alloc, name, role, point),
-            Role::Acting(what) => self.enter_acting(alloc, bytes, name, what, point),
+            Role::Transparent(_) => self.enter_transparent(alloc, name, role, point),
+            Role::Significant(what) => self.enter_significant(alloc, bytes, name, what, point),
         }
     }
 
-    /// Opens a plain span, which changes no holder.
-    fn enter_plain(
+    /// Opens a transparent span, which changes no container.
+    fn enter_transparent(
         &mut self,
         alloc: Global,
         name: Name,
@@ -221,28 +221,35 @@ impl<'a> Context<'a> {
         point: Point,
     ) -> Result<(), Stop>
         requires role { role ≡ role_of name }
-        requires plain { is_plain role ≡ true }
-        ensures { Gives (λ _. state_of self.new) point result (Ok (Compiler.opened name point (state_of self.old) None (state_of self.old).top)) }
+        requires plain { is_transparent role ≡ true }
+        ensures { Gives (λ _. state_of self.new) point result (Ok (Compiler.push name point (state_of self.old) None (state_of self.old).top)) }
     {
         self.begin(alloc, name, role, point, self.is_leaf, self.in_table)?;
         Ok(())
     }
 
-    /// Opens an acting span, if the innermost holder takes it.
-    fn enter_acting(
+    /// Opens a significant span, if the innermost container takes it.
+    fn enter_significant(
         &mut self,
         alloc: Global,
         bytes: &[u8],
         name: Name,
-        what: Acting,
+        what: ItemKind,
         point: Point,
     ) -> Result<(), Stop>
-        requires { role_of name ≡ roles.Acting what }
-        ensures { (s : Source) → s.bytes ≡ bytes.now → Gives (λ _. state_of self.new) point result (enter_as s (roles.Acting what) name point (state_of self.old)) }
+        requires { role_of name ≡ roles.Significant what }
+        ensures { (s : Source) → s.bytes ≡ bytes.now → Gives (λ _. state_of self.new) point result (enter_as s (roles.Significant what) name point (state_of self.old)) }
     {
         let is_leaf = self.open(alloc, bytes, what, point)?;
         let in_table = self.is_in_table(what);
-        self.begin(alloc, name, Role::Acting(what), point, is_leaf, in_table)?;
+        self.begin(
+            alloc,
+            name,
+            Role::Significant(what),
+            point,
+            is_leaf,
+            in_table,
+        )?;
         Ok(())
     }
 
@@ -287,13 +294,13 @@ impl<'a> Context<'a> {
         requires { Well (source bytes.now (R.text references.now)) (state_of self.old) }
         ensures gives { Gives (λ _. state_of self.new) point result (exit_step (source bytes.now (R.text references.now)) name point (state_of self.old)) }
         ensures list { steps.new.events ≡ steps.old.events }
-        ensures bound { steps.new.count ≤ steps.old.count + exit_walks name (state_of self.old).frames (top_of self.old).inner }
+        ensures bound { steps.new.count ≤ steps.old.count + exit_visits name (state_of self.old).frames (top_of self.old).inner }
     {
         let Some(frame) = self.frames.pop() else {
-            return Err(Stop::Refused(Refusal::Unbalanced));
+            return Err(Stop::Refused(ErrorKind::Unbalanced));
         };
         if !frame.name.is(name) {
-            return Err(Stop::Refused(Refusal::Unbalanced));
+            return Err(Stop::Refused(ErrorKind::Unbalanced));
         }
         let role = frame.name.role();
         self.leave(alloc, steps, bytes, references, role, frame, point)?;
@@ -317,31 +324,31 @@ impl<'a> Context<'a> {
         ensures gives { Gives (λ _. top_of self.new) end result (left_to (source bytes.now (R.text references.now)) role frame end self.old) }
         ensures closed { OnOk result (Closed role self.old self.new) }
         ensures list { steps.new.events ≡ steps.old.events }
-        ensures bound { steps.new.count ≤ steps.old.count + left_walks role frame self.old }
+        ensures bound { steps.new.count ≤ steps.old.count + left_visits role frame self.old }
     {
         match role {
-            Role::Plain(plain) => Ok(self.columns.exit(plain, self.marks)?),
-            Role::Acting(what) if self.is_leaf => {
+            Role::Transparent(plain) => Ok(self.columns.exit(plain, self.marks)?),
+            Role::Significant(what) if self.is_leaf => {
                 self.leave_leaf(alloc, bytes, references, what, frame, end)
             }
-            Role::Acting(what) => self.leave_holder(alloc, steps, bytes, what, frame, end),
+            Role::Significant(what) => self.leave_container(alloc, steps, bytes, what, frame, end),
         }
     }
 
-    /// The same of a leaf, which goes into the innermost holder.
+    /// The same of a leaf, which goes into the innermost container.
     fn leave_leaf<R: References>(
         &mut self,
         alloc: Global,
         bytes: &'a [u8],
         references: &R,
-        what: Acting,
+        what: ItemKind,
         frame: Frame,
         end: Point,
     ) -> Result<(), Stop>
         requires open { self.old.is_leaf ≡ true }
         requires ends { LeafEnds what self.old }
-        ensures gives { Gives (λ _. top_of self.new) end result (left_to (source bytes.now (R.text references.now)) (roles.Acting what) frame end self.old) }
-        ensures closed { OnOk result (Closed (roles.Acting what) self.old self.new) }
+        ensures gives { Gives (λ _. top_of self.new) end result (left_to (source bytes.now (R.text references.now)) (roles.Significant what) frame end self.old) }
+        ensures closed { OnOk result (Closed (roles.Significant what) self.old self.new) }
     {
         let ending = Ending {
             start: frame.start,
@@ -355,73 +362,73 @@ impl<'a> Context<'a> {
         Ok(())
     }
 
-    /// The same of the innermost holder, which goes into the one around it.
-    fn leave_holder(
+    /// The same of the innermost container, which goes into the one around it.
+    fn leave_container(
         &mut self,
         alloc: Global,
         steps: &mut Steps<'_>,
         bytes: &'a [u8],
-        what: Acting,
+        what: ItemKind,
         frame: Frame,
         end: Point,
     ) -> Result<(), Stop>
         requires open { self.old.is_leaf ≡ false }
-        requires ends { HolderEnds what self.old }
-        ensures gives { (s : Source) → s.bytes ≡ bytes.now → Gives (λ _. top_of self.new) end result (left_to s (roles.Acting what) frame end self.old) }
-        ensures closed { OnOk result (Closed (roles.Acting what) self.old self.new) }
+        requires ends { ContainerEnds what self.old }
+        ensures gives { (s : Source) → s.bytes ≡ bytes.now → Gives (λ _. top_of self.new) end result (left_to s (roles.Significant what) frame end self.old) }
+        ensures closed { OnOk result (Closed (roles.Significant what) self.old self.new) }
         ensures list { steps.new.events ≡ steps.old.events }
-        ensures bound { steps.new.count ≤ steps.old.count + left_walks (roles.Acting what) frame self.old }
+        ensures bound { steps.new.count ≤ steps.old.count + left_visits (roles.Significant what) frame self.old }
     {
         if self.pending.is_some() {
-            return Err(Stop::Refused(Refusal::UnfinishedBreak));
+            return Err(Stop::Refused(ErrorKind::UnfinishedBreak));
         }
-        match (what, &self.top.holder) {
-            (Acting::Content(content), Holder::AnyContent) if is_parent(content) => {
+        match (what, &self.top.container) {
+            (ItemKind::Content(content), Container::AnyContent) if is_parent(content) => {
                 Ok(self.leave_parent(content, frame, end)?)
             }
             _ => self.leave_any(alloc, steps, bytes, what, frame, end),
         }
     }
 
-    /// The same of a parent of which nothing but nodes is kept, as most holders are. No other part of
-    /// its holding is moved.
+    /// The same of a parent of which nothing but nodes is kept, as most containers are. No other part of
+    /// its open container is moved.
     fn leave_parent(&mut self, content: Content, frame: Frame, end: Point) -> Result<(), AllocError>
         requires open { self.old.is_leaf ≡ false }
-        requires ends { HolderEnds (acting.Content content) self.old }
+        requires ends { ContainerEnds (item_kinds.Content content) self.old }
         requires settled { is_some self.old.pending ≡ false }
         requires such { is_parent content ≡ true }
-        requires holder { self.old.top.holder ≡ holders.AnyContent }
-        ensures gives { OnOk result ((s : Source) → left_to s (roles.Acting (acting.Content content)) frame end self.old ≡ Ok (top_of self.new)) }
-        ensures closed { OnOk result (Closed (roles.Acting (acting.Content content)) self.old self.new) }
+        requires container { self.old.top.container ≡ containers.AnyContent }
+        ensures gives { OnOk result ((s : Source) → left_to s (roles.Significant (item_kinds.Content content)) frame end self.old ≡ Ok (top_of self.new)) }
+        ensures closed { OnOk result (Closed (roles.Significant (item_kinds.Content content)) self.old self.new) }
     {
-        let Some(outer) = self.holdings.pop() else {
+        let Some(outer) = self.open_containers.pop() else {
             unreachable!()
         };
-        let Holding { nodes, .. } = mem::replace(&mut self.top, outer);
+        let OpenContainer { nodes, .. } = mem::replace(&mut self.top, outer);
         self.in_table = frame.in_table;
         self.top.take_parent(content, nodes, frame.start, end)
     }
 
-    /// The same of any holder.
+    /// The same of any container.
     fn leave_any(
         &mut self,
         alloc: Global,
         steps: &mut Steps<'_>,
         bytes: &'a [u8],
-        what: Acting,
+        what: ItemKind,
         frame: Frame,
         end: Point,
     ) -> Result<(), Stop>
         requires open { self.old.is_leaf ≡ false }
-        requires ends { HolderEnds what self.old }
+        requires ends { ContainerEnds what self.old }
         requires settled { is_some self.old.pending ≡ false }
-        requires no_parent { (content : Content) → what ≡ acting.Content content → self.old.top.holder ≡ holders.AnyContent → is_parent content ≡ false }
-        ensures gives { (s : Source) → s.bytes ≡ bytes.now → Gives (λ _. top_of self.new) end result (left_to s (roles.Acting what) frame end self.old) }
-        ensures closed { OnOk result (Closed (roles.Acting what) self.old self.new) }
+        requires no_parent { (content : Content) → what ≡ item_kinds.Content content → self.old.top.container ≡ containers.AnyContent → is_parent content ≡ false }
+        ensures gives { (s : Source) → s.bytes ≡ bytes.now → Gives (λ _. top_of self.new) end result (left_to s (roles.Significant what) frame end self.old) }
+        ensures closed { OnOk result (Closed (roles.Significant what) self.old self.new) }
         ensures list { steps.new.events ≡ steps.old.events }
-        ensures bound { steps.new.count ≤ steps.old.count + left_walks (roles.Acting what) frame self.old }
+        ensures bound { steps.new.count ≤ steps.old.count + left_visits (roles.Significant what) frame self.old }
     {
-        let Some(outer) = self.holdings.pop() else {
+        let Some(outer) = self.open_containers.pop() else {
             unreachable!()
         };
         let own = mem::replace(&mut self.top, outer);
@@ -433,10 +440,10 @@ impl<'a> Context<'a> {
         };
         self.in_table = frame.in_table;
         match what {
-            Acting::Content(content) => {
+            ItemKind::Content(content) => {
                 self.top.take_content(alloc, steps, bytes, &mut self.columns, content, own, ending)
             }
-            Acting::Part(part) => self.top.take_part(alloc, steps, bytes, part, own, ending),
+            ItemKind::Part(part) => self.top.take_part(alloc, steps, bytes, part, own, ending),
         }
     }
 }

@@ -10,7 +10,7 @@ use markdown_nodes::mdast::{Node, Text};
 use markdown_nodes::unist::Position;
 use std::alloc::{AllocError, Global};
 
-/// Puts a node that is no text behind the others.
+/// Puts a node that is no text after the others.
 #[tactic(auto, using(crate::proofs::Views::views_put))]
 pub fn put(nodes: &mut Vec<Node>, node: Node) -> Result<(), AllocError>
     requires { is_text (view node).label ≡ false }
@@ -20,7 +20,7 @@ pub fn put(nodes: &mut Vec<Node>, node: Node) -> Result<(), AllocError>
     Ok(())
 }
 
-/// Puts a part of a text behind the others: it goes on with a text that stands there, since the
+/// Puts a part of a text after the others: it goes on with a text that stands there, since the
 /// data, references and line endings of one run of characters are one text in mdast.
 pub fn put_text(
     alloc: Global,
@@ -51,7 +51,7 @@ pub fn new_text(alloc: Global, value: &str, position: Position) -> Result<Node, 
     }))
 }
 
-/// Puts a part of a text behind another: the position then ends where the part does.
+/// Puts a part of a text after another: the position then ends where the part does.
 fn go_on(text: &mut Text, part: &str, position: Position) -> Result<(), AllocError>
     ensures { OnOk result (text_node text.new ≡ join (text_node text.old) (one_text part.now position)) }
 {
@@ -62,7 +62,7 @@ fn go_on(text: &mut Text, part: &str, position: Position) -> Result<(), AllocErr
     Ok(())
 }
 
-/// Puts nodes behind others: a text that begins them goes on with one that ends the others. Behind
+/// Puts nodes after others: a text that begins them goes on with one that ends the others. After
 /// no nodes they are taken as they are.
 #[tactic(auto, using(crate::proofs::Joins::none_appended))]
 pub fn append(nodes: &mut Vec<Node>, others: Vec<Node>) -> Result<(), AllocError>
@@ -81,7 +81,7 @@ pub fn append(nodes: &mut Vec<Node>, others: Vec<Node>) -> Result<(), AllocError
     Ok(())
 }
 
-/// Puts any node behind the others: a text goes on with one that stands there.
+/// Puts any node after the others: a text goes on with one that stands there.
 fn put_first(nodes: &mut Vec<Node>, node: Node) -> Result<(), AllocError>
     ensures { OnOk result (views nodes.new.items ≡ join (views nodes.old.items) (only (view node))) }
 {
@@ -91,7 +91,7 @@ fn put_first(nodes: &mut Vec<Node>, node: Node) -> Result<(), AllocError>
     }
 }
 
-/// Puts a text behind the others: one that stands there goes on with it.
+/// Puts a text after the others: one that stands there goes on with it.
 fn put_made(nodes: &mut Vec<Node>, text: Text) -> Result<(), AllocError>
     ensures { OnOk result (views nodes.new.items ≡ join (views nodes.old.items) (text_node text)) }
 {

@@ -5,9 +5,9 @@
 ghost use Rattle.std.specs.Prelude.{◌≡◌, ◌==◌, ◌||◌, Bool, if◌then◌else◌, IfOk, List, None, Ok, Option, [], is_some, not, option_map, string_bytes, true, unwrap_or, ℕ};
 ghost use Rattle.std.specs.Option.{option_and_then};
 ghost use Rattle.markdown_events.specs.Slices.{between, slice};
-ghost use Rattle.markdown_events.specs.Spread.{Shown};
+ghost use Rattle.markdown_steps.specs.ChildFacts.{ChildFacts};
 ghost use Rattle.markdown_events.specs.declared.event.Point.{Point};
-ghost use Rattle.markdown_events.specs.declared.role.Acting.TheVariants as acting;
+ghost use Rattle.markdown_events.specs.declared.role.ItemKind.TheVariants as item_kinds;
 ghost use Rattle.markdown_events.specs.declared.role.Content.TheVariants as contents;
 ghost use Rattle.markdown_events.specs.declared.role.Part.TheVariants as parts;
 ghost use Rattle.markdown_nodes.specs.Tree as tree;
@@ -16,33 +16,33 @@ ghost use Rattle.markdown_nodes.specs.View.{view, views};
 ghost use Rattle.markdown_steps.specs.Compiler.{nothing_yet};
 ghost use Rattle.markdown_grammar.specs.Document.{text_read};
 ghost use Rattle.markdown_grammar.specs.Grammar.{addresses};
-ghost use Rattle.markdown_grammar.specs.Grammar as Holders;
-ghost use Rattle.markdown_tree.specs.Holdings.{byte_of, is_literal, is_sign, marker_of, misfit_of, moved_of, placed};
+ghost use Rattle.markdown_grammar.specs.Grammar as Models;
+ghost use Rattle.markdown_tree.specs.Containers.{byte_of, is_literal, is_sign, marker_of, misfit_of, current_model_of, placed};
 ghost use Rattle.markdown_grammar.specs.Items.{is_line_ending, is_one_of};
 ghost use Rattle.markdown_grammar.specs.Nodes.{linked};
-ghost use Rattle.markdown_steps.specs.KeptNodes.{node_of};
-ghost use Rattle.markdown_steps.specs.Kept.{Inner};
+ghost use Rattle.markdown_steps.specs.SummaryNodes.{node_of};
+ghost use Rattle.markdown_steps.specs.Summaries.{Summary};
 ghost use Rattle.markdown_grammar.specs.Attributes.{Place};
 ghost use Rattle.markdown_grammar.specs.Document.{Source, source};
 ghost use Rattle.markdown_tree.specs.States.{Makes};
 ghost use Rattle.markdown_tree.specs.Takings.{Takes, TakesLeaf};
 ghost use Rattle.markdown_steps.specs.TextNodes.{one_text};
-ghost use Rattle.markdown_grammar.specs.declared.refusal.Refusal.TheVariants.{InvalidSlice};
+ghost use Rattle.markdown_grammar.specs.declared.error_kind.ErrorKind.TheVariants.{InvalidSlice};
 
-use crate::holder::{Address, Holder, Marker};
-use crate::holding::{Ending, Holding};
+use crate::container::{Address, Container, Marker};
 use crate::joining::{put, put_text};
 use crate::number::item_number;
+use crate::open_container::{Ending, OpenContainer};
 use crate::raw::linked;
 use crate::references::References;
 use crate::slice::{byte_at, depth_of, length_between, position_of, text_of};
-use markdown_grammar::refusal::{Refusal, Stop};
+use markdown_grammar::error_kind::{ErrorKind, Stop};
 use markdown_nodes::mdast::{Break, Node, ThematicBreak};
-use markdown_nodes::role::{Acting, Content, Part};
+use markdown_nodes::role::{Content, ItemKind, Part};
 use markdown_nodes::unist::Position;
 use std::alloc::{AllocError, Global};
 
-impl<'a> Holding<'a> {
+impl<'a> OpenContainer<'a> {
     /// Takes a leaf that has ended. `pending` is the break that waits for its line ending, if one
     /// does.
     pub fn take_leaf<R: References>(
@@ -51,19 +51,19 @@ impl<'a> Holding<'a> {
         alloc: Global,
         bytes: &'a [u8],
         references: &R,
-        what: Acting,
+        what: ItemKind,
         ending: Ending,
     ) -> Result<(), Stop>
-        requires leaf { Holders.model_of (moved_of self.old.holder) what ≡ Holders.leaf }
-        requires fits { misfit_of self.old.holder what ≡ None }
+        requires leaf { Models.model_of (current_model_of self.old.container) what ≡ Models.leaf }
+        requires fits { misfit_of self.old.container what ≡ None }
         requires waits { (not (is_some pending.old) || is_line_ending what) ≡ true }
         ensures { TakesLeaf (source bytes.now (R.text references.now)) what ending pending.old self.old pending.new self.new result }
     {
         match what {
-            Acting::Content(content) => {
+            ItemKind::Content(content) => {
                 self.take_leaf_content(pending, alloc, bytes, content, ending)
             }
-            Acting::Part(part) => self.take_leaf_part(alloc, bytes, references, part, ending),
+            ItemKind::Part(part) => self.take_leaf_part(alloc, bytes, references, part, ending),
         }
     }
 
@@ -76,9 +76,9 @@ impl<'a> Holding<'a> {
         content: Content,
         ending: Ending,
     ) -> Result<(), Stop>
-        requires leaf { Holders.content_model (moved_of self.old.holder) content ≡ Holders.leaf }
-        requires waits { (not (is_some pending.old) || is_line_ending (acting.Content content)) ≡ true }
-        ensures { (text : List ℕ → ℕ → Option (List ℕ)) → TakesLeaf (source bytes.now text) (acting.Content content) ending pending.old self.old pending.new self.new result }
+        requires leaf { Models.content_model (current_model_of self.old.container) content ≡ Models.leaf }
+        requires waits { (not (is_some pending.old) || is_line_ending (item_kinds.Content content)) ≡ true }
+        ensures { (text : List ℕ → ℕ → Option (List ℕ)) → TakesLeaf (source bytes.now text) (item_kinds.Content content) ending pending.old self.old pending.new self.new result }
     {
         match content {
             Content::Data => self.take_data(alloc, bytes, ending),
@@ -95,7 +95,7 @@ impl<'a> Holding<'a> {
         }
     }
 
-    /// The same of a part, which gives its holder what is kept of it.
+    /// The same of a part, which gives its container what is kept of it.
     fn take_leaf_part<R: References>(
         &mut self,
         alloc: Global,
@@ -104,9 +104,9 @@ impl<'a> Holding<'a> {
         part: Part,
         ending: Ending,
     ) -> Result<(), Stop>
-        requires leaf { Holders.part_model (moved_of self.old.holder) part ≡ Holders.leaf }
-        requires fits { misfit_of self.old.holder (acting.Part part) ≡ None }
-        ensures { TakesLeaf (source bytes.now (R.text references.now)) (acting.Part part) ending None self.old None self.new result }
+        requires leaf { Models.part_model (current_model_of self.old.container) part ≡ Models.leaf }
+        requires fits { misfit_of self.old.container (item_kinds.Part part) ≡ None }
+        ensures { TakesLeaf (source bytes.now (R.text references.now)) (item_kinds.Part part) ending None self.old None self.new result }
     {
         match part {
             Part::AutolinkEmail | Part::AutolinkProtocol => self.take_address(bytes, part, ending),
@@ -129,10 +129,10 @@ impl<'a> Holding<'a> {
     }
 }
 
-impl<'a> Holding<'a> {
+impl<'a> OpenContainer<'a> {
     /// A run of characters: a text.
     fn take_data(&mut self, alloc: Global, bytes: &[u8], ending: Ending) -> Result<(), Stop>
-        ensures { (text : List ℕ → ℕ → Option (List ℕ)) → TakesLeaf (source bytes.now text) (acting.Content contents.Data) ending None self.old None self.new result }
+        ensures { (text : List ℕ → ℕ → Option (List ℕ)) → TakesLeaf (source bytes.now text) (item_kinds.Content contents.Data) ending None self.old None self.new result }
     {
         put_slice(alloc, &mut self.nodes, bytes, ending)
     }
@@ -146,7 +146,7 @@ impl<'a> Holding<'a> {
         ending: Ending,
     ) -> Result<(), Stop>
         requires { is_literal content ≡ true }
-        ensures { (text : List ℕ → ℕ → Option (List ℕ)) → TakesLeaf (source bytes.now text) (acting.Content content) ending None self.old None self.new result }
+        ensures { (text : List ℕ → ℕ → Option (List ℕ)) → TakesLeaf (source bytes.now text) (item_kinds.Content content) ending None self.old None self.new result }
     {
         let value = text_of(bytes, ending.start, ending.end)?;
         let position = position_of(ending.start, ending.end);
@@ -157,14 +157,14 @@ impl<'a> Holding<'a> {
 
     /// A thematic break (CommonMark): a node, whatever it is written with.
     fn take_thematic_break(&mut self, ending: Ending) -> Result<(), Stop>
-        ensures { (s : Source) → TakesLeaf s (acting.Content contents.ThematicBreak) ending None self.old None self.new result }
+        ensures { (s : Source) → TakesLeaf s (item_kinds.Content contents.ThematicBreak) ending None self.old None self.new result }
     {
         let position = position_of(ending.start, ending.end);
         put(&mut self.nodes, thematic_break(position))?;
         Ok(())
     }
 
-    /// A line ending. Behind a break that waits for it, it ends the break, which is then a node: in
+    /// A line ending. After a break that waits for it, it ends the break, which is then a node: in
     /// mdast a break reaches over its line ending. Else it is text, where line endings are.
     fn take_line_ending(
         &mut self,
@@ -173,7 +173,7 @@ impl<'a> Holding<'a> {
         bytes: &[u8],
         ending: Ending,
     ) -> Result<(), Stop>
-        ensures { (text : List ℕ → ℕ → Option (List ℕ)) → TakesLeaf (source bytes.now text) (acting.Content contents.LineEnding) ending pending.old self.old pending.new self.new result }
+        ensures { (text : List ℕ → ℕ → Option (List ℕ)) → TakesLeaf (source bytes.now text) (item_kinds.Content contents.LineEnding) ending pending.old self.old pending.new self.new result }
     {
         if let Some(position) = pending.take() {
             let position = Position {
@@ -190,12 +190,12 @@ impl<'a> Holding<'a> {
     }
 }
 
-impl<'a> Holding<'a> {
+impl<'a> OpenContainer<'a> {
     /// The address of an autolink (CommonMark), as it stands there.
     fn take_address(&mut self, bytes: &'a [u8], part: Part, ending: Ending) -> Result<(), Stop>
-        requires fits { misfit_of self.old.holder (acting.Part part) ≡ None }
-        requires such { is_one_of addresses (acting.Part part) ≡ true }
-        ensures { (text : List ℕ → ℕ → Option (List ℕ)) → TakesLeaf (source bytes.now text) (acting.Part part) ending None self.old None self.new result }
+        requires fits { misfit_of self.old.container (item_kinds.Part part) ≡ None }
+        requires such { is_one_of addresses (item_kinds.Part part) ≡ true }
+        ensures { (text : List ℕ → ℕ → Option (List ℕ)) → TakesLeaf (source bytes.now text) (item_kinds.Part part) ending None self.old None self.new result }
     {
         let value = text_of(bytes, ending.start, ending.end)?;
         let address = Address {
@@ -204,36 +204,36 @@ impl<'a> Holding<'a> {
             value,
         };
         match part {
-            Part::AutolinkEmail => self.holder.put_email(address),
-            Part::AutolinkProtocol => self.holder.put_protocol(address),
+            Part::AutolinkEmail => self.container.put_email(address),
+            Part::AutolinkProtocol => self.container.put_protocol(address),
             _ => unreachable!(),
         }
         Ok(())
     }
 
     /// A part that says all by its name: a marker of a character reference, a mark of a task (GFM),
-    /// or a fence behind the first, behind which line endings are text.
+    /// or a fence after the first, after which line endings are text.
     fn take_sign(&mut self, part: Part)
-        requires leaf { Holders.part_model (moved_of self.old.holder) part ≡ Holders.leaf }
-        requires fits { misfit_of self.old.holder (acting.Part part) ≡ None }
+        requires leaf { Models.part_model (current_model_of self.old.container) part ≡ Models.leaf }
+        requires fits { misfit_of self.old.container (item_kinds.Part part) ≡ None }
         requires such { is_sign part ≡ true }
-        ensures { Takes (acting.Part part) Holders.leaf nothing_yet self.old self.new }
+        ensures { Takes (item_kinds.Part part) Models.leaf nothing_yet self.old self.new }
     {
         match part {
-            Part::CharacterReferenceMarker => self.holder.put_marker(Marker::Named),
-            Part::CharacterReferenceMarkerNumeric => self.holder.put_marker(Marker::Decimal),
+            Part::CharacterReferenceMarker => self.container.put_marker(Marker::Named),
+            Part::CharacterReferenceMarkerNumeric => self.container.put_marker(Marker::Decimal),
             Part::CharacterReferenceMarkerHexadecimal => {
-                self.holder.put_marker(Marker::Hexadecimal);
+                self.container.put_marker(Marker::Hexadecimal);
             }
-            Part::TaskMarkChecked => self.holder.put_mark(true),
-            Part::TaskMarkUnchecked => self.holder.put_mark(false),
+            Part::TaskMarkChecked => self.container.put_mark(true),
+            Part::TaskMarkUnchecked => self.container.put_mark(false),
             Part::CodeFencedFence | Part::MathFlowFence => self.line_endings = true,
             _ => unreachable!(),
         }
     }
 
     /// The value of a character reference (CommonMark, entity and numeric character references),
-    /// which stands for what the decoder says of it behind the last marker.
+    /// which stands for what the decoder says of it after the last marker.
     fn take_value<R: References>(
         &mut self,
         alloc: Global,
@@ -241,27 +241,27 @@ impl<'a> Holding<'a> {
         references: &R,
         ending: Ending,
     ) -> Result<(), Stop>
-        requires { misfit_of self.old.holder (acting.Part parts.CharacterReferenceValue) ≡ None }
-        ensures { TakesLeaf (source bytes.now (R.text references.now)) (acting.Part parts.CharacterReferenceValue) ending None self.old None self.new result }
+        requires { misfit_of self.old.container (item_kinds.Part parts.CharacterReferenceValue) ≡ None }
+        ensures { TakesLeaf (source bytes.now (R.text references.now)) (item_kinds.Part parts.CharacterReferenceValue) ending None self.old None self.new result }
     {
         let value = text_of(bytes, ending.start, ending.end)?;
-        let marker = self.holder.last_marker().byte();
+        let marker = self.container.last_marker().byte();
         match references.decode(alloc, value, marker)? {
             Some(text) => {
-                self.holder.put_value(text);
+                self.container.put_value(text);
                 Ok(())
             }
-            None => Err(Stop::Refused(Refusal::UnknownReference)),
+            None => Err(Stop::Refused(ErrorKind::UnknownReference)),
         }
     }
 
-    /// A sequence of an ATX heading (CommonMark): the first says its depth, and one behind the text
+    /// A sequence of an ATX heading (CommonMark): the first says its depth, and one after the text
     /// says nothing.
     fn take_sequence(&mut self, bytes: &[u8], ending: Ending) -> Result<(), Stop>
-        requires { misfit_of self.old.holder (acting.Part parts.HeadingAtxSequence) ≡ None }
-        ensures { (text : List ℕ → ℕ → Option (List ℕ)) → TakesLeaf (source bytes.now text) (acting.Part parts.HeadingAtxSequence) ending None self.old None self.new result }
+        requires { misfit_of self.old.container (item_kinds.Part parts.HeadingAtxSequence) ≡ None }
+        ensures { (text : List ℕ → ℕ → Option (List ℕ)) → TakesLeaf (source bytes.now text) (item_kinds.Part parts.HeadingAtxSequence) ending None self.old None self.new result }
     {
-        let Holder::HeadingAtx(depth) = self.holder else {
+        let Container::HeadingAtx(depth) = self.container else {
             unreachable!()
         };
         match depth {
@@ -272,53 +272,53 @@ impl<'a> Holding<'a> {
 
     /// The first sequence of an ATX heading: one byte for each step of depth.
     fn take_depth(&mut self, bytes: &[u8], ending: Ending) -> Result<(), Stop>
-        requires { moved_of self.old.holder ≡ Holders.heading_atx }
-        ensures { (text : List ℕ → ℕ → Option (List ℕ)) → TakesLeaf (source bytes.now text) (acting.Part parts.HeadingAtxSequence) ending None self.old None self.new result }
+        requires { current_model_of self.old.container ≡ Models.heading_atx }
+        ensures { (text : List ℕ → ℕ → Option (List ℕ)) → TakesLeaf (source bytes.now text) (item_kinds.Part parts.HeadingAtxSequence) ending None self.old None self.new result }
     {
         let Some(length) = length_between(bytes, ending.start, ending.end) else {
-            return Err(Stop::Refused(Refusal::InvalidSlice));
+            return Err(Stop::Refused(ErrorKind::InvalidSlice));
         };
         let Some(depth) = depth_of(length) else {
-            return Err(Stop::Refused(Refusal::HeadingDepth));
+            return Err(Stop::Refused(ErrorKind::HeadingDepth));
         };
-        self.holder.put_depth(depth);
+        self.container.put_depth(depth);
         Ok(())
     }
 
     /// The sequence under a setext heading (CommonMark): of hyphens its depth is two, else one.
     fn take_underline(&mut self, bytes: &[u8], ending: Ending) -> Result<(), Stop>
-        requires { misfit_of self.old.holder (acting.Part parts.HeadingSetextUnderlineSequence) ≡ None }
-        ensures { (text : List ℕ → ℕ → Option (List ℕ)) → TakesLeaf (source bytes.now text) (acting.Part parts.HeadingSetextUnderlineSequence) ending None self.old None self.new result }
+        requires { misfit_of self.old.container (item_kinds.Part parts.HeadingSetextUnderlineSequence) ≡ None }
+        ensures { (text : List ℕ → ℕ → Option (List ℕ)) → TakesLeaf (source bytes.now text) (item_kinds.Part parts.HeadingSetextUnderlineSequence) ending None self.old None self.new result }
     {
         let Some(byte) = byte_at(bytes, ending.start) else {
-            return Err(Stop::Refused(Refusal::InvalidSlice));
+            return Err(Stop::Refused(ErrorKind::InvalidSlice));
         };
-        self.holder.put_underline(depth_over(byte));
+        self.container.put_underline(depth_over(byte));
         Ok(())
     }
 
     /// The number of an item of an ordered list (CommonMark).
     fn take_item_value(&mut self, bytes: &[u8], ending: Ending) -> Result<(), Stop>
-        requires { misfit_of self.old.holder (acting.Part parts.ListItemValue) ≡ None }
-        ensures { (text : List ℕ → ℕ → Option (List ℕ)) → TakesLeaf (source bytes.now text) (acting.Part parts.ListItemValue) ending None self.old None self.new result }
+        requires { misfit_of self.old.container (item_kinds.Part parts.ListItemValue) ≡ None }
+        ensures { (text : List ℕ → ℕ → Option (List ℕ)) → TakesLeaf (source bytes.now text) (item_kinds.Part parts.ListItemValue) ending None self.old None self.new result }
     {
         let text = text_of(bytes, ending.start, ending.end)?;
         let Some(value) = item_number(text) else {
-            return Err(Stop::Refused(Refusal::InvalidListValue));
+            return Err(Stop::Refused(ErrorKind::InvalidListValue));
         };
-        self.holder.put_item_value(value);
+        self.container.put_item_value(value);
         Ok(())
     }
 }
 
-impl Holder<'_> {
+impl Container<'_> {
     /// The last marker of a character reference, which stands before the value.
     fn last_marker(&self) -> Marker
-        requires { misfit_of self.now (acting.Part parts.CharacterReferenceValue) ≡ None }
+        requires { misfit_of self.now (item_kinds.Part parts.CharacterReferenceValue) ≡ None }
         ensures { Some (byte_of result) ≡ marker_of self.now }
     {
         match self {
-            Holder::CharacterReference(parts) => match parts.markers {
+            Container::CharacterReference(parts) => match parts.markers {
                 Some(markers) => markers.last,
                 None => unreachable!(),
             },
@@ -340,7 +340,7 @@ impl Marker {
     }
 }
 
-/// Puts the text of a span behind the others.
+/// Puts the text of a span after the others.
 fn put_slice(alloc: Global, nodes: &mut Vec<Node>, bytes: &[u8], ending: Ending) -> Result<(), Stop>
     ensures { Makes result (is_some (slice bytes.now ending.start ending.end)) InvalidSlice (λ _. views nodes.new.items ≡ join (views nodes.old.items) (one_text (unwrap_or (slice bytes.now ending.start ending.end) []) (between ending.start ending.end))) }
 {
@@ -352,7 +352,7 @@ fn put_slice(alloc: Global, nodes: &mut Vec<Node>, bytes: &[u8], ending: Ending)
 /// What a literal address leaves out of the address that it leads to (GFM, autolinks).
 fn scheme_of(content: Content) -> &'static str
     requires { is_literal content ≡ true }
-    ensures { (s : Source) (p : Place) (a b : Point) (children : Shown) (i : Inner) → node_of s p (acting.Content content) a b children i ≡ linked result.now (text_read s a b) a b a b }
+    ensures { (s : Source) (p : Place) (a b : Point) (children : ChildFacts) (i : Summary) → node_of s p (item_kinds.Content content) a b children i ≡ linked result.now (text_read s a b) a b a b }
 {
     match content {
         Content::AutolinkLiteralEmail => "mailto:",

@@ -4,13 +4,13 @@
 mod buffer;
 mod closing;
 mod columns;
+mod container;
 mod context;
-mod holder;
-mod holding;
 mod joining;
 mod leaves;
 mod marks;
 mod number;
+mod open_container;
 mod part_ends;
 mod parts;
 mod raw;

@@ -1,17 +1,17 @@
-//! What an open span keeps of the spans in it, plain ones too, for spread and alignment.
+//! What an open span keeps of the spans in it, transparent ones too, for spread and alignment.
 
 ghost use Rattle.std.specs.Prelude.{◌≡◌, Some};
 ghost use Rattle.std.specs.Option.{option_or};
 ghost use Rattle.markdown_events.specs.Spread.{is_delimiter_marker};
-ghost use Rattle.markdown_events.specs.declared.role.Acting.TheVariants as acting;
+ghost use Rattle.markdown_events.specs.declared.role.ItemKind.TheVariants as item_kinds;
 ghost use Rattle.markdown_events.specs.declared.role.Content.TheVariants as contents;
-ghost use Rattle.markdown_events.specs.declared.role.Plain.TheVariants as plain;
+ghost use Rattle.markdown_events.specs.declared.role.TransparentKind.TheVariants as plain;
 ghost use Rattle.markdown_events.specs.declared.role.Role.TheVariants as roles;
 ghost use Rattle.markdown_steps.specs.Siblings.{kind_by, marks_with, no_marks, past_space, sibling_of};
 ghost use Rattle.markdown_tree.specs.States.{first_of, marks_of, sibling_in};
 
 use markdown_nodes::mdast::AlignKind;
-use markdown_nodes::role::{Acting, Content, Plain, Role};
+use markdown_nodes::role::{Content, ItemKind, Role, TransparentKind};
 
 /// What a child is to its siblings and to its parent.
 #[derive(Clone, Copy)]
@@ -79,18 +79,18 @@ impl Marks {
         ensures { sibling_in result ≡ sibling_of role (marks_of self) }
     {
         match role {
-            Role::Plain(Plain::SpaceOrTab) => Sibling::SpaceOrTab,
-            Role::Plain(Plain::ListItemPrefix) => Sibling::ListItemPrefix,
-            Role::Plain(Plain::BlockQuotePrefix) => Sibling::BlockQuotePrefix,
-            Role::Plain(Plain::DelimiterMarker) => Sibling::DelimiterMarker,
-            Role::Acting(Acting::Content(Content::BlockQuote)) => self.block_quote(),
-            Role::Acting(Acting::Content(Content::ListItem)) => self.list_item(),
+            Role::Transparent(TransparentKind::SpaceOrTab) => Sibling::SpaceOrTab,
+            Role::Transparent(TransparentKind::ListItemPrefix) => Sibling::ListItemPrefix,
+            Role::Transparent(TransparentKind::BlockQuotePrefix) => Sibling::BlockQuotePrefix,
+            Role::Transparent(TransparentKind::DelimiterMarker) => Sibling::DelimiterMarker,
+            Role::Significant(ItemKind::Content(Content::BlockQuote)) => self.block_quote(),
+            Role::Significant(ItemKind::Content(Content::ListItem)) => self.list_item(),
             _ => Sibling::Other,
         }
     }
 
     fn block_quote(self) -> Sibling
-        ensures { sibling_in result ≡ sibling_of (roles.Acting (acting.Content contents.BlockQuote)) (marks_of self) }
+        ensures { sibling_in result ≡ sibling_of (roles.Significant (item_kinds.Content contents.BlockQuote)) (marks_of self) }
     {
         match self.near {
             Sibling::BlockQuotePrefix => Sibling::BareBlockQuote,
@@ -99,7 +99,7 @@ impl Marks {
     }
 
     fn list_item(self) -> Sibling
-        ensures { sibling_in result ≡ sibling_of (roles.Acting (acting.Content contents.ListItem)) (marks_of self) }
+        ensures { sibling_in result ≡ sibling_of (roles.Significant (item_kinds.Content contents.ListItem)) (marks_of self) }
     {
         match self.past_space() {
             Sibling::ListItemPrefix | Sibling::BareBlockQuote => Sibling::BareListItem,
@@ -107,12 +107,12 @@ impl Marks {
         }
     }
 
-    /// The same behind one child more, of a role and with children of its own.
+    /// The same after one child more, of a role and with children of its own.
     pub fn with(self, role: Role, inner: Marks) -> Marks
         ensures { marks_of result ≡ marks_with (marks_of self) role (marks_of inner) }
     {
         match role {
-            Role::Plain(Plain::BlankLineEnding) => self.with_blank_line(),
+            Role::Transparent(TransparentKind::BlankLineEnding) => self.with_blank_line(),
             _ => Marks {
                 near: inner.sibling(role),
                 far: self.near,
@@ -123,15 +123,17 @@ impl Marks {
         }
     }
 
-    /// The same behind a blank line. It makes a list loose, but behind an item without content at its
-    /// end, and an item, but behind its prefix.
+    /// The same after a blank line. It makes a list loose, but after an item without content at its
+    /// end, and an item, but after its prefix.
     fn with_blank_line(self) -> Marks
-        ensures { marks_of result ≡ marks_with (marks_of self) (roles.Plain plain.BlankLineEnding) no_marks }
+        ensures { marks_of result ≡ marks_with (marks_of self) (roles.Transparent plain.BlankLineEnding) no_marks }
     {
         Marks {
             near: Sibling::Other,
             far: self.near,
-            first: self.first.or(Role::Plain(Plain::BlankLineEnding)),
+            first: self
+                .first
+                .or(Role::Transparent(TransparentKind::BlankLineEnding)),
             item_blank: self.item_blank || !matches!(self.past_space(), Sibling::ListItemPrefix),
             list_blank: self.list_blank || !matches!(self.near, Sibling::BareListItem),
         }
@@ -157,9 +159,8 @@ impl First {
         ensures { first_of result ≡ option_or (first_of self) (Some (is_delimiter_marker role)) }
     {
         match self {
-            First::Absent if matches!(role, Role::Plain(Plain::DelimiterMarker)) => {
-                First::DelimiterMarker
-            }
+            First::Absent if matches!(role, Role::Transparent(TransparentKind::DelimiterMarker)) =>
+                { First::DelimiterMarker }
             First::Absent => First::Other,
             known => known,
         }

@@ -1,29 +1,31 @@
-//! What a part that is no leaf gives to its holder at its exit.
+//! What a part that is no leaf gives to its container at its exit.
 
 ghost use Rattle.std.specs.Prelude.{◌≡◌, ◌≤◌, ◌+◌, Bool, IfOk, None, Ok, OnOk, string_bytes, true};
-ghost use Rattle.markdown_events.specs.Spread.{Shown};
+ghost use Rattle.markdown_steps.specs.ChildFacts.{ChildFacts};
 ghost use Rattle.markdown_events.specs.Texts.{fold};
-ghost use Rattle.markdown_events.specs.declared.role.Acting.TheVariants as acting;
+ghost use Rattle.markdown_events.specs.declared.role.ItemKind.TheVariants as item_kinds;
 ghost use Rattle.markdown_events.specs.declared.role.Part.TheVariants as parts;
 ghost use Rattle.markdown_nodes.specs.Tree.{Trees, plain_text};
 ghost use Rattle.markdown_nodes.specs.View.{views};
 ghost use Rattle.markdown_grammar.specs.Buffers.{node_count};
-ghost use Rattle.markdown_grammar.specs.Grammar as Holders;
-ghost use Rattle.markdown_tree.specs.Holdings.{inner_with, is_label_string, is_part_row, is_text_part, misfit_of, moved_of, row_of};
+ghost use Rattle.markdown_grammar.specs.Grammar as Models;
+ghost use Rattle.markdown_tree.specs.Containers.{summary_with, is_label_string, is_part_model, is_text_part, misfit_of, current_model_of, initial_model_of};
 ghost use Rattle.markdown_grammar.specs.Document.{Source};
-ghost use Rattle.markdown_tree.specs.States.{inner_of_holding};
-ghost use Rattle.markdown_tree.specs.Takings.{Takes, TakesHolding, TakesString};
-ghost use Rattle.markdown_steps.specs.Walked.{walked};
+ghost use Rattle.markdown_tree.specs.States.{summary_of_container};
+ghost use Rattle.markdown_tree.specs.Takings.{Takes, TakesContainer, TakesString};
+ghost use Rattle.markdown_steps.specs.Visits.{visits_at_end};
 ghost use Rattle.markdown_grammar.specs.Attributes.{Place};
 ghost use Rattle.markdown_events.specs.declared.event.Point.{Point};
-ghost use Rattle.markdown_tree.specs.declared.holder.Holder.TheVariants as holders;
+ghost use Rattle.markdown_tree.specs.declared.container.Container.TheVariants as containers;
 
 use crate::buffer::values_of;
-use crate::holder::{CodeFenceParts, Holder, Identified, Label, MathFenceParts, ResourceParts};
-use crate::holding::{Ending, Holding};
+use crate::container::{
+    CodeFenceParts, Container, Identified, Label, MathFenceParts, ResourceParts,
+};
 use crate::joining::append;
+use crate::open_container::{Ending, OpenContainer};
 use crate::slice::text_of;
-use markdown_grammar::refusal::Stop;
+use markdown_grammar::error_kind::Stop;
 use markdown_nodes::mdast::Node;
 use markdown_nodes::role::Part;
 use markdown_nodes::steps::Steps;
@@ -48,19 +50,19 @@ fn identified(
     })
 }
 
-impl<'a> Holding<'a> {
+impl<'a> OpenContainer<'a> {
     /// Takes the label of a link, an image or a footnote call as it stands: its text is made where
     /// it is asked for.
     fn take_label(&mut self, bytes: &'a [u8], nodes: Vec<Node>, ending: Ending) -> Result<(), Stop>
-        requires { misfit_of self.old.holder (acting.Part parts.LabelText) ≡ None }
+        requires { misfit_of self.old.container (item_kinds.Part parts.LabelText) ≡ None }
         ensures { TakesString bytes.now parts.LabelText (views nodes.items) ending self.old self.new result }
     {
         let slice = text_of(bytes, ending.start, ending.end)?;
-        self.holder.put_label(Label { slice, nodes });
+        self.container.put_label(Label { slice, nodes });
         Ok(())
     }
 
-    /// Takes a destination, a title, or what stands behind a fence.
+    /// Takes a destination, a title, or what comes after a fence.
     fn take_text(
         &mut self,
         alloc: Global,
@@ -68,48 +70,48 @@ impl<'a> Holding<'a> {
         part: Part,
         nodes: &[Node],
     ) -> Result<(), AllocError>
-        requires fits { misfit_of self.old.holder (acting.Part part) ≡ None }
+        requires fits { misfit_of self.old.container (item_kinds.Part part) ≡ None }
         requires such { is_text_part part ≡ true }
-        ensures left { OnOk result (Takes (acting.Part part) Holders.any_content (inner_with holders.AnyContent (views nodes.now)) self.old self.new) }
+        ensures left { OnOk result (Takes (item_kinds.Part part) Models.any_content (summary_with containers.AnyContent (views nodes.now)) self.old self.new) }
         ensures list { steps.new.events ≡ steps.old.events }
         ensures bound { steps.new.count ≤ steps.old.count + node_count (views nodes.now) }
     {
         let text = values_of(alloc, steps, nodes)?;
-        self.holder.put_text(part, text);
+        self.container.put_text(part, text);
         Ok(())
     }
 
     /// Takes the resource of a link or an image.
     fn take_resource(&mut self, resource: ResourceParts)
-        requires { misfit_of self.old.holder (acting.Part parts.Resource) ≡ None }
-        ensures { (ts : Trees) → Takes (acting.Part parts.Resource) Holders.resource (inner_with (holders.Resource resource) ts) self.old self.new }
+        requires { misfit_of self.old.container (item_kinds.Part parts.Resource) ≡ None }
+        ensures { (ts : Trees) → Takes (item_kinds.Part parts.Resource) Models.resource (summary_with (containers.Resource resource) ts) self.old self.new }
     {
-        self.holder.put_resource(resource);
+        self.container.put_resource(resource);
     }
 
     /// Takes the reference of a link or an image.
     fn take_reference_part(&mut self, string: Option<Identified>)
-        requires { misfit_of self.old.holder (acting.Part parts.Reference) ≡ None }
-        ensures { (ts : Trees) → Takes (acting.Part parts.Reference) Holders.reference (inner_with (holders.Reference string) ts) self.old self.new }
+        requires { misfit_of self.old.container (item_kinds.Part parts.Reference) ≡ None }
+        ensures { (ts : Trees) → Takes (item_kinds.Part parts.Reference) Models.reference (summary_with (containers.Reference string) ts) self.old self.new }
     {
-        self.holder.put_reference(string);
+        self.container.put_reference(string);
     }
 
-    /// Takes the first fence of a block of code. Behind it line endings are text.
+    /// Takes the first fence of a block of code. After it line endings are text.
     fn take_code_fence(&mut self, fence: CodeFenceParts)
-        requires { moved_of self.old.holder ≡ Holders.code_fenced }
-        ensures { (ts : Trees) → Takes (acting.Part parts.CodeFencedFence) Holders.code_fence (inner_with (holders.CodeFence fence) ts) self.old self.new }
+        requires { current_model_of self.old.container ≡ Models.code_fenced }
+        ensures { (ts : Trees) → Takes (item_kinds.Part parts.CodeFencedFence) Models.code_fence (summary_with (containers.CodeFence fence) ts) self.old self.new }
     {
-        self.holder.put_code_fence(fence);
+        self.container.put_code_fence(fence);
         self.line_endings = true;
     }
 
-    /// Takes the first fence of a block of math. Behind it line endings are text.
+    /// Takes the first fence of a block of math. After it line endings are text.
     fn take_math_fence(&mut self, fence: MathFenceParts)
-        requires { moved_of self.old.holder ≡ Holders.math_flow }
-        ensures { (ts : Trees) → Takes (acting.Part parts.MathFlowFence) Holders.math_fence (inner_with (holders.MathFence fence) ts) self.old self.new }
+        requires { current_model_of self.old.container ≡ Models.math_flow }
+        ensures { (ts : Trees) → Takes (item_kinds.Part parts.MathFlowFence) Models.math_fence (summary_with (containers.MathFence fence) ts) self.old self.new }
     {
-        self.holder.put_math_fence(fence);
+        self.container.put_math_fence(fence);
         self.line_endings = true;
     }
 
@@ -123,7 +125,7 @@ impl<'a> Holding<'a> {
         nodes: &[Node],
         ending: Ending,
     ) -> Result<(), Stop>
-        requires fits { misfit_of self.old.holder (acting.Part part) ≡ None }
+        requires fits { misfit_of self.old.container (item_kinds.Part part) ≡ None }
         requires such { is_label_string part ≡ true }
         ensures left { TakesString bytes.now part (views nodes.now) ending self.old self.new result }
         ensures list { steps.new.events ≡ steps.old.events }
@@ -131,17 +133,17 @@ impl<'a> Holding<'a> {
     {
         let slice = text_of(bytes, ending.start, ending.end)?;
         let string = identified(alloc, steps, slice, nodes)?;
-        self.holder.put_identified(part, string);
+        self.container.put_identified(part, string);
         Ok(())
     }
 
-    /// Takes the text of a heading over its underline: its nodes are the heading's. Behind it line
+    /// Takes the text of a heading over its underline: its nodes are the heading's. After it line
     /// endings are no text.
     fn take_heading_text(&mut self, nodes: Vec<Node>) -> Result<(), AllocError>
-        requires { misfit_of self.old.holder (acting.Part parts.HeadingSetextText) ≡ None }
-        ensures { OnOk result (Takes (acting.Part parts.HeadingSetextText) Holders.any_content (inner_with holders.AnyContent (views nodes.items)) self.old self.new) }
+        requires { misfit_of self.old.container (item_kinds.Part parts.HeadingSetextText) ≡ None }
+        ensures { OnOk result (Takes (item_kinds.Part parts.HeadingSetextText) Models.any_content (summary_with containers.AnyContent (views nodes.items)) self.old self.new) }
     {
-        self.holder.put_heading_text();
+        self.container.put_heading_text();
         append(&mut self.nodes, nodes)?;
         self.line_endings = false;
         Ok(())
@@ -157,11 +159,11 @@ impl<'a> Holding<'a> {
         nodes: Vec<Node>,
         ending: Ending,
     ) -> Result<(), Stop>
-        requires such { is_part_row part Holders.any_content ≡ true }
-        requires fits { misfit_of self.old.holder (acting.Part part) ≡ None }
+        requires such { is_part_model part Models.any_content ≡ true }
+        requires fits { misfit_of self.old.container (item_kinds.Part part) ≡ None }
         ensures left { TakesString bytes.now part (views nodes.items) ending self.old self.new result }
         ensures list { steps.new.events ≡ steps.old.events }
-        ensures bound { steps.new.count ≤ steps.old.count + walked (acting.Part part) (inner_with holders.AnyContent (views nodes.items)) }
+        ensures bound { steps.new.count ≤ steps.old.count + visits_at_end (item_kinds.Part part) (summary_with containers.AnyContent (views nodes.items)) }
     {
         match part {
             Part::HeadingSetextText => Ok(self.take_heading_text(nodes)?),
@@ -182,23 +184,29 @@ impl<'a> Holding<'a> {
         steps: &mut Steps<'_>,
         bytes: &'a [u8],
         part: Part,
-        own: Holding<'a>,
+        own: OpenContainer<'a>,
         ending: Ending,
     ) -> Result<(), Stop>
-        requires row { row_of own.holder ≡ Holders.part_model (moved_of self.old.holder) part }
-        requires such { is_part_row part (row_of own.holder) ≡ true }
-        requires fits { misfit_of self.old.holder (acting.Part part) ≡ None }
-        ensures left { (children : Shown) → TakesHolding bytes.now (acting.Part part) own.entry ending children self.old self.new result }
+        requires initial_model { initial_model_of own.container ≡ Models.part_model (current_model_of self.old.container) part }
+        requires such { is_part_model part (initial_model_of own.container) ≡ true }
+        requires fits { misfit_of self.old.container (item_kinds.Part part) ≡ None }
+        ensures left { (children : ChildFacts) → TakesContainer bytes.now (item_kinds.Part part) own.entry ending children self.old self.new result }
         ensures list { steps.new.events ≡ steps.old.events }
-        ensures bound { steps.new.count ≤ steps.old.count + walked (acting.Part part) (inner_of_holding own.entry) }
+        ensures bound { steps.new.count ≤ steps.old.count + visits_at_end (item_kinds.Part part) (summary_of_container own.entry) }
     {
-        let Holding { holder, nodes, .. } = own;
-        match (holder, part) {
-            (Holder::AnyContent, _) => self.take_string(alloc, steps, bytes, part, nodes, ending)?,
-            (Holder::Resource(resource), Part::Resource) => self.take_resource(resource),
-            (Holder::Reference(string), Part::Reference) => self.take_reference_part(string),
-            (Holder::CodeFence(fence), Part::CodeFencedFence) => self.take_code_fence(fence),
-            (Holder::MathFence(fence), Part::MathFlowFence) => self.take_math_fence(fence),
+        let OpenContainer {
+            container,
+            nodes,
+            ..
+        } = own;
+        match (container, part) {
+            (Container::AnyContent, _) => self.take_string(
+                alloc, steps, bytes, part, nodes, ending,
+            )?,
+            (Container::Resource(resource), Part::Resource) => self.take_resource(resource),
+            (Container::Reference(string), Part::Reference) => self.take_reference_part(string),
+            (Container::CodeFence(fence), Part::CodeFencedFence) => self.take_code_fence(fence),
+            (Container::MathFence(fence), Part::MathFlowFence) => self.take_math_fence(fence),
             _ => unreachable!(),
         }
         Ok(())

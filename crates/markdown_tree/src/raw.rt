@@ -8,14 +8,14 @@ ghost use Rattle.markdown_nodes.specs.Tree as tree;
 ghost use Rattle.markdown_nodes.specs.Tree.{nothing, only, plain_text};
 ghost use Rattle.markdown_nodes.specs.View.{view, views};
 ghost use Rattle.markdown_grammar.specs.Buffers.{node_count};
-ghost use Rattle.markdown_tree.specs.Holdings.{email_kept, placed, protocol_kept};
-ghost use Rattle.markdown_steps.specs.KeptNodes.{autolink};
+ghost use Rattle.markdown_tree.specs.Containers.{email_kept, placed, protocol_kept};
+ghost use Rattle.markdown_steps.specs.SummaryNodes.{autolink};
 ghost use Rattle.markdown_grammar.specs.Nodes.{linked};
 ghost use Rattle.markdown_grammar.specs.Nodes.{frontmatter};
 
 use crate::buffer::values_of;
 use crate::closing::link;
-use crate::holder::{AutolinkParts, CodeFenceParts, MathFenceParts};
+use crate::container::{AutolinkParts, CodeFenceParts, MathFenceParts};
 use crate::joining::new_text;
 use crate::slice::position_of;
 use crate::texts::{address, block_value, inline_value};

@@ -7,7 +7,7 @@ use std::alloc::{AllocError, Global};
 /// What the values of character references stand for (CommonMark, entity and numeric character
 /// references): a decoder, which the caller hands in. That it is handed in is ours.
 ///
-/// For a decoder that knows `&lt;` alone, `text` is `<` for the value `lt` behind `&`, and nothing
+/// For a decoder that knows `&lt;` alone, `text` is `<` for the value `lt` after `&`, and nothing
 /// for all others.
 ///
 /// Its meaning is `text`: a text or none for each value and marker. An implementation is lawful
@@ -16,7 +16,7 @@ pub trait References {
     /// The text that a value and a marker stand for, if they stand for one.
     ghost text: { Self → List ℕ → ℕ → Option (List ℕ) };
 
-    /// The text of a value behind the marker `&`, `#` or `x`, or None where there is none.
+    /// The text of a value after the marker `&`, `#` or `x`, or None where there is none.
     ///
     /// For HTML's references `decode(alloc, "amp", b'&')` gives `&`. It errs only where memory
     /// runs out.

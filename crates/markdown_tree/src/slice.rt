@@ -5,14 +5,14 @@ ghost use Rattle.std.specs.Result.{result_ok};
 ghost use Rattle.markdown_events.specs.Slices.{edge, slice, between};
 ghost use Rattle.markdown_grammar.specs.Document.{is_depth};
 ghost use Rattle.markdown_grammar.specs.Document.{byte_at, length_between};
-ghost use Rattle.markdown_grammar.specs.declared.refusal.Refusal.TheVariants.{InvalidSlice};
-ghost use Rattle.markdown_grammar.specs.declared.refusal.Stop.TheVariants.{Refused};
+ghost use Rattle.markdown_grammar.specs.declared.error_kind.ErrorKind.TheVariants.{InvalidSlice};
+ghost use Rattle.markdown_grammar.specs.declared.error_kind.Stop.TheVariants.{Refused};
 
-use markdown_grammar::refusal::{Refusal, Stop};
+use markdown_grammar::error_kind::{ErrorKind, Stop};
 use markdown_nodes::event::Point;
 use markdown_nodes::unist::Position;
 
-/// Where a slice begins or ends: behind a virtual space, the byte after its tab.
+/// Where a slice begins or ends: after a virtual space, the byte after its tab.
 fn edge_of(point: Point) -> Option<usize>
     ensures { SomeIff result (edge point < 2 ^ 64) (edge point) }
 {
@@ -28,7 +28,7 @@ pub fn text_of<'a>(bytes: &'a [u8], start: Point, end: Point) -> Result<&'a str,
     ensures text { option_copied (result_ok result) ≡ slice bytes.now start end }
     ensures refused { IfErr result (λ stop. stop ≡ Refused InvalidSlice) }
 {
-    slice_of(bytes, start, end).ok_or(Stop::Refused(Refusal::InvalidSlice))
+    slice_of(bytes, start, end).ok_or(Stop::Refused(ErrorKind::InvalidSlice))
 }
 
 /// The text of a span, if its ends are in order and in the document, and what is between is UTF-8.

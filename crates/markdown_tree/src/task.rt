@@ -11,7 +11,7 @@ use crate::texts::remove_byte;
 use markdown_nodes::mdast::{Node, Paragraph, Text};
 use markdown_nodes::unist::{Point, Position};
 
-/// Takes the blank behind a mark off the nodes of its item: where the first node is a paragraph
+/// Takes the blank after a mark off the nodes of its item: where the first node is a paragraph
 /// that begins with a text, that text loses one tab, space or line ending (GFM, task list items),
 /// and goes if it was no more, and the paragraph starts where the text then does.
 pub fn trim(nodes: &mut Vec<Node>)
@@ -29,7 +29,7 @@ fn trim_paragraph(paragraph: &mut Paragraph)
     ensures { (rest : Trees) → paragraph_before paragraph.new rest ≡ task (paragraph_before paragraph.old rest) }
 {
     if let Some(start) = trim_first(&mut paragraph.children) {
-        paragraph.position = moved(paragraph.position, start);
+        paragraph.position = current_model(paragraph.position, start);
     }
 }
 
@@ -67,11 +67,11 @@ fn trim_text(text: &mut Text) -> Option<Point>
         return None;
     }
     let start = trim_front(&mut text.value, position.start);
-    text.position = moved(text.position, start);
+    text.position = current_model(text.position, start);
     Some(start)
 }
 
-/// Takes one tab, space or line ending off the front of a text, a CRLF as one, and says where the
+/// Takes one tab, space or line ending off the beginning of a text, a CRLF as one, and says where the
 /// rest of a text that starts here begins.
 fn trim_front(value: &mut String, start: Point) -> Point
     ensures { (string_bytes value.new, result) ≡ after_blank (string_bytes value.old) start }
@@ -94,7 +94,7 @@ fn trim_front(value: &mut String, start: Point) -> Point
     }
 }
 
-/// The point behind one byte that ends no line.
+/// The point after one byte that ends no line.
 fn one_on(point: Point) -> Point
     ensures { result ≡ one_on point }
 {
@@ -105,7 +105,7 @@ fn one_on(point: Point) -> Point
     }
 }
 
-/// The point behind a line ending of this many bytes.
+/// The point after a line ending of this many bytes.
 fn on_next_line(width: usize, point: Point) -> Point
     ensures { result ≡ on_next_line width point }
 {
@@ -117,7 +117,7 @@ fn on_next_line(width: usize, point: Point) -> Point
 }
 
 /// A position with another start.
-fn moved(position: Option<Position>, start: Point) -> Option<Position>
+fn current_model(position: Option<Position>, start: Point) -> Option<Position>
     ensures { result ≡ from_point start position }
 {
     match position {

@@ -64,7 +64,7 @@ pub fn inline_value(alloc: Global, text: String, in_table: bool) -> Result<Strin
     raw_text(alloc, spaced.as_str(), in_table)
 }
 
-/// Whether no space is at the front of a text, and in it neither a line ending nor a backslash.
+/// Whether no space is at the beginning of a text, and in it neither a line ending nor a backslash.
 fn is_its_own_value(text: &[u8]) -> bool
     ensures { result ≡ (is_unpadded text.now && list_all is_kept text.now) }
 {

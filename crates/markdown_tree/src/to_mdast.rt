@@ -1,10 +1,10 @@
 //! From events to a tree.
 
-ghost use Rattle.std.specs.Prelude.{◌≡◌, ◌<◌, ◌≤◌, ◌+◌, ◌*◌, [], length, IsOk, IfOk, IfErr};
-ghost use Rattle.markdown_events.specs.Forest.{Forest, spell};
+ghost use Rattle.std.specs.Prelude.{◌≡◌, ◌<◌, ◌≤◌, ◌+◌, ◌*◌, ◌^◌, [], length, IsOk, IfOk, IfErr};
+ghost use Rattle.markdown_events.specs.Forest.{Forest, events_of};
 ghost use Rattle.markdown_nodes.specs.Tree.{only};
 ghost use Rattle.markdown_nodes.specs.View.{view};
-ghost use Rattle.markdown_grammar.specs.Buffers.{held, inside};
+ghost use Rattle.markdown_grammar.specs.Buffers.{buffered_events, buffered_nodes};
 ghost use Rattle.markdown_steps.specs.Compiler.{compiled, opening, point_of, run};
 ghost use Rattle.markdown_grammar.specs.Correct.{FailsRightly, IsMeaning};
 ghost use Rattle.markdown_steps.specs.Extents.{extent_of, last_event};
@@ -12,13 +12,13 @@ ghost use Rattle.markdown_grammar.specs.Ordered.{IsOrdered, NeverGoesBack};
 ghost use Rattle.markdown_grammar.specs.Document.{source};
 ghost use Rattle.markdown_tree.specs.States.{Completes, state_of};
 ghost use Rattle.markdown_events.specs.Steps.{events_in};
-ghost use Rattle.markdown_steps.specs.Walked.{run_visits};
+ghost use Rattle.markdown_steps.specs.Visits.{run_visits};
 
 use crate::context::Context;
-use crate::holding::Holding;
+use crate::open_container::OpenContainer;
 pub use crate::references::References;
 use crate::slice::position_of;
-use markdown_grammar::refusal::Stop;
+use markdown_grammar::error_kind::Stop;
 use markdown_nodes::event::{Event, Point};
 use markdown_nodes::mdast::{Node, Root};
 use markdown_nodes::message::Fault;
@@ -28,8 +28,8 @@ use std::alloc::Global;
 
 /// The tree that a list of events stands for, over the bytes of the document.
 ///
-/// A tree comes exactly when the events spell a forest that the grammar accepts over the bytes and
-/// the meaning of `references`, and it is that forest's meaning. Where the offsets of the events
+/// A tree comes exactly when the events are those of a forest that the grammar accepts over the bytes
+/// and the meaning of `references`, and it is that forest's meaning. Where the offsets of the events
 /// never go back, its spans nest and siblings stand in order, but for the starts in the first
 /// paragraphs of task items. Every other list is refused by a message with one of these rules, at
 /// the point of the first event at which something is wrong, or of the last event where something
@@ -38,7 +38,7 @@ use std::alloc::Global;
 /// - `events-unbalanced`: an exit is not that of the open span, or a span is open at the end;
 /// - `span-held`: a span stands in one that holds nothing, or a delimiter row or delimiter cell
 ///   value in another;
-/// - `name-misplaced`: the holder does not take the name there;
+/// - `name-misplaced`: the container does not take the name there;
 /// - `part-repeated`: a part stands again that may stand once;
 /// - `slice-invalid`: a value that is read is no text of the document;
 /// - `list-value-invalid`: the value of an item is no number up to 4294967295;
@@ -60,7 +60,7 @@ pub fn compile<R: References>(
     bytes: &[u8],
     references: &R,
 ) -> Result<Node, Fault>
-    // A tree is the meaning of an accepted forest that the events spell.
+    // A tree is the meaning of an accepted forest that has these events.
     ensures found { IfOk result (λ tree. IsMeaning tree events.now (source bytes.now (R.text references.now))) }
     // A message comes only where there is no such forest.
     ensures refused { IfErr result (λ fault. FailsRightly fault events.now (source bytes.now (R.text references.now))) }
@@ -88,7 +88,7 @@ pub fn compile_counted<R: References>(
     bytes: &[u8],
     references: &R,
 ) -> Result<Node, Fault>
-    // A tree is the meaning of an accepted forest that the events spell.
+    // A tree is the meaning of an accepted forest that has these events.
     ensures found { IfOk result (λ tree. IsMeaning tree steps.old.events (source bytes.now (R.text references.now))) }
     // A message comes only where there is no such forest.
     ensures refused { IfErr result (λ fault. FailsRightly fault steps.old.events (source bytes.now (R.text references.now))) }
@@ -100,9 +100,9 @@ pub fn compile_counted<R: References>(
     // The list is kept.
     ensures list { steps.new.events ≡ steps.old.events }
     // Each event takes at most four steps, and each node in a buffer one.
-    ensures bound { IfOk result (λ tree. (forest : Forest) → spell forest ≡ steps.old.events → steps.new.count ≤ steps.old.count + 4 * length steps.old.events + held (source bytes.now (R.text references.now)) forest) }
+    ensures bound { IfOk result (λ tree. (forest : Forest) → events_of forest ≡ steps.old.events → steps.new.count ≤ steps.old.count + 4 * length steps.old.events + buffered_nodes (source bytes.now (R.text references.now)) forest) }
     // Without a tree, each event inside a span with a buffer's name takes at most one more.
-    ensures bound_without { IfErr result (λ fault. steps.new.count ≤ steps.old.count + 4 * length steps.old.events + inside steps.old.events) }
+    ensures bound_without { IfErr result (λ fault. steps.new.count ≤ steps.old.count + 4 * length steps.old.events + buffered_events steps.old.events) }
 {
     compile_list(alloc, steps, bytes, references)
 }
@@ -115,16 +115,17 @@ fn compile_list<R: References>(
     references: &R,
 ) -> Result<Node, Fault>
     ensures gives { Completes view result (compiled (source bytes.now (R.text references.now)) steps.old.events) }
+    ensures fits { IfOk result (λ tree. (extent_of steps.old.events).end.offset < 2 ^ 64) }
     ensures empty { steps.old.events ≡ [] → IsOk result }
     ensures list { steps.new.events ≡ steps.old.events }
     ensures bound { steps.new.count ≤ steps.old.count + 4 * length steps.old.events + run_visits (source bytes.now (R.text references.now)) steps.old.events opening }
 {
     let Taken { context, length } = take_all(alloc, steps, bytes, references)?;
-    if let Some(refusal) = context.unfinished() {
-        return Err(Stop::Refused(refusal).at(last_point(steps, length)));
+    if let Some(error_kind) = context.unfinished() {
+        return Err(Stop::Refused(error_kind).at(last_point(steps, length)));
     }
     let Context { top, .. } = context;
-    let Holding { nodes, .. } = top;
+    let OpenContainer { nodes, .. } = top;
     Ok(Node::Root(Root {
         children: nodes,
         position: Some(whole(steps, length)),
@@ -183,6 +184,7 @@ fn last_point(steps: &mut Steps<'_>, length: usize) -> Point
 fn whole(steps: &mut Steps<'_>, length: usize) -> Position
     requires { length ≡ events_in steps.old.events }
     ensures position { result ≡ extent_of steps.old.events }
+    ensures fits { result.end.offset < 2 ^ 64 }
     ensures list { steps.new.events ≡ steps.old.events }
     ensures count { steps.new.count ≤ steps.old.count + 2 * length }
 {

@@ -12,7 +12,7 @@ use Rattle.std.proofs.lemmas.Bool.Decides.{nat_tests, Decides-and, Decides-ltb}
 use Rattle.std.proofs.lemmas.Int.Digits.{digits_value-lt}
 use Rattle.mdast_show.specs.Decoder.{all_digits, number_written, number_of}
 
--- digits behind a number add their own to its multiple
+-- digits after a number add their own to its multiple
 pub written_after : (radix n : ℕ) (digits : List ℕ) → digits_value_after radix n digits ≡ n * radix ^ length digits + number_written radix digits
 written_after radix n [] = let one : n * radix ^ 0 ≡ n * 1 = ap (λ p. n * p) (pow-zero radix) in omega (arith, one)
 written_after radix n (digit ∷ digits) =

@@ -9,7 +9,7 @@ use Rattle.std.proofs.lemmas.Bool.{ltb-true}
 use Rattle.std.proofs.lemmas.Bool.Decides.{nat_tests}
 use Rattle.std.proofs.lemmas.Str.Parse.{IsNumeralModel, numerals_by_value}
 use Rattle.markdown_events.specs.declared.event.Event.{Event}
-use Rattle.mdast_show.specs.Lines.{before, after, pieces, number_of, events_of, event_of, lines, first_unread, unread_line, IsFirstUnread}
+use Rattle.mdast_show.specs.Lines.{before, after, pieces, number_of, events_of_lines, event_of, lines, first_unread, unread_line, IsFirstUnread}
 
 -- a text without the byte is all before it
 pub before_none : (c : ℕ) (bs : List ℕ) → ((k : ℕ) → k < length bs → get_or bs k 0 ≢ c) → before c bs ≡ bs
@@ -127,7 +127,7 @@ first_line rest line more l m = rw (l, m) (pieces_first 10 rest)
 
 -- the lines of a text so far gave these events, were so many, and could all be read; these are left
 pub record Reads (bytes : List ℕ) (events : List Event) (number : ℕ) (left : List (List ℕ)) : Type 0 where
-  pub lines_so_far : lines bytes ≡ option_map (λ es. events ++ es) (events_of left)
+  pub lines_so_far : lines bytes ≡ option_map (λ es. events ++ es) (events_of_lines left)
   pub unread_so_far : unread_line bytes ≡ first_unread (number + 1) left
 
 -- after an empty line
@@ -136,7 +136,7 @@ reads_empty bytes events number line left so_far h =
     let is : eqb (length line) 0 ≡ true = grind (arith, nat_tests) in
     record { lines_so_far = so_far.lines_so_far ∙ rw is refl; unread_so_far = so_far.unread_so_far ∙ rw is refl }
 
--- the first of the events left goes behind those so far
+-- the first of the events left goes after those so far
 map_push : (xs : List Event) (e : Event) (o : Option (List Event)) → option_map (λ es. xs ++ es) (option_map (λ es. e ∷ es) o) ≡ option_map (λ es. (xs ++ e ∷ []) ++ es) o
 map_push xs e None = refl
 map_push xs e (Some es) = ap Some (sym (append_assoc xs (e ∷ []) es))
@@ -147,7 +147,7 @@ pub reads_event : (bytes : List ℕ) (events : List Event) (number : ℕ) (line 
 reads_event bytes events number line left event so_far h e =
     let is : eqb (length line) 0 ≡ false = grind (arith, nat_tests, h) in
     record {
-      lines_so_far = so_far.lines_so_far ∙ rw (is, e) (map_push events event (events_of left));
+      lines_so_far = so_far.lines_so_far ∙ rw (is, e) (map_push events event (events_of_lines left));
       unread_so_far = so_far.unread_so_far ∙ rw (is, e) refl;
     }
 

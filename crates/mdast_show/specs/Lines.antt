@@ -78,15 +78,15 @@ event_of line =
 -- ---- Whole texts
 
 -- the events of lines, of which empty ones say nothing
-abbrev pub events_of : List (List ℕ) → Option (List Event)
-events_of [] = Some []
-events_of (line ∷ more) =
-    if length line == 0 then events_of more
-    else option_and_then (λ event. option_map (λ events. event ∷ events) (events_of more)) (event_of line)
+abbrev pub events_of_lines : List (List ℕ) → Option (List Event)
+events_of_lines [] = Some []
+events_of_lines (line ∷ more) =
+    if length line == 0 then events_of_lines more
+    else option_and_then (λ event. option_map (λ events. event ∷ events) (events_of_lines more)) (event_of line)
 
 -- the events that a text of lines says, if each of its lines can be read
 abbrev pub lines : List ℕ → Option (List Event)
-lines bytes = events_of (pieces 10 bytes)
+lines bytes = events_of_lines (pieces 10 bytes)
 
 -- a line is empty, or an event line
 abbrev pub can_be_read : List ℕ → Bool

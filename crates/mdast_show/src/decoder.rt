@@ -36,8 +36,8 @@ fn text(alloc: Global, character: char) -> Result<String, AllocError>
     Ok(text)
 }
 
-/// The character of a value: of a name behind `&`, of decimal digits behind `#`, of hexadecimal ones
-/// behind `x`.
+/// The character of a value: of a name after `&`, of decimal digits after `#`, of hexadecimal ones
+/// after `x`.
 #[tactic(auto, unfolding(crate::specs::Decoder::character_of))]
 fn character(value: &str, marker: u8) -> Option<char>
     ensures { result ≡ character_of value.now marker }

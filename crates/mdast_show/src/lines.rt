@@ -27,7 +27,7 @@ impl<T: Drop> From<AllocFailed<T>> for LinesError {
 /// The events that lines say.
 ///
 /// A line is `+Name line:column:index` where a span begins, or the same with `-` where it ends,
-/// and `:vs` may stand behind the index. Lines end with a line feed, which the last may lack.
+/// and `:vs` may come after the index. Lines end with a line feed, which the last may lack.
 /// Empty lines say nothing. The error is `Unread` with the number of the first other line, and
 /// `Memory` where memory runs out. The form of the lines is ours.
 ///

@@ -93,11 +93,11 @@ fn prints_a_tree(rt: HostRuntime) {
 
 #[test]
 fn prints_a_refusal(rt: HostRuntime) {
-    let refusal =
+    let error_kind =
         "1:3 (2): an exit does not match the open span, or a span is left open (events-unbalanced)\n";
     let mut input =
         b"+Paragraph 1:1:0\n+Data 1:1:0\n-Paragraph 1:3:2\n-Paragraph 1:3:2\n".as_slice();
-    expect(&rt, &mut input, refusal, 1);
+    expect(&rt, &mut input, error_kind, 1);
 }
 
 #[test]

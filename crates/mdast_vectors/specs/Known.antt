@@ -26,7 +26,7 @@ hexadecimal value =
     else (if bytes_eq value (codes "9") then Some (codes "\t")
     else (if bytes_eq value (codes "D800") then Some ((239 ∷ 191 ∷ 189 ∷ [])) else None)))
 
--- the text of a value behind a marker, & # or x; or, for the decoder of blanks, a space for the empty value
+-- the text of a value after a marker, & # or x; or, for the decoder of blanks, a space for the empty value
 abbrev pub known : Bool → List ℕ → ℕ → Option (List ℕ)
 known is_blank value marker =
     if is_blank then (if bytes_eq value (codes "") then Some (codes " ") else None)

@@ -53,7 +53,7 @@ impl Case<'_> {
 pub fn last_line(alloc: Global, answer: Result<Node, Fault>) -> Result<String, AllocError> {
     match answer {
         Ok(tree) => format!(in alloc; "= {tree:?}"),
-        Err(Fault::Message(message)) => refusal(alloc, message),
+        Err(Fault::Message(message)) => error_kind(alloc, message),
         Err(Fault::Memory(error)) => Err(error),
     }
 }
@@ -64,7 +64,7 @@ pub fn compiled(alloc: Global, document: &[u8], events: &[Event]) -> Result<Node
 }
 
 /// The rule of a message and its place.
-fn refusal(alloc: Global, message: Message) -> Result<String, AllocError> {
+fn error_kind(alloc: Global, message: Message) -> Result<String, AllocError> {
     match message.place {
         Some(Place::Point(point)) => format!(in alloc; "! {} {point:?}", message.rule_id),
         _ => String::from_str(alloc, "! a message without a point"),

@@ -35,7 +35,7 @@ impl References for Decoder {
     }
 }
 
-/// The text of a value behind a marker.
+/// The text of a value after a marker.
 fn text(is_blank: bool, value: &str, marker: u8) -> Option<&'static str>
     ensures { option_copied result ≡ known is_blank value.now marker }
 {

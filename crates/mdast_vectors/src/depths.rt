@@ -8,7 +8,7 @@ use std::alloc::{AllocError, Global};
 use std::test::Fail;
 
 /// As many lists, each the one child of the one item of the one before, and in the innermost item a
-/// paragraph and a blank line behind it.
+/// paragraph and a blank line after it.
 fn nested_lists(alloc: Global, depth: usize) -> Result<Vec<Event>, AllocError> {
     let mut outline = Vec::new(alloc);
     let mut around: usize = 0;

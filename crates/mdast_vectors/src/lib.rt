@@ -20,8 +20,6 @@ mod decoder;
 #[cfg(test)]
 mod depths;
 #[cfg(test)]
-mod fronts;
-#[cfg(test)]
 mod labels;
 #[cfg(test)]
 mod memory;
@@ -35,6 +33,8 @@ mod original;
 mod outline;
 #[cfg(test)]
 mod pairs;
+#[cfg(test)]
+mod prefixes;
 #[cfg(test)]
 mod refusals;
 #[cfg(test)]

@@ -32,7 +32,7 @@ fn other_words_are_no_names(rt: HostRuntime) {
 }
 
 #[test]
-fn roles_say_what_right_shape_asks(rt: HostRuntime) {
+fn roles_say_what_well_formedness_asks(rt: HostRuntime) {
     for (name, nothing, row, value) in [
         (Name::LineEnding, true, false, false),
         (Name::BlankLineEnding, true, false, false),
@@ -42,7 +42,7 @@ fn roles_say_what_right_shape_asks(rt: HostRuntime) {
         (Name::Paragraph, false, false, false),
     ] {
         let role = name.role();
-        assert_eq!(rt; role.holds_nothing(), nothing);
+        assert_eq!(rt; role.is_sealed(), nothing);
         assert_eq!(rt; role.is_delimiter_row(), row);
         assert_eq!(rt; role.is_delimiter_cell_value(), value);
     }

@@ -31,15 +31,15 @@ fn carried(
     alloc: Global,
     node: &mut Node,
     text: &str,
-    front: &str,
+    prefix: &str,
     back: &str,
 ) -> Result<(), Fail> {
-    assert!(rt; node.position().is_none(), "{front}");
-    assert!(rt; node.position_mut().is_none(), "{front}");
-    assert_eq!(rt; node.to_string(alloc)?.as_str(), text, "{front}");
-    let nowhere = format!(in alloc; "{front}position: None{back}")?;
+    assert!(rt; node.position().is_none(), "{prefix}");
+    assert!(rt; node.position_mut().is_none(), "{prefix}");
+    assert_eq!(rt; node.to_string(alloc)?.as_str(), text, "{prefix}");
+    let nowhere = format!(in alloc; "{prefix}position: None{back}")?;
     printed(rt, alloc, node, nowhere.as_str())?;
     node.position_set(Some(Position::new(1, 1, 0, 1, 2, 1)));
-    let somewhere = format!(in alloc; "{front}position: Some(1:1-1:2 (0-1)){back}")?;
+    let somewhere = format!(in alloc; "{prefix}position: Some(1:1-1:2 (0-1)){back}")?;
     printed(rt, alloc, node, somewhere.as_str())
 }

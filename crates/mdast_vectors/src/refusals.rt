@@ -1,6 +1,6 @@
 //! What each refusal says. The texts are those of the table in `docs/REFUSALS.md`.
 
-use markdown_grammar::refusal::{Refusal, Stop};
+use markdown_grammar::error_kind::{ErrorKind, Stop};
 use markdown_nodes::event::Point;
 use markdown_nodes::message::{Fault, Place};
 use markdown_nodes::unist;
@@ -8,64 +8,64 @@ use std::alloc::AllocError;
 use std::test::Fail;
 
 /// Each refusal, with its rule and its reason.
-const REFUSALS: [(Refusal, &str, &str); 12] = [
+const REFUSALS: [(ErrorKind, &str, &str); 12] = [
     (
-        Refusal::Unbalanced,
+        ErrorKind::Unbalanced,
         "events-unbalanced",
         "an exit does not match the open span, or a span is left open",
     ),
     (
-        Refusal::Misplaced,
+        ErrorKind::Misplaced,
         "name-misplaced",
         "this name cannot stand here",
     ),
     (
-        Refusal::Repeated,
+        ErrorKind::Repeated,
         "part-repeated",
         "this part may stand only once",
     ),
     (
-        Refusal::Held,
+        ErrorKind::Held,
         "span-held",
         "a span stands inside one that cannot hold it",
     ),
     (
-        Refusal::InvalidSlice,
+        ErrorKind::InvalidSlice,
         "slice-invalid",
         "the span is not a text of the document",
     ),
     (
-        Refusal::InvalidListValue,
+        ErrorKind::InvalidListValue,
         "list-value-invalid",
         "a list value is not a number up to 4294967295",
     ),
     (
-        Refusal::MissingListValue,
+        ErrorKind::MissingListValue,
         "list-value-missing",
         "an ordered list has no value",
     ),
     (
-        Refusal::UnknownReference,
+        ErrorKind::UnknownReference,
         "reference-unknown",
         "the decoder does not know this reference",
     ),
     (
-        Refusal::IncompleteReference,
+        ErrorKind::IncompleteReference,
         "reference-incomplete",
         "a character reference has no marker before its value or no value",
     ),
     (
-        Refusal::MissingFence,
+        ErrorKind::MissingFence,
         "fence-missing",
         "a raw block has no fence",
     ),
     (
-        Refusal::HeadingDepth,
+        ErrorKind::HeadingDepth,
         "heading-depth",
         "a heading has no depth from 1 to 6",
     ),
     (
-        Refusal::UnfinishedBreak,
+        ErrorKind::UnfinishedBreak,
         "break-unfinished",
         "a hard break is not followed by its line ending",
     ),
@@ -79,8 +79,8 @@ fn each_refusal_names_its_rule_and_its_event(rt: HostRuntime) {
         index: 17,
         vs: 2,
     };
-    for (refusal, rule_id, reason) in REFUSALS {
-        let fault = Stop::Refused(refusal).at(point);
+    for (error_kind, rule_id, reason) in REFUSALS {
+        let fault = Stop::Refused(error_kind).at(point);
         assert!(rt;
             matches!(
             &fault,

@@ -26,7 +26,7 @@ doc 4869
 +Paragraph 1:1:0, +Data 1:1:0, -Data 1:3:2, -Paragraph 1:3:2
 = Root { children: [Paragraph { children: [Text { value: "Hi", position: Some(1:1-1:3 (0-2)) }], position: Some(1:1-1:3 (0-2)) }], position: Some(1:1-1:3 (0-2)) }
 
-case plain-spans-do-not-split-a-text
+case transparent-spans-do-not-split-a-text
 doc 4869
 +Paragraph 1:1:0, +EmphasisText 1:1:0, +Data 1:1:0, -Data 1:2:1, +EmphasisSequence 1:2:1, -EmphasisSequence 1:2:1, +Data 1:2:1, -Data 1:3:2, -EmphasisText 1:3:2, -Paragraph 1:3:2
 = Root { children: [Paragraph { children: [Text { value: "Hi", position: Some(1:1-1:3 (0-2)) }], position: Some(1:1-1:3 (0-2)) }], position: Some(1:1-1:3 (0-2)) }
@@ -251,7 +251,7 @@ doc 600a615c7c620d0a60
 +GfmTable 1:1:0, +GfmTableRow 1:1:0, +GfmTableCell 1:1:0, +CodeText 1:1:0, +CodeTextSequence 1:1:0, -CodeTextSequence 1:2:1, +LineEnding 1:2:1, -LineEnding 2:1:2, +CodeTextData 2:1:2, -CodeTextData 2:5:6, +LineEnding 2:5:6, -LineEnding 3:1:8, +CodeTextSequence 3:1:8, -CodeTextSequence 3:2:9, -CodeText 3:2:9, -GfmTableCell 3:2:9, -GfmTableRow 3:2:9, -GfmTable 3:2:9
 = Root { children: [Table { children: [TableRow { children: [TableCell { children: [InlineCode { value: "a|b", position: Some(1:1-3:2 (0-9)) }], position: Some(1:1-3:2 (0-9)) }], position: Some(1:1-3:2 (0-9)) }], position: Some(1:1-3:2 (0-9)), align: [] }], position: Some(1:1-3:2 (0-9)) }
 
-case a-pipe-in-code-behind-a-table
+case a-pipe-in-code-after-a-table
 doc 60615c7c6260
 +GfmTable 1:1:0, +GfmTableRow 1:1:0, -GfmTableRow 1:1:0, -GfmTable 1:1:0, +CodeText 1:1:0, +CodeTextSequence 1:1:0, -CodeTextSequence 1:2:1, +CodeTextData 1:2:1, -CodeTextData 1:6:5, +CodeTextSequence 1:6:5, -CodeTextSequence 1:7:6, -CodeText 1:7:6
 = Root { children: [Table { children: [TableRow { children: [], position: Some(1:1-1:1 (0-0)) }], position: Some(1:1-1:1 (0-0)), align: [] }, InlineCode { value: "a\\|b", position: Some(1:1-1:7 (0-6)) }], position: Some(1:1-1:7 (0-6)) }
@@ -356,12 +356,12 @@ doc 2a205b205d2061
 +ListUnordered 1:1:0, +ListItem 1:1:0, +ListItemPrefix 1:1:0, -ListItemPrefix 1:3:2, +Paragraph 1:3:2, +GfmTaskListItemCheck 1:3:2, +GfmTaskListItemValueUnchecked 1:4:3, -GfmTaskListItemValueUnchecked 1:5:4, -GfmTaskListItemCheck 1:6:5, +Data 1:6:5, -Data 1:8:7, -Paragraph 1:8:7, -ListItem 1:8:7, -ListUnordered 1:8:7
 = Root { children: [List { children: [ListItem { children: [Paragraph { children: [Text { value: "a", position: Some(1:7-1:8 (6-7)) }], position: Some(1:7-1:8 (6-7)) }], position: Some(1:1-1:8 (0-7)), spread: false, checked: Some(false) }], position: Some(1:1-1:8 (0-7)), ordered: false, start: None, spread: false }], position: Some(1:1-1:8 (0-7)) }
 
-case a-tab-behind-the-mark
+case a-tab-after-the-mark
 doc 2a205b785d0961
 +ListUnordered 1:1:0, +ListItem 1:1:0, +ListItemPrefix 1:1:0, -ListItemPrefix 1:3:2, +Paragraph 1:3:2, +GfmTaskListItemCheck 1:3:2, +GfmTaskListItemValueChecked 1:4:3, -GfmTaskListItemValueChecked 1:5:4, -GfmTaskListItemCheck 1:6:5, +Data 1:6:5, -Data 1:8:7, -Paragraph 1:8:7, -ListItem 1:8:7, -ListUnordered 1:8:7
 = Root { children: [List { children: [ListItem { children: [Paragraph { children: [Text { value: "a", position: Some(1:7-1:8 (6-7)) }], position: Some(1:7-1:8 (6-7)) }], position: Some(1:1-1:8 (0-7)), spread: false, checked: Some(true) }], position: Some(1:1-1:8 (0-7)), ordered: false, start: None, spread: false }], position: Some(1:1-1:8 (0-7)) }
 
-case a-line-ending-behind-the-mark
+case a-line-ending-after-the-mark
 doc 2a205b785d0d0a61
 +ListUnordered 1:1:0, +ListItem 1:1:0, +ListItemPrefix 1:1:0, -ListItemPrefix 1:3:2, +Paragraph 1:3:2, +GfmTaskListItemCheck 1:3:2, +GfmTaskListItemValueChecked 1:4:3, -GfmTaskListItemValueChecked 1:5:4, -GfmTaskListItemCheck 1:6:5, +LineEnding 1:6:5, -LineEnding 2:1:7, +Data 2:1:7, -Data 2:2:8, -Paragraph 2:2:8, -ListItem 2:2:8, -ListUnordered 2:2:8
 = Root { children: [List { children: [ListItem { children: [Paragraph { children: [Text { value: "a", position: Some(2:1-2:2 (7-8)) }], position: Some(2:1-2:2 (7-8)) }], position: Some(1:1-2:2 (0-8)), spread: false, checked: Some(true) }], position: Some(1:1-2:2 (0-8)), ordered: false, start: None, spread: false }], position: Some(1:1-2:2 (0-8)) }
@@ -443,7 +443,7 @@ doc 5b5d
 +Link 1:1:0, -Link 1:3:2
 = Root { children: [LinkReference { children: [], position: Some(1:1-1:3 (0-2)), reference_kind: Shortcut, identifier: "", label: Some("") }], position: Some(1:1-1:3 (0-2)) }
 
-case a-reference-behind-a-resource
+case a-reference-after-a-resource
 doc 5b5d
 +Link 1:1:0, +Resource 1:1:0, -Resource 1:2:1, +Reference 1:2:1, -Reference 1:3:2, -Link 1:3:2
 ! name-misplaced 1:2 (1)
@@ -548,7 +548,7 @@ doc 6162
 +Image 1:1:0, +LabelText 1:1:0, -LabelText 1:2:1, +LabelText 1:2:1, -LabelText 1:3:2, -Image 1:3:2
 ! part-repeated 1:2 (1)
 
-case a-label-behind-a-resource
+case a-label-after-a-resource
 doc 6162
 +Link 1:1:0, +Resource 1:1:0, -Resource 1:2:1, +LabelText 1:2:1, -LabelText 1:3:2, -Link 1:3:2
 ! name-misplaced 1:2 (1)
@@ -568,7 +568,7 @@ doc 6162
 +Data 1:1:0, -Data 1:1:18446744073709551615:1
 ! slice-invalid 1:1 (18446744073709551615)
 
-case data-behind-a-break
+case data-after-a-break
 doc 6162
 +Paragraph 1:1:0, +HardBreakEscape 1:1:0, -HardBreakEscape 1:2:1, +Data 1:2:1, -Data 1:3:2, -Paragraph 1:3:2
 ! break-unfinished 1:2 (1)
@@ -633,7 +633,7 @@ doc 6162
 +HeadingAtx 1:1:0, +Data 1:1:0, -Data 1:3:2, -HeadingAtx 1:3:2
 ! heading-depth 1:3 (2)
 
-case data-behind-a-setext-text
+case data-after-a-setext-text
 doc 6162
 +HeadingSetext 1:1:0, +HeadingSetextText 1:1:0, -HeadingSetextText 1:2:1, +Data 1:2:1, -Data 1:3:2, -HeadingSetext 1:3:2
 ! name-misplaced 1:2 (1)"#;

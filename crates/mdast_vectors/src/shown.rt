@@ -13,7 +13,7 @@ use std::test::Fail;
 /// Where the span begins in what `placed` gives.
 const BEGIN: usize = 3;
 
-/// The events of an outline in a block quote, behind a paragraph.
+/// The events of an outline in a block quote, after a paragraph.
 fn placed(alloc: Global, outline: &[(usize, Name)]) -> Result<Vec<Event>, AllocError> {
     let mut events = Vec::new(alloc);
     events.push(enter(Name::BlockQuote))?;

@@ -1,4 +1,4 @@
-//! Lists that spell no forest, and all that is said of them.
+//! Lists that are no forest's, and all that is said of them.
 
 use crate::cases::compiled;
 use crate::outline::event_at;
@@ -46,9 +46,9 @@ fn an_exit_alone(rt: HostRuntime) -> Result<(), Fail> {
 }
 
 /// An exit of another name is unbalanced also where a break waits for its line ending: that the
-/// break is unfinished comes behind it.
+/// break is unfinished comes after it.
 #[test]
-fn an_exit_of_another_name_behind_a_break(rt: HostRuntime) -> Result<(), Fail> {
+fn an_exit_of_another_name_after_a_break(rt: HostRuntime) -> Result<(), Fail> {
     let events = [
         event_at(Kind::Enter, Name::Paragraph, 0),
         event_at(Kind::Enter, Name::HardBreakEscape, 0),

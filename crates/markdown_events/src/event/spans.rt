@@ -9,7 +9,7 @@ use super::{Event, Kind, Name};
 use crate::around::Around;
 use std::alloc::{AllocError, Global};
 
-/// Where the span that begins at this index ends, if one of the right shape begins there.
+/// Where the span that begins at this index ends, if a well-formed one begins there.
 ///
 /// `Some(last)` says that the events from `index` to `last`, both included, are one span: each
 /// enter has its exit, of the same name and in order, line endings, blank line endings and spaces

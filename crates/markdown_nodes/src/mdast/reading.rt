@@ -25,7 +25,7 @@ fn value(node: &Node) -> &str
     }
 }
 
-/// Puts the plain text of a node behind a text. After an error an unknown part of it stands there.
+/// Puts the plain text of a node after a text. After an error an unknown part of it stands there.
 pub fn add_text(node: &Node, text: &mut String) -> Result<(), AllocError>
     ensures { OnOk result (string_bytes text.new ≡ string_bytes text.old ++ plain_text (only (view node.now))) }
 {

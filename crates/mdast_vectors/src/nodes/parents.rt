@@ -12,14 +12,14 @@ fn parent(
     rt: &impl Abort,
     alloc: Global,
     mut node: Node,
-    front: &str,
+    prefix: &str,
     back: &str,
 ) -> Result<(), Fail> {
     let count = node.children().map(|children| children.len());
-    assert_eq!(rt; count, Some(0), "{front}");
+    assert_eq!(rt; count, Some(0), "{prefix}");
     let count = node.children_mut().map(|children| children.len());
-    assert_eq!(rt; count, Some(0), "{front}");
-    carried(rt, alloc, &mut node, "", front, back)
+    assert_eq!(rt; count, Some(0), "{prefix}");
+    carried(rt, alloc, &mut node, "", prefix, back)
 }
 
 #[test]

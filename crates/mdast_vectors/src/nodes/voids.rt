@@ -12,12 +12,12 @@ fn void(
     rt: &impl Abort,
     alloc: Global,
     mut node: Node,
-    front: &str,
+    prefix: &str,
     back: &str,
 ) -> Result<(), Fail> {
-    assert!(rt; node.children().is_none(), "{front}");
-    assert!(rt; node.children_mut().is_none(), "{front}");
-    carried(rt, alloc, &mut node, "", front, back)
+    assert!(rt; node.children().is_none(), "{prefix}");
+    assert!(rt; node.children_mut().is_none(), "{prefix}");
+    carried(rt, alloc, &mut node, "", prefix, back)
 }
 
 #[test]

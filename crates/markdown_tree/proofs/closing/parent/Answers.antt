@@ -1,7 +1,7 @@
 use Rattle.std.proofs.Common.{Some, ap, sym, ◌∙◌}
 use Rattle.markdown_events.specs.declared.role.Content.{Content}
 use Rattle.markdown_nodes.specs.View.{views}
-use Rattle.markdown_tree.specs.Holdings.{parent_label, placed}
+use Rattle.markdown_tree.specs.Containers.{parent_label, placed}
 use Rattle.markdown_tree.proofs.Parents as parents
 use Rattle.markdown_tree.proofs.closing.parent.Goals as goal
 

@@ -6,7 +6,7 @@ pub returns-clause-found : goal.returns-clause-found
 returns-clause-found g c = found (source c.args.bytes.now (g.R.References.text c.args.references.now)) c.args.steps.now.events c.compile_list.result c.compile_list.ensures.gives
 
 pub returns-clause-ordered : goal.returns-clause-ordered
-returns-clause-ordered g c = ordered_so (source c.args.bytes.now (g.R.References.text c.args.references.now)) c.args.steps.now.events c.compile_list.result c.compile_list.ensures.gives
+returns-clause-ordered g c = ordered_so (source c.args.bytes.now (g.R.References.text c.args.references.now)) c.args.steps.now.events c.compile_list.result c.compile_list.ensures.gives c.compile_list.ensures.fits
 
 pub returns-clause-refused : goal.returns-clause-refused
 returns-clause-refused g c = refused_so (source c.args.bytes.now (g.R.References.text c.args.references.now)) c.args.steps.now.events c.compile_list.result c.compile_list.ensures.gives

@@ -13,26 +13,26 @@ unfinished-requires g c none = no_leaf_open (source c.args.bytes.now (g.R.Refere
 
 pub last_point-requires-clause-some : goal.last_point-requires-clause-some
 last_point-requires-clause-some g c =
-    let some = some_event (source c.args.bytes.now (g.R.References.text c.args.references.now)) c.args.steps.now.events (state_of c.in_ok-context.field-0.context) c.in-Some.refusal c.in_ok-context.ensures.gives (sym c.unfinished.ensures ∙ c.in-Some.is) in
+    let some = some_event (source c.args.bytes.now (g.R.References.text c.args.references.now)) c.args.steps.now.events (state_of c.in_ok-context.field-0.context) c.in-Some.error_kind c.in_ok-context.ensures.gives (sym c.unfinished.ensures ∙ c.in-Some.is) in
     let count = c.in_ok-context.ensures.length in
     omega (arith, some, count)
 
 pub returns-in-Some-clause-gives : goal.returns-in-Some-clause-gives
 returns-in-Some-clause-gives g c =
-    left_fails c.at.result (source c.args.bytes.now (g.R.References.text c.args.references.now)) c.args.steps.now.events (state_of c.in_ok-context.field-0.context) c.in-Some.refusal c.last_point.result
+    left_fails c.at.result (source c.args.bytes.now (g.R.References.text c.args.references.now)) c.args.steps.now.events (state_of c.in_ok-context.field-0.context) c.in-Some.error_kind c.last_point.result
     c.in_ok-context.ensures.gives (sym c.unfinished.ensures ∙ c.in-Some.is)
     (c.last_point.ensures.point ∙ ap (λ (es : List Event). point_of (last_event es)) c.take_all.ensures.list) c.at.ensures
 
 pub returns-in-Some-clause-empty : goal.returns-in-Some-clause-empty
 returns-in-Some-clause-empty g c none =
-    let some = some_event (source c.args.bytes.now (g.R.References.text c.args.references.now)) c.args.steps.now.events (state_of c.in_ok-context.field-0.context) c.in-Some.refusal c.in_ok-context.ensures.gives (sym c.unfinished.ensures ∙ c.in-Some.is) in
+    let some = some_event (source c.args.bytes.now (g.R.References.text c.args.references.now)) c.args.steps.now.events (state_of c.in_ok-context.field-0.context) c.in-Some.error_kind c.in_ok-context.ensures.gives (sym c.unfinished.ensures ∙ c.in-Some.is) in
     let gone = ap (λ (es : List Event). length es) none in
     let z : ⊥ = omega (arith, some, gone) in
     absurd z
 
 pub returns-in-Some-clause-bound : goal.returns-in-Some-clause-bound
 returns-in-Some-clause-bound g c =
-    let some = some_event (source c.args.bytes.now (g.R.References.text c.args.references.now)) c.args.steps.now.events (state_of c.in_ok-context.field-0.context) c.in-Some.refusal c.in_ok-context.ensures.gives (sym c.unfinished.ensures ∙ c.in-Some.is) in
+    let some = some_event (source c.args.bytes.now (g.R.References.text c.args.references.now)) c.args.steps.now.events (state_of c.in_ok-context.field-0.context) c.in-Some.error_kind c.in_ok-context.ensures.gives (sym c.unfinished.ensures ∙ c.in-Some.is) in
     let taken = c.take_all.ensures.bound in
     let last = c.last_point.ensures.count in
     omega (arith, some, taken, last)

@@ -1,7 +1,7 @@
 use Rattle.std.proofs.Common.{◌-◌, arith, get_or, sym, ◌∙◌}
 use Rattle.std.specs.Prelude.{vec_len}
 use Rattle.markdown_grammar.specs.Document.{source}
-use Rattle.markdown_tree.proofs.Endings.{ends, exit_done, exit_none, exit_other, exit_stops, exit_walks_left, none_left}
+use Rattle.markdown_tree.proofs.Endings.{ends, exit_done, exit_none, exit_other, exit_stops, exit_visits_left, none_left}
 use Rattle.markdown_tree.proofs.Stopping.{passed_on}
 use Rattle.markdown_tree.proofs.context.Context.exit.Goals as goal
 
@@ -31,12 +31,12 @@ returns-clause-gives g c =
 
 pub returns-in_err-leave-clause-bound : goal.returns-in_err-leave-clause-bound
 returns-in_err-leave-clause-bound g c =
-    let same = exit_walks_left c.args.name c.args.self.now c.pop.new.self c.in-Some.frame c.role-role.result c.in-Some.ensures.items c.role-role.ensures (sym c.is.ensures.value ∙ c.if-not-is.false) in
-    let walked = c.leave.ensures.bound in
-    omega (arith, same, walked)
+    let same = exit_visits_left c.args.name c.args.self.now c.pop.new.self c.in-Some.frame c.role-role.result c.in-Some.ensures.items c.role-role.ensures (sym c.is.ensures.value ∙ c.if-not-is.false) in
+    let visits_at_end = c.leave.ensures.bound in
+    omega (arith, same, visits_at_end)
 
 pub returns-clause-bound : goal.returns-clause-bound
 returns-clause-bound g c =
-    let same = exit_walks_left c.args.name c.args.self.now c.pop.new.self c.in-Some.frame c.role-role.result c.in-Some.ensures.items c.role-role.ensures (sym c.is.ensures.value ∙ c.if-not-is.false) in
-    let walked = c.leave.ensures.bound in
-    omega (arith, same, walked)
+    let same = exit_visits_left c.args.name c.args.self.now c.pop.new.self c.in-Some.frame c.role-role.result c.in-Some.ensures.items c.role-role.ensures (sym c.is.ensures.value ∙ c.if-not-is.false) in
+    let visits_at_end = c.leave.ensures.bound in
+    omega (arith, same, visits_at_end)

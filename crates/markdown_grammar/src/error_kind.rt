@@ -1,0 +1,131 @@
+//! Why a list of events is refused.
+
+ghost use Rattle.std.specs.Prelude.{◌≡◌, codes, alloc_error};
+ghost use Rattle.markdown_grammar.specs.Refusals.{IsFaultOf, reason_of, rule_of};
+ghost use Rattle.markdown_grammar.specs.declared.error_kind.Stop.TheVariants.{Memory};
+
+use markdown_nodes::event::Point;
+use markdown_nodes::message::{Fault, Message, Place};
+use std::alloc::{AllocError, AllocFailed};
+
+/// Why a list of events is refused, one variant for each rule (ours; the events are those of the
+/// crate `markdown`).
+///
+/// `ErrorKind::Unbalanced` is the rule `events-unbalanced`: of a list that leaves a span open, say.
+#[derive(Clone, Copy, PartialEq, Eq, Debug)]
+pub enum ErrorKind {
+    /// `events-unbalanced`: an exit that is not the open span's, or a span that is open at the end.
+    Unbalanced,
+    /// `name-misplaced`: the container does not take the name.
+    Misplaced,
+    /// `part-repeated`: a part stands again that may stand once.
+    Repeated,
+    /// `span-held`: a span stands inside one that may not contain it.
+    Held,
+    /// `slice-invalid`: a value is no text of the document, or a byte that is read is not there.
+    InvalidSlice,
+    /// `list-value-invalid`: a list value is no number, or too great.
+    InvalidListValue,
+    /// `list-value-missing`: no item of an ordered list has a value.
+    MissingListValue,
+    /// `reference-unknown`: the decoder has no text for a reference.
+    UnknownReference,
+    /// `reference-incomplete`: a reference without a value, or a value without a marker before it.
+    IncompleteReference,
+    /// `fence-missing`: a raw block without a fence.
+    MissingFence,
+    /// `heading-depth`: a heading without a sequence, or with one of another length.
+    HeadingDepth,
+    /// `break-unfinished`: a break without its line ending.
+    UnfinishedBreak,
+}
+
+impl ErrorKind {
+    /// The rule, for a program.
+    fn rule_id(self) -> &'static str
+        ensures { result.now ≡ rule_of self }
+    {
+        match self {
+            ErrorKind::Unbalanced => "events-unbalanced",
+            ErrorKind::Misplaced => "name-misplaced",
+            ErrorKind::Repeated => "part-repeated",
+            ErrorKind::Held => "span-held",
+            ErrorKind::InvalidSlice => "slice-invalid",
+            ErrorKind::InvalidListValue => "list-value-invalid",
+            ErrorKind::MissingListValue => "list-value-missing",
+            ErrorKind::UnknownReference => "reference-unknown",
+            ErrorKind::IncompleteReference => "reference-incomplete",
+            ErrorKind::MissingFence => "fence-missing",
+            ErrorKind::HeadingDepth => "heading-depth",
+            ErrorKind::UnfinishedBreak => "break-unfinished",
+        }
+    }
+
+    /// What is wrong, for a reader.
+    fn reason(self) -> &'static str
+        ensures { result.now ≡ reason_of self }
+    {
+        match self {
+            ErrorKind::Unbalanced => "an exit does not match the open span, or a span is left open",
+            ErrorKind::Misplaced => "this name cannot stand here",
+            ErrorKind::Repeated => "this part may stand only once",
+            ErrorKind::Held => "a span stands inside one that cannot hold it",
+            ErrorKind::InvalidSlice => "the span is not a text of the document",
+            ErrorKind::InvalidListValue => "a list value is not a number up to 4294967295",
+            ErrorKind::MissingListValue => "an ordered list has no value",
+            ErrorKind::UnknownReference => "the decoder does not know this reference",
+            ErrorKind::IncompleteReference =>
+                "a character reference has no marker before its value or no value",
+            ErrorKind::MissingFence => "a raw block has no fence",
+            ErrorKind::HeadingDepth => "a heading has no depth from 1 to 6",
+            ErrorKind::UnfinishedBreak => "a hard break is not followed by its line ending",
+        }
+    }
+}
+
+/// Why an event was not taken (ours): it is refused, or memory ran out.
+///
+/// `Stop::Refused(ErrorKind::Held)` is what a span in a line ending gives.
+#[derive(Debug, Drop)]
+pub enum Stop {
+    /// It is refused.
+    Refused(ErrorKind),
+    /// Memory ran out.
+    Memory(AllocError),
+}
+
+impl Stop {
+    /// The same as an answer, which names the event at this point. Want of memory names none.
+    ///
+    /// `Stop::Refused(ErrorKind::Unbalanced).at(point)` is a message of the rule `events-unbalanced`,
+    /// whose place is the line, the column and the offset of the point. It takes no memory.
+    pub fn at(self, point: Point) -> Fault
+        ensures { IsFaultOf self point result }
+    {
+        match self {
+            Stop::Refused(error_kind) => Fault::Message(Message {
+                place: Some(Place::Point(point.to_unist())),
+                reason: error_kind.reason(),
+                rule_id: error_kind.rule_id(),
+                source: "markdown-rs",
+            }),
+            Stop::Memory(error) => Fault::Memory(error),
+        }
+    }
+}
+
+impl From<AllocError> for Stop {
+    ghost from_gives = { λ _ stop. stop ≡ Memory alloc_error };
+
+    fn from(error: AllocError) -> Stop {
+        Stop::Memory(error)
+    }
+}
+
+impl<T: Drop> From<AllocFailed<T>> for Stop {
+    ghost from_gives = { λ _ stop. stop ≡ Memory alloc_error };
+
+    fn from(error: AllocFailed<T>) -> Stop {
+        Stop::Memory(AllocError::from(error))
+    }
+}
