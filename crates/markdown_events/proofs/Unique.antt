@@ -1,4 +1,4 @@
--- Events spell at most one forest.
+-- Events are those of at most one forest.
 use Rattle.std.proofs.Common.{◌≡◌, List, [], ◌∷◌, ◌++◌, refl, sym, ap, subst, ◌∙◌, append_assoc}
 use Rattle.std.proofs.lemmas.List.{append-nil}
 use Rattle.markdown_events.specs.declared.event.Event.{Event}

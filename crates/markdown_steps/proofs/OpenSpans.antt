@@ -1,4 +1,4 @@
--- What a run knows of each open span: the events since its enter spell a forest, and what its container keeps is what that forest's items say.
+-- What a run knows of each open span: the events since its enter are those of a forest, and its container's summary is that of the forest's items.
 use Rattle.std.proofs.Common.{◌≡◌, ◌⊎◌, inl, inr, Bool, true, false, ◌&&◌, cond, List, [], ◌∷◌, ◌++◌, Option, Some, Result, Ok, Err, refl, sym, ap, subst, ◌∙◌, append_assoc}
 use Rattle.std.proofs.lemmas.List.{append-nil}
 use Rattle.markdown_events.specs.Forest.{Forest, empty, enter, exit, span, events_of}

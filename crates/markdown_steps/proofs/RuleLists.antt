@@ -1,4 +1,4 @@
--- A list of items keeps a rule as its front does and its last item lets it.
+-- A list of items keeps a rule where the items before the last keep it and the last one may follow them.
 use Rattle.markdown_steps.proofs.Booleans.{and-left, and-true}
 use Rattle.std.proofs.Common.{◌≡◌, Bool, true, false, not, ◌&&◌, ◌||◌, List, [], ◌∷◌, ◌++◌, refl, sym, ◌∙◌, ap}
 use Rattle.std.proofs.Common.{append_assoc}

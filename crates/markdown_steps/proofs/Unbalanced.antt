@@ -141,6 +141,6 @@ events-balanced s f m h e =
     (λ y k. last_balanced (not y.top.after_break) last (tree_of (events_of f) (at [] in_the_open (marks f) y)) m k) (ap (λ (r : Result State ErrorAt). r >>= on) (sym (over-all s f)) ∙ h) in
     let z : true ≡ false = ap is_unbalanced (sym e) ∙ fair in absurd cc
 
--- a list is refused as unbalanced only where no forest at all spells it
+-- a list is refused as unbalanced only where it is that of no forest at all
 pub unbalanced : (s : Source) (es : List Event) (m : ErrorAt) → compiled s es ≡ Err m → m.error_kind ≡ Unbalanced → (f : Forest) → events_of f ≢ es
 unbalanced s es m h why f e = events-balanced s f m (ap (compiled s) e ∙ h) why

@@ -1,4 +1,4 @@
--- What one exit walks over, and a run over a front of its events.
+-- The nodes that one exit visits, and those that a run visits over a prefix of its events.
 use Rattle.std.proofs.Common.{◌≡◌, ◌≤◌, ℕ, ◌+◌, Bool, true, false, not, ◌&&◌, cond, List, ◌∷◌, Option, None, Some, Result, Ok, refl, ap, subst, arith}
 use Rattle.std.specs.Prelude.{if◌then◌else◌}
 use Rattle.markdown_events.specs.declared.event.Event.{Event}
