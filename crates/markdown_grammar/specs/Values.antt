@@ -10,7 +10,7 @@ use Rattle.markdown_events.specs.declared.role.ItemKind.TheVariants.{Content as 
 use Rattle.markdown_events.specs.declared.role.Content.TheVariants as contents
 use Rattle.markdown_events.specs.declared.role.Part.TheVariants as parts
 
--- a span's own value, where one is read there, can be; `waiting` says whether a break is before it
+-- a span's own value, where one is read there, can be; `after_break` says whether a break is before it
 abbrev pub is_read : Source → ContentModel → Place → Bool → ItemKind → Point → Point → Bool
 is_read s h p after_break (content contents.Data) a b = is_some (slice s.bytes a b)
 is_read s h p after_break (content contents.AutolinkLiteralEmail) a b = is_some (slice s.bytes a b)

@@ -56,13 +56,13 @@ impl Columns {
     }
 
     /// A transparent span ends, with what the spans in it said.
-    pub fn exit(&mut self, plain: TransparentKind, inner: Marks) -> Result<(), AllocError>
-        ensures { OnOk result (columns_of self.new ≡ columns_left (roles.Transparent plain) (marks_of inner) (columns_of self.old)) }
+    pub fn exit(&mut self, kind: TransparentKind, inner: Marks) -> Result<(), AllocError>
+        ensures { OnOk result (columns_of self.new ≡ columns_left (roles.Transparent kind) (marks_of inner) (columns_of self.old)) }
     {
         if !matches!(self.rows, Rows::Inside) {
             return Ok(());
         }
-        match plain {
+        match kind {
             TransparentKind::DelimiterRow => self.rows = Rows::After,
             TransparentKind::DelimiterCellValue => self.kinds.push(inner.align_kind())?,
             _ => {}

@@ -221,7 +221,7 @@ impl<'a> Context<'a> {
         point: Point,
     ) -> Result<(), Stop>
         requires role { role ≡ role_of name }
-        requires plain { is_transparent role ≡ true }
+        requires transparent { is_transparent role ≡ true }
         ensures { Gives (λ _. state_of self.new) point result (Ok (Compiler.push name point (state_of self.old) None (state_of self.old).top)) }
     {
         self.begin(alloc, name, role, point, self.is_leaf, self.in_table)?;
@@ -327,7 +327,7 @@ impl<'a> Context<'a> {
         ensures bound { steps.new.count ≤ steps.old.count + left_visits role frame self.old }
     {
         match role {
-            Role::Transparent(plain) => Ok(self.columns.exit(plain, self.marks)?),
+            Role::Transparent(kind) => Ok(self.columns.exit(kind, self.marks)?),
             Role::Significant(what) if self.is_leaf => {
                 self.leave_leaf(alloc, bytes, references, what, frame, end)
             }

@@ -5,7 +5,7 @@ ghost use Rattle.std.specs.Option.{option_or};
 ghost use Rattle.markdown_events.specs.Spread.{is_delimiter_marker};
 ghost use Rattle.markdown_events.specs.declared.role.ItemKind.TheVariants as item_kinds;
 ghost use Rattle.markdown_events.specs.declared.role.Content.TheVariants as contents;
-ghost use Rattle.markdown_events.specs.declared.role.TransparentKind.TheVariants as plain;
+ghost use Rattle.markdown_events.specs.declared.role.TransparentKind.TheVariants as transparents;
 ghost use Rattle.markdown_events.specs.declared.role.Role.TheVariants as roles;
 ghost use Rattle.markdown_steps.specs.Siblings.{kind_by, marks_with, no_marks, past_space, sibling_of};
 ghost use Rattle.markdown_tree.specs.States.{first_of, marks_of, sibling_in};
@@ -126,7 +126,7 @@ impl Marks {
     /// The same after a blank line. It makes a list loose, but after an item without content at its
     /// end, and an item, but after its prefix.
     fn with_blank_line(self) -> Marks
-        ensures { marks_of result ≡ marks_with (marks_of self) (roles.Transparent plain.BlankLineEnding) no_marks }
+        ensures { marks_of result ≡ marks_with (marks_of self) (roles.Transparent transparents.BlankLineEnding) no_marks }
     {
         Marks {
             near: Sibling::Other,
