@@ -13,9 +13,10 @@ ghost use Rattle.markdown_events.specs.Begins.{Begins, BeginsWith, IsItemAt, IsL
 
 use crate::event::{Event, Kind, Name};
 use std::alloc::{AllocError, Global};
+use std::fmt;
 
-/// How a column of a table is aligned (GFM, tables).
-#[derive(Clone, Copy, PartialEq, Eq, Debug)]
+/// How a column of a table is aligned (GFM, tables). Debug prints its name.
+#[derive(Clone, Copy, PartialEq, Eq)]
 pub enum AlignKind {
     /// `| :-- |`
     Left,
@@ -25,6 +26,22 @@ pub enum AlignKind {
     Center,
     /// `| --- |`
     None,
+}
+
+impl fmt::Debug for AlignKind {
+    ghost use Rattle.std.specs.Prelude.{Some};
+    ghost use Rattle.markdown_events.specs.Alignments.{alignment_name};
+
+    ghost debug_output = { λ kind. Some (alignment_name kind) };
+
+    fn fmt<W: fmt::Write>(&self, f: &mut fmt::Formatter<W>) -> fmt::Result {
+        match self {
+            AlignKind::Left => write!(f, "Left"),
+            AlignKind::Right => write!(f, "Right"),
+            AlignKind::Center => write!(f, "Center"),
+            AlignKind::None => write!(f, "None"),
+        }
+    }
 }
 
 /// Whether the list that begins at this index is loose.

@@ -1,3 +1,12 @@
+mod ComparingLevels
+mod CopyingLevels
+mod Dropping
+mod Levels
+mod Items
+mod Quoting
+mod ReadingLevels
+mod Sizes
+mod WritingLevels
 pub mod Joining
 pub mod Views
 pub mod Reading

@@ -1,5 +1,5 @@
 -- What the nodes of the program are as trees: kind by kind, by their parts, and once a part is another.
-use Rattle.std.proofs.Common.{◌≡◌, Vec, Global, refl, sym, ap, ◌∙◌}
+use Rattle.std.proofs.Common.{◌≡◌, Vec, Global, Some, refl, sym, ap, ◌∙◌}
 use Rattle.std.specs.Prelude.{option_map, string_bytes}
 use denote.Hole.Carrier
 use Rattle.markdown_nodes.specs.declared.mdast.Node.{Node, Row_of-Node, end_of-Node, more_of-Node, items-the_row-Node, items_hidden-the_row-Node-0, items_shown-the_row-Node-0}
@@ -37,7 +37,7 @@ use Rattle.markdown_nodes.specs.declared.mdast.Definition.{Definition}
 use Rattle.markdown_nodes.specs.declared.mdast.Paragraph.{Paragraph}
 use Rattle.markdown_nodes.specs.Tree.{Trees, nothing, before, root, paragraph, blockquote, emphasis, strong, delete, table_row, table_cell, thematic_break, «break», text, html, inline_code, inline_math, yaml, toml, heading, list, list_item, table, code, math, link, image, link_reference, image_reference, footnote_reference, footnote_definition, definition}
 use Rattle.markdown_nodes.specs.View.{view, row_view, views}
-use Rattle.markdown_nodes.specs.Access.{tree_of}
+use Rattle.markdown_nodes.specs.Access.{children_of, nodes_in, tree_of, with_children}
 
 -- the nodes that a `Vec` holds, as trees
 row_view-is : {m : _} (row : Row_of-Node m) → row_view row ≡ views (items-the_row-Node m row)
@@ -200,3 +200,36 @@ view-is (nodes.TableCell' shape row position) = ap (λ (ts : Trees). record { la
 view-is (nodes.ListItem' shape row position spread checked) = ap (λ (ts : Trees). record { label = list_item spread checked; children = ts; position = position }) (row_view-is row ∙ ap views (sym (items_shown-the_row-Node-0 shape row)))
 view-is (nodes.Definition x) = refl
 view-is (nodes.Paragraph' shape row position) = ap (λ (ts : Trees). record { label = paragraph; children = ts; position = position }) (row_view-is row ∙ ap views (sym (items_shown-the_row-Node-0 shape row)))
+
+-- what is put into a parent is in it
+pub put : (node : Node) (old new : Vec Node Global) → children_of node ≡ Some old → nodes_in (with_children node new) ≡ new.items
+unfolding out-Node denote.Hole.Carrier.out
+put (nodes.Root' shape row position) old new is = items_shown-the_row-Node-0 _ (hidden-the_row-Node-0 new) ∙ items_hidden-the_row-Node-0 new
+put (nodes.Blockquote' shape row position) old new is = items_shown-the_row-Node-0 _ (hidden-the_row-Node-0 new) ∙ items_hidden-the_row-Node-0 new
+put (nodes.FootnoteDefinition' shape row position identifier label) old new is = items_shown-the_row-Node-0 _ (hidden-the_row-Node-0 new) ∙ items_hidden-the_row-Node-0 new
+put (nodes.List' shape row position ordered start spread) old new is = items_shown-the_row-Node-0 _ (hidden-the_row-Node-0 new) ∙ items_hidden-the_row-Node-0 new
+put (nodes.Toml x) old new is = cc
+put (nodes.Yaml x) old new is = cc
+put (nodes.Break x) old new is = cc
+put (nodes.InlineCode x) old new is = cc
+put (nodes.InlineMath x) old new is = cc
+put (nodes.Delete' shape row position) old new is = items_shown-the_row-Node-0 _ (hidden-the_row-Node-0 new) ∙ items_hidden-the_row-Node-0 new
+put (nodes.Emphasis' shape row position) old new is = items_shown-the_row-Node-0 _ (hidden-the_row-Node-0 new) ∙ items_hidden-the_row-Node-0 new
+put (nodes.FootnoteReference x) old new is = cc
+put (nodes.Html x) old new is = cc
+put (nodes.Image x) old new is = cc
+put (nodes.ImageReference x) old new is = cc
+put (nodes.Link' shape row position url title) old new is = items_shown-the_row-Node-0 _ (hidden-the_row-Node-0 new) ∙ items_hidden-the_row-Node-0 new
+put (nodes.LinkReference' shape row position reference_kind identifier label) old new is = items_shown-the_row-Node-0 _ (hidden-the_row-Node-0 new) ∙ items_hidden-the_row-Node-0 new
+put (nodes.Strong' shape row position) old new is = items_shown-the_row-Node-0 _ (hidden-the_row-Node-0 new) ∙ items_hidden-the_row-Node-0 new
+put (nodes.Text x) old new is = cc
+put (nodes.Code x) old new is = cc
+put (nodes.Math x) old new is = cc
+put (nodes.Heading' shape row position depth) old new is = items_shown-the_row-Node-0 _ (hidden-the_row-Node-0 new) ∙ items_hidden-the_row-Node-0 new
+put (nodes.Table' shape row position align) old new is = items_shown-the_row-Node-0 _ (hidden-the_row-Node-0 new) ∙ items_hidden-the_row-Node-0 new
+put (nodes.ThematicBreak x) old new is = cc
+put (nodes.TableRow' shape row position) old new is = items_shown-the_row-Node-0 _ (hidden-the_row-Node-0 new) ∙ items_hidden-the_row-Node-0 new
+put (nodes.TableCell' shape row position) old new is = items_shown-the_row-Node-0 _ (hidden-the_row-Node-0 new) ∙ items_hidden-the_row-Node-0 new
+put (nodes.ListItem' shape row position spread checked) old new is = items_shown-the_row-Node-0 _ (hidden-the_row-Node-0 new) ∙ items_hidden-the_row-Node-0 new
+put (nodes.Definition x) old new is = cc
+put (nodes.Paragraph' shape row position) old new is = items_shown-the_row-Node-0 _ (hidden-the_row-Node-0 new) ∙ items_hidden-the_row-Node-0 new

@@ -2,5 +2,8 @@ pub mod Tree
 pub mod View
 pub mod Access
 pub mod Lends
+pub mod ReferenceKinds
+pub mod Quoted
+pub mod Shown
 pub mod Equality
 pub mod EqualityLaws

@@ -3,22 +3,25 @@
 //! A `Node` is one of 29 kinds. Fifteen of them are parents and hold nodes; eight are literals and
 //! hold a value; six are neither. Each has a place in a document, or none where it was made by hand.
 
-ghost use Rattle.std.specs.Prelude.{◌≡◌, IfOk, option_map, string_bytes};
-ghost use Rattle.markdown_nodes.specs.Access.{children_of, position_of, with_position};
+ghost use Rattle.std.specs.Prelude.{◌≡◌, ◌<◌, [], IfOk, IsFalse, IsTrue, length, option_map, string_bytes};
+ghost use Rattle.markdown_nodes.specs.Access.{children_of, nodes_in, position_of, with_position};
 ghost use Rattle.markdown_nodes.specs.Tree.{only, plain_text};
 ghost use Rattle.markdown_nodes.specs.View.{view};
 
 mod comparing;
 mod copying;
+mod debug;
+mod escapes;
+mod quoted;
 mod reading;
 
 use crate::unist::Position;
 pub use markdown_events::infer::AlignKind;
 use std::alloc::{AllocError, Global};
-use std::fmt;
+use std::{fmt, mem};
 
 /// How a reference was written (mdast, reference type).
-#[derive(Clone, Copy, PartialEq, Eq, Debug)]
+#[derive(Clone, Copy, PartialEq, Eq)]
 pub enum ReferenceKind {
     /// `[a]`
     Shortcut,
@@ -28,12 +31,26 @@ pub enum ReferenceKind {
     Full,
 }
 
+impl fmt::Debug for ReferenceKind {
+    ghost use Rattle.std.specs.Prelude.{Some};
+    ghost use Rattle.markdown_nodes.specs.ReferenceKinds.{reference_kind_name};
+
+    ghost debug_output = { λ kind. Some (reference_kind_name kind) };
+
+    fn fmt<W: fmt::Write>(&self, f: &mut fmt::Formatter<W>) -> fmt::Result {
+        match self {
+            ReferenceKind::Shortcut => write!(f, "Shortcut"),
+            ReferenceKind::Collapsed => write!(f, "Collapsed"),
+            ReferenceKind::Full => write!(f, "Full"),
+        }
+    }
+}
+
 /// A node of the tree. Debug prints it as its struct.
 ///
 /// The text `a` with no place is `Node::Text(Text { value, position: None })` and is printed as
 /// `Text { value: "a", position: None }`.
 #[cycle(node)]
-#[derive(Drop)]
 pub enum Node {
     /// A whole document.
     Root(Root),
@@ -97,6 +114,8 @@ pub enum Node {
 
 impl Node {
     ghost use Rattle.std.specs.Borrow.{sem};
+    ghost use Rattle.std.specs.Prelude.{ℕ, Bool, Some};
+    ghost use Rattle.markdown_nodes.specs.Shown.{shown};
     ghost use Rattle.markdown_nodes.specs.Lends.{LendsChildren, LendsPosition};
 
     /// The nodes in a parent, in order, and `None` for a node that is no parent.
@@ -307,8 +326,24 @@ impl Node {
         ensures { IfOk result (λ text. string_bytes text ≡ plain_text (only (view self.now))) }
     {
         let mut text = String::new(alloc);
-        reading::add_text(self, &mut text)?;
+        reading::add_text(self, &mut text, alloc)?;
         Ok(text)
+    }
+
+    /// The text that `{:?}` writes, in a string of its own.
+    ///
+    /// It is that of a derived Debug, with each position as `Some(1:1-1:3 (0-2))`. Fails where memory
+    /// runs out, and else never.
+    pub fn to_debug_string(&self, alloc: Global) -> Result<String, AllocError>
+        ensures { IfOk result (λ text. (escapes : ℕ → Bool) × (string_bytes text ≡ shown escapes (view self.now))) }
+    {
+        let escapes = escapes::escapes_of(self, alloc)?;
+        let escaped = debug::Escaped {
+            node: self,
+            escapes: &escapes,
+            alloc,
+        };
+        format!(in alloc; "{escaped:?}")
     }
 
     /// A copy of the node with all that is in it, in memory of its own.
@@ -319,11 +354,200 @@ impl Node {
     {
         copying::copy(self, alloc)
     }
+
+    /// Exchanges the nodes in it for those of a level, where there are some.
+    fn swap_children(&mut self, level: &mut Vec<Node>) -> bool
+        ensures some { IsTrue result → (0 < length (nodes_in self.old)) × (level.new.items ≡ nodes_in self.old) × (nodes_in self.new ≡ level.old.items) }
+        ensures none { IsFalse result → (nodes_in self.old ≡ []) × (self.new ≡ self.old) × (level.new ≡ level.old) }
+    {
+        let Some(children) = self.children_mut() else {
+            return false;
+        };
+        if children.is_empty() {
+            return false;
+        }
+        mem::swap(children, level);
+        true
+    }
+
+    /// Frees a node with no nodes in it.
+    fn drop_childless(self)
+        requires { nodes_in self ≡ [] }
+    {
+        match self {
+            Node::Root(node) => {
+                let Root {
+                    children,
+                    position: _,
+                } = node;
+                children.destroy_empty();
+            }
+            Node::Blockquote(node) => {
+                let Blockquote {
+                    children,
+                    position: _,
+                } = node;
+                children.destroy_empty();
+            }
+            Node::FootnoteDefinition(node) => {
+                let FootnoteDefinition {
+                    children,
+                    position: _,
+                    identifier: _,
+                    label: _,
+                } = node;
+                children.destroy_empty();
+            }
+            Node::List(node) => {
+                let List {
+                    children,
+                    position: _,
+                    ordered: _,
+                    start: _,
+                    spread: _,
+                } = node;
+                children.destroy_empty();
+            }
+            Node::Toml(_) => {}
+            Node::Yaml(_) => {}
+            Node::Break(_) => {}
+            Node::InlineCode(_) => {}
+            Node::InlineMath(_) => {}
+            Node::Delete(node) => {
+                let Delete {
+                    children,
+                    position: _,
+                } = node;
+                children.destroy_empty();
+            }
+            Node::Emphasis(node) => {
+                let Emphasis {
+                    children,
+                    position: _,
+                } = node;
+                children.destroy_empty();
+            }
+            Node::FootnoteReference(_) => {}
+            Node::Html(_) => {}
+            Node::Image(_) => {}
+            Node::ImageReference(_) => {}
+            Node::Link(node) => {
+                let Link {
+                    children,
+                    position: _,
+                    url: _,
+                    title: _,
+                } = node;
+                children.destroy_empty();
+            }
+            Node::LinkReference(node) => {
+                let LinkReference {
+                    children,
+                    position: _,
+                    reference_kind: _,
+                    identifier: _,
+                    label: _,
+                } = node;
+                children.destroy_empty();
+            }
+            Node::Strong(node) => {
+                let Strong {
+                    children,
+                    position: _,
+                } = node;
+                children.destroy_empty();
+            }
+            Node::Text(_) => {}
+            Node::Code(_) => {}
+            Node::Math(_) => {}
+            Node::Heading(node) => {
+                let Heading {
+                    children,
+                    position: _,
+                    depth: _,
+                } = node;
+                children.destroy_empty();
+            }
+            Node::Table(node) => {
+                let Table {
+                    children,
+                    position: _,
+                    align: _,
+                } = node;
+                children.destroy_empty();
+            }
+            Node::ThematicBreak(_) => {}
+            Node::TableRow(node) => {
+                let TableRow {
+                    children,
+                    position: _,
+                } = node;
+                children.destroy_empty();
+            }
+            Node::TableCell(node) => {
+                let TableCell {
+                    children,
+                    position: _,
+                } = node;
+                children.destroy_empty();
+            }
+            Node::ListItem(node) => {
+                let ListItem {
+                    children,
+                    position: _,
+                    spread: _,
+                    checked: _,
+                } = node;
+                children.destroy_empty();
+            }
+            Node::Definition(_) => {}
+            Node::Paragraph(node) => {
+                let Paragraph {
+                    children,
+                    position: _,
+                } = node;
+                children.destroy_empty();
+            }
+        }
+    }
 }
 
+/// Frees a tree of any depth, in a loop and without memory: on the way down the nodes beside a node
+/// take the place of those in it, and it takes the place of the first of those.
+impl Drop for Node {
+    fn drop(self) {
+        let mut node = self;
+        let Some(children) = node.children() else {
+            node.drop_childless();
+            return;
+        };
+        let mut level = Vec::new(*children.allocator());
+        loop {
+            if node.swap_children(&mut level) {
+                mem::swap(&mut level[0], &mut node);
+            } else {
+                node.drop_childless();
+                let Some(next) = level.pop() else {
+                    level.destroy_empty();
+                    return;
+                };
+                node = next;
+                if level.is_empty() {
+                    node.swap_children(&mut level);
+                }
+            }
+        }
+    }
+}
+
+/// A plain `{:?}` makes no call for each level, and fails where there is no memory for its stack.
+/// `{:#?}`, and one with a sign, a width or a precision, is as derived, and makes one.
 impl fmt::Debug for Node {
     #[cycle(node)]
     fn fmt<W: fmt::Write>(&self, f: &mut fmt::Formatter<W>) -> fmt::Result {
+        if debug::is_plain(f) {
+            return debug::write_plain(self, f);
+        }
         match self {
             Node::Root(node) => write!(f, "{node:?}"),
             Node::Blockquote(node) => write!(f, "{node:?}"),

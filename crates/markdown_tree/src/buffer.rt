@@ -57,12 +57,13 @@ fn text_of(
     ensures bound { steps.new.count ≤ steps.old.count + node_count (views nodes.now) }
 {
     let mut text = String::new(alloc);
-    add_text(steps, form, nodes, &mut text)?;
+    add_text(alloc, steps, form, nodes, &mut text)?;
     Ok(text)
 }
 
 /// Puts what nodes read as after a text. After an error an unknown part of it stands there.
 fn add_text(
+    alloc: Global,
     steps: &mut Steps<'_>,
     form: Form,
     nodes: &[Node],
@@ -73,14 +74,25 @@ fn add_text(
     ensures count { OnOk result (steps.new.count ≡ steps.old.count + node_count (views nodes.now)) }
     ensures bound { steps.new.count ≤ steps.old.count + node_count (views nodes.now) }
 {
-    for node in nodes {
-        steps.tick();
-        text.push_str(own_text(form, node))?;
-        if let Some(children) = node.children() {
-            add_text(steps, form, children, text)?;
+    let mut levels: Vec<&[Node]> = Vec::new(alloc);
+    let mut level = nodes;
+    'walk: loop {
+        if let Some((first, rest)) = level.split_first() {
+            steps.tick();
+            text.push_str(own_text(form, first))?;
+            if let Some(children) = first.children() {
+                levels.push(rest)?;
+                level = children.as_slice();
+            } else {
+                level = rest;
+            }
+        } else {
+            let Some(rest) = levels.pop() else {
+                return Ok(());
+            };
+            level = rest;
         }
     }
-    Ok(())
 }
 
 /// What a node reads as itself: the value of a literal, in a label the alternative text of a

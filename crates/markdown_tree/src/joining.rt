@@ -85,23 +85,15 @@ pub fn append(nodes: &mut Vec<Node>, others: Vec<Node>) -> Result<(), AllocError
 fn put_first(nodes: &mut Vec<Node>, node: Node) -> Result<(), AllocError>
     ensures { OnOk result (views nodes.new.items ≡ join (views nodes.old.items) (only (view node))) }
 {
-    match node {
-        Node::Text(text) => put_made(nodes, text),
-        other => put(nodes, other),
-    }
-}
-
-/// Puts a text after the others: one that stands there goes on with it.
-fn put_made(nodes: &mut Vec<Node>, text: Text) -> Result<(), AllocError>
-    ensures { OnOk result (views nodes.new.items ≡ join (views nodes.old.items) (text_node text)) }
-{
-    if let Some(last) = nodes.last_mut() {
-        if let Node::Text(before) = last {
-            lengthen(before, &text)?;
-            return Ok(());
+    if let Node::Text(text) = &node {
+        if let Some(last) = nodes.last_mut() {
+            if let Node::Text(before) = last {
+                lengthen(before, text)?;
+                return Ok(());
+            }
         }
     }
-    nodes.push(Node::Text(text))?;
+    nodes.push(node)?;
     Ok(())
 }
 

@@ -1,5 +1,5 @@
 -- What a run says.
-use Rattle.std.specs.Prelude.{◌≡◌, ℕ, List, [], ◌++◌, Option, Some, None, IfSome, IsSomeAnd, codes, ⊤}
+use Rattle.std.specs.Prelude.{◌≡◌, ℕ, Bool, List, [], ◌++◌, Option, Some, None, IfSome, IsSomeAnd, codes, ⊤}
 use Rattle.std.specs.Fmt.{decimal}
 use Rattle.std.specs.Io.KnownBytes.{IsAtEnd}
 use Rattle.markdown_events.specs.declared.event.Event.{Event}
@@ -8,6 +8,9 @@ use Rattle.markdown_events.specs.declared.message.Place.{Place}
 use Rattle.markdown_events.specs.declared.message.Place.TheVariants as places
 use Rattle.markdown_events.specs.declared.unist.Point.{Point}
 use Rattle.markdown_events.specs.Places.{point_text}
+use Rattle.markdown_nodes.specs.Shown.{shown}
+use Rattle.markdown_nodes.specs.Tree.{Tree}
+use Rattle.markdown_nodes.specs.View.{view}
 use Rattle.markdown_grammar.specs.Correct.{IsMeaning, Refuses}
 use Rattle.markdown_grammar.specs.Document.{Source, source}
 use Rattle.mdast_show.specs.declared.run.Answer.{Answer}
@@ -50,13 +53,13 @@ place_text (Some point) = point_text point ++ codes ": "
 abbrev pub message_line : Message → List ℕ
 message_line m = place_text (point_of_place m.place) ++ m.reason.now ++ codes " (" ++ m.rule_id.now ++ codes ")\n"
 
--- a text ends with a line feed
-abbrev pub IsLine : List ℕ → Type 0
-IsLine text = (front : List ℕ) × (text ≡ front ++ codes "\n")
+-- a tree as Debug prints it, and a line feed; which characters beyond ASCII stand as their Unicode escape is left open
+abbrev pub IsTreeLine : Tree → List ℕ → Type 0
+IsTreeLine tree text = (escapes : ℕ → Bool) × (text ≡ shown escapes tree ++ codes "\n")
 
--- the line of an answer; how a tree is printed is left open
+-- the line of an answer
 abbrev pub Prints : Answer → List ℕ → Type 0
-Prints (answers.Tree tree) text = IsLine text
+Prints (answers.Tree tree) text = IsTreeLine (view tree) text
 Prints (answers.Refused message) text = text ≡ message_line message
 Prints (answers.UnreadLine number) text = text ≡ codes "mdast_show: event line " ++ decimal number ++ codes " cannot be read\n"
 Prints answers.UnreadEvents text = text ≡ codes "mdast_show: cannot read the events\n"

@@ -7,7 +7,9 @@ ghost use Rattle.markdown_events.specs.declared.message.Message.{Message};
 ghost use Rattle.markdown_grammar.specs.Correct.{IsMeaning, Refuses};
 ghost use Rattle.mdast_show.specs.Lines.{lines};
 ghost use Rattle.mdast_show.specs.Run;
-ghost use Rattle.mdast_show.specs.Run.{IsAnswer, IsCompiled, IsLine, Prints, status_of, over};
+ghost use Rattle.mdast_show.specs.Run.{IsAnswer, IsCompiled, IsTreeLine, Prints, status_of, over};
+ghost use Rattle.mdast_show.specs.declared.run.Answer.TheVariants as answers;
+ghost use Rattle.markdown_nodes.specs.View.{view};
 
 use crate::decoder::Decoder;
 use crate::input::{ReadError, read_all};
@@ -74,9 +76,9 @@ pub fn run<I: Read, O: Write>(alloc: Global, doc: &[u8], input: &mut I, output: 
     // The events were read to their end.
     ensures end { result ≤ 1 → IsAtEnd (I.remaining input.new) }
 
-    // They are events with a tree, and a text that ends with a line feed is written.
-    ensures tree { result ≡ 0 → IfSome (I.remaining input.old) (λ all. IsSomeAnd (lines all) (λ events. (tree : Node) × IsMeaning tree events (over doc.now))) }
-    ensures line { result ≡ 0 → (line : List ℕ) × IsLine line × Appends (O.contents output.old) (O.contents output.new) line }
+    // They are events with a tree, and what is written is the line of that tree.
+    ensures tree { result ≡ 0 → (tree : Node) × IfSome (I.remaining input.old) (λ all. IsSomeAnd (lines all) (λ events. IsMeaning tree events (over doc.now)))
+        × ((line : List ℕ) × IsTreeLine (view tree) line × Appends (O.contents output.old) (O.contents output.new) line) }
 
     // They are events without one, and a message of the compiler is written.
     ensures refused { result ≡ 1 → IfSome (I.remaining input.old) (λ all. IsSomeAnd (lines all) (λ events.
@@ -138,9 +140,9 @@ fn compiled(alloc: Global, events: &[Event], doc: &[u8]) -> Result<Answer, Alloc
 
 /// The tree as Debug prints it.
 fn tree_line(alloc: Global, tree: &Node) -> Result<String, AllocError>
-    ensures { IfOk result (λ line. IsLine (string_bytes line)) }
+    ensures { IfOk result (λ line. Prints (answers.Tree tree.now) (string_bytes line)) }
 {
-    let mut line = format!(in alloc; "{tree:?}")?;
+    let mut line = tree.to_debug_string(alloc)?;
     line.push_str("\n")?;
     Ok(line)
 }

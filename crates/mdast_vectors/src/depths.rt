@@ -5,6 +5,7 @@ use crate::outline::{spelled, spelled_to};
 use markdown_nodes::event::{Event, Name};
 use markdown_nodes::mdast::Node;
 use std::alloc::{AllocError, Global};
+use std::process::Abort;
 use std::test::Fail;
 
 /// As many lists, each the one child of the one item of the one before, and in the innermost item a
@@ -51,17 +52,45 @@ fn a_blank_line_in_the_innermost_of_nested_lists(rt: HostRuntime) -> Result<(), 
     Ok(())
 }
 
-/// So many of a name.
-fn many(alloc: Global, name: Name, count: usize) -> Result<Vec<Name>, AllocError> {
-    let mut names = Vec::new(alloc);
-    for _ in 0..count {
-        names.push(name)?;
-    }
-    Ok(names)
+/// How many levels the towers have.
+const LEVELS: usize = 100_000;
+
+/// Spans in one another, and what stands before and after the nodes in them where they are printed.
+#[derive(Clone, Copy)]
+struct Spans<'a> {
+    names: &'a [Name],
+    before: &'a str,
+    after: &'a str,
 }
 
-/// The events of spans of one byte, each in the one before.
-fn tower(alloc: Global, names: &[Name]) -> Result<Vec<Event>, AllocError> {
+/// A document of a byte.
+const ROOT: Spans<'static> = Spans {
+    names: &[],
+    before: "Root { children: [",
+    after: "], position: Some(1:1-1:2 (0-1)) }",
+};
+
+/// A paragraph of the text `a`.
+const PARAGRAPH: Spans<'static> = Spans {
+    names: &[Name::Paragraph, Name::Data],
+    before: "Paragraph { children: [Text { value: \"a\", position: Some(1:1-1:2 (0-1)) }",
+    after: "], position: Some(1:1-1:2 (0-1)) }",
+};
+
+/// The events of spans of one byte, each in the one before: outer ones, a hundred thousand levels,
+/// and inner ones.
+fn tower(
+    alloc: Global,
+    outer: Spans<'_>,
+    level: Spans<'_>,
+    inner: Spans<'_>,
+) -> Result<Vec<Event>, AllocError> {
+    let mut names = Vec::new(alloc);
+    names.extend_from_slice(outer.names)?;
+    for _ in 0..LEVELS {
+        names.extend_from_slice(level.names)?;
+    }
+    names.extend_from_slice(inner.names)?;
     let mut outline = Vec::new(alloc);
     for (depth, name) in names.iter().enumerate() {
         outline.push((depth, *name))?;
@@ -69,37 +98,96 @@ fn tower(alloc: Global, names: &[Name]) -> Result<Vec<Event>, AllocError> {
     spelled_to(alloc, outline.as_slice(), 1)
 }
 
-/// The tree of a byte in a thousand spans of a name, with spans around and in them.
-fn nested(alloc: Global, outer: &[Name], name: Name, inner: &[Name]) -> Result<Node, Fail> {
-    let mut names = Vec::new(alloc);
-    names.extend_from_slice(outer)?;
-    names.extend_from_slice(many(alloc, name, 1000)?.as_slice())?;
-    names.extend_from_slice(inner)?;
-    let events = tower(alloc, names.as_slice())?;
-    Ok(compiled(alloc, b"a", events.as_slice())?)
+/// How the tree of such events is printed.
+fn line(
+    alloc: Global,
+    outer: Spans<'_>,
+    level: Spans<'_>,
+    inner: Spans<'_>,
+) -> Result<String, AllocError> {
+    let mut line = String::from_str(alloc, outer.before)?;
+    line.push_str(level.before.repeat(alloc, LEVELS)?.as_str())?;
+    line.push_str(inner.before)?;
+    line.push_str(inner.after)?;
+    line.push_str(level.after.repeat(alloc, LEVELS)?.as_str())?;
+    line.push_str(outer.after)?;
+    Ok(line)
 }
 
-#[test]
-fn a_text_in_thousand_block_quotes(rt: HostRuntime) -> Result<(), Fail> {
-    let inner = [Name::Paragraph, Name::Data];
-    let tree = nested(rt.alloc(), &[], Name::BlockQuote, &inner)?;
-    assert_eq!(rt; tree.to_string(rt.alloc())?.as_str(), "a");
-    assert!(rt; tree.clone(rt.alloc())? == tree);
+/// A tower over the byte `a` is compiled, read, copied, compared, printed, and dropped. Its tree
+/// equals its copy, and not the tree over the byte `b`, which differs in the innermost spans alone.
+fn expect(
+    rt: &impl Abort,
+    alloc: Global,
+    outer: Spans<'_>,
+    level: Spans<'_>,
+    inner: Spans<'_>,
+    text: &str,
+) -> Result<(), Fail> {
+    let events = tower(alloc, outer, level, inner)?;
+    let tree = compiled(alloc, b"a", events.as_slice())?;
+    assert_eq!(rt; tree.to_string(alloc)?.as_str(), text);
+    let copy = tree.clone(alloc)?;
+    assert!(rt; copy == tree);
+    assert!(rt; copy != compiled(alloc, b"b", events.as_slice())?);
+    let line = line(alloc, outer, level, inner)?;
+    assert!(rt; format!(in alloc; "{copy:?}")? == line);
+    assert!(rt; copy.to_debug_string(alloc)? == line);
     Ok(())
 }
 
 #[test]
-fn a_text_in_thousand_emphases_of_a_label(rt: HostRuntime) -> Result<(), Fail> {
-    let outer = [Name::Image, Name::LabelText];
-    let tree = nested(rt.alloc(), &outer, Name::Emphasis, &[Name::Data])?;
-    assert_eq!(rt; alternative_text(&tree), Some("a"));
-    Ok(())
+fn a_text_in_a_hundred_thousand_block_quotes(rt: HostRuntime) -> Result<(), Fail> {
+    let quote = Spans {
+        names: &[Name::BlockQuote],
+        before: "Blockquote { children: [",
+        after: "], position: Some(1:1-1:2 (0-1)) }",
+    };
+    expect(&rt, rt.alloc(), ROOT, quote, PARAGRAPH, "a")
 }
 
-/// The alternative text of the image that a tree begins with.
-fn alternative_text(tree: &Node) -> Option<&str> {
-    match first_child(tree)? {
-        Node::ImageReference(image) => Some(image.alt.as_str()),
-        _ => None,
-    }
+#[test]
+fn a_text_in_a_hundred_thousand_lists(rt: HostRuntime) -> Result<(), Fail> {
+    let list = Spans {
+        names: &[Name::ListUnordered, Name::ListItem],
+        before: "List { children: [ListItem { children: [",
+        after: "], position: Some(1:1-1:2 (0-1)), spread: false, checked: None }], position: Some(1:1-1:2 (0-1)), ordered: false, start: None, spread: false }",
+    };
+    expect(&rt, rt.alloc(), ROOT, list, PARAGRAPH, "a")
+}
+
+#[test]
+fn a_text_in_a_hundred_thousand_emphases(rt: HostRuntime) -> Result<(), Fail> {
+    let emphasis = Spans {
+        names: &[Name::Emphasis],
+        before: "Emphasis { children: [",
+        after: "], position: Some(1:1-1:2 (0-1)) }",
+    };
+    let text = Spans {
+        names: &[Name::Data],
+        before: "Text { value: \"a\", position: Some(1:1-1:2 (0-1)) ",
+        after: "}",
+    };
+    expect(&rt, rt.alloc(), ROOT, emphasis, text, "a")
+}
+
+/// The label gives its text to the image, and no emphasis is left.
+#[test]
+fn a_text_in_a_hundred_thousand_emphases_of_a_label(rt: HostRuntime) -> Result<(), Fail> {
+    let image = Spans {
+        names: &[Name::Image, Name::LabelText],
+        before: "Root { children: [ImageReference { position: Some(1:1-1:2 (0-1)), ",
+        after: " }], position: Some(1:1-1:2 (0-1)) }",
+    };
+    let emphasis = Spans {
+        names: &[Name::Emphasis],
+        before: "",
+        after: "",
+    };
+    let text = Spans {
+        names: &[Name::Data],
+        before: "alt: \"a\", reference_kind: Shortcut, ",
+        after: "identifier: \"a\", label: Some(\"a\")",
+    };
+    expect(&rt, rt.alloc(), image, emphasis, text, "")
 }

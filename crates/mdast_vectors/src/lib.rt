@@ -16,6 +16,8 @@ mod cases;
 #[cfg(test)]
 mod counted;
 #[cfg(test)]
+mod debug_form;
+#[cfg(test)]
 mod decoder;
 #[cfg(test)]
 mod depths;

@@ -1,8 +1,8 @@
 //! What `compile` asks of memory.
 
 use crate::cases::compiled;
-use crate::outline::spelled;
-use markdown_nodes::event::Name;
+use crate::outline::{spelled, spelled_to};
+use markdown_nodes::event::{Event, Name};
 use markdown_nodes::mdast::Node;
 use markdown_nodes::message::Fault;
 use markdown_tree::to_mdast::{References, compile};
@@ -45,4 +45,39 @@ fn a_decoder_without_memory(rt: HostRuntime) -> Result<(), Fail> {
 fn no_events_ask_for_no_memory(rt: HostRuntime) {
     let answer = compiled(rt.alloc(), b"", &[]);
     assert!(rt; matches!(&answer, Ok(Node::Root(root)) if root.children.is_empty()));
+}
+
+/// The events of block quotes in one another, each of one byte, with three paragraphs before the
+/// quote in it and one after.
+fn wide_and_deep(alloc: Global, depth: usize) -> Result<Vec<Event>, AllocError> {
+    let mut outline = Vec::new(alloc);
+    for level in 0..depth {
+        for _ in 0..3 {
+            outline.push((level, Name::Paragraph))?;
+            outline.push((level.saturating_add(1), Name::Data))?;
+        }
+        outline.push((level, Name::BlockQuote))?;
+    }
+    for level in (0..depth).rev() {
+        outline.push((level, Name::Paragraph))?;
+        outline.push((level.saturating_add(1), Name::Emphasis))?;
+        outline.push((level.saturating_add(2), Name::Data))?;
+    }
+    spelled_to(alloc, outline.as_slice(), 1)
+}
+
+/// `scripts/release-memory` shows that all memory is given back, whichever request is refused.
+#[test]
+fn a_wide_and_deep_tree(rt: HostRuntime) -> Result<(), Fail> {
+    let alloc = rt.alloc();
+    let events = wide_and_deep(alloc, 20)?;
+    let tree = compiled(alloc, b"a", events.as_slice())?;
+    let copy = tree.clone(alloc)?;
+    assert!(rt; copy == tree);
+    assert_eq!(rt;
+        copy.to_string(alloc)?.as_str(),
+        "a".repeat(alloc, 80)?.as_str()
+    );
+    assert!(rt; format!(in alloc; "{copy:?}")? == tree.to_debug_string(alloc)?);
+    Ok(())
 }

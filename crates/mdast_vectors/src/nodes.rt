@@ -16,11 +16,12 @@ fn own(alloc: Global, text: &str) -> Result<String, AllocError> {
     String::from_str(alloc, text)
 }
 
-/// A node is printed so, and so is its copy, which equals it.
+/// A node's copy equals it, and is printed so, by Debug and as a text.
 fn printed(rt: &impl Abort, alloc: Global, node: &Node, want: &str) -> Result<(), Fail> {
     let copy = node.clone(alloc)?;
     assert!(rt; copy == *node, "{want}");
     assert_eq!(rt; format!(in alloc; "{copy:?}")?.as_str(), want);
+    assert_eq!(rt; copy.to_debug_string(alloc)?.as_str(), want);
     Ok(())
 }
 

@@ -24,6 +24,7 @@ use crate::mdast::{
     AlignKind, Code, Definition, FootnoteDefinition, FootnoteReference, Image, ImageReference,
     Link, LinkReference, List, ListItem, Math, Node,
 };
+use std::alloc::Global;
 
 /// Two nodes are equal where they are of one kind and all their fields are, positions included.
 impl PartialEq for Node {
@@ -35,7 +36,7 @@ impl PartialEq for Node {
         ensures answer { result ≡ same_tree (view self.now) (view other.now) }
         ensures equal { IsTrue result ↔ (view self.now ≡ view other.now) }
     {
-        same_node(self, other)
+        same_trees(self, other)
     }
 }
 
@@ -283,7 +284,7 @@ fn same_position(a: &Node, b: &Node) -> bool
 }
 
 /// The nodes in a node, and none in one that is no parent.
-fn nodes(node: &Node) -> &[Node]
+pub fn nodes(node: &Node) -> &[Node]
     ensures { result.now ≡ nodes_in node.now }
 {
     match node.children() {
@@ -320,4 +321,75 @@ fn same_node(a: &Node, b: &Node) -> bool
         return false;
     }
     same_nodes(nodes(a), nodes(b))
+}
+
+/// Two levels that are still to be compared.
+#[derive(Drop)]
+struct Pair<'a> {
+    xs: &'a [Node],
+    ys: &'a [Node],
+}
+
+/// Whether two nodes are the same.
+fn same_trees(a: &Node, b: &Node) -> bool
+    ensures { IsTrue result ↔ (view a.now ≡ view b.now) }
+{
+    if !same_label(a, b) {
+        return false;
+    }
+    if !same_position(a, b) {
+        return false;
+    }
+    match a.children() {
+        Some(children) => same_levels(children.as_slice(), nodes(b), *children.allocator()),
+        None => nodes(b).is_empty(),
+    }
+}
+
+/// Whether two lists of nodes are the same: by a stack of levels, and by calls where there is no
+/// memory for it.
+fn same_levels(xs: &[Node], ys: &[Node], alloc: Global) -> bool
+    ensures { IsTrue result ↔ (views xs.now ≡ views ys.now) }
+{
+    let mut pairs: Vec<Pair> = Vec::new(alloc);
+    let mut left = xs;
+    let mut right = ys;
+    'walk: loop {
+        if let Some((x, rest_x)) = left.split_first() {
+            let Some((y, rest_y)) = right.split_first() else {
+                return false;
+            };
+            if !same_label(x, y) {
+                return false;
+            }
+            if !same_position(x, y) {
+                return false;
+            }
+            match pairs.push(Pair {
+                xs: rest_x,
+                ys: rest_y,
+            }) {
+                Ok(()) => {
+                    left = nodes(x);
+                    right = nodes(y);
+                }
+                Err(_) => {
+                    if !same_nodes(nodes(x), nodes(y)) {
+                        return false;
+                    }
+                    left = rest_x;
+                    right = rest_y;
+                }
+            }
+        } else {
+            if !right.is_empty() {
+                return false;
+            }
+            let Some(pair) = pairs.pop() else {
+                return true;
+            };
+            left = pair.xs;
+            right = pair.ys;
+        }
+    }
 }

@@ -4,6 +4,7 @@ ghost use Rattle.std.specs.Prelude.{◌≡◌, IfOk, option_map, string_bytes};
 ghost use Rattle.markdown_nodes.specs.Access.{nodes_in};
 ghost use Rattle.markdown_nodes.specs.View.{view, views};
 
+use crate::mdast::comparing::nodes;
 use crate::mdast::{
     AlignKind, Blockquote, Break, Code, Definition, Delete, Emphasis, FootnoteDefinition,
     FootnoteReference, Heading, Html, Image, ImageReference, InlineCode, InlineMath, Link,
@@ -11,6 +12,14 @@ use crate::mdast::{
     Text, ThematicBreak, Toml, Yaml,
 };
 use std::alloc::{AllocError, Global};
+
+/// A parent, the copies of the first nodes in it, and the nodes after the one that is copied.
+#[derive(Drop)]
+struct Frame<'a> {
+    parent: &'a Node,
+    rest: &'a [Node],
+    copies: Vec<Node>,
+}
 
 /// A copy of a text that may be there.
 fn copy_text(text: &Option<String>) -> Result<Option<String>, AllocError>
@@ -182,15 +191,33 @@ fn remake(node: &Node, children: Vec<Node>) -> Result<Node, AllocError>
     }
 }
 
-/// A copy of a node with all that is in it. Each level of the tree takes one small frame.
+/// A copy of a node with all that is in it.
 pub fn copy(node: &Node, alloc: Global) -> Result<Node, AllocError>
     ensures { IfOk result (λ copy. view copy ≡ view node.now) }
 {
-    let mut children = Vec::new(alloc);
-    if let Some(nodes) = node.children() {
-        for child in nodes {
-            children.push(copy(child, alloc)?)?;
+    let mut frames: Vec<Frame> = Vec::new(alloc);
+    let mut parent = node;
+    let mut level = nodes(node);
+    let mut copies = Vec::new(alloc);
+    'walk: loop {
+        if let Some((first, rest)) = level.split_first() {
+            frames.push(Frame {
+                parent,
+                rest,
+                copies,
+            })?;
+            parent = first;
+            level = nodes(first);
+            copies = Vec::new(alloc);
+        } else {
+            let copy = remake(parent, copies)?;
+            let Some(frame) = frames.pop() else {
+                return Ok(copy);
+            };
+            parent = frame.parent;
+            level = frame.rest;
+            copies = frame.copies;
+            copies.push(copy)?;
         }
     }
-    remake(node, children)
 }

@@ -6,7 +6,8 @@ ghost use Rattle.markdown_nodes.specs.Tree.{only, plain_text, value_of};
 ghost use Rattle.markdown_nodes.specs.View.{view};
 
 use crate::mdast::Node;
-use std::alloc::AllocError;
+use crate::mdast::comparing::nodes;
+use std::alloc::{AllocError, Global};
 
 /// The value of a literal, and no characters for any other kind.
 fn value(node: &Node) -> &str
@@ -26,14 +27,22 @@ fn value(node: &Node) -> &str
 }
 
 /// Puts the plain text of a node after a text. After an error an unknown part of it stands there.
-pub fn add_text(node: &Node, text: &mut String) -> Result<(), AllocError>
+pub fn add_text(node: &Node, text: &mut String, alloc: Global) -> Result<(), AllocError>
     ensures { OnOk result (string_bytes text.new ≡ string_bytes text.old ++ plain_text (only (view node.now))) }
 {
     text.push_str(value(node))?;
-    if let Some(children) = node.children() {
-        for child in children {
-            add_text(child, text)?;
+    let mut levels: Vec<&[Node]> = Vec::new(alloc);
+    let mut level = nodes(node);
+    'walk: loop {
+        if let Some((first, rest)) = level.split_first() {
+            text.push_str(value(first))?;
+            levels.push(rest)?;
+            level = nodes(first);
+        } else {
+            let Some(rest) = levels.pop() else {
+                return Ok(());
+            };
+            level = rest;
         }
     }
-    Ok(())
 }

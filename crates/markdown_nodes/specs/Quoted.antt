@@ -1,0 +1,16 @@
+-- A text between quotes, as Debug writes it. Beyond ASCII a character stands as it is or as its Unicode escape, and std does not say which: `escapes` are those that stand as their escape.
+use Rattle.std.specs.Prelude.{ℕ, Bool, List, ◌++◌, codes, encode_utf8, chars, flat_map, if◌then◌else◌, false}
+use Rattle.std.specs.Char.{is_ascii}
+use Rattle.std.specs.Fmt.{debug_escape, digits}
+
+-- the code of a character in hexadecimal, as \u{7f}
+abbrev pub unicode_escape : ℕ → List ℕ
+unicode_escape c = codes "\\u{" ++ digits 16 false c ++ codes "}"
+
+-- what stands for a character between the quotes
+abbrev pub escaped : (ℕ → Bool) → ℕ → List ℕ
+escaped escapes c = if is_ascii c then debug_escape 34 c else (if escapes c then unicode_escape c else encode_utf8 c)
+
+-- a text
+abbrev pub quoted : (ℕ → Bool) → List ℕ → List ℕ
+quoted escapes text = codes "\"" ++ flat_map (escaped escapes) (chars text) ++ codes "\""

@@ -1,0 +1,116 @@
+-- The text that Debug writes of a tree, which is that of a derived Debug. `escapes` are the characters beyond ASCII that stand as their Unicode escape.
+use Rattle.std.specs.Prelude.{ℕ, Bool, List, [], ◌∷◌, ◌++◌, Option, Some, None, if◌then◌else◌, codes}
+use Rattle.std.specs.Fmt.{comma_space, decimal}
+use Rattle.markdown_events.specs.declared.unist.Position.{Position}
+use Rattle.markdown_events.specs.Alignments.{alignment_name}
+use Rattle.markdown_events.specs.Places.{position_text}
+use Rattle.markdown_nodes.specs.Quoted.{quoted}
+use Rattle.markdown_nodes.specs.declared.mdast.ReferenceKind.{ReferenceKind}
+use Rattle.markdown_nodes.specs.ReferenceKinds.{reference_kind_name}
+use Rattle.markdown_nodes.specs.Tree.{Label, Tree, Trees, nothing, node, root, paragraph, blockquote, emphasis, strong, delete, table_row, table_cell, thematic_break, «break», text, html, inline_code, inline_math, yaml, toml, heading, list, list_item, table, code, math, link, image, link_reference, image_reference, footnote_reference, footnote_definition, definition}
+
+-- true or false
+abbrev pub bool_text : Bool → List ℕ
+bool_text value = if value then codes "true" else codes "false"
+
+-- None, or Some and the text of the value
+abbrev pub option_text : {X : Type 0} → (X → List ℕ) → Option X → List ℕ
+option_text value_text None = codes "None"
+option_text value_text (Some value) = codes "Some(" ++ value_text value ++ codes ")"
+
+-- the texts of values, the first after `lead` and each other one after a comma
+abbrev pub items_text : {X : Type 0} → (X → List ℕ) → List ℕ → List X → List ℕ
+items_text item_text lead [] = []
+items_text item_text lead (item ∷ items) = lead ++ item_text item ++ items_text item_text comma_space items
+
+-- what stands before the children, the value or the position
+abbrev pub opening : Label → List ℕ
+opening root = codes "Root { children: ["
+opening blockquote = codes "Blockquote { children: ["
+opening (footnote_definition _ _) = codes "FootnoteDefinition { children: ["
+opening (list _ _ _) = codes "List { children: ["
+opening (toml _) = codes "Toml { value: "
+opening (yaml _) = codes "Yaml { value: "
+opening «break» = codes "Break { position: "
+opening (inline_code _) = codes "InlineCode { value: "
+opening (inline_math _) = codes "InlineMath { value: "
+opening delete = codes "Delete { children: ["
+opening emphasis = codes "Emphasis { children: ["
+opening (footnote_reference _ _) = codes "FootnoteReference { position: "
+opening (html _) = codes "Html { value: "
+opening (image _ _ _) = codes "Image { position: "
+opening (image_reference _ _ _ _) = codes "ImageReference { position: "
+opening (link _ _) = codes "Link { children: ["
+opening (link_reference _ _ _) = codes "LinkReference { children: ["
+opening strong = codes "Strong { children: ["
+opening (text _) = codes "Text { value: "
+opening (code _ _ _) = codes "Code { value: "
+opening (math _ _) = codes "Math { value: "
+opening (heading _) = codes "Heading { children: ["
+opening (table _) = codes "Table { children: ["
+opening thematic_break = codes "ThematicBreak { position: "
+opening table_row = codes "TableRow { children: ["
+opening table_cell = codes "TableCell { children: ["
+opening (list_item _ _) = codes "ListItem { children: ["
+opening (definition _ _ _ _) = codes "Definition { position: "
+opening paragraph = codes "Paragraph { children: ["
+
+-- the value of a literal, or the end of the children of a parent
+abbrev pub content_end : (ℕ → Bool) → Label → List ℕ
+content_end escapes (text value) = quoted escapes value ++ codes ", position: "
+content_end escapes (html value) = quoted escapes value ++ codes ", position: "
+content_end escapes (inline_code value) = quoted escapes value ++ codes ", position: "
+content_end escapes (inline_math value) = quoted escapes value ++ codes ", position: "
+content_end escapes (yaml value) = quoted escapes value ++ codes ", position: "
+content_end escapes (toml value) = quoted escapes value ++ codes ", position: "
+content_end escapes (code value _ _) = quoted escapes value ++ codes ", position: "
+content_end escapes (math value _) = quoted escapes value ++ codes ", position: "
+content_end escapes «break» = []
+content_end escapes thematic_break = []
+content_end escapes (footnote_reference _ _) = []
+content_end escapes (image _ _ _) = []
+content_end escapes (image_reference _ _ _ _) = []
+content_end escapes (definition _ _ _ _) = []
+content_end escapes _ = codes "], position: "
+
+-- the fields of a resource
+abbrev pub resource : (ℕ → Bool) → List ℕ → Option (List ℕ) → List ℕ
+resource escapes url title = codes ", url: " ++ quoted escapes url ++ codes ", title: " ++ option_text (quoted escapes) title
+
+-- the fields of an association
+abbrev pub association : (ℕ → Bool) → List ℕ → Option (List ℕ) → List ℕ
+association escapes identifier label = codes ", identifier: " ++ quoted escapes identifier ++ codes ", label: " ++ option_text (quoted escapes) label
+
+-- the fields of a reference
+abbrev pub reference : (ℕ → Bool) → ReferenceKind → List ℕ → Option (List ℕ) → List ℕ
+reference escapes kind identifier label = codes ", reference_kind: " ++ reference_kind_name kind ++ association escapes identifier label
+
+-- the fields after the position
+abbrev pub fields : (ℕ → Bool) → Label → List ℕ
+fields escapes (heading depth) = codes ", depth: " ++ decimal depth
+fields escapes (list ordered start spread) = codes ", ordered: " ++ bool_text ordered ++ codes ", start: " ++ option_text decimal start ++ codes ", spread: " ++ bool_text spread
+fields escapes (list_item spread checked) = codes ", spread: " ++ bool_text spread ++ codes ", checked: " ++ option_text bool_text checked
+fields escapes (table align) = codes ", align: [" ++ items_text alignment_name [] align ++ codes "]"
+fields escapes (code _ lang meta) = codes ", lang: " ++ option_text (quoted escapes) lang ++ codes ", meta: " ++ option_text (quoted escapes) meta
+fields escapes (math _ meta) = codes ", meta: " ++ option_text (quoted escapes) meta
+fields escapes (link url title) = resource escapes url title
+fields escapes (image alt url title) = codes ", alt: " ++ quoted escapes alt ++ resource escapes url title
+fields escapes (link_reference kind identifier label) = reference escapes kind identifier label
+fields escapes (image_reference alt kind identifier label) = codes ", alt: " ++ quoted escapes alt ++ reference escapes kind identifier label
+fields escapes (footnote_reference identifier label) = association escapes identifier label
+fields escapes (footnote_definition identifier label) = association escapes identifier label
+fields escapes (definition url title identifier label) = resource escapes url title ++ association escapes identifier label
+fields escapes _ = []
+
+-- what stands after the children
+abbrev pub closing : (ℕ → Bool) → Label → Option Position → List ℕ
+closing escapes label position = content_end escapes label ++ option_text position_text position ++ fields escapes label ++ codes " }"
+
+-- nodes in order, the first after `lead` and each other one after a comma
+abbrev pub nodes_text : (ℕ → Bool) → List ℕ → Trees → List ℕ
+nodes_text escapes lead nothing = []
+nodes_text escapes lead (node label children position rest) = lead ++ opening label ++ nodes_text escapes [] children ++ closing escapes label position ++ nodes_text escapes comma_space rest
+
+-- one node
+abbrev pub shown : (ℕ → Bool) → Tree → List ℕ
+shown escapes tree = opening tree.label ++ nodes_text escapes [] tree.children ++ closing escapes tree.label tree.position

@@ -1,0 +1,445 @@
+//! The text that `{:?}` writes of a node: that of a derived Debug, with no call for each level.
+
+ghost use Rattle.std.specs.BTreeSet.{contains};
+ghost use Rattle.std.specs.Fmt.{IsPlainFormatter, WritesOnOk, decimal};
+ghost use Rattle.std.specs.Ordering.{nat_cmp};
+ghost use Rattle.std.specs.Prelude.{◌≡◌, ◌⊎◌, ◌++◌, ℕ, Bool, [], Some, IsNone, codes, if◌then◌else◌, option_map, string_bytes, true};
+ghost use Rattle.markdown_events.specs.Alignments.{alignment_name};
+ghost use Rattle.markdown_events.specs.Places.{position_text};
+ghost use Rattle.markdown_nodes.specs.Access.{label_of, nodes_in, position_of};
+ghost use Rattle.markdown_nodes.specs.Quoted.{quoted};
+ghost use Rattle.markdown_nodes.specs.Shown.{
+  bool_text,
+  closing,
+  content_end,
+  fields,
+  items_text,
+  association,
+  opening,
+  option_text,
+  reference,
+  resource,
+  shown,
+};
+ghost use Rattle.markdown_nodes.specs.Tree.{«break», thematic_break};
+ghost use Rattle.markdown_nodes.specs.View.{view};
+
+use crate::mdast::comparing::nodes;
+use crate::mdast::escapes::escapes_of;
+use crate::mdast::quoted::write_quoted;
+use crate::mdast::{AlignKind, List, ListItem, Node, ReferenceKind};
+use std::alloc::Global;
+use std::collections::BTreeSet;
+use std::fmt;
+
+/// A node, with the characters beyond ASCII that stand as their Unicode escape in its text.
+#[derive(Drop)]
+pub struct Escaped<'a> {
+    pub node: &'a Node,
+    pub escapes: &'a BTreeSet<char>,
+    pub alloc: Global,
+}
+
+impl fmt::Debug for Escaped<'_> {
+    ghost debug_output = { λ whole. Some (shown (contains nat_cmp whole.escapes.now) (view whole.node.now)) };
+
+    fn fmt<W: fmt::Write>(&self, f: &mut fmt::Formatter<W>) -> fmt::Result {
+        write_tree(self.node, self.escapes, f, self.alloc)
+    }
+}
+
+/// A parent, and the nodes in it that are still to be written.
+#[derive(Drop)]
+struct Frame<'a> {
+    parent: &'a Node,
+    rest: &'a [Node],
+}
+
+/// Whether a formatter is that of a plain `{:?}`.
+pub fn is_plain<W: fmt::Write>(f: &fmt::Formatter<W>) -> bool
+    ensures { IsPlainFormatter f.now → result ≡ true }
+{
+    !f.alternate() && !f.sign_plus() && f.width().is_none() && f.precision().is_none()
+}
+
+/// Writes what a plain `{:?}` writes. It fails where there is no memory for it.
+pub fn write_plain<W: fmt::Write>(node: &Node, f: &mut fmt::Formatter<W>) -> fmt::Result
+    ensures { (escapes : ℕ → Bool) × WritesOnOk W.write_str_gives f.old result (shown escapes (view node.now)) f.new }
+{
+    let Some(alloc) = allocator(node) else {
+        return write_break(node, f);
+    };
+    let Ok(escapes) = escapes_of(node, alloc) else {
+        return Err(fmt::Error);
+    };
+    write_tree(node, &escapes, f, alloc)
+}
+
+/// The allocator of a list or a text of a node. A break and a thematic break have neither.
+fn allocator(node: &Node) -> Option<Global>
+    ensures bare { IsNone result → nodes_in node.now ≡ [] }
+    ensures kind { IsNone result → (label_of node.now ≡ «break») ⊎ (label_of node.now ≡ thematic_break) }
+{
+    match node {
+        Node::Root(node) => Some(*node.children.allocator()),
+        Node::Blockquote(node) => Some(*node.children.allocator()),
+        Node::FootnoteDefinition(node) => Some(*node.children.allocator()),
+        Node::List(node) => Some(*node.children.allocator()),
+        Node::Toml(node) => Some(*node.value.allocator()),
+        Node::Yaml(node) => Some(*node.value.allocator()),
+        Node::Break(_) => None,
+        Node::InlineCode(node) => Some(*node.value.allocator()),
+        Node::InlineMath(node) => Some(*node.value.allocator()),
+        Node::Delete(node) => Some(*node.children.allocator()),
+        Node::Emphasis(node) => Some(*node.children.allocator()),
+        Node::FootnoteReference(node) => Some(*node.identifier.allocator()),
+        Node::Html(node) => Some(*node.value.allocator()),
+        Node::Image(node) => Some(*node.alt.allocator()),
+        Node::ImageReference(node) => Some(*node.alt.allocator()),
+        Node::Link(node) => Some(*node.children.allocator()),
+        Node::LinkReference(node) => Some(*node.children.allocator()),
+        Node::Strong(node) => Some(*node.children.allocator()),
+        Node::Text(node) => Some(*node.value.allocator()),
+        Node::Code(node) => Some(*node.value.allocator()),
+        Node::Math(node) => Some(*node.value.allocator()),
+        Node::Heading(node) => Some(*node.children.allocator()),
+        Node::Table(node) => Some(*node.children.allocator()),
+        Node::ThematicBreak(_) => None,
+        Node::TableRow(node) => Some(*node.children.allocator()),
+        Node::TableCell(node) => Some(*node.children.allocator()),
+        Node::ListItem(node) => Some(*node.children.allocator()),
+        Node::Definition(node) => Some(*node.url.allocator()),
+        Node::Paragraph(node) => Some(*node.children.allocator()),
+    }
+}
+
+/// Writes a break or a thematic break, which have a position alone.
+fn write_break<W: fmt::Write>(node: &Node, f: &mut fmt::Formatter<W>) -> fmt::Result
+    ensures { WritesOnOk W.write_str_gives f.old result (opening (label_of node.now) ++ option_text position_text (position_of node.now) ++ codes " }") f.new }
+{
+    begin(node, false, f)?;
+    write_position(node, f)?;
+    f.write_str(" }")
+}
+
+/// Writes a node with all that is in it. It fails where there is no memory for the stack.
+pub fn write_tree<W: fmt::Write>(
+    node: &Node,
+    escapes: &BTreeSet<char>,
+    f: &mut fmt::Formatter<W>,
+    alloc: Global,
+) -> fmt::Result
+    ensures { WritesOnOk W.write_str_gives f.old result (shown (contains nat_cmp escapes.now) (view node.now)) f.new }
+{
+    let mut frames: Vec<Frame> = Vec::new(alloc);
+    begin(node, false, f)?;
+    let mut parent = node;
+    let mut level = nodes(node);
+    let mut later = false;
+    'walk: loop {
+        if let Some((first, rest)) = level.split_first() {
+            begin(first, later, f)?;
+            let Ok(()) = frames.push(Frame { parent, rest }) else {
+                return Err(fmt::Error);
+            };
+            parent = first;
+            level = nodes(first);
+            later = false;
+        } else {
+            close(parent, escapes, f)?;
+            let Some(frame) = frames.pop() else {
+                return Ok(());
+            };
+            parent = frame.parent;
+            level = frame.rest;
+            later = true;
+        }
+    }
+}
+
+/// Writes what stands before the children of a node, after a comma where it is a later one.
+fn begin<W: fmt::Write>(node: &Node, later: bool, f: &mut fmt::Formatter<W>) -> fmt::Result
+    ensures { WritesOnOk W.write_str_gives f.old result ((if later then codes ", " else []) ++ opening (label_of node.now)) f.new }
+{
+    if later {
+        f.write_str(", ")?;
+    }
+    f.write_str(opening(node))
+}
+
+/// Writes what stands after the children of a node.
+fn close<W: fmt::Write>(
+    node: &Node,
+    escapes: &BTreeSet<char>,
+    f: &mut fmt::Formatter<W>,
+) -> fmt::Result
+    ensures { WritesOnOk W.write_str_gives f.old result (closing (contains nat_cmp escapes.now) (label_of node.now) (position_of node.now)) f.new }
+{
+    write_content_end(node, escapes, f)?;
+    write_position(node, f)?;
+    write_fields(node, escapes, f)?;
+    f.write_str(" }")
+}
+
+/// What stands before the children, the value or the position of a node.
+fn opening(node: &Node) -> &'static str
+    ensures { result.now ≡ opening (label_of node.now) }
+{
+    match node {
+        Node::Root(_) => "Root { children: [",
+        Node::Blockquote(_) => "Blockquote { children: [",
+        Node::FootnoteDefinition(_) => "FootnoteDefinition { children: [",
+        Node::List(_) => "List { children: [",
+        Node::Toml(_) => "Toml { value: ",
+        Node::Yaml(_) => "Yaml { value: ",
+        Node::Break(_) => "Break { position: ",
+        Node::InlineCode(_) => "InlineCode { value: ",
+        Node::InlineMath(_) => "InlineMath { value: ",
+        Node::Delete(_) => "Delete { children: [",
+        Node::Emphasis(_) => "Emphasis { children: [",
+        Node::FootnoteReference(_) => "FootnoteReference { position: ",
+        Node::Html(_) => "Html { value: ",
+        Node::Image(_) => "Image { position: ",
+        Node::ImageReference(_) => "ImageReference { position: ",
+        Node::Link(_) => "Link { children: [",
+        Node::LinkReference(_) => "LinkReference { children: [",
+        Node::Strong(_) => "Strong { children: [",
+        Node::Text(_) => "Text { value: ",
+        Node::Code(_) => "Code { value: ",
+        Node::Math(_) => "Math { value: ",
+        Node::Heading(_) => "Heading { children: [",
+        Node::Table(_) => "Table { children: [",
+        Node::ThematicBreak(_) => "ThematicBreak { position: ",
+        Node::TableRow(_) => "TableRow { children: [",
+        Node::TableCell(_) => "TableCell { children: [",
+        Node::ListItem(_) => "ListItem { children: [",
+        Node::Definition(_) => "Definition { position: ",
+        Node::Paragraph(_) => "Paragraph { children: [",
+    }
+}
+
+/// Writes the value of a literal, or the end of the children of a parent.
+fn write_content_end<W: fmt::Write>(
+    node: &Node,
+    escapes: &BTreeSet<char>,
+    f: &mut fmt::Formatter<W>,
+) -> fmt::Result
+    ensures { WritesOnOk W.write_str_gives f.old result (content_end (contains nat_cmp escapes.now) (label_of node.now)) f.new }
+{
+    match node {
+        Node::Text(node) => write_value(&node.value, escapes, f),
+        Node::Html(node) => write_value(&node.value, escapes, f),
+        Node::InlineCode(node) => write_value(&node.value, escapes, f),
+        Node::InlineMath(node) => write_value(&node.value, escapes, f),
+        Node::Yaml(node) => write_value(&node.value, escapes, f),
+        Node::Toml(node) => write_value(&node.value, escapes, f),
+        Node::Code(node) => write_value(&node.value, escapes, f),
+        Node::Math(node) => write_value(&node.value, escapes, f),
+        Node::Break(_) => Ok(()),
+        Node::ThematicBreak(_) => Ok(()),
+        Node::FootnoteReference(_) => Ok(()),
+        Node::Image(_) => Ok(()),
+        Node::ImageReference(_) => Ok(()),
+        Node::Definition(_) => Ok(()),
+        _ => f.write_str("], position: "),
+    }
+}
+
+/// Writes the value of a literal, up to its position.
+fn write_value<W: fmt::Write>(
+    value: &String,
+    escapes: &BTreeSet<char>,
+    f: &mut fmt::Formatter<W>,
+) -> fmt::Result
+    ensures { WritesOnOk W.write_str_gives f.old result (quoted (contains nat_cmp escapes.now) (string_bytes value.now) ++ codes ", position: ") f.new }
+{
+    write_quoted(value.as_str(), escapes, f)?;
+    f.write_str(", position: ")
+}
+
+/// Writes the position of a node, or that there is none.
+fn write_position<W: fmt::Write>(node: &Node, f: &mut fmt::Formatter<W>) -> fmt::Result
+    ensures { WritesOnOk W.write_str_gives f.old result (option_text position_text (position_of node.now)) f.new }
+{
+    match node.position() {
+        Some(position) => write!(f, "Some({position:?})"),
+        None => f.write_str("None"),
+    }
+}
+
+/// Writes the fields of a node after its position.
+fn write_fields<W: fmt::Write>(
+    node: &Node,
+    escapes: &BTreeSet<char>,
+    f: &mut fmt::Formatter<W>,
+) -> fmt::Result
+    ensures { WritesOnOk W.write_str_gives f.old result (fields (contains nat_cmp escapes.now) (label_of node.now)) f.new }
+{
+    match node {
+        Node::Heading(node) => {
+            let depth = node.depth;
+            write!(f, ", depth: {depth}")
+        }
+        Node::List(node) => write_list_fields(node, f),
+        Node::ListItem(node) => write_item_fields(node, f),
+        Node::Table(node) => write_align(&node.align, f),
+        Node::Code(node) => {
+            write_option(", lang: ", &node.lang, escapes, f)?;
+            write_option(", meta: ", &node.meta, escapes, f)
+        }
+        Node::Math(node) => write_option(", meta: ", &node.meta, escapes, f),
+        Node::Link(node) => write_resource(&node.url, &node.title, escapes, f),
+        Node::Image(node) => {
+            write_text(", alt: ", &node.alt, escapes, f)?;
+            write_resource(&node.url, &node.title, escapes, f)
+        }
+        Node::LinkReference(node) => {
+            write_reference(
+                node.reference_kind,
+                &node.identifier,
+                &node.label,
+                escapes,
+                f,
+            )
+        }
+        Node::ImageReference(node) => {
+            write_text(", alt: ", &node.alt, escapes, f)?;
+            write_reference(
+                node.reference_kind,
+                &node.identifier,
+                &node.label,
+                escapes,
+                f,
+            )
+        }
+        Node::FootnoteReference(node) => {
+            write_association(&node.identifier, &node.label, escapes, f)
+        }
+        Node::FootnoteDefinition(node) => {
+            write_association(&node.identifier, &node.label, escapes, f)
+        }
+        Node::Definition(node) => {
+            write_resource(&node.url, &node.title, escapes, f)?;
+            write_association(&node.identifier, &node.label, escapes, f)
+        }
+        _ => Ok(()),
+    }
+}
+
+/// Writes a field that is a text. Its name stands between a comma and a colon.
+fn write_text<W: fmt::Write>(
+    name: &str,
+    text: &String,
+    escapes: &BTreeSet<char>,
+    f: &mut fmt::Formatter<W>,
+) -> fmt::Result
+    ensures { WritesOnOk W.write_str_gives f.old result (name.now ++ quoted (contains nat_cmp escapes.now) (string_bytes text.now)) f.new }
+{
+    f.write_str(name)?;
+    write_quoted(text.as_str(), escapes, f)
+}
+
+/// Writes a field that is a text or none. Its name stands between a comma and a colon.
+fn write_option<W: fmt::Write>(
+    name: &str,
+    text: &Option<String>,
+    escapes: &BTreeSet<char>,
+    f: &mut fmt::Formatter<W>,
+) -> fmt::Result
+    ensures { WritesOnOk W.write_str_gives f.old result (name.now ++ option_text (quoted (contains nat_cmp escapes.now)) (option_map string_bytes text.now)) f.new }
+{
+    f.write_str(name)?;
+    match text {
+        Some(text) => {
+            f.write_str("Some(")?;
+            write_quoted(text.as_str(), escapes, f)?;
+            f.write_str(")")
+        }
+        None => f.write_str("None"),
+    }
+}
+
+/// Writes the fields of a resource.
+fn write_resource<W: fmt::Write>(
+    url: &String,
+    title: &Option<String>,
+    escapes: &BTreeSet<char>,
+    f: &mut fmt::Formatter<W>,
+) -> fmt::Result
+    ensures { WritesOnOk W.write_str_gives f.old result (resource (contains nat_cmp escapes.now) (string_bytes url.now) (option_map string_bytes title.now)) f.new }
+{
+    write_text(", url: ", url, escapes, f)?;
+    write_option(", title: ", title, escapes, f)
+}
+
+/// Writes the fields of an association.
+fn write_association<W: fmt::Write>(
+    identifier: &String,
+    label: &Option<String>,
+    escapes: &BTreeSet<char>,
+    f: &mut fmt::Formatter<W>,
+) -> fmt::Result
+    ensures { WritesOnOk W.write_str_gives f.old result (association (contains nat_cmp escapes.now) (string_bytes identifier.now) (option_map string_bytes label.now)) f.new }
+{
+    write_text(", identifier: ", identifier, escapes, f)?;
+    write_option(", label: ", label, escapes, f)
+}
+
+/// Writes the fields of a reference.
+fn write_reference<W: fmt::Write>(
+    kind: ReferenceKind,
+    identifier: &String,
+    label: &Option<String>,
+    escapes: &BTreeSet<char>,
+    f: &mut fmt::Formatter<W>,
+) -> fmt::Result
+    ensures { WritesOnOk W.write_str_gives f.old result (reference (contains nat_cmp escapes.now) kind (string_bytes identifier.now) (option_map string_bytes label.now)) f.new }
+{
+    write!(f, ", reference_kind: {kind:?}")?;
+    write_association(identifier, label, escapes, f)
+}
+
+/// Writes the fields of a list.
+fn write_list_fields<W: fmt::Write>(node: &List, f: &mut fmt::Formatter<W>) -> fmt::Result
+    ensures { WritesOnOk W.write_str_gives f.old result (codes ", ordered: " ++ bool_text node.now.ordered ++ codes ", start: " ++ option_text decimal node.now.start ++ codes ", spread: " ++ bool_text node.now.spread) f.new }
+{
+    write_flag(", ordered: ", node.ordered, f)?;
+    write_start(node.start, f)?;
+    write_flag(", spread: ", node.spread, f)
+}
+
+/// Writes the number that a list begins with, or that there is none.
+fn write_start<W: fmt::Write>(start: Option<u32>, f: &mut fmt::Formatter<W>) -> fmt::Result
+    ensures { WritesOnOk W.write_str_gives f.old result (codes ", start: " ++ option_text decimal start) f.new }
+{
+    match start {
+        Some(start) => write!(f, ", start: Some({start})"),
+        None => f.write_str(", start: None"),
+    }
+}
+
+/// Writes a field that is true or false. Its name stands between a comma and a colon.
+fn write_flag<W: fmt::Write>(name: &str, flag: bool, f: &mut fmt::Formatter<W>) -> fmt::Result
+    ensures { WritesOnOk W.write_str_gives f.old result (name.now ++ bool_text flag) f.new }
+{
+    f.write_str(name)?;
+    f.write_str(if flag { "true" } else { "false" })
+}
+
+/// Writes the fields of a list item.
+fn write_item_fields<W: fmt::Write>(node: &ListItem, f: &mut fmt::Formatter<W>) -> fmt::Result
+    ensures { WritesOnOk W.write_str_gives f.old result (codes ", spread: " ++ bool_text node.now.spread ++ codes ", checked: " ++ option_text bool_text node.now.checked) f.new }
+{
+    let spread = node.spread;
+    match node.checked {
+        Some(checked) => write!(f, ", spread: {spread}, checked: Some({checked})"),
+        None => write!(f, ", spread: {spread}, checked: None"),
+    }
+}
+
+/// Writes how the columns of a table are aligned.
+fn write_align<W: fmt::Write>(align: &Vec<AlignKind>, f: &mut fmt::Formatter<W>) -> fmt::Result
+    ensures { WritesOnOk W.write_str_gives f.old result (codes ", align: [" ++ items_text alignment_name [] align.now.items ++ codes "]") f.new }
+{
+    write!(f, ", align: {align:?}")
+}
