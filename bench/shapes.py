@@ -156,7 +156,7 @@ def link_reference(writer, text, name):
 
 
 def character_escape(writer):
-    """An asterisk behind a backslash."""
+    """An asterisk after a backslash."""
     writer.enter("CharacterEscape")
     writer.span("CharacterEscapeMarker", "\\")
     writer.span("CharacterEscapeValue", "*")
@@ -463,17 +463,26 @@ def label_tower(name):
     return tower
 
 
-def emphasis_tower(writer, depth):
-    """Emphasis in emphasis, all in the label of one link, whose text is read from it."""
-    writer.enter("Link", "LabelText")
-    writer.enter(*["Emphasis"] * depth)
-    writer.span("Data", "a")
-    writer.exit(*["Emphasis"] * depth)
-    writer.exit("LabelText", "Link")
+def nest(outer, level, inner):
+    """A tower of spans of one byte, by their names: outer ones, levels with nothing else in them, and inner ones."""
+
+    def tower(writer, depth):
+        names = [*outer, *level * depth, *inner]
+        writer.enter(*names)
+        writer.put("a")
+        writer.exit(*reversed(names))
+
+    return tower
+
+
+quote_nest = nest([], ["BlockQuote"], ["Paragraph", "Data"])
+list_nest = nest([], ["ListUnordered", "ListItem"], ["Paragraph", "Data"])
+emphasis_nest = nest(["Paragraph"], ["Emphasis"], ["Data"])
+label_nest = nest(["Image", "LabelText"], ["Emphasis"], ["Data"])
 
 
 def towers(tower, depth):
-    """Ten towers of a depth, one behind the other."""
+    """Ten towers of a depth, one after the other."""
     writer = Writer()
     for _ in range(10):
         tower(writer, depth)
