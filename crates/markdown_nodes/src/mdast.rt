@@ -540,8 +540,8 @@ impl Drop for Node {
     }
 }
 
-/// A plain `{:?}` makes no call for each level, and fails where there is no memory for its stack.
-/// `{:#?}`, and one with a sign, a width or a precision, is as derived, and makes one.
+/// A `{:?}` makes no call for each level, and fails where there is no memory for its stack.
+/// `{:#?}` prints the node on one line as well.
 impl fmt::Debug for Node {
     #[cycle(node)]
     fn fmt<W: fmt::Write>(&self, f: &mut fmt::Formatter<W>) -> fmt::Result {
