@@ -19,7 +19,7 @@ reading-nothing : (form : Form) → reading form nothing ≡ []
 reading-nothing forms.Values = refl
 reading-nothing forms.Label = refl
 
--- a node's own text, that of the nodes in it, and that of the nodes behind it
+-- a node's own text, that of the nodes in it, and that of the nodes after it
 reading-cons : (form : Form) (x : Node) (xs : List Node) → reading form (views (x ∷ xs)) ≡ (own_text form (label_of x) ++ reading form (views (nodes_in x))) ++ reading form (views xs)
 reading-cons form x xs = reading-before form (view x) (views xs) ∙ ap (λ (t : Tree). (own_text form t.label ++ reading form t.children) ++ reading form (views xs)) (view-is x)
 
