@@ -1,8 +1,10 @@
 -- A node that is freed in a loop: each step leaves less to do.
-use Rattle.std.proofs.Common.{◌≡◌, ℕ, ◌+◌, ◌*◌, ◌<◌, ◌==◌, Bool, true, false, IsTrue, IsFalse, List, [], ◌∷◌, ◌++◌, length, get_or, slice_set, vec_len, Vec, Global, refl, sym, ap, ◌∙◌, arith}
+use Rattle.std.proofs.Common.{◌≡◌, ℕ, ◌+◌, ◌*◌, ◌≤◌, ◌<◌, ◌==◌, Bool, true, false, IsTrue, IsFalse, List, [], ◌∷◌, ◌++◌, length, get_or, slice_set, vec_len, Vec, Global, refl, sym, ap, ◌∙◌, arith}
 use Rattle.std.proofs.lemmas.Bool.{eqb-true}
+use Rattle.std.proofs.lemmas.List.{append-nil}
 use Rattle.markdown_nodes.specs.declared.mdast.Node.{Node}
 use Rattle.markdown_nodes.specs.Access.{nodes_in}
+use Rattle.markdown_nodes.specs.Freeing.{WithoutLast}
 use Rattle.markdown_nodes.proofs.Sizes.{size, steps}
 use Rattle.markdown_nodes.specs.Tree.{Tree, Trees}
 use Rattle.markdown_nodes.specs.View.{view, views}
@@ -27,6 +29,27 @@ size-snoc (x ∷ xs) y = omega (arith, size-snoc xs y)
 
 steps-snoc : (x : Node) (xs : List Node) (y : Node) → steps (views ((x ∷ xs) ++ y ∷ [])) ≡ steps (views (x ∷ xs)) + 2 * size (views (nodes_in y)) + 2
 steps-snoc x xs y = omega (arith, size-snoc xs y)
+
+size-append : (xs ys : List Node) → size (views (xs ++ ys)) ≡ size (views xs) + size (views ys)
+size-append [] ys = omega arith
+size-append (x ∷ xs) ys = omega (arith, size-append xs ys)
+
+size-without : (before after : List Node) → WithoutLast before after → size (views after) ≤ size (views before)
+size-without before after w = omega (arith, ap (λ (l : List Node). size (views l)) w.1, size-append after w.0)
+
+steps-append : (xs ys : List Node) → steps (views xs) ≤ steps (views (xs ++ ys))
+steps-append [] ys = omega arith
+steps-append (x ∷ xs) ys = omega (arith, size-append xs ys)
+
+steps-without : (before after : List Node) → WithoutLast before after → steps (views after) ≤ steps (views before)
+steps-without before after w = omega (arith, ap (λ (l : List Node). steps (views l)) w.1, steps-append after w.0)
+
+pub whole : (level : List Node) → WithoutLast level level
+whole level = ([], sym (append-nil level))
+
+-- leaves are freed in the node and beside it
+pub lighter : (node left : Node) (level rest : List Node) → WithoutLast (nodes_in node) (nodes_in left) → WithoutLast level rest → weight left rest ≤ weight node level
+lighter node left level rest inner outer = omega (arith, size-without (nodes_in node) (nodes_in left) inner, steps-without level rest outer)
 
 -- down: the level hangs in the node, which is the first of what was in it
 pub descends : (node hung new next d : Node) (inner outer : List Node) → 0 < length (nodes_in node) → inner ≡ nodes_in node → nodes_in hung ≡ outer → new ≡ hung → next ≡ get_or inner 0 d → weight next (slice_set inner 0 new) < weight node outer

@@ -2,6 +2,7 @@ pub mod Tree
 pub mod View
 pub mod Access
 pub mod Lends
+pub mod Freeing
 pub mod ReferenceKinds
 pub mod Quoted
 pub mod Shown

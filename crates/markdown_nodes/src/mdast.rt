@@ -5,6 +5,7 @@
 
 ghost use Rattle.std.specs.Prelude.{◌≡◌, ◌<◌, [], IfOk, IsFalse, IsTrue, length, option_map, string_bytes};
 ghost use Rattle.markdown_nodes.specs.Access.{children_of, nodes_in, position_of, with_position};
+ghost use Rattle.markdown_nodes.specs.Freeing.{WithoutLast};
 ghost use Rattle.markdown_nodes.specs.Tree.{only, plain_text};
 ghost use Rattle.markdown_nodes.specs.View.{view};
 
@@ -370,8 +371,28 @@ impl Node {
         true
     }
 
-    /// Frees a node with no nodes in it.
+    /// Frees the last of the nodes in it, as long as they are no parents.
+    fn drop_last_leaves(&mut self)
+        ensures { WithoutLast (nodes_in self.old) (nodes_in self.new) }
+    {
+        if let Some(children) = self.children_mut() {
+            drop_leaves(children);
+        }
+    }
+
+    /// Frees a node with no nodes in it. Texts, which most nodes are, do not wait for the rest.
     fn drop_childless(self)
+        requires { nodes_in self ≡ [] }
+    {
+        match self {
+            Node::Text(_) => {}
+            other => other.drop_any_childless(),
+        }
+    }
+
+    /// Frees a node of any kind with no nodes in it.
+    #[inline(never)]
+    fn drop_any_childless(self)
         requires { nodes_in self ≡ [] }
     {
         match self {
@@ -512,8 +533,24 @@ impl Node {
     }
 }
 
+/// Frees the last of some nodes, as long as they are no parents.
+fn drop_leaves(nodes: &mut Vec<Node>)
+    ensures { WithoutLast nodes.old.items nodes.new.items }
+{
+    while let Some(last) = nodes.last() {
+        if last.children().is_some() {
+            return;
+        }
+        let Some(leaf) = nodes.pop() else {
+            return;
+        };
+        leaf.drop_childless();
+    }
+}
+
 /// Frees a tree of any depth, in a loop and without memory: on the way down the nodes beside a node
-/// take the place of those in it, and it takes the place of the first of those.
+/// take the place of those in it, and it takes the place of the first of those. Leaves at the end of
+/// a list are freed where they stand.
 impl Drop for Node {
     fn drop(self) {
         let mut node = self;
@@ -523,10 +560,12 @@ impl Drop for Node {
         };
         let mut level = Vec::new(*children.allocator());
         loop {
+            node.drop_last_leaves();
             if node.swap_children(&mut level) {
                 mem::swap(&mut level[0], &mut node);
             } else {
                 node.drop_childless();
+                drop_leaves(&mut level);
                 let Some(next) = level.pop() else {
                     level.destroy_empty();
                     return;
@@ -540,45 +579,17 @@ impl Drop for Node {
     }
 }
 
-/// A `{:?}` makes no call for each level, and fails where there is no memory for its stack.
-/// `{:#?}` prints the node on one line as well.
+/// `{:?}` writes the form of a derived Debug on one line, whatever else the formatter asks for. It makes
+/// no call for each level, and fails where there is no memory for its stack.
 impl fmt::Debug for Node {
-    #[cycle(node)]
-    fn fmt<W: fmt::Write>(&self, f: &mut fmt::Formatter<W>) -> fmt::Result {
-        if debug::is_plain(f) {
-            return debug::write_plain(self, f);
-        }
-        match self {
-            Node::Root(node) => write!(f, "{node:?}"),
-            Node::Blockquote(node) => write!(f, "{node:?}"),
-            Node::FootnoteDefinition(node) => write!(f, "{node:?}"),
-            Node::List(node) => write!(f, "{node:?}"),
-            Node::Toml(node) => write!(f, "{node:?}"),
-            Node::Yaml(node) => write!(f, "{node:?}"),
-            Node::Break(node) => write!(f, "{node:?}"),
-            Node::InlineCode(node) => write!(f, "{node:?}"),
-            Node::InlineMath(node) => write!(f, "{node:?}"),
-            Node::Delete(node) => write!(f, "{node:?}"),
-            Node::Emphasis(node) => write!(f, "{node:?}"),
-            Node::FootnoteReference(node) => write!(f, "{node:?}"),
-            Node::Html(node) => write!(f, "{node:?}"),
-            Node::Image(node) => write!(f, "{node:?}"),
-            Node::ImageReference(node) => write!(f, "{node:?}"),
-            Node::Link(node) => write!(f, "{node:?}"),
-            Node::LinkReference(node) => write!(f, "{node:?}"),
-            Node::Strong(node) => write!(f, "{node:?}"),
-            Node::Text(node) => write!(f, "{node:?}"),
-            Node::Code(node) => write!(f, "{node:?}"),
-            Node::Math(node) => write!(f, "{node:?}"),
-            Node::Heading(node) => write!(f, "{node:?}"),
-            Node::Table(node) => write!(f, "{node:?}"),
-            Node::ThematicBreak(node) => write!(f, "{node:?}"),
-            Node::TableRow(node) => write!(f, "{node:?}"),
-            Node::TableCell(node) => write!(f, "{node:?}"),
-            Node::ListItem(node) => write!(f, "{node:?}"),
-            Node::Definition(node) => write!(f, "{node:?}"),
-            Node::Paragraph(node) => write!(f, "{node:?}"),
-        }
+    ghost use Rattle.std.specs.Fmt.{WritesOnOk};
+    ghost use Rattle.std.specs.Prelude.{ℕ, Bool};
+    ghost use Rattle.markdown_nodes.specs.Shown.{shown};
+
+    fn fmt<W: fmt::Write>(&self, f: &mut fmt::Formatter<W>) -> fmt::Result
+        ensures text { (escapes : ℕ → Bool) × WritesOnOk W.write_str_gives f.old result (shown escapes (view self.now)) f.new }
+    {
+        debug::write_line(self, f)
     }
 }
 

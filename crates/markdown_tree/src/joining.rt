@@ -10,12 +10,23 @@ use markdown_nodes::mdast::{Node, Text};
 use markdown_nodes::unist::Position;
 use std::alloc::{AllocError, Global};
 
+/// Makes room for one node where there is none: most lists of children stay that short.
+fn first_place(nodes: &mut Vec<Node>) -> Result<(), AllocError>
+    ensures { nodes.new.items ≡ nodes.old.items }
+{
+    if nodes.is_empty() {
+        nodes.reserve_exact(1)?;
+    }
+    Ok(())
+}
+
 /// Puts a node that is no text after the others.
 #[tactic(auto, using(crate::proofs::Views::views_put))]
 pub fn put(nodes: &mut Vec<Node>, node: Node) -> Result<(), AllocError>
     requires { is_text (view node).label ≡ false }
     ensures { OnOk result (views nodes.new.items ≡ join (views nodes.old.items) (only (view node))) }
 {
+    first_place(nodes)?;
     nodes.push(node)?;
     Ok(())
 }
@@ -36,6 +47,7 @@ pub fn put_text(
             return Ok(());
         }
     }
+    first_place(nodes)?;
     nodes.push(new_text(alloc, value, position)?)?;
     Ok(())
 }
@@ -93,6 +105,7 @@ fn put_first(nodes: &mut Vec<Node>, node: Node) -> Result<(), AllocError>
             }
         }
     }
+    first_place(nodes)?;
     nodes.push(node)?;
     Ok(())
 }

@@ -1,7 +1,7 @@
 //! The text that `{:?}` writes of a node: that of a derived Debug, with no call for each level.
 
 ghost use Rattle.std.specs.BTreeSet.{contains};
-ghost use Rattle.std.specs.Fmt.{IsPlainFormatter, WritesOnOk, decimal};
+ghost use Rattle.std.specs.Fmt.{WritesOnOk, decimal};
 ghost use Rattle.std.specs.Ordering.{nat_cmp};
 ghost use Rattle.std.specs.Prelude.{◌≡◌, ◌⊎◌, ◌++◌, ℕ, Bool, [], Some, IsNone, codes, if◌then◌else◌, option_map, string_bytes, true};
 ghost use Rattle.markdown_events.specs.Alignments.{alignment_name};
@@ -55,15 +55,8 @@ struct Frame<'a> {
     rest: &'a [Node],
 }
 
-/// Whether a formatter is that of a plain `{:?}`.
-pub fn is_plain<W: fmt::Write>(f: &fmt::Formatter<W>) -> bool
-    ensures { IsPlainFormatter f.now → result ≡ true }
-{
-    !f.alternate() && !f.sign_plus() && f.width().is_none() && f.precision().is_none()
-}
-
-/// Writes what a plain `{:?}` writes. It fails where there is no memory for it.
-pub fn write_plain<W: fmt::Write>(node: &Node, f: &mut fmt::Formatter<W>) -> fmt::Result
+/// Writes what `{:?}` writes of a node. It fails where there is no memory for it.
+pub fn write_line<W: fmt::Write>(node: &Node, f: &mut fmt::Formatter<W>) -> fmt::Result
     ensures { (escapes : ℕ → Bool) × WritesOnOk W.write_str_gives f.old result (shown escapes (view node.now)) f.new }
 {
     let Some(alloc) = allocator(node) else {

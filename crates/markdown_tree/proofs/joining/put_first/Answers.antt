@@ -26,11 +26,11 @@ returns c =
     elim c.match-node.branch [
       | in-Text+in-Some+in_default-last w ↦
           let some : 0 < vec_len v = w.in-Some.ensures.variant.0 refl in
-          text_begun v.items c.match-node.nodes.items c.push.new.self.items (vec_len v) w.in-Some.last.now c.args.node (only (view c.args.node)) v.ok.0 some w.in-Some.ensures.value
-          (ap (λ x. x.items) w.nodes-is) c.in_ok-push.ensures.items (no_text w.in-Some.last.now w.in_default-last.not-Text) refl
+          text_begun v.items c.first_place.new.nodes.items c.push.new.self.items (vec_len v) w.in-Some.last.now c.args.node (only (view c.args.node)) v.ok.0 some w.in-Some.ensures.value
+          (c.first_place.ensures ∙ ap (λ x. x.items) w.nodes-is) c.in_ok-push.ensures.items (no_text w.in-Some.last.now w.in_default-last.not-Text) refl
       | in-Text+in_default-last_mut w ↦
-          first_begun v.items c.match-node.nodes.items c.push.new.self.items (vec_len v) c.args.node (only (view c.args.node)) v.ok.0 w.in_default-last_mut.ensures.variant.1 (ap (λ x. x.items) w.nodes-is) c.in_ok-push.ensures.items refl
+          first_begun v.items c.first_place.new.nodes.items c.push.new.self.items (vec_len v) c.args.node (only (view c.args.node)) v.ok.0 w.in_default-last_mut.ensures.variant.1 (c.first_place.ensures ∙ ap (λ x. x.items) w.nodes-is) c.in_ok-push.ensures.items refl
       | in_default w ↦
-          ap views (c.in_ok-push.ensures.items ∙ ap (λ (xs : List Node). xs ++ c.args.node ∷ []) (ap (λ x. x.items) w.nodes-is))
+          ap views (c.in_ok-push.ensures.items ∙ ap (λ (xs : List Node). xs ++ c.args.node ∷ []) (c.first_place.ensures ∙ ap (λ x. x.items) w.nodes-is))
           ∙ views_put v.items c.args.node (no_text c.args.node w.in_default.not-Text)
     ]
