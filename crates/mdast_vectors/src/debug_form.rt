@@ -84,7 +84,7 @@ fn paragraph(alloc: Global) -> Result<Paragraph, AllocError> {
 }
 
 #[test]
-fn siblings_stand_behind_commas(rt: HostRuntime) -> Result<(), Fail> {
+fn siblings_stand_after_commas(rt: HostRuntime) -> Result<(), Fail> {
     let alloc = rt.alloc();
     let paragraph = paragraph(alloc)?;
     let line =
@@ -93,5 +93,18 @@ fn siblings_stand_behind_commas(rt: HostRuntime) -> Result<(), Fail> {
     let tree = Node::Paragraph(paragraph);
     assert_eq!(rt; format!(in alloc; "{tree:?}")?.as_str(), line);
     assert_eq!(rt; tree.to_debug_string(alloc)?.as_str(), line);
+    Ok(())
+}
+
+#[test]
+fn each_node_stands_on_one_line_of_the_pretty_form(rt: HostRuntime) -> Result<(), Fail> {
+    let alloc = rt.alloc();
+    let paragraph = paragraph(alloc)?;
+    let lines =
+        "Paragraph {\n    children: [\n        Text { value: \"a\", position: None },\n        Emphasis { children: [Break { position: None }, Text { value: \"b\", position: None }], position: None },\n        Text { value: \"c\", position: None },\n    ],\n    position: None,\n}";
+    assert_eq!(rt; format!(in alloc; "{paragraph:#?}")?.as_str(), lines);
+    let tree = Node::Paragraph(paragraph);
+    let line = format!(in alloc; "{tree:?}")?;
+    assert_eq!(rt; format!(in alloc; "{tree:#?}")?.as_str(), line.as_str());
     Ok(())
 }
