@@ -4,13 +4,8 @@
 //! input. It prints one line: the tree, or what is wrong.
 #![tactic(auto)]
 
-mod decoder;
-mod input;
-mod lines;
-mod run;
-
-use crate::input::read_all;
-use crate::run::{run, say};
+use mdast_lines::input::read_all;
+use mdast_lines::run::{run, say};
 use std::env;
 use std::fs::File;
 use std::io::{self, ErrorKind};
@@ -72,6 +67,3 @@ fn path(rt: &HostRuntime) -> Result<String, DocumentError> {
         _ => Err(DocumentError::Usage),
     }
 }
-
-#[cfg(test)]
-mod tests;

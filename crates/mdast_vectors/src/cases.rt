@@ -13,11 +13,12 @@
 //! place of a refusal, as `! slice-invalid 1:2 (1)`. A line `decoder blank` asks for the decoder that
 //! knows the empty value.
 
-use crate::decoder::Decoder;
-use markdown_nodes::event::{Event, Kind, Name, Point};
+use crate::decoder::CaseDecoder;
+use markdown_nodes::event::Event;
 use markdown_nodes::mdast::Node;
 use markdown_nodes::message::{Fault, Message, Place};
 use markdown_tree::to_mdast::compile;
+use mdast_lines::lines::events;
 use std::alloc::{AllocError, Global};
 use std::process::Abort;
 use std::test::Fail;
@@ -30,7 +31,7 @@ struct Unread;
 #[derive(Drop)]
 pub struct Case<'a> {
     pub name: &'a str,
-    pub decoder: Decoder,
+    pub decoder: CaseDecoder,
     pub document: Vec<u8>,
     pub events: Vec<Event>,
     pub want: &'a str,
@@ -58,9 +59,9 @@ pub fn last_line(alloc: Global, answer: Result<Node, Fault>) -> Result<String, A
     }
 }
 
-/// What `compile` gives for these events over a document, with the usual decoder.
+/// What `compile` gives for these events over a document, with the decoder of the program.
 pub fn compiled(alloc: Global, document: &[u8], events: &[Event]) -> Result<Node, Fault> {
-    compile(alloc, events, document, &Decoder::usual())
+    compile(alloc, events, document, &CaseDecoder::usual())
 }
 
 /// The rule of a message and its place.
@@ -107,7 +108,7 @@ pub fn cases(alloc: Global, table: &str) -> Result<Vec<Case<'_>>, Fail> {
 fn unnamed<'a>(alloc: Global) -> Case<'a> {
     Case {
         name: "",
-        decoder: Decoder::usual(),
+        decoder: CaseDecoder::usual(),
         document: Vec::new(alloc),
         events: Vec::new(alloc),
         want: "",
@@ -121,12 +122,12 @@ fn add_line<'a>(alloc: Global, case: &mut Case<'a>, line: &'a str) -> Result<(),
     } else if let Some(digits) = line.strip_prefix("doc") {
         case.document = bytes(alloc, digits.trim_start())?;
     } else if line == "decoder blank" {
-        case.decoder = Decoder::blank();
+        case.decoder = CaseDecoder::blank();
     } else if line.starts_with("= ") || line.starts_with("! ") {
         case.want = line;
     } else {
         for text in line.split(", ") {
-            case.events.push(event(text).ok_or(Unread)?)?;
+            case.events.append(&mut events(alloc, text.as_bytes())?)?;
         }
     }
     Ok(())
@@ -149,35 +150,4 @@ fn byte(pair: &[u8]) -> Option<u8> {
     let high = char::from(*high).to_digit(16)?;
     let low = char::from(*low).to_digit(16)?;
     u8::try_from(high.checked_mul(16)?.checked_add(low)?).ok()
-}
-
-/// An event of a line.
-fn event(text: &str) -> Option<Event> {
-    let (head, numbers) = text.split_once(' ')?;
-    let (kind, name) = match head.strip_prefix('+') {
-        Some(name) => (Kind::Enter, name),
-        None => (Kind::Exit, head.strip_prefix('-')?),
-    };
-    Some(Event {
-        kind,
-        name: Name::find(name)?,
-        point: point(numbers)?,
-    })
-}
-
-/// A line, a column and an index, and virtual spaces where they are given.
-fn point(numbers: &str) -> Option<Point> {
-    let (line, numbers) = numbers.split_once(':')?;
-    let (column, numbers) = numbers.split_once(':')?;
-    let (index, vs) = numbers.split_once(':').unwrap_or((numbers, "0"));
-    Some(Point {
-        line: number(line)?,
-        column: number(column)?,
-        index: number(index)?,
-        vs: number(vs)?,
-    })
-}
-
-fn number(digits: &str) -> Option<usize> {
-    digits.parse::<usize>().ok()
 }

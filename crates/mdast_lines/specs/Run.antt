@@ -1,0 +1,72 @@
+-- What a run says.
+use Rattle.std.specs.Prelude.{◌≡◌, ℕ, Bool, List, [], ◌++◌, Option, Some, None, IfSome, IsSomeAnd, codes, ⊤}
+use Rattle.std.specs.Fmt.{decimal}
+use Rattle.std.specs.Io.KnownBytes.{IsAtEnd}
+use Rattle.markdown_events.specs.declared.event.Event.{Event}
+use Rattle.markdown_events.specs.declared.message.Message.{Message}
+use Rattle.markdown_events.specs.declared.message.Place.{Place}
+use Rattle.markdown_events.specs.declared.message.Place.TheVariants as places
+use Rattle.markdown_events.specs.declared.unist.Point.{Point}
+use Rattle.markdown_events.specs.Places.{point_text}
+use Rattle.markdown_nodes.specs.Shown.{shown}
+use Rattle.markdown_nodes.specs.Tree.{Tree}
+use Rattle.markdown_nodes.specs.View.{view}
+use Rattle.markdown_grammar.specs.Correct.{IsMeaning, Refuses}
+use Rattle.markdown_grammar.specs.Document.{Source, source}
+use Rattle.mdast_lines.specs.declared.run.Answer.{Answer}
+use Rattle.mdast_lines.specs.declared.run.Answer.TheVariants as answers
+use Rattle.mdast_lines.specs.Decoder.{decoded}
+use Rattle.mdast_lines.specs.Lines.{lines, IsFirstUnread}
+
+-- the document, with what the program's decoder knows
+abbrev pub over : List ℕ → Source
+over doc = source doc decoded
+
+-- what an answer of the compiler says of events
+abbrev pub IsCompiled : Answer → List Event → List ℕ → Type 0
+IsCompiled (answers.Tree tree) events doc = IsMeaning tree events (over doc)
+IsCompiled (answers.Refused message) events doc = Refuses message events (over doc)
+IsCompiled (answers.UnreadLine number) events doc = ⊥
+IsCompiled answers.UnreadEvents events doc = ⊥
+
+-- what an answer says of an input with these known bytes, of which these are left
+abbrev pub IsAnswer : Answer → Option (List ℕ) → Option (List ℕ) → List ℕ → Type 0
+IsAnswer (answers.Tree tree) known left doc = IsAtEnd left × IfSome known (λ all. IsSomeAnd (lines all) (λ events. IsMeaning tree events (over doc)))
+IsAnswer (answers.Refused message) known left doc = IsAtEnd left × IfSome known (λ all. IsSomeAnd (lines all) (λ events. Refuses message events (over doc)))
+IsAnswer (answers.UnreadLine number) known left doc = IsAtEnd left × IfSome known (IsFirstUnread number)
+IsAnswer answers.UnreadEvents known left doc = ⊤
+
+-- ---- The lines that are written
+
+-- the point of a message: where its span begins, if it has one
+abbrev pub point_of_place : Option Place → Option Point
+point_of_place None = None
+point_of_place (Some (places.Point point)) = Some point
+point_of_place (Some (places.Position position)) = Some position.start
+
+-- `line:column (offset): `
+abbrev pub place_text : Option Point → List ℕ
+place_text None = []
+place_text (Some point) = point_text point ++ codes ": "
+
+-- `line:column (offset): reason (rule_id)`, and a line feed
+abbrev pub message_line : Message → List ℕ
+message_line m = place_text (point_of_place m.place) ++ m.reason.now ++ codes " (" ++ m.rule_id.now ++ codes ")\n"
+
+-- a tree as Debug prints it, and a line feed; which characters beyond ASCII stand as their Unicode escape is left open
+abbrev pub IsTreeLine : Tree → List ℕ → Type 0
+IsTreeLine tree text = (escapes : ℕ → Bool) × (text ≡ shown escapes tree ++ codes "\n")
+
+-- the line of an answer
+abbrev pub Prints : Answer → List ℕ → Type 0
+Prints (answers.Tree tree) text = IsTreeLine (view tree) text
+Prints (answers.Refused message) text = text ≡ message_line message
+Prints (answers.UnreadLine number) text = text ≡ codes "mdast_show: event line " ++ decimal number ++ codes " cannot be read\n"
+Prints answers.UnreadEvents text = text ≡ codes "mdast_show: cannot read the events\n"
+
+-- the exit status of an answer
+abbrev pub status_of : Answer → ℕ
+status_of (answers.Tree tree) = 0
+status_of (answers.Refused message) = 1
+status_of (answers.UnreadLine number) = 2
+status_of answers.UnreadEvents = 2

@@ -1,0 +1,13 @@
+//! What a program says of a document and the lines of its events: the tree, or what is wrong.
+//!
+//! `lines` reads events from their lines, `decoder` knows the character references that need no table
+//! of names, `input` reads an input whole, and `run` is one run of a program with all of these.
+#![tactic(auto)]
+
+pub mod decoder;
+pub mod input;
+pub mod lines;
+pub mod run;
+
+#[cfg(test)]
+mod tests;
