@@ -8,6 +8,5 @@ pub mod decoder;
 pub mod input;
 pub mod lines;
 pub mod run;
-
 #[cfg(test)]
 mod tests;
