@@ -1,5 +1,5 @@
--- Each name is found by its spelling, and by no other.
-use Rattle.std.proofs.Common.{◌≡◌, ℕ, List, [], ◌∷◌, Option, Some, Bool, true, false, cond, map, refl, sym, subst, ◌∙◌, ◌↔◌}
+-- Each name is found by its spelling, and by no other, and has no separator of event lines.
+use Rattle.std.proofs.Common.{◌≡◌, ℕ, zero, suc, List, [], ◌∷◌, Option, Some, Bool, true, false, cond, eqb, not, ◌&&◌, get_or, length, map, refl, sym, subst, ◌∙◌, ◌↔◌}
 use Rattle.std.specs.Str.{bytes_eq}
 use Rattle.std.proofs.lemmas.Slice.Eq.{bytes_eq-Decides}
 use Rattle.markdown_events.specs.Spelling.{spelling, first_spelled, name_of_length, name_of}
@@ -164,6 +164,48 @@ spelling-found name.ResourceTitleMarker = refl
 spelling-found name.StrongSequence = refl
 spelling-found name.StrongText = refl
 spelling-found name.ThematicBreakSequence = refl
+
+-- ---- No name has a line feed or a space
+
+-- a text does not have the byte c
+abbrev pub lacks : ℕ → List ℕ → Bool
+lacks c [] = true
+lacks c (b ∷ bs) = not (eqb b c) && lacks c bs
+
+abbrev names_lack : ℕ → List Name → Bool
+names_lack c [] = true
+names_lack c (n ∷ names) = lacks c (spelling n) && names_lack c names
+
+abbrev rows_lack : ℕ → List (List Name) → Bool
+rows_lack c [] = true
+rows_lack c (row ∷ rows) = names_lack c row && rows_lack c rows
+
+both : (a b : Bool) → a && b ≡ true → (a ≡ true) × (b ≡ true)
+both true true h = (refl, refl)
+both true false h = absurd (cc)
+both false b h = absurd (cc)
+
+lacks_by_test : (c : ℕ) (m n : Name) (names : List Name) (text : List ℕ) (same : Bool) → cond same (Some m) (first_spelled names text) ≡ Some n → lacks c (spelling m) && names_lack c names ≡ true
+    → (first_spelled names text ≡ Some n → names_lack c names ≡ true → lacks c (spelling n) ≡ true) → lacks c (spelling n) ≡ true
+lacks_by_test c m n names text true h all more = let is : m ≡ n = cc in subst (λ x. lacks c (spelling x) ≡ true) is (both (lacks c (spelling m)) (names_lack c names) all).0
+lacks_by_test c m n names text false h all more = more h (both (lacks c (spelling m)) (names_lack c names) all).1
+
+found_lacks : (c : ℕ) (names : List Name) (text : List ℕ) (n : Name) → first_spelled names text ≡ Some n → names_lack c names ≡ true → lacks c (spelling n) ≡ true
+found_lacks c [] text n h all = absurd (cc)
+found_lacks c (m ∷ names) text n h all = lacks_by_test c m n names text (bytes_eq (spelling m) text) h all (found_lacks c names text n)
+
+row_lacks : (c : ℕ) (table : List (List Name)) (i : ℕ) → rows_lack c table ≡ true → names_lack c (get_or table i []) ≡ true
+row_lacks c [] i all = refl
+row_lacks c (row ∷ table) zero all = (both (names_lack c row) (rows_lack c table) all).0
+row_lacks c (row ∷ table) (suc i) all = row_lacks c table i (both (names_lack c row) (rows_lack c table) all).1
+
+pub spelling-lacks_line_feed : (n : Name) → lacks 10 (spelling n) ≡ true
+spelling-lacks_line_feed n = found_lacks 10 (get_or rows (length (spelling n)) []) (spelling n) n (spelling-found n) (row_lacks 10 rows (length (spelling n)) refl)
+
+pub spelling-lacks_space : (n : Name) → lacks 32 (spelling n) ≡ true
+spelling-lacks_space n = found_lacks 32 (get_or rows (length (spelling n)) []) (spelling n) n (spelling-found n) (row_lacks 32 rows (length (spelling n)) refl)
+
+-- ---- What is found
 
 pub name_of-exact : (text : List ℕ) (found : Option Name) → found ≡ name_of text → (n : Name) → (found ≡ Some n) ↔ (spelling n ≡ text)
 unfolding name_of

@@ -1,129 +1,11 @@
--- Lemmas on event lines: pieces of a text, numbers, and lines.
-use Rattle.std.proofs.Common.{◌≡◌, ◌≢◌, ℕ, zero, suc, ◌+◌, ◌*◌, ◌^◌, ◌<◌, ◌≤◌, List, [], ◌∷◌, ◌++◌, Option, Some, None, Bool, true, false, cond, eqb, ◌&&◌, length, get_or, take, drop, refl, sym, ◌∙◌, ap, arith, rules, add-one, append_assoc, append-nil}
+-- Lemmas on the lines of a text.
+use Rattle.std.proofs.Common.{◌≡◌, ◌≢◌, ℕ, ◌+◌, ◌<◌, List, [], ◌∷◌, ◌++◌, Option, Some, None, true, false, eqb, length, get_or, unwrap_or, refl, sym, subst, ◌∙◌, ap, arith, append_assoc, append-nil}
 use Rattle.std.specs.Option.{option_map}
-use Rattle.std.specs.List.{onto_first}
-use Rattle.std.specs.Char.{digit_value}
-use Rattle.std.specs.Str.{all_ascii_digits}
-use Rattle.std.specs.Str.Parse.{digits_value, digits_value_after, AllDigits}
-use Rattle.std.proofs.lemmas.Bool.{ltb-true}
 use Rattle.std.proofs.lemmas.Bool.Decides.{nat_tests}
-use Rattle.std.proofs.lemmas.Str.Parse.{IsNumeralModel, numerals_by_value}
 use Rattle.markdown_events.specs.declared.event.Event.{Event}
-use Rattle.mdast_lines.specs.Lines.{before, after, pieces, number_of, events_of_lines, event_of, lines, first_unread, unread_line, IsFirstUnread}
-
--- a text without the byte is all before it
-pub before_none : (c : ℕ) (bs : List ℕ) → ((k : ℕ) → k < length bs → get_or bs k 0 ≢ c) → before c bs ≡ bs
-before_none c [] h = refl
-before_none c (b ∷ bs) h =
-    let rest : before c bs ≡ bs = before_none c bs (λ k lt. h (suc k) (omega arith)) in
-    let ne : eqb b c ≡ false = grind (arith, nat_tests, h 0 (omega arith)) in
-    rw (ne, rest) refl
-
--- and nothing is after it
-pub after_none : (c : ℕ) (bs : List ℕ) → ((k : ℕ) → k < length bs → get_or bs k 0 ≢ c) → after c bs ≡ None
-after_none c [] h = refl
-after_none c (b ∷ bs) h =
-    let rest : after c bs ≡ None = after_none c bs (λ k lt. h (suc k) (omega arith)) in
-    let ne : eqb b c ≡ false = grind (arith, nat_tests, h 0 (omega arith)) in
-    rw ne rest
-
--- what is before the first such byte, by its index
-pub before_at : (c : ℕ) (bs : List ℕ) (i : ℕ) → i < length bs → get_or bs i 0 ≡ c → ((k : ℕ) → k < i → get_or bs k 0 ≢ c) → before c bs ≡ take i bs
-before_at c [] i lt at h = absurd (omega arith)
-before_at c (b ∷ bs) zero lt at h = let e : eqb b c ≡ true = grind (arith, nat_tests) in rw e refl
-before_at c (b ∷ bs) (suc i) lt at h =
-    let rest : before c bs ≡ take i bs = before_at c bs i (omega arith) at (λ k l. h (suc k) (omega arith)) in
-    let ne : eqb b c ≡ false = grind (arith, nat_tests, h 0 (omega arith)) in
-    rw (ne, rest) refl
-
--- what is after the first such byte, by its index
-pub after_at : (c : ℕ) (bs : List ℕ) (i : ℕ) → i < length bs → get_or bs i 0 ≡ c → ((k : ℕ) → k < i → get_or bs k 0 ≢ c) → after c bs ≡ Some (drop (i + 1) bs)
-after_at c [] i lt at h = absurd (omega arith)
-after_at c (b ∷ bs) zero lt at h = let e : eqb b c ≡ true = grind (arith, nat_tests) in rw e refl
-after_at c (b ∷ bs) (suc i) lt at h =
-    let rest : after c bs ≡ Some (drop (i + 1) bs) = after_at c bs i (omega arith) at (λ k l. h (suc k) (omega arith)) in
-    let ne : eqb b c ≡ false = grind (arith, nat_tests, h 0 (omega arith)) in
-    rw ne (rest ∙ rw (add-one, add-one) refl)
-
--- the pieces, by the first of them
-abbrev pub more_pieces : ℕ → Option (List ℕ) → List (List ℕ)
-more_pieces c None = []
-more_pieces c (Some bs) = pieces c bs
-
--- a byte goes onto the first piece
-onto_front : (b : ℕ) (ps : List (List ℕ)) (front : List ℕ) (qs : List (List ℕ)) → ps ≡ front ∷ qs → onto_first b ps ≡ (b ∷ front) ∷ qs
-onto_front b ps front qs e = rw e refl
-
-step_pieces : (c b : ℕ) (bs : List ℕ) (t : Bool) → pieces c bs ≡ before c bs ∷ more_pieces c (after c bs)
-    → cond t ([] ∷ pieces c bs) (onto_first b (pieces c bs)) ≡ cond t [] (b ∷ before c bs) ∷ more_pieces c (cond t (Some bs) (after c bs))
-step_pieces c b bs true h = refl
-step_pieces c b bs false h = onto_front b _ _ _ h
-
--- the first piece is what is before the first separator
-pub pieces_first : (c : ℕ) (bs : List ℕ) → pieces c bs ≡ before c bs ∷ more_pieces c (after c bs)
-pieces_first c [] = refl
-pieces_first c (b ∷ bs) = step_pieces c b bs (eqb b c) (pieces_first c bs)
-
--- ---- Numbers
-
--- texts of ASCII digits are numerals
-own : IsNumeralModel (λ ds. all_ascii_digits ds ≡ true) (digits_value 10)
-own = numerals_by_value _ (search rules)
-
--- each of some digits is a digit
-digit_at : (ds : List ℕ) (i : ℕ) → AllDigits 10 ds → i < length ds → digit_value (get_or ds i 0) < 10
-digit_at [] i h lt = absurd (omega arith)
-digit_at (d ∷ ds) zero h lt = h.0
-digit_at (d ∷ ds) (suc i) h lt = digit_at ds i h.1 (omega arith)
-
--- more digits make no smaller number
-after_ge : (n : ℕ) (ds : List ℕ) → n ≤ digits_value_after 10 n ds
-after_ge n [] = omega arith
-after_ge n (d ∷ ds) = omega (arith, after_ge (n * 10 + digit_value d) ds)
-
--- some of the digits make no greater number
-take_le : (n : ℕ) (i : ℕ) (ds : List ℕ) → digits_value_after 10 n (take i ds) ≤ digits_value_after 10 n ds
-take_le n zero ds = after_ge n ds
-take_le n (suc i) [] = omega arith
-take_le n (suc i) (d ∷ ds) = take_le (n * 10 + digit_value d) i ds
-
--- where the second and the third test cannot both pass
-none_of : (a b c : Bool) (x : ℕ) → (b ≡ true → c ≡ true → ⊥) → cond (a && (b && c)) (Some x) None ≡ None
-none_of false b c x h = refl
-none_of true false c x h = refl
-none_of true true false x h = refl
-none_of true true true x h = absurd (h refl refl)
-
--- where all three tests pass
-some_of : (a b c : Bool) (x : ℕ) → a ≡ true → b ≡ true → c ≡ true → cond (a && (b && c)) (Some x) None ≡ Some x
-some_of a b c x e f g = rw (e, f, g) refl
-
--- a byte that is no digit
-pub number_no_digit : (ds : List ℕ) (i : ℕ) → i < length ds → ¬ (digit_value (get_or ds i 0) < 10) → number_of ds ≡ None
-unfolding number_of
-number_no_digit ds i lt h = none_of _ _ _ _ (λ e f. h (digit_at ds i (own.to ds e) lt))
-
--- a number that is too great already at some of its digits
-pub number_big : (ds : List ℕ) (i : ℕ) → 2 ^ 64 ≤ digits_value 10 (take i ds) → number_of ds ≡ None
-unfolding number_of
-number_big ds i h = none_of _ _ _ _ (λ e f. let le : digits_value 10 (take i ds) ≤ digits_value 10 ds = take_le 0 i ds in let lt : digits_value 10 ds < 2 ^ 64 = ltb-true _ _ f in omega arith)
-
--- digits of a number that fits
-pub number_is : (ds : List ℕ) → 0 < length ds → AllDigits 10 ds → digits_value 10 ds < 2 ^ 64 → number_of ds ≡ Some (digits_value 10 ds)
-unfolding number_of
-number_is ds some all lt = some_of _ _ _ _ (search (rules, nat_tests)) (own.from ds all) (search (rules, nat_tests))
-
--- no digits
-pub number_empty : (ds : List ℕ) → length ds ≡ 0 → number_of ds ≡ None
-unfolding number_of
-number_empty [] h = refl
-number_empty (d ∷ ds) h = absurd (omega arith)
-
--- ---- Lines
-
--- the lines of a text, by the first of them
-pub first_line : (rest line : List ℕ) (more : Option (List ℕ)) → line ≡ before 10 rest → more ≡ after 10 rest → pieces 10 rest ≡ line ∷ more_pieces 10 more
-first_line rest line more l m = rw (l, m) (pieces_first 10 rest)
+use Rattle.mdast_lines.specs.Lines.{before, after, pieces, events_of_lines, event_of, lines, first_unread, unread_line, IsFirstUnread}
+use Rattle.mdast_lines.specs.Fronts.{EventBegins}
+use Rattle.mdast_lines.proofs.CutLemmas.{from, drop_at, step_before, more_pieces, pieces_first}
 
 -- the lines of a text so far gave these events, were so many, and could all be read; these are left
 pub record Reads (bytes : List ℕ) (events : List Event) (number : ℕ) (left : List (List ℕ)) : Type 0 where
@@ -161,3 +43,50 @@ reads_none bytes events number line left so_far h e =
 -- after the last line
 pub reads_all : (bytes : List ℕ) (events : List Event) (number : ℕ) → Reads bytes events number [] → lines bytes ≡ Some events
 reads_all bytes events number so_far = so_far.lines_so_far ∙ ap Some (append-nil events)
+
+-- what is left after a line feed, or after the last line
+step_next : (bytes : List ℕ) (events : List Event) (number : ℕ) (o : Option (List ℕ)) → Reads bytes events number (more_pieces 10 o) → Reads bytes events number (pieces 10 (unwrap_or o []))
+step_next bytes events number None r = record { lines_so_far = r.lines_so_far; unread_so_far = r.unread_so_far }
+step_next bytes events number (Some rest) r = r
+
+-- an event line is not empty
+said : (line : List ℕ) (event : Event) → event_of line ≡ Some event → length line ≢ 0
+unfolding event_of
+said [] event h = absurd (cc)
+said (b ∷ bs) event h = λ e. omega (arith, e)
+
+start_lines : (o : Option (List Event)) → o ≡ option_map (λ es. [] ++ es) o
+start_lines None = refl
+start_lines (Some es) = refl
+
+-- before the first line
+pub reads_start : (bytes : List ℕ) → Reads bytes [] 0 (pieces 10 bytes)
+reads_start bytes = record { lines_so_far = start_lines (events_of_lines (pieces 10 bytes)); unread_so_far = refl }
+
+-- after a line that says an event
+pub reads_next : (bytes : List ℕ) (events : List Event) (number : ℕ) (rest next : List ℕ) (event : Event) → Reads bytes events number (pieces 10 rest) → EventBegins rest event next → Reads bytes (events ++ event ∷ []) (number + 1) (pieces 10 next)
+reads_next bytes events number rest next event r e =
+    let now : Reads bytes events number (before 10 rest ∷ more_pieces 10 (after 10 rest)) = rw (pieces_first 10 rest) at r in
+    rw e.lines (step_next bytes (events ++ event ∷ []) (number + 1) (after 10 rest) (reads_event bytes events number (before 10 rest) (more_pieces 10 (after 10 rest)) event now (said (before 10 rest) event e.says) e.says))
+
+-- after an empty line
+pub reads_feed : (bytes : List ℕ) (events : List Event) (number : ℕ) (rest : List ℕ) → Reads bytes events number (pieces 10 rest) → 0 < length rest → get_or rest 0 0 ≡ 10 → Reads bytes events (number + 1) (pieces 10 (from rest 1))
+reads_feed bytes events number rest r some feed =
+    let parts : rest ≡ 10 ∷ from rest 1 = drop_at rest 0 10 some feed in
+    let now : Reads bytes events number ([] ∷ pieces 10 (from rest 1)) = subst (λ t. Reads bytes events number (pieces 10 t)) parts r in
+    reads_empty bytes events number [] (pieces 10 (from rest 1)) now refl
+
+-- at a line that says nothing
+some_line : (rest : List ℕ) → 0 < length rest → get_or rest 0 0 ≢ 10 → length (before 10 rest) ≢ 0
+some_line [] some other = absurd (omega arith)
+some_line (b ∷ bs) some other = let h : before 10 (b ∷ bs) ≡ b ∷ before 10 bs = step_before 10 b bs other in rw h (λ e. omega (arith, e))
+
+pub reads_wrong : (bytes : List ℕ) (events : List Event) (number : ℕ) (rest : List ℕ) → Reads bytes events number (pieces 10 rest) → 0 < length rest → get_or rest 0 0 ≢ 10 → event_of (before 10 rest) ≡ None → IsFirstUnread (number + 1) bytes
+reads_wrong bytes events number rest r some other none =
+    let now : Reads bytes events number (before 10 rest ∷ more_pieces 10 (after 10 rest)) = rw (pieces_first 10 rest) at r in
+    reads_none bytes events number (before 10 rest) (more_pieces 10 (after 10 rest)) now (some_line rest some other) none
+
+-- at the end
+pub reads_end : (bytes : List ℕ) (events : List Event) (number : ℕ) (rest : List ℕ) → Reads bytes events number (pieces 10 rest) → length rest ≡ 0 → lines bytes ≡ Some events
+reads_end bytes events number [] r h = reads_all bytes events (number + 1) (reads_empty bytes events number [] [] r refl)
+reads_end bytes events number (b ∷ bs) r h = absurd (omega arith)

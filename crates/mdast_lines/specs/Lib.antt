@@ -1,3 +1,4 @@
 pub mod Decoder
+pub mod Fronts
 pub mod Lines
 pub mod Run

@@ -7,6 +7,8 @@
 pub mod decoder;
 pub mod input;
 pub mod lines;
+mod point;
 pub mod run;
+mod search;
 #[cfg(test)]
 mod tests;

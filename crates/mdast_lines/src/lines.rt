@@ -1,10 +1,13 @@
-//! Event lines.
+//! Event lines, read in one pass.
 
-ghost use Rattle.std.specs.Prelude.{◌≡◌, ◌≢◌, ℕ, ◌<◌, length, Some, None, IfOk, IfErr, IfSome, MatchOption, EachIndex, slice_index, option_copied, alloc_error};
+ghost use Rattle.std.specs.Prelude.{◌≡◌, ◌<◌, length, None, Some, IfOk, IfErr, IfSome, MatchOption, alloc_error};
 ghost use Rattle.mdast_lines.specs.declared.lines.LinesError.TheVariants.{Memory};
-ghost use Rattle.mdast_lines.specs.Lines.{before, after, number_of, spaces_of, point_of, kind_of, head_of, event_of, lines, IsErrorOf};
+ghost use Rattle.mdast_lines.specs.Lines.{before, kind_of, event_of, lines, IsErrorOf};
+ghost use Rattle.mdast_lines.specs.Fronts.{EventBegins, HeadBegins, IsSaid};
 
-use markdown_nodes::event::{Event, Kind, Name, Point};
+use crate::point::{SaidPoint, next_point};
+use crate::search::find_space;
+use markdown_nodes::event::{Event, Kind, Name};
 use std::alloc::{AllocError, AllocFailed, Global};
 
 /// Why lines were not read.
@@ -37,48 +40,49 @@ pub fn events(alloc: Global, bytes: &[u8]) -> Result<Vec<Event>, LinesError>
     ensures err { IfErr result (λ error. IsErrorOf error bytes.now) }
 {
     let mut events = Vec::new(alloc);
+    let mut last_point = None;
     let mut rest = bytes;
     let mut number = 0;
-    loop {
-        let (line, more) = cut(rest, b'\n');
+    while !rest.is_empty() {
         number += 1;
-        if !line.is_empty() {
-            match event(line) {
-                Some(event) => events.push(event)?,
-                None => return Err(LinesError::Unread(number)),
-            }
-        }
-        match more {
-            Some(after) => rest = after,
-            None => return Ok(events),
+        if rest[0] == b'\n' {
+            rest = &rest[1..];
+        } else {
+            let Some((event, more)) = event(rest, &mut last_point) else {
+                return Err(LinesError::Unread(number));
+            };
+            events.push(event)?;
+            rest = more;
         }
     }
+    Ok(events)
 }
 
-/// The event of a line that is not empty.
-#[tactic(auto, unfolding(crate::specs::Lines::event_of))]
-fn event(line: &[u8]) -> Option<Event>
-    ensures { result ≡ event_of line.now }
+/// The event of the first line of a text, and the lines after it.
+fn event<'a>(text: &'a [u8], last_point: &mut Option<SaidPoint>) -> Option<(Event, &'a [u8])>
+    requires text { 0 < length text.now }
+    requires last_point { IfSome last_point.old IsSaid }
+    ensures found { MatchOption result (event_of (before 10 text.now) ≡ None) (λ found. EventBegins text.now found.0 found.1.now) }
+    ensures last_point { IfSome last_point.new IsSaid }
 {
-    let (start, numbers) = cut(line, b' ');
-    let numbers = numbers?;
-    let (kind, name) = head(start)?;
-    let point = point(numbers)?;
-    Some(Event { kind, name, point })
+    let (kind, name, numbers) = head(text)?;
+    let (point, rest) = next_point(numbers, last_point)?;
+    Some((Event { kind, name, point }, rest))
 }
 
-/// A sign, and a name.
-fn head(text: &[u8]) -> Option<(Kind, Name)>
-    ensures { result ≡ head_of text.now }
+/// The sign and the name of a line, and the text after the space that follows them.
+fn head(text: &[u8]) -> Option<(Kind, Name, &[u8])>
+    requires { 0 < length text.now }
+    ensures { MatchOption result (event_of (before 10 text.now) ≡ None) (λ found. HeadBegins text.now found.0 found.1 found.2.now) }
 {
-    match text {
-        [sign, name @ ..] => {
-            let kind = kind(*sign)?;
-            let name = Name::find_bytes(name)?;
-            Some((kind, name))
-        }
-        [] => None,
+    let kind = kind(text[0])?;
+    let word = &text[1..];
+    let end = find_space(word);
+    if end == word.len() {
+        return None;
     }
+    let name = Name::find_bytes(&word[..end])?;
+    Some((kind, name, &word[end + 1..]))
 }
 
 /// What a sign says.
@@ -90,65 +94,4 @@ fn kind(sign: u8) -> Option<Kind>
         b'-' => Some(Kind::Exit),
         _ => None,
     }
-}
-
-/// A line, a column and an index, and virtual spaces where they are given.
-#[tactic(auto, unfolding(crate::specs::Lines::point_of))]
-fn point(numbers: &[u8]) -> Option<Point>
-    ensures { result ≡ point_of numbers.now }
-{
-    let (line, after_line) = cut(numbers, b':');
-    let (column, after_column) = cut(after_line?, b':');
-    let (index, vs) = cut(after_column?, b':');
-    Some(Point {
-        line: number(line)?,
-        column: number(column)?,
-        index: number(index)?,
-        vs: spaces(vs)?,
-    })
-}
-
-/// Virtual spaces: none where none are given.
-fn spaces(digits: Option<&[u8]>) -> Option<usize>
-    ensures { result ≡ spaces_of (option_copied digits.entry) }
-{
-    match digits {
-        Some(digits) => number(digits),
-        None => Some(0),
-    }
-}
-
-/// The number that decimal digits stand for.
-fn number(digits: &[u8]) -> Option<usize>
-    ensures { result ≡ number_of digits.now }
-{
-    if digits.is_empty() {
-        return None;
-    }
-    let mut value: usize = 0;
-    for digit in digits {
-        let digit = char::from(*digit).to_digit(10)?;
-        value = value.checked_mul(10)?.checked_add(digit as usize)?;
-    }
-    Some(value)
-}
-
-/// What stands before the first separator, and what stands after it, if there is one.
-fn cut(text: &[u8], separator: u8) -> (&[u8], Option<&[u8]>)
-    ensures front { result.0.now ≡ before separator text.now }
-    ensures back { option_copied result.1 ≡ after separator text.now }
-    ensures shorter { IfSome result.1 (λ rest. length rest.now < length text.now) }
-{
-    match position_of(text, separator) {
-        Some(at) => (&text[..at], Some(&text[at + 1..])),
-        None => (text, None),
-    }
-}
-
-/// Where the first separator stands.
-fn position_of(text: &[u8], separator: u8) -> Option<usize>
-    ensures { MatchOption result (EachIndex text.now (λ k. slice_index text.now k ≢ separator))
-        (λ at. (at < length text.now) × (slice_index text.now at ≡ separator) × ((k : ℕ) → k < at → slice_index text.now k ≢ separator)) }
-{
-    text.iter().position(|byte| *byte == separator)
 }

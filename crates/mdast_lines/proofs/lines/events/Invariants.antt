@@ -1,13 +1,15 @@
-use Rattle.std.proofs.Common.{◌+◌, ◌≤◌, length}
+use Rattle.std.proofs.Common.{◌+◌, ◌≤◌, IfSome, length}
 use Rattle.mdast_lines.specs.Lines.{pieces}
+use Rattle.mdast_lines.specs.Fronts.{IsSaid}
 use Rattle.mdast_lines.proofs.LinesLemmas.{Reads}
 use Rattle.mdast_lines.proofs.lines.events.Given as goal
 
-abbrev pub invariant-loop-line : goal.invariant-loop-line
-invariant-loop-line l = record {
+abbrev pub invariant-loop-rest : goal.invariant-loop-rest
+invariant-loop-rest l = record {
   reads : Reads l.bytes l.events.items l.number (pieces 10 l.rest);
   room : l.number + length l.rest ≤ length l.bytes;
+  last_point : IfSome l.last_point IsSaid;
 }
 
-abbrev pub decreases-loop-line : goal.decreases-loop-line
-decreases-loop-line l = length l.rest
+abbrev pub decreases-loop-rest : goal.decreases-loop-rest
+decreases-loop-rest l = length l.rest
