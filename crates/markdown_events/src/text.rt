@@ -3,6 +3,7 @@
 ghost use Rattle.std.specs.Prelude.{◌≡◌, ◌<◌, ◌++◌, IfOk, string_bytes, unwrap_or, chars, encode_utf8_all};
 ghost use Rattle.std.specs.Option.{option_copied};
 ghost use Rattle.std.specs.List.{list_all};
+ghost use Rattle.caseless.specs.Caseless.{default_case_fold};
 ghost use Rattle.markdown_events.specs.Texts.{trim, without_first_line_ending, without_last_line_ending, without_escapes, is_space, without_padding, raw, spaces, is_blank, collapsed, fold};
 ghost use Rattle.markdown_events.specs.TextWalks.{after_first, before_last, blanks_after, collapsed_part, spaced_part};
 
@@ -77,7 +78,14 @@ pub fn normalize_identifier(alloc: Global, value: &str) -> Result<String, AllocE
     ensures { IfOk result (λ text. string_bytes text ≡ fold value.now) }
 {
     let text = collapsed(alloc, value)?;
-    caseless::default_case_fold_str(alloc, text.as_str())
+    folded(alloc, text.as_str())
+}
+
+/// The text with full case folding.
+fn folded(alloc: Global, value: &str) -> Result<String, AllocError>
+    ensures { IfOk result (λ text. string_bytes text ≡ encode_utf8_all (default_case_fold (chars value.now))) }
+{
+    caseless::default_case_fold_str(alloc, value)
 }
 
 /// The rest of a text that begins with this character.

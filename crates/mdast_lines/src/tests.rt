@@ -3,7 +3,7 @@ ghost use Rattle.std.specs.Prelude.{◌<◌};
 use crate::decoder::Decoder;
 use crate::lines::events;
 use crate::run::run;
-use markdown_nodes::event::{Kind, Name};
+use markdown_nodes::event::{Event, Kind, Name, Point};
 use markdown_tree::to_mdast::References;
 use std::io::{self, ErrorKind, Read, Write};
 use std::process::Abort;
@@ -136,6 +136,63 @@ fn reads_virtual_spaces(rt: HostRuntime) -> Result<(), Fail> {
     assert_eq!(rt; read[2].point.line, 2);
     assert_eq!(rt; read[2].point.column, 3);
     assert_eq!(rt; read[2].point.index, 4);
+    Ok(())
+}
+
+/// A point.
+fn point(line: usize, column: usize, index: usize, vs: usize) -> Point {
+    Point {
+        line,
+        column,
+        index,
+        vs,
+    }
+}
+
+/// A point that is said again is the same, however long its text is, and another one is read.
+#[test]
+fn reads_points_that_are_said_again(rt: HostRuntime) -> Result<(), Fail> {
+    let points = [
+        ("1:1:0", point(1, 1, 0, 0)),
+        ("1:1:01", point(1, 1, 1, 0)),
+        ("1:1:0:3", point(1, 1, 0, 3)),
+        ("1:1:0", point(1, 1, 0, 0)),
+        ("1234567:12345678:0", point(1_234_567, 12_345_678, 0, 0)),
+        ("123456789:1:0", point(123_456_789, 1, 0, 0)),
+        (
+            "1:10000000000:100000000000000:2",
+            point(1, 10_000_000_000, 100_000_000_000_000, 2),
+        ),
+        (
+            "1:10000000000:100000000000000:21",
+            point(1, 10_000_000_000, 100_000_000_000_000, 21),
+        ),
+        (
+            "18446744073709551615:1:18446744073709551615",
+            point(usize::MAX, 1, usize::MAX, 0),
+        ),
+    ];
+    let mut text = String::new(rt.alloc());
+    let mut wanted = Vec::new(rt.alloc());
+    for (said, point) in points {
+        text.push_str("+Data ")?;
+        text.push_str(said)?;
+        text.push_str("\n-CharacterReferenceMarkerHexadecimal ")?;
+        text.push_str(said)?;
+        text.push_str("\n")?;
+        wanted.push(Event {
+            kind: Kind::Enter,
+            name: Name::Data,
+            point,
+        })?;
+        wanted.push(Event {
+            kind: Kind::Exit,
+            name: Name::CharacterReferenceMarkerHexadecimal,
+            point,
+        })?;
+    }
+    let read = events(rt.alloc(), text.as_bytes())?;
+    assert_eq!(rt; read.as_slice(), wanted.as_slice());
     Ok(())
 }
 

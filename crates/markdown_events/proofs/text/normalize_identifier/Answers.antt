@@ -9,4 +9,4 @@ unfolding fold
 returns c =
     let value = c.args.value.now in
     let e = ap (λ bs. encode_utf8_all (default_case_fold (chars bs))) (c.as_str.ensures.value ∙ c.in_ok-text.ensures) ∙ ap (λ cs. encode_utf8_all (default_case_fold cs)) (collapsed_chars value c.utf8.value) in
-    subst (λ (w : List ℕ). IfOk c.default_case_fold_str.result (λ text. string_bytes text ≡ w)) e c.default_case_fold_str.ensures
+    subst (λ (w : List ℕ). IfOk c.folded.result (λ text. string_bytes text ≡ w)) e c.folded.ensures

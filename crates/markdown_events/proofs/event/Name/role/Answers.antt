@@ -1,0 +1,5 @@
+use Rattle.std.proofs.Common.{rules}
+use Rattle.markdown_events.proofs.event.Name.role.Goals as goal
+
+pub returns-in-HtmlFlow : goal.returns-in-HtmlFlow
+returns-in-HtmlFlow c = search rules
