@@ -1,16 +1,17 @@
-"""Reads the table of rows, rows/rows.txt: its sections, and the spans of a row as events."""
+"""Reads the table of rows, crates/mdast_replay/data/rows.txt: its sections, and the spans of a row."""
 
 import os
 import re
 
 TOP = os.path.join(os.path.dirname(os.path.abspath(__file__)), "..")
-ROWS = os.path.join(TOP, "rows", "rows.txt")
+DATA = os.path.join(TOP, "crates", "mdast_replay", "data")
+ROWS = os.path.join(DATA, "rows.txt")
 
 ESCAPES = {"n": "\n", "r": "\r", "t": "\t", "\\": "\\", '"': '"'}
 
 
 def sections():
-    """The name of each section, and its rows: what each says, by the word that its line begins with."""
+    """The name of each section, and its rows: what each says, by the word that its line begins with, and its lines."""
     found = []
     row = None
     for line in open(ROWS, encoding="utf-8").read().split("\n"):
@@ -19,8 +20,9 @@ def sections():
             continue
         if word == "section":
             found.append((rest, []))
-        elif word == "row":
-            row = {"name": rest}
+            continue
+        if word == "row":
+            row = {"name": rest, "lines": []}
             found[-1][1].append(row)
         elif line.startswith('"'):
             row["document"] = line
@@ -32,6 +34,7 @@ def sections():
             row["refused"] = rest
         else:
             row["spans"] = line
+        row["lines"].append(line)
     return found
 
 

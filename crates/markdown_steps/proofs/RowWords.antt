@@ -1,4 +1,4 @@
--- Short words for the rows of rows/rows.txt.
+-- Short words for the rows of crates/mdast_replay/data/rows.txt.
 use Rattle.std.proofs.Common.{ℕ, ◌+◌, ◌*◌, ◌==◌, nat_lt, nat_le, ◌&&◌, ◌||◌, Bool, List, [], ◌∷◌, length, Option, None, Some, if◌then◌else◌}
 use Rattle.std.specs.Prelude.{Err, Ok, Result, codes}
 use Rattle.std.specs.Str.{bytes_eq}

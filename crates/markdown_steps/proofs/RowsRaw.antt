@@ -1,4 +1,4 @@
--- Rows of rows/rows.txt, by computation. scripts/rows writes this file.
+-- Rows of crates/mdast_replay/data/rows.txt, by computation. scripts/rows writes this file.
 use Rattle.std.proofs.Common.{◌≡◌, [], ◌∷◌, None, Some, refl}
 use Rattle.std.specs.Prelude.{codes}
 use Rattle.std.specs.Str.{is_utf8, chars}

@@ -1,7 +1,6 @@
 //! Trees that are deep.
 
-use crate::cases::compiled;
-use crate::outline::{spelled, spelled_to};
+use crate::outline::{compiled, spelled, spelled_to};
 use markdown_nodes::event::{Event, Name};
 use markdown_nodes::mdast::Node;
 use std::alloc::{AllocError, Global};

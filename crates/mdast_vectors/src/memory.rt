@@ -1,7 +1,6 @@
 //! What `compile` asks of memory.
 
-use crate::cases::compiled;
-use crate::outline::{spelled, spelled_to};
+use crate::outline::{compiled, spelled, spelled_to};
 use markdown_nodes::event::{Event, Name};
 use markdown_nodes::mdast::Node;
 use markdown_nodes::message::Fault;

@@ -1,7 +1,17 @@
-//! Events of spans in one line, mostly where it does not matter at which point they stand.
+//! Events of spans in one line, mostly where it does not matter at which point they stand, and what
+//! is compiled of events.
 
 use markdown_nodes::event::{Event, Kind, Name, Point};
+use markdown_nodes::mdast::Node;
+use markdown_nodes::message::Fault;
+use markdown_tree::to_mdast::compile;
+use mdast_lines::decoder::Decoder;
 use std::alloc::{AllocError, Global};
+
+/// What `compile` gives for events over a document, with the decoder of the program.
+pub fn compiled(alloc: Global, document: &[u8], events: &[Event]) -> Result<Node, Fault> {
+    compile(alloc, events, document, &Decoder)
+}
 
 /// The events of spans in order, each with how many others it stands in.
 pub fn spelled(alloc: Global, outline: &[(usize, Name)]) -> Result<Vec<Event>, AllocError> {

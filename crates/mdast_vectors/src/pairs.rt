@@ -1,7 +1,6 @@
 //! A span of each name in a span of each name.
 
-use crate::cases::compiled;
-use crate::outline::event_at;
+use crate::outline::{compiled, event_at};
 use markdown_nodes::event::{Kind, Name};
 use markdown_nodes::message::Fault;
 use std::alloc::Global;

@@ -1,9 +1,8 @@
 //! What a tree shows of lists and tables is what the calls on events say of them.
 
 use crate::alignment::{TABLES, table_align};
-use crate::cases::compiled;
 use crate::depths::first_child;
-use crate::outline::{enter, exit, spelled};
+use crate::outline::{compiled, enter, exit, spelled};
 use crate::spread::{LISTS, item_spread, list_spread};
 use markdown_nodes::event::{Event, Name};
 use markdown_nodes::mdast::{AlignKind, Node};

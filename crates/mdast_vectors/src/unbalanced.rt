@@ -1,7 +1,6 @@
 //! Lists that are no forest's, and all that is said of them.
 
-use crate::cases::compiled;
-use crate::outline::event_at;
+use crate::outline::{compiled, event_at};
 use markdown_nodes::event::{Event, Kind, Name};
 use markdown_nodes::mdast::Node;
 use markdown_nodes::message::{Fault, Message, Place};

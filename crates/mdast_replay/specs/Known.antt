@@ -1,0 +1,15 @@
+-- What the decoders of the cases know.
+use Rattle.std.specs.Prelude.{ℕ, List, Option, Some, None, codes, if◌then◌else◌}
+use Rattle.std.specs.Str.{bytes_eq}
+use Rattle.mdast_lines.specs.Decoder.{decoded}
+use Rattle.mdast_replay.specs.declared.decoder.CaseDecoder.{CaseDecoder}
+use Rattle.mdast_replay.specs.declared.decoder.CaseDecoder.TheVariants.{Usual, Blank}
+
+-- a space for the empty value
+abbrev pub blank : List ℕ → Option (List ℕ)
+blank value = if bytes_eq value (codes "") then Some (codes " ") else None
+
+-- what each of them gives
+abbrev pub known : CaseDecoder → List ℕ → ℕ → Option (List ℕ)
+known Usual value marker = decoded value marker
+known Blank value marker = blank value

@@ -1,0 +1,132 @@
+//! The document of a case: its bytes, and where its lines begin.
+
+use crate::line::LineError;
+use markdown_nodes::event::Point;
+use std::alloc::{AllocError, Global};
+
+/// A document.
+#[derive(Drop)]
+pub struct Document {
+    /// Its bytes.
+    pub bytes: Vec<u8>,
+    /// The offset at which each of its lines begins.
+    line_starts: Vec<usize>,
+}
+
+impl Document {
+    /// A document with these bytes, whose lines end at LF, CR and CRLF.
+    fn new(alloc: Global, bytes: Vec<u8>) -> Result<Document, AllocError> {
+        let line_starts = line_starts(alloc, bytes.as_slice())?;
+        Ok(Document { bytes, line_starts })
+    }
+
+    /// The document that a text between quotes says: `\n`, `\r`, `\t`, `\\` and `\"` are one byte.
+    pub fn from_quoted(alloc: Global, text: &str) -> Result<Document, LineError> {
+        let bytes = unescaped(alloc, text)?;
+        Ok(Document::new(alloc, bytes)?)
+    }
+
+    /// The document that hexadecimal digits say.
+    pub fn from_hexadecimal(alloc: Global, digits: &str) -> Result<Document, LineError> {
+        let bytes = bytes_of_digits(alloc, digits)?;
+        Ok(Document::new(alloc, bytes)?)
+    }
+
+    /// Makes one line of it.
+    pub fn join_lines(&mut self) {
+        self.line_starts.truncate(1);
+    }
+
+    /// The point of an offset, also of one after the document. A column is a byte.
+    pub fn point(&self, offset: usize) -> Option<Point> {
+        let line = self.line_starts.partition_point(|start| *start <= offset);
+        let start = self.line_starts.get(line.checked_sub(1)?)?;
+        Some(Point {
+            line,
+            column: offset.checked_sub(*start)?.checked_add(1)?,
+            index: offset,
+            vs: 0,
+        })
+    }
+}
+
+/// Where the lines of a document begin.
+fn line_starts(alloc: Global, bytes: &[u8]) -> Result<Vec<usize>, AllocError> {
+    let mut starts = Vec::new(alloc);
+    starts.push(0)?;
+    for index in 0..bytes.len() {
+        let next = index + 1;
+        if ends_line(bytes[index], bytes.get(next)) {
+            starts.push(next)?;
+        }
+    }
+    Ok(starts)
+}
+
+/// Whether a line ends after a byte that the next one follows.
+fn ends_line(byte: u8, next: Option<&u8>) -> bool {
+    byte == b'\n' || byte == b'\r' && next != Some(&b'\n')
+}
+
+/// What the next byte of a quoted text is.
+#[derive(Clone, Copy, PartialEq, Eq, Debug)]
+enum Next {
+    /// A byte of the document, or a backslash.
+    Byte,
+    /// The letter of an escape, after its backslash.
+    Letter,
+}
+
+/// The bytes that a text with escapes says.
+fn unescaped(alloc: Global, text: &str) -> Result<Vec<u8>, LineError> {
+    let mut bytes = Vec::new(alloc);
+    let mut next = Next::Byte;
+    for byte in text.bytes() {
+        next = match (next, byte) {
+            (Next::Byte, b'\\') => Next::Letter,
+            (Next::Byte, b'"') => return Err(LineError::Unread),
+            (Next::Byte, _) => {
+                bytes.push(byte)?;
+                Next::Byte
+            }
+            (Next::Letter, _) => {
+                bytes.push(escaped(byte).ok_or(LineError::Unread)?)?;
+                Next::Byte
+            }
+        };
+    }
+    match next {
+        Next::Byte => Ok(bytes),
+        Next::Letter => Err(LineError::Unread),
+    }
+}
+
+/// The byte that a letter after a backslash says.
+fn escaped(letter: u8) -> Option<u8> {
+    match letter {
+        b'n' => Some(b'\n'),
+        b'r' => Some(b'\r'),
+        b't' => Some(b'\t'),
+        b'\\' | b'"' => Some(letter),
+        _ => None,
+    }
+}
+
+/// The bytes that hexadecimal digits say.
+fn bytes_of_digits(alloc: Global, digits: &str) -> Result<Vec<u8>, LineError> {
+    let mut bytes = Vec::new(alloc);
+    for pair in digits.as_bytes().chunks(2) {
+        bytes.push(byte_of_digits(pair).ok_or(LineError::Unread)?)?;
+    }
+    Ok(bytes)
+}
+
+/// The byte that two hexadecimal digits say.
+fn byte_of_digits(pair: &[u8]) -> Option<u8> {
+    let [high, low] = pair else {
+        return None;
+    };
+    let high = char::from(*high).to_digit(16)?;
+    let low = char::from(*low).to_digit(16)?;
+    u8::try_from(high.checked_mul(16)?.checked_add(low)?).ok()
+}

@@ -1,0 +1,128 @@
+//! Spans in the notation of a row, as events.
+//!
+//! `Paragraph 0-2 { Data 0-1, Data 1-2 }` is a Paragraph from offset 0 to 2 that holds two Data. An
+//! end of a span is an offset, or a point, as `@line:column:index:vs`.
+//!
+//! The text is read in pieces, which `, ` parts: `Paragraph 0-2 { Data 0-1` and `Data 1-2 }` here. A
+//! piece begins some spans, each in the one before it, and ends the last of them, and one more for
+//! each `}`.
+
+use crate::document::Document;
+use crate::line::LineError;
+use markdown_nodes::event::{Event, Kind, Name, Point};
+use std::alloc::Global;
+
+/// The events of the spans that a text says, over a document.
+pub fn events_of_spans(
+    alloc: Global,
+    document: &Document,
+    text: &str,
+) -> Result<Vec<Event>, LineError> {
+    let mut walk = Walk {
+        document,
+        events: Vec::new(alloc),
+        open: Vec::new(alloc),
+    };
+    for piece in text.split(", ") {
+        walk.piece(piece)?;
+    }
+    if walk.open.is_empty() {
+        Ok(walk.events)
+    } else {
+        Err(LineError::Unread)
+    }
+}
+
+/// A walk over the pieces of a text.
+#[derive(Drop)]
+struct Walk<'a> {
+    /// The document that the offsets are of.
+    document: &'a Document,
+    /// The events so far.
+    events: Vec<Event>,
+    /// The exits of the spans that are open, the innermost last.
+    open: Vec<Event>,
+}
+
+impl Walk<'_> {
+    /// Goes on over a piece.
+    fn piece(&mut self, piece: &str) -> Result<(), LineError> {
+        let mut parts = piece.split(" }");
+        let begun = parts.next().ok_or(LineError::Unread)?;
+        self.begin_all(begun)?;
+        self.end()?;
+        for part in parts {
+            if !part.is_empty() {
+                return Err(LineError::Unread);
+            }
+            self.end()?;
+        }
+        Ok(())
+    }
+
+    /// Begins spans, each in the one before it.
+    fn begin_all(&mut self, spans: &str) -> Result<(), LineError> {
+        for span in spans.split(" { ") {
+            let (enter, exit) = ends(self.document, span).ok_or(LineError::Unread)?;
+            self.events.push(enter)?;
+            self.open.push(exit)?;
+        }
+        Ok(())
+    }
+
+    /// Ends the innermost open span.
+    fn end(&mut self) -> Result<(), LineError> {
+        let exit = self.open.pop().ok_or(LineError::Unread)?;
+        self.events.push(exit)?;
+        Ok(())
+    }
+}
+
+/// The enter and the exit of a span, as `Data 0-1` says them.
+fn ends(document: &Document, span: &str) -> Option<(Event, Event)> {
+    let (name, ends) = span.split_once(' ')?;
+    let (begin, end) = ends.split_once('-')?;
+    let name = Name::find(name)?;
+    let enter = Event {
+        kind: Kind::Enter,
+        name,
+        point: point(document, begin)?,
+    };
+    let exit = Event {
+        kind: Kind::Exit,
+        name,
+        point: point(document, end)?,
+    };
+    Some((enter, exit))
+}
+
+/// The point of an end of a span.
+fn point(document: &Document, text: &str) -> Option<Point> {
+    match text.strip_prefix('@') {
+        Some(numbers) => point_of_numbers(numbers),
+        None => document.point(number(text)?),
+    }
+}
+
+/// The point that `line:column:index:vs` says.
+fn point_of_numbers(text: &str) -> Option<Point> {
+    let mut numbers = text.split(':');
+    let point = Point {
+        line: number(numbers.next()?)?,
+        column: number(numbers.next()?)?,
+        index: number(numbers.next()?)?,
+        vs: number(numbers.next()?)?,
+    };
+    match numbers.next() {
+        None => Some(point),
+        Some(_) => None,
+    }
+}
+
+/// The number that decimal digits say, with no sign before them.
+fn number(digits: &str) -> Option<usize> {
+    if digits.starts_with('+') {
+        return None;
+    }
+    digits.parse::<usize>().ok()
+}

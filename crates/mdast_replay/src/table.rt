@@ -1,0 +1,234 @@
+//! Tables of cases, in the notations of `rows.txt` and of `original.txt`.
+//!
+//! Both are read line by line. A case begins with its name, then its document stands, and at the end
+//! what `compile` must give:
+//!
+//! ```text
+//! row a-text-in-a-paragraph
+//! "Hi"
+//! Paragraph 0-2 { Data 0-2 }
+//! = Root { .. }
+//!
+//! case 1
+//! doc 4869
+//! +Paragraph 1:1:0
+//! +Data 1:1:0
+//! -Data 1:3:2
+//! -Paragraph 1:3:2
+//! = Root { .. }
+//! ```
+
+use crate::case::Case;
+use crate::decoder::CaseDecoder;
+use crate::document::Document;
+use crate::line::{Line, LineError, read_line};
+use crate::spans::events_of_spans;
+use crate::sums::Checksum;
+use markdown_nodes::event::Event;
+use mdast_lines::lines::events;
+use std::alloc::{AllocError, AllocFailed, Global};
+
+/// Why a table was not read.
+#[derive(Debug, Drop)]
+pub enum TableError {
+    /// This line, counted from 1, cannot be read; or it names a case that has no document or no
+    /// answer.
+    Unread(usize),
+    /// Memory ran out.
+    Memory(AllocError),
+}
+
+impl<T: Drop> From<AllocFailed<T>> for TableError {
+    fn from(error: AllocFailed<T>) -> TableError {
+        TableError::Memory(AllocError::from(error))
+    }
+}
+
+/// The cases of a table.
+pub fn cases(alloc: Global, table: &[u8]) -> Result<Vec<Case<'_>>, TableError> {
+    let mut reader = Reader {
+        alloc,
+        section: "",
+        draft: None,
+        cases: Vec::new(alloc),
+    };
+    let mut number: usize = 0;
+    for line in table.split(|byte| *byte == b'\n') {
+        number = number.saturating_add(1);
+        reader.line(number, line)?;
+    }
+    reader.end_case()?;
+    Ok(reader.cases)
+}
+
+/// What was read of a table so far.
+#[derive(Drop)]
+struct Reader<'a> {
+    /// Where memory is asked for.
+    alloc: Global,
+    /// The section that the lines stand in.
+    section: &'a str,
+    /// The case that the lines are of.
+    draft: Option<Draft<'a>>,
+    /// The cases before it.
+    cases: Vec<Case<'a>>,
+}
+
+impl<'a> Reader<'a> {
+    /// Reads a line with this number.
+    fn line(&mut self, number: usize, bytes: &'a [u8]) -> Result<(), TableError> {
+        let Ok(text) = str::from_utf8(bytes) else {
+            return Err(TableError::Unread(number));
+        };
+        match read_line(text) {
+            Some(Line::Nothing) => Ok(()),
+            Some(Line::Section(name)) => {
+                self.end_case()?;
+                self.section = name;
+                Ok(())
+            }
+            Some(Line::Case(name)) => {
+                self.end_case()?;
+                self.draft = Some(Draft::new(self.alloc, number, name));
+                Ok(())
+            }
+            Some(line) => self.line_of_case(number, line, text),
+            None => Err(TableError::Unread(number)),
+        }
+    }
+
+    /// Reads a line of the case.
+    fn line_of_case(
+        &mut self,
+        number: usize,
+        line: Line<'a>,
+        text: &str,
+    ) -> Result<(), TableError> {
+        let Some(draft) = &mut self.draft else {
+            return Err(TableError::Unread(number));
+        };
+        match draft.add(self.alloc, line, text) {
+            Ok(()) => Ok(()),
+            Err(LineError::Unread) => Err(TableError::Unread(number)),
+            Err(LineError::Memory(error)) => Err(TableError::Memory(error)),
+        }
+    }
+
+    /// Ends the case, if there is one.
+    fn end_case(&mut self) -> Result<(), TableError> {
+        if let Some(draft) = self.draft.take() {
+            let number = draft.number;
+            match draft.case(self.section) {
+                Some(case) => self.cases.push(case)?,
+                None => return Err(TableError::Unread(number)),
+            }
+        }
+        Ok(())
+    }
+}
+
+/// A case as far as its lines were read.
+#[derive(Drop)]
+struct Draft<'a> {
+    /// The number of its first line.
+    number: usize,
+    /// Its first line.
+    name: &'a str,
+    /// The document, after the line that says it.
+    document: Option<Document>,
+    /// What its character references stand for.
+    decoder: CaseDecoder,
+    /// The events so far.
+    events: Vec<Event>,
+    /// The answer, after the line that says it.
+    answer: Option<&'a str>,
+    /// The checksum of its lines so far.
+    checksum: Checksum,
+}
+
+impl<'a> Draft<'a> {
+    /// A case of which the first line was read.
+    fn new(alloc: Global, number: usize, name: &'a str) -> Draft<'a> {
+        Draft {
+            number,
+            name,
+            document: None,
+            decoder: CaseDecoder::Usual,
+            events: Vec::new(alloc),
+            answer: None,
+            checksum: Checksum::new().with_line(name),
+        }
+    }
+
+    /// Adds what a line says.
+    fn add(&mut self, alloc: Global, line: Line<'a>, text: &str) -> Result<(), LineError> {
+        self.checksum = self.checksum.with_line(text);
+        match line {
+            Line::Quoted(text) => self.set_document(Document::from_quoted(alloc, text)?),
+            Line::Hexadecimal(digits) => {
+                self.set_document(Document::from_hexadecimal(alloc, digits)?)
+            }
+            Line::OneLine => self.join_lines(),
+            Line::Blank => {
+                self.decoder = CaseDecoder::Blank;
+                Ok(())
+            }
+            Line::Spans(text) => self.add_spans(alloc, text),
+            Line::Event(text) => Ok(self.events.append(&mut events(alloc, text.as_bytes())?)?),
+            Line::Answer(text) => self.set_answer(text),
+            Line::Ordered => Ok(()),
+            Line::Nothing | Line::Section(_) | Line::Case(_) => Err(LineError::Unread),
+        }
+    }
+
+    /// The document is this one. A case has one line for it.
+    fn set_document(&mut self, document: Document) -> Result<(), LineError> {
+        match self.document.replace(document) {
+            None => Ok(()),
+            Some(_) => Err(LineError::Unread),
+        }
+    }
+
+    /// The document is one line, which must be known before the events.
+    fn join_lines(&mut self) -> Result<(), LineError> {
+        match &mut self.document {
+            Some(document) if self.events.is_empty() => {
+                document.join_lines();
+                Ok(())
+            }
+            _ => Err(LineError::Unread),
+        }
+    }
+
+    /// Adds the events of spans, for which the document must be known.
+    fn add_spans(&mut self, alloc: Global, text: &str) -> Result<(), LineError> {
+        match &self.document {
+            Some(document) => {
+                let mut events = events_of_spans(alloc, document, text)?;
+                Ok(self.events.append(&mut events)?)
+            }
+            None => Err(LineError::Unread),
+        }
+    }
+
+    /// The answer is this one. A case has one line for it.
+    fn set_answer(&mut self, answer: &'a str) -> Result<(), LineError> {
+        match self.answer.replace(answer) {
+            None => Ok(()),
+            Some(_) => Err(LineError::Unread),
+        }
+    }
+
+    /// The case of a section, if nothing is missing.
+    fn case(self, section: &'a str) -> Option<Case<'a>> {
+        Some(Case {
+            section,
+            name: self.name,
+            document: self.document?,
+            decoder: self.decoder,
+            events: self.events,
+            answer: self.answer?,
+            checksum: self.checksum,
+        })
+    }
+}
