@@ -70,7 +70,7 @@ others_is : (n : ℕ) (xs ys : List ℕ) → AreLanes n xs ys → others xs ys �
 others_is n xs ys l = ap (λ ms. mask_l ms % 2 ^ 64) (tops_compared w8 differ xs ys) ∙ mask_l-mod (zip2 differ xs ys) 64 (omega (arith, lanes_long n xs ys l, l.few))
 
 -- where it is 0, all bytes are the same
-pub same_all : (lanes : ℕ) (xs ys : List ℕ) → AreLanes lanes xs ys → others xs ys ≡ 0 → (n : ℕ) → n ≤ lanes → take n xs ≡ take n ys
+same_all : (lanes : ℕ) (xs ys : List ℕ) → AreLanes lanes xs ys → others xs ys ≡ 0 → (n : ℕ) → n ≤ lanes → take n xs ≡ take n ys
 same_all lanes xs ys l none n le =
     let ms = zip2 differ xs ys in
     let count : prefix_len not (zip2 differ xs ys) ≡ length (zip2 differ xs ys) = leading_from_mask_l (λ x. x) ms (ap mask_l (map_id ms) ∙ sym (others_is lanes xs ys l) ∙ none) in
@@ -84,11 +84,11 @@ count_is lanes xs ys l some =
     ap (count_trailing_zeros 64) is ∙ trailing_mask_l (λ x. x) 64 ms (omega (arith, lanes_long lanes xs ys l, l.few)) (rw is at some)
 
 -- and so these are the same
-pub same_some : (lanes : ℕ) (xs ys : List ℕ) → AreLanes lanes xs ys → 0 < others xs ys → (n : ℕ) → n ≤ count_trailing_zeros 64 (others xs ys) → take n xs ≡ take n ys
+same_some : (lanes : ℕ) (xs ys : List ℕ) → AreLanes lanes xs ys → 0 < others xs ys → (n : ℕ) → n ≤ count_trailing_zeros 64 (others xs ys) → take n xs ≡ take n ys
 same_some lanes xs ys l some n le = same_front xs ys n (l.left ∙ sym l.right) (rw (count_is lanes xs ys l some) at le)
 
 -- and no more than there are
-pub same_most : (lanes : ℕ) (xs ys : List ℕ) → AreLanes lanes xs ys → 0 < others xs ys → count_trailing_zeros 64 (others xs ys) ≤ lanes
+same_most : (lanes : ℕ) (xs ys : List ℕ) → AreLanes lanes xs ys → 0 < others xs ys → count_trailing_zeros 64 (others xs ys) ≤ lanes
 same_most lanes xs ys l some =
     let le : prefix_len not (zip2 differ xs ys) ≤ length (zip2 differ xs ys) = prefix_len-le-length not (zip2 differ xs ys) in
     rw (count_is lanes xs ys l some) (omega (arith, le, lanes_long lanes xs ys l))
@@ -99,3 +99,23 @@ take_front zero m xs le = refl
 take_front (suc n) zero xs le = absurd (omega arith)
 take_front (suc n) (suc m) [] le = refl
 take_front (suc n) (suc m) (x ∷ xs) le = ap (λ l. x ∷ l) (take_front n m xs (omega arith))
+
+-- ---- The first bytes of two texts
+
+first_lanes : (lanes : ℕ) (xs ys : List ℕ) → lanes ≤ 64 → lanes ≤ length xs → lanes ≤ length ys → AreLanes lanes (take lanes xs) (take lanes ys)
+first_lanes lanes xs ys few a b = record { few = few; left = search (arith, rules); right = search (arith, rules) }
+
+-- where none differ, they are the same
+pub first_all : (lanes : ℕ) (xs ys : List ℕ) → lanes ≤ 64 → lanes ≤ length xs → lanes ≤ length ys → others (take lanes xs) (take lanes ys) ≡ 0 → (n : ℕ) → n ≤ lanes → take n xs ≡ take n ys
+first_all lanes xs ys few a b none n le =
+    sym (take_front n lanes xs le) ∙ same_all lanes (take lanes xs) (take lanes ys) (first_lanes lanes xs ys few a b) none n le ∙ take_front n lanes ys le
+
+-- where some differ, there are no more the same than there are
+pub first_most : (lanes : ℕ) (xs ys : List ℕ) → lanes ≤ 64 → lanes ≤ length xs → lanes ≤ length ys → 0 < others (take lanes xs) (take lanes ys) → count_trailing_zeros 64 (others (take lanes xs) (take lanes ys)) ≤ lanes
+first_most lanes xs ys few a b some = same_most lanes (take lanes xs) (take lanes ys) (first_lanes lanes xs ys few a b) some
+
+-- and these are those before the first that differs
+pub first_some : (lanes : ℕ) (xs ys : List ℕ) → lanes ≤ 64 → lanes ≤ length xs → lanes ≤ length ys → 0 < others (take lanes xs) (take lanes ys) → (n : ℕ) → n ≤ count_trailing_zeros 64 (others (take lanes xs) (take lanes ys)) → take n xs ≡ take n ys
+first_some lanes xs ys few a b some n le =
+    let most : n ≤ lanes = omega (arith, first_most lanes xs ys few a b some, le) in
+    sym (take_front n lanes xs most) ∙ same_some lanes (take lanes xs) (take lanes ys) (first_lanes lanes xs ys few a b) some n le ∙ take_front n lanes ys most

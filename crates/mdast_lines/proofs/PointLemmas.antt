@@ -14,14 +14,26 @@ use Rattle.mdast_lines.proofs.NumberLemmas.{IsDigits, digits_of_number, value_of
 
 -- ---- Fields
 
+-- digits before a colon, in a line
+record BeforeColon (ds zs : List ℕ) : Type 0 where
+  line : before 10 (ds ++ (58 ∷ zs)) ≡ ds ++ (58 ∷ before 10 zs)
+  front : before 58 (ds ++ (58 ∷ before 10 zs)) ≡ ds
+  back : after 58 (ds ++ (58 ∷ before 10 zs)) ≡ Some (before 10 zs)
+  value : number_of ds ≡ Some (digits_value 10 ds)
+
+before_colon : (ds zs : List ℕ) → IsDigits ds → BeforeColon ds zs
+before_colon ds zs d = record {
+  line = before_digits 10 ds (58 ∷ zs) (omega arith) d.all;
+  front = before_digits 58 ds (58 ∷ before 10 zs) (omega arith) d.all ∙ append-nil ds;
+  back = after_digits 58 ds (58 ∷ before 10 zs) (omega arith) d.all;
+  value = value_of ds d;
+}
+
 field_colon : (ds zs : List ℕ) → IsDigits ds → field_of (before 10 (ds ++ (58 ∷ zs))) ≡ Some (digits_value 10 ds, before 10 zs)
 unfolding field_of
 field_colon ds zs d =
-    let a : before 10 (ds ++ (58 ∷ zs)) ≡ ds ++ (58 ∷ before 10 zs) = before_digits 10 ds (58 ∷ zs) (omega arith) d.all in
-    let b : before 58 (ds ++ (58 ∷ before 10 zs)) ≡ ds = before_digits 58 ds (58 ∷ before 10 zs) (omega arith) d.all ∙ append-nil ds in
-    let c : after 58 (ds ++ (58 ∷ before 10 zs)) ≡ Some (before 10 zs) = after_digits 58 ds (58 ∷ before 10 zs) (omega arith) d.all in
-    let n : number_of ds ≡ Some (digits_value 10 ds) = value_of ds d in
-    rw (a, c, b, n) refl
+    let c : BeforeColon ds zs = before_colon ds zs d in
+    rw (c.line, c.back, c.front, c.value) refl
 
 -- a number and a colon
 pub field_some : (text : List ℕ) (v n : ℕ) → NumberBegins text v n → n < length text → get_or text n 0 ≡ 58 → FieldBegins text v (from text (n + 1))
@@ -98,11 +110,8 @@ last_no_number text bad = last_fails (before 10 text) bad.field
 last_colon : (ds zs : List ℕ) → IsDigits ds → index_and_spaces_of (before 10 (ds ++ (58 ∷ zs))) ≡ (number_of (before 10 zs) >>= λ vs. Some (digits_value 10 ds, vs))
 unfolding index_and_spaces_of
 last_colon ds zs d =
-    let a : before 10 (ds ++ (58 ∷ zs)) ≡ ds ++ (58 ∷ before 10 zs) = before_digits 10 ds (58 ∷ zs) (omega arith) d.all in
-    let b : before 58 (ds ++ (58 ∷ before 10 zs)) ≡ ds = before_digits 58 ds (58 ∷ before 10 zs) (omega arith) d.all ∙ append-nil ds in
-    let c : after 58 (ds ++ (58 ∷ before 10 zs)) ≡ Some (before 10 zs) = after_digits 58 ds (58 ∷ before 10 zs) (omega arith) d.all in
-    let n : number_of ds ≡ Some (digits_value 10 ds) = value_of ds d in
-    rw (a, b, n, c) refl
+    let c : BeforeColon ds zs = before_colon ds zs d in
+    rw (c.line, c.front, c.value, c.back) refl
 
 -- virtual spaces that are a number
 pub last_some : (text : List ℕ) (v n : ℕ) (rest : List ℕ) (vs : ℕ) → NumberBegins text v n → n < length text → get_or text n 0 ≡ 58 → LastNumberBegins (from text (n + 1)) vs rest → IndexBegins text v vs rest
