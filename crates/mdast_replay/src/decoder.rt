@@ -21,16 +21,8 @@ impl References for CaseDecoder {
     fn decode(&self, alloc: Global, value: &str, marker: u8) -> Result<Option<String>, AllocError> {
         match self {
             CaseDecoder::Usual => Decoder.decode(alloc, value, marker),
-            CaseDecoder::Blank => blank(alloc, value),
+            CaseDecoder::Blank if value == "" => Ok(Some(String::from_str(alloc, " ")?)),
+            CaseDecoder::Blank => Ok(None),
         }
-    }
-}
-
-/// One space for the empty value.
-fn blank(alloc: Global, value: &str) -> Result<Option<String>, AllocError> {
-    if value.is_empty() {
-        Ok(Some(String::from_str(alloc, " ")?))
-    } else {
-        Ok(None)
     }
 }

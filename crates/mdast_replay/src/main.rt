@@ -39,10 +39,7 @@ fn main(rt: HostRuntime) -> ExitCode {
 fn inputs(rt: &HostRuntime) -> Result<Vec<Input>, RunError> {
     let mut arguments = match env::args(rt) {
         Ok(arguments) => arguments,
-        Err(error) if error.kind() == ErrorKind::OutOfMemory => return Err(RunError::Memory(
-            AllocError,
-        )),
-        Err(_) => return Err(RunError::Usage),
+        Err(error) => return Err(without_memory_or(&error, RunError::Usage)),
     };
     let _program = arguments.next();
     let mut inputs = Vec::new(rt.alloc());
@@ -59,14 +56,20 @@ fn inputs(rt: &HostRuntime) -> Result<Vec<Input>, RunError> {
 fn input(rt: &HostRuntime, name: String) -> Result<Input, RunError> {
     let mut file = match File::open(rt, name.as_str()) {
         Ok(file) => file,
-        Err(error) if error.kind() == ErrorKind::OutOfMemory => return Err(RunError::Memory(
-            AllocError,
-        )),
-        Err(_) => return Err(RunError::UnreadFile(name)),
+        Err(error) => return Err(without_memory_or(&error, RunError::UnreadFile(name))),
     };
     match read_all(rt.alloc(), &mut file) {
         Ok(bytes) => Ok(Input { name, bytes }),
         Err(ReadError::Failed) => Err(RunError::UnreadFile(name)),
         Err(ReadError::Memory(error)) => Err(RunError::Memory(error)),
+    }
+}
+
+/// What an error of the system means to a run: that memory ran out, or else this.
+fn without_memory_or(error: &io::Error, other: RunError) -> RunError {
+    if error.kind() == ErrorKind::OutOfMemory {
+        RunError::Memory(AllocError)
+    } else {
+        other
     }
 }

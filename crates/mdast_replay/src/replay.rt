@@ -27,7 +27,7 @@ impl List {
             List::Whole => Ok(String::new(alloc)),
             List::Counted => String::from_str(alloc, ", counted,"),
             List::First(count) => format!(in alloc; ", cut after event {count},"),
-            List::Swapped(number) => { format!(in alloc; ", with event {number} after the next,") }
+            List::Swapped(number) => format!(in alloc; ", swapped at event {number},"),
         }
     }
 }
@@ -107,7 +107,7 @@ fn cut(alloc: Global, case: &Case<'_>) -> Result<(), ReplayError> {
     Ok(())
 }
 
-/// With two neighboring exits of different names swapped, the list is unbalanced at the first of
+/// With two neighbouring exits of different names swapped, the list is unbalanced at the first of
 /// them.
 fn swap(alloc: Global, case: &Case<'_>) -> Result<(), ReplayError> {
     for index in 0..case.events.len() {

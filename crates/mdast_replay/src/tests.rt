@@ -44,7 +44,8 @@ fn expect<R: Abort + AllocGlobal>(
 
 #[test]
 fn names_turned_answers(rt: HostRuntime) -> Result<(), Fail> {
-    let table = "row a\n\"a\"\nData 0-1\n! slice-invalid 1:1 (0)\n\ncase 7\ndoc\n= Root { children: [] }\n";
+    let table =
+        "row a\n\"a\"\nData 0-1\n! slice-invalid 1:1 (0)\n\ncase 7\ndoc\n= Root { children: [] }\n";
     let said =
         "x: row a gives = Root { children: [Text { value: \"a\", position: Some(1:1-1:2 (0-1)) }], position: Some(1:1-1:2 (0-1)) }\nx: case 7 gives = Root { children: [], position: Some(1:1-1:1 (0-0)) }\nx: 2 cases, 2 not as they must be\n";
     expect(&rt, &[("x", table)], said, 1)
@@ -77,12 +78,13 @@ fn names_rows_with_another_checksum(rt: HostRuntime) -> Result<(), Fail> {
         let said = format!(in rt.alloc(); "x: 2 cases, each as it must be\n{told}")?;
         expect(&rt, &[("x", ROWS), ("y.sums", sums)], said.as_str(), ended)?;
     }
-    expect(
-        &rt,
-        &[("y.sums", "")],
-        "usage: mdast_replay FILE.., each a table, or the .sums of the table before it\n",
-        2,
-    )
+    Ok(())
+}
+
+#[test]
+fn asks_for_a_table_before_its_checksums(rt: HostRuntime) -> Result<(), Fail> {
+    let said = "usage: mdast_replay FILE.., each a table, or the .sums of the table before it\n";
+    expect(&rt, &[("y.sums", "")], said, 2)
 }
 
 #[test]
