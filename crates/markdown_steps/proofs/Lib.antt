@@ -27,6 +27,7 @@ pub mod Known
 mod Fine
 pub mod Reasons
 pub mod Sayings
+pub mod BreakEvents
 pub mod Merged
 pub mod Consequences
 pub mod ConsequencesOfFields

@@ -5,19 +5,22 @@ use Rattle.markdown_events.specs.Forest.{Forest, empty, is_delimiter_cell_value,
 use Rattle.markdown_events.specs.Names.{role_of}
 use Rattle.markdown_events.specs.Slices.{between, slice}
 use Rattle.markdown_events.specs.Spread.{align, first_row}
+use Rattle.markdown_events.specs.declared.event.Event.{Event}
+use Rattle.markdown_events.specs.declared.event.Kind.{Kind}
+use Rattle.markdown_events.specs.declared.event.Kind.TheVariants.{Enter, Exit}
 use Rattle.markdown_events.specs.declared.event.Point.{Point}
 use Rattle.markdown_events.specs.declared.infer.AlignKind.{AlignKind}
 use Rattle.markdown_events.specs.declared.role.ItemKind.{ItemKind}
 use Rattle.markdown_events.specs.declared.role.Role.{Role}
 use Rattle.markdown_events.specs.declared.unist.Position.{Position}
 use Rattle.markdown_events.specs.declared.role.ItemKind.TheVariants.{Content as content, Part as part}
-use Rattle.markdown_events.specs.declared.role.Role.TheVariants.{Significant as significant}
+use Rattle.markdown_events.specs.declared.role.Role.TheVariants.{Significant as significant, Transparent as transparent}
 use Rattle.markdown_events.specs.declared.role.Content.TheVariants as contents
 use Rattle.markdown_nodes.specs.Tree as tree
 use Rattle.markdown_grammar.specs.Accepted.{Occurrence, ends_with_break, has_its_value, is_no_inner_table}
 use Rattle.markdown_events.specs.declared.role.Part.{Part}
 use Rattle.markdown_grammar.specs.Attributes.{decoded, value}
-use Rattle.markdown_grammar.specs.Items.{is_line_ending, kinds}
+use Rattle.markdown_grammar.specs.Items.{is_hard_break, is_line_ending, kinds}
 use Rattle.markdown_grammar.specs.Document.{Source, byte_at, is_depth, is_item_number, length_between}
 use Rattle.markdown_grammar.specs.Grammar.{has_part, heading_atx, conforms}
 use Rattle.markdown_grammar.specs.Spots.{Site}
@@ -141,3 +144,25 @@ ExitSays s x InvalidSlice = (has_its_value s x ≡ false) × IsNotThere s x
 ExitSays s x InvalidListValue = (x.what ≡ part parts.ListItemValue) × (is_item_number (slice s.bytes x.start x.end) ≡ false)
 ExitSays s x UnknownReference = (x.what ≡ part parts.CharacterReferenceValue) × (decoded s x.place x.start x.end ≡ None)
 ExitSays s x _ = ⊥
+
+-- whether the last event of a significant span is the exit of a hard break, after an event: where that was so before, an event of a transparent span leaves it
+abbrev pub exits_break : Kind → Role → Bool → Bool
+exits_break kind (transparent _) before = before
+exits_break Enter (significant what) before = false
+exits_break Exit (significant what) before = is_hard_break what
+
+-- the same after events
+abbrev pub exits_break_last : List Event → Bool → Bool
+exits_break_last [] before = before
+exits_break_last (event ∷ events) before = exits_break_last events (exits_break event.kind (role_of event.name) before)
+
+-- the last of these events that is one of a significant span is the exit of a hard break
+abbrev pub ends_with_break_exit : List Event → Bool
+ends_with_break_exit events = exits_break_last events false
+
+-- what `break-unfinished` says of an event: it is one of a significant span, no line ending begins with it, and of the events of such spans before it the last is the exit of a hard break
+pub record FollowsBreak (before : List Event) (event : Event) : Type 0 where
+  pub what : ItemKind
+  pub is_significant : role_of event.name ≡ significant what
+  pub is_no_line_ending : event.kind ≡ Enter → is_line_ending what ≡ false
+  pub after_break : ends_with_break_exit before ≡ true

@@ -5,24 +5,26 @@
 //! a message something is wrong at an event, or left open at the last. So each law here is one about
 //! what it answers.
 
-ghost use Rattle.std.specs.Prelude.{◌≡◌, ◌++◌, ◌∷◌, [], true};
-ghost use Rattle.markdown_events.specs.Forest.{Forest};
+ghost use Rattle.std.specs.Prelude.{List, ◌≡◌, ◌++◌, ◌∷◌, [], true};
+ghost use Rattle.markdown_events.specs.Forest.{Forest, events_of};
+ghost use Rattle.markdown_events.specs.declared.event.Event.{Event};
 ghost use Rattle.markdown_events.specs.declared.event.Point.{Point};
 ghost use Rattle.markdown_events.specs.declared.role.ItemKind.{ItemKind};
 ghost use Rattle.markdown_nodes.specs.Tree.{only};
-ghost use Rattle.markdown_grammar.specs.Accepted.{Accepted, Occurrence};
+ghost use Rattle.markdown_grammar.specs.Accepted.{Accepted, Occurrence, ends_with_break};
 ghost use Rattle.markdown_grammar.specs.Decorated.{nodes_of};
 ghost use Rattle.markdown_steps.specs.Consequences.{Everywhere, HasColumnsOf, HasDepthToSix, HasPosition, HasStartIfOrdered, IsLinkBefore, NoTextAfterText, is_autolink};
 ghost use Rattle.markdown_grammar.specs.Grammar.{conforms};
-ghost use Rattle.markdown_grammar.specs.Items.{Items, item, kinds};
+ghost use Rattle.markdown_grammar.specs.Items.{Items, item, items, kinds};
 ghost use Rattle.markdown_grammar.specs.Meaning.{meaning};
 ghost use Rattle.markdown_grammar.specs.Nodes.{decorate};
 ghost use Rattle.markdown_grammar.specs.Attributes.{Place, inherited_after};
-ghost use Rattle.markdown_grammar.specs.Reasons.{IsWrongAtEnter, IsWrongAtExit};
-ghost use Rattle.markdown_steps.specs.Consequences.{EnterSays, ExitSays};
+ghost use Rattle.markdown_grammar.specs.Reasons.{IsWrong, IsWrongAtEnter, IsWrongAtExit};
+ghost use Rattle.markdown_steps.specs.Consequences.{EnterSays, ExitSays, FollowsBreak, ends_with_break_exit};
 ghost use Rattle.markdown_grammar.specs.Document.{Source};
-ghost use Rattle.markdown_grammar.specs.Spots.{Site};
+ghost use Rattle.markdown_grammar.specs.Spots.{Ancestor, Site, events_so_far};
 ghost use Rattle.markdown_grammar.specs.declared.error_kind.ErrorKind.{ErrorKind};
+ghost use Rattle.markdown_grammar.specs.declared.error_kind.ErrorKind.TheVariants.{UnfinishedBreak};
 
 /// No Text comes directly after a Text among siblings, at any depth.
 ///
@@ -133,4 +135,18 @@ pub fn refused_enters_are_as_said()
 #[tactic(auto, using(crate::proofs::Sayings::exit_says))]
 pub fn refused_exits_are_as_said()
     ensures { (s : Source) (x : Occurrence) (why : ErrorKind) → IsWrongAtExit s x why → ExitSays s x why }
+{}
+
+/// A list is refused by `break-unfinished` only where a hard break is the last thing before.
+///
+/// The event that is refused is one of a significant span, it is not the enter of a line ending, and
+/// of the events of significant spans before it the last is the exit of a hard break. At the end of
+/// a list the last event of a significant span is such an exit. The reason is ours: in CommonMark a
+/// hard break is a line ending after a backslash or spaces, and micromark gives that line ending an
+/// event of its own after the break.
+///
+/// The document `a\` with a hard break at its end is refused, and so is `a\b` with data after it.
+pub fn unfinished_breaks_are_as_said()
+    ensures event { (s : Source) (f : Forest) (path : List Ancestor) (event : Event) → IsWrong s f path event UnfinishedBreak → FollowsBreak (events_so_far f path) event }
+    ensures end { (f : Forest) → ends_with_break (items f) ≡ true → ends_with_break_exit (events_of f) ≡ true }
 {}
