@@ -1,5 +1,5 @@
 -- The loop over the events.
-use Rattle.std.proofs.Common.{◌≡◌, inl, inr, ℕ, ◌+◌, ◌≤◌, List, ◌∷◌, length, drop, Some, None, Result, Ok, arith, refl, sym, ap, subst, ◌∙◌}
+use Rattle.std.proofs.Common.{◌≡◌, inl, inr, ℕ, ◌+◌, ◌*◌, ◌≤◌, List, ◌∷◌, length, drop, Some, None, Result, Ok, arith, refl, sym, ap, subst, ◌∙◌}
 use Rattle.std.specs.Prelude.{slice_get}
 use Rattle.std.proofs.lemmas.List.{at_drop_more, at_drop_all}
 use Rattle.std.proofs.lemmas.Option.{slice_get_within, get_or_from_slice_get, slice_get_cases}
@@ -36,10 +36,10 @@ run_at : (s : Source) (es : List Event) (i : ℕ) (e : Event) (st : State) → S
 unfolding run
 run_at s es i e st h = left_at (λ (xs : List Event). run s xs st) es i e h
 
--- where the loop stands: the run over what is left is the whole run, and each event took one step, each node that was walked over one more
+-- where the loop stands: the run over what is left is the whole run, and each event took at most two steps, each node that was walked over one more
 pub record Stands (s : Source) (es : List Event) (began count i : ℕ) (st : State) : Type 0 where
   pub same : run s (drop i es) st ≡ run s es opening
-  pub counted : count + run_visits s (drop i es) st ≤ began + i + run_visits s es opening
+  pub counted : count + run_visits s (drop i es) st ≤ began + 2 * i + run_visits s es opening
   pub within : i ≤ length es
   pub well : Well s st
 
@@ -47,7 +47,7 @@ pub begins : (s : Source) (es : List Event) (began : ℕ) → Stands s es began 
 begins s es began = record { same = refl; counted = omega arith; within = omega arith; well = well-opening s }
 
 pub goes_on : (s : Source) (es : List Event) (began count read after i : ℕ) (e : Event) (st next : State)
-    → Some e ≡ slice_get es i → step s e st ≡ Ok next → read ≡ count + 1 → after ≤ read + step_visits e st → Stands s es began count i st → Stands s es began after (i + 1) next
+    → Some e ≡ slice_get es i → step s e st ≡ Ok next → read ≡ count + 1 → after ≤ read + step_visits e st + 1 → Stands s es began count i st → Stands s es began after (i + 1) next
 goes_on s es began count read after i e st next at one ticked visits_at_end so_far =
     let h = so_far.counted in
     let in_list = slice_get_within es i e (sym at) in
@@ -69,7 +69,7 @@ stops_here (stops.Refused why) (faults.Memory error) p s es began count i e st a
 
 -- and takes no more steps than all of it
 pub stops_within : (s : Source) (es : List Event) (began count read after i : ℕ) (e : Event) (st : State)
-    → Some e ≡ slice_get es i → read ≡ count + 1 → after ≤ read + step_visits e st → Stands s es began count i st → after ≤ began + length es + run_visits s es opening
+    → Some e ≡ slice_get es i → read ≡ count + 1 → after ≤ read + step_visits e st + 1 → Stands s es began count i st → after ≤ began + 2 * length es + run_visits s es opening
 stops_within s es began count read after i e st at ticked visits_at_end so_far =
     let h = so_far.counted in
     let in_list = slice_get_within es i e (sym at) in

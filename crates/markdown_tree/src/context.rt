@@ -175,7 +175,7 @@ impl<'a> Context<'a> {
         requires { Well (source bytes.now (R.text references.now)) (state_of self.old) }
         ensures gives { Gives (λ _. state_of self.new) event.point result (Compiler.step (source bytes.now (R.text references.now)) event (state_of self.old)) }
         ensures list { steps.new.events ≡ steps.old.events }
-        ensures bound { steps.new.count ≤ steps.old.count + step_visits event (state_of self.old) }
+        ensures bound { steps.new.count ≤ steps.old.count + step_visits event (state_of self.old) + 1 }
     {
         match event.kind {
             Kind::Enter => self.enter(alloc, bytes, event.name, event.point),
@@ -294,7 +294,7 @@ impl<'a> Context<'a> {
         requires { Well (source bytes.now (R.text references.now)) (state_of self.old) }
         ensures gives { Gives (λ _. state_of self.new) point result (exit_step (source bytes.now (R.text references.now)) name point (state_of self.old)) }
         ensures list { steps.new.events ≡ steps.old.events }
-        ensures bound { steps.new.count ≤ steps.old.count + exit_visits name (state_of self.old).frames (top_of self.old).inner }
+        ensures bound { steps.new.count ≤ steps.old.count + exit_visits name (state_of self.old).frames (top_of self.old).inner + 1 }
     {
         let Some(frame) = self.frames.pop() else {
             return Err(Stop::Refused(ErrorKind::Unbalanced));
@@ -324,7 +324,7 @@ impl<'a> Context<'a> {
         ensures gives { Gives (λ _. top_of self.new) end result (left_to (source bytes.now (R.text references.now)) role frame end self.old) }
         ensures closed { OnOk result (Closed role self.old self.new) }
         ensures list { steps.new.events ≡ steps.old.events }
-        ensures bound { steps.new.count ≤ steps.old.count + left_visits role frame self.old }
+        ensures bound { steps.new.count ≤ steps.old.count + left_visits role frame self.old + 1 }
     {
         match role {
             Role::Transparent(kind) => Ok(self.columns.exit(kind, self.marks)?),
@@ -377,7 +377,7 @@ impl<'a> Context<'a> {
         ensures gives { (s : Source) → s.bytes ≡ bytes.now → Gives (λ _. top_of self.new) end result (left_to s (roles.Significant what) frame end self.old) }
         ensures closed { OnOk result (Closed (roles.Significant what) self.old self.new) }
         ensures list { steps.new.events ≡ steps.old.events }
-        ensures bound { steps.new.count ≤ steps.old.count + left_visits (roles.Significant what) frame self.old }
+        ensures bound { steps.new.count ≤ steps.old.count + left_visits (roles.Significant what) frame self.old + 1 }
     {
         if self.pending.is_some() {
             return Err(Stop::Refused(ErrorKind::UnfinishedBreak));
@@ -426,7 +426,7 @@ impl<'a> Context<'a> {
         ensures gives { (s : Source) → s.bytes ≡ bytes.now → Gives (λ _. top_of self.new) end result (left_to s (roles.Significant what) frame end self.old) }
         ensures closed { OnOk result (Closed (roles.Significant what) self.old self.new) }
         ensures list { steps.new.events ≡ steps.old.events }
-        ensures bound { steps.new.count ≤ steps.old.count + left_visits (roles.Significant what) frame self.old }
+        ensures bound { steps.new.count ≤ steps.old.count + left_visits (roles.Significant what) frame self.old + 1 }
     {
         let Some(outer) = self.open_containers.pop() else {
             unreachable!()

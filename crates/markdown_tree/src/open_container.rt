@@ -136,12 +136,16 @@ fn any_content_node(
     }
 }
 
-/// The node of an item of a list, whose mark says what its nodes lose.
-fn item_node(nodes: Vec<Node>, ending: Ending, mark: Option<bool>) -> Node
-    ensures { view result ≡ placed (tree.list_item ending.marks.item_blank mark) (task_if mark (views nodes.items)) (between ending.start ending.end) }
+/// The node of an item of a list, whose mark says what its nodes lose. With a mark it takes one step,
+/// from the first paragraph to its first child.
+fn item_node(steps: &mut Steps<'_>, nodes: Vec<Node>, ending: Ending, mark: Option<bool>) -> Node
+    ensures node { view result ≡ placed (tree.list_item ending.marks.item_blank mark) (task_if mark (views nodes.items)) (between ending.start ending.end) }
+    ensures list { steps.new.events ≡ steps.old.events }
+    ensures bound { steps.new.count ≤ steps.old.count + 1 }
 {
     let mut children = nodes;
     if mark.is_some() {
+        steps.tick();
         task::trim(&mut children);
     }
     let position = position_of(ending.start, ending.end);
@@ -242,7 +246,7 @@ impl<'a> OpenContainer<'a> {
         ensures node { Makes result (all_stood (initial_model_of self.entry.container) (summary_of_container self.entry)) (missing_error (initial_model_of self.entry.container)) (IsNodeOf bytes.now content ending columns.old (summary_of_container self.entry)) }
         ensures columns { OnOk result (columns_of columns.new ≡ columns_left (roles.Significant (item_kinds.Content content)) (marks_of ending.marks) (columns_of columns.old)) }
         ensures list { steps.new.events ≡ steps.old.events }
-        ensures bound { steps.new.count ≤ steps.old.count + visits_at_end (item_kinds.Content content) (summary_of_container self.entry) }
+        ensures bound { steps.new.count ≤ steps.old.count + visits_at_end (item_kinds.Content content) (summary_of_container self.entry) + 1 }
     {
         let OpenContainer {
             container,
@@ -258,8 +262,8 @@ impl<'a> OpenContainer<'a> {
                 Ok(parent(Content::Paragraph, nodes, position))
             }
             Container::ListOrdered(start) => ordered_list(nodes, ending, start),
-            Container::ListItem(mark) => Ok(item_node(nodes, ending, mark)),
-            Container::NumberedItem(parts) => Ok(item_node(nodes, ending, parts.mark)),
+            Container::ListItem(mark) => Ok(item_node(steps, nodes, ending, mark)),
+            Container::NumberedItem(parts) => Ok(item_node(steps, nodes, ending, parts.mark)),
             Container::FootnoteDefinition(label) => {
                 Ok(footnote_definition(alloc, nodes, position, label))
             }
@@ -316,7 +320,7 @@ impl<'a> OpenContainer<'a> {
         ensures left { TakesContainer bytes.now (item_kinds.Content content) own.entry ending (child_facts (marks_of ending.marks) (columns_of columns.old)) self.old self.new result }
         ensures columns { OnOk result (columns_of columns.new ≡ columns_left (roles.Significant (item_kinds.Content content)) (marks_of ending.marks) (columns_of columns.old)) }
         ensures list { steps.new.events ≡ steps.old.events }
-        ensures bound { steps.new.count ≤ steps.old.count + visits_at_end (item_kinds.Content content) (summary_of_container own.entry) }
+        ensures bound { steps.new.count ≤ steps.old.count + visits_at_end (item_kinds.Content content) (summary_of_container own.entry) + 1 }
     {
         self.container.put_content(content, &own.container);
         match content {

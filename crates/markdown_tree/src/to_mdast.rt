@@ -150,7 +150,7 @@ fn take_all<'a, R: References>(
     ensures empty { steps.old.events ≡ [] → IsOk result }
     ensures length { IfOk result (λ taken. taken.length ≡ length steps.old.events) }
     ensures list { steps.new.events ≡ steps.old.events }
-    ensures bound { steps.new.count ≤ steps.old.count + length steps.old.events + run_visits (source bytes.now (R.text references.now)) steps.old.events opening }
+    ensures bound { steps.new.count ≤ steps.old.count + 2 * length steps.old.events + run_visits (source bytes.now (R.text references.now)) steps.old.events opening }
 {
     let mut context = Context::new(alloc);
     let mut index = 0;

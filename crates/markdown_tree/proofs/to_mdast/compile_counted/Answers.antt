@@ -1,3 +1,4 @@
+use Rattle.std.proofs.Common.{rules}
 use Rattle.markdown_grammar.specs.Document.{source}
 use Rattle.markdown_tree.proofs.Answered.{found, ordered_so, other_bound, refused_so, tree_bound}
 use Rattle.markdown_tree.proofs.to_mdast.compile_counted.Goals as goal
@@ -18,3 +19,6 @@ returns-clause-bound g c =
 pub returns-clause-bound_without : goal.returns-clause-bound_without
 returns-clause-bound_without g c =
     other_bound (source c.args.bytes.now (g.R.References.text c.args.references.now)) c.args.steps.now.events c.compile_list.result c.args.steps.now.count _ c.compile_list.ensures.bound
+
+pub returns-clause-empty : goal.returns-clause-empty
+returns-clause-empty g c = search rules
