@@ -33,6 +33,21 @@ the_greatest_list_value-ordered : IsOrdered (only (meaning (over (52 ∷ 50 ∷ 
 unfolding is_utf8 chars encode slice fold caseless
 the_greatest_list_value-ordered = is-ordered (only (meaning (over (52 ∷ 50 ∷ 57 ∷ 52 ∷ 57 ∷ 54 ∷ 55 ∷ 50 ∷ 57 ∷ 53 ∷ [])) the_greatest_list_value)) refl
 
+abbrev the_greatest_list_value_without_a_prefix : Forest
+the_greatest_list_value_without_a_prefix = (span n.ListOrdered (at 1 1 0) (at 1 11 10) (span n.ListItem (at 1 1 0) (at 1 11 10) (span n.ListItemValue (at 1 1 0) (at 1 11 10) empty empty) empty) empty)
+
+the_greatest_list_value_without_a_prefix-accepted : Accepted (over (52 ∷ 50 ∷ 57 ∷ 52 ∷ 57 ∷ 54 ∷ 55 ∷ 50 ∷ 57 ∷ 53 ∷ [])) the_greatest_list_value_without_a_prefix
+unfolding is_utf8 chars encode slice fold caseless
+the_greatest_list_value_without_a_prefix-accepted = conditions-hold (over (52 ∷ 50 ∷ 57 ∷ 52 ∷ 57 ∷ 54 ∷ 55 ∷ 50 ∷ 57 ∷ 53 ∷ [])) the_greatest_list_value_without_a_prefix refl
+
+the_greatest_list_value_without_a_prefix-means : only (meaning (over (52 ∷ 50 ∷ 57 ∷ 52 ∷ 57 ∷ 54 ∷ 55 ∷ 50 ∷ 57 ∷ 53 ∷ [])) the_greatest_list_value_without_a_prefix) ≡ (node t.root (node (t.list true (Some 4294967295) false) (node (t.list_item false None) nothing (position 1 1 0 1 11 10) nothing) (position 1 1 0 1 11 10) nothing) (position 1 1 0 1 11 10) nothing)
+unfolding is_utf8 chars encode slice fold caseless
+the_greatest_list_value_without_a_prefix-means = refl
+
+the_greatest_list_value_without_a_prefix-ordered : IsOrdered (only (meaning (over (52 ∷ 50 ∷ 57 ∷ 52 ∷ 57 ∷ 54 ∷ 55 ∷ 50 ∷ 57 ∷ 53 ∷ [])) the_greatest_list_value_without_a_prefix))
+unfolding is_utf8 chars encode slice fold caseless
+the_greatest_list_value_without_a_prefix-ordered = is-ordered (only (meaning (over (52 ∷ 50 ∷ 57 ∷ 52 ∷ 57 ∷ 54 ∷ 55 ∷ 50 ∷ 57 ∷ 53 ∷ [])) the_greatest_list_value_without_a_prefix)) refl
+
 abbrev leading_zeros : Forest
 leading_zeros = (span n.ListOrdered (at 1 1 0) (at 1 4 3) (span n.ListItem (at 1 1 0) (at 1 4 3) (span n.ListItemPrefix (at 1 1 0) (at 1 4 3) (span n.ListItemValue (at 1 1 0) (at 1 4 3) empty empty) empty) empty) empty)
 
@@ -48,6 +63,21 @@ leading_zeros-ordered : IsOrdered (only (meaning (over (48 ∷ 48 ∷ 55 ∷ [])
 unfolding is_utf8 chars encode slice fold caseless
 leading_zeros-ordered = is-ordered (only (meaning (over (48 ∷ 48 ∷ 55 ∷ [])) leading_zeros)) refl
 
+abbrev leading_zeros_without_a_prefix : Forest
+leading_zeros_without_a_prefix = (span n.ListOrdered (at 1 1 0) (at 1 4 3) (span n.ListItem (at 1 1 0) (at 1 4 3) (span n.ListItemValue (at 1 1 0) (at 1 4 3) empty empty) empty) empty)
+
+leading_zeros_without_a_prefix-accepted : Accepted (over (48 ∷ 48 ∷ 55 ∷ [])) leading_zeros_without_a_prefix
+unfolding is_utf8 chars encode slice fold caseless
+leading_zeros_without_a_prefix-accepted = conditions-hold (over (48 ∷ 48 ∷ 55 ∷ [])) leading_zeros_without_a_prefix refl
+
+leading_zeros_without_a_prefix-means : only (meaning (over (48 ∷ 48 ∷ 55 ∷ [])) leading_zeros_without_a_prefix) ≡ (node t.root (node (t.list true (Some 7) false) (node (t.list_item false None) nothing (position 1 1 0 1 4 3) nothing) (position 1 1 0 1 4 3) nothing) (position 1 1 0 1 4 3) nothing)
+unfolding is_utf8 chars encode slice fold caseless
+leading_zeros_without_a_prefix-means = refl
+
+leading_zeros_without_a_prefix-ordered : IsOrdered (only (meaning (over (48 ∷ 48 ∷ 55 ∷ [])) leading_zeros_without_a_prefix))
+unfolding is_utf8 chars encode slice fold caseless
+leading_zeros_without_a_prefix-ordered = is-ordered (only (meaning (over (48 ∷ 48 ∷ 55 ∷ [])) leading_zeros_without_a_prefix)) refl
+
 abbrev a_list_value_too_great : Forest
 a_list_value_too_great = (span n.ListOrdered (at 1 1 0) (at 1 11 10) (span n.ListItem (at 1 1 0) (at 1 11 10) (span n.ListItemPrefix (at 1 1 0) (at 1 11 10) (span n.ListItemValue (at 1 1 0) (at 1 11 10) empty empty) empty) empty) empty)
 
@@ -58,6 +88,17 @@ a_list_value_too_great-accepted = conditions-fail (over (52 ∷ 50 ∷ 57 ∷ 52
 a_list_value_too_great-refused : error_kind_of (compiled (over (52 ∷ 50 ∷ 57 ∷ 52 ∷ 57 ∷ 54 ∷ 55 ∷ 50 ∷ 57 ∷ 54 ∷ [])) (events_of a_list_value_too_great)) ≡ error_kind (codes "list-value-invalid") 1 11 10
 unfolding is_utf8 chars encode slice fold caseless run enter_step exit_step leave
 a_list_value_too_great-refused = refl
+
+abbrev a_list_value_too_great_without_a_prefix : Forest
+a_list_value_too_great_without_a_prefix = (span n.ListOrdered (at 1 1 0) (at 1 11 10) (span n.ListItem (at 1 1 0) (at 1 11 10) (span n.ListItemValue (at 1 1 0) (at 1 11 10) empty empty) empty) empty)
+
+a_list_value_too_great_without_a_prefix-accepted : ¬ (Accepted (over (52 ∷ 50 ∷ 57 ∷ 52 ∷ 57 ∷ 54 ∷ 55 ∷ 50 ∷ 57 ∷ 54 ∷ [])) a_list_value_too_great_without_a_prefix)
+unfolding is_utf8 chars encode slice fold caseless
+a_list_value_too_great_without_a_prefix-accepted = conditions-fail (over (52 ∷ 50 ∷ 57 ∷ 52 ∷ 57 ∷ 54 ∷ 55 ∷ 50 ∷ 57 ∷ 54 ∷ [])) a_list_value_too_great_without_a_prefix refl
+
+a_list_value_too_great_without_a_prefix-refused : error_kind_of (compiled (over (52 ∷ 50 ∷ 57 ∷ 52 ∷ 57 ∷ 54 ∷ 55 ∷ 50 ∷ 57 ∷ 54 ∷ [])) (events_of a_list_value_too_great_without_a_prefix)) ≡ error_kind (codes "list-value-invalid") 1 11 10
+unfolding is_utf8 chars encode slice fold caseless run enter_step exit_step leave
+a_list_value_too_great_without_a_prefix-refused = refl
 
 abbrev a_list_value_with_a_sign : Forest
 a_list_value_with_a_sign = (span n.ListOrdered (at 1 1 0) (at 1 3 2) (span n.ListItem (at 1 1 0) (at 1 3 2) (span n.ListItemPrefix (at 1 1 0) (at 1 3 2) (span n.ListItemValue (at 1 1 0) (at 1 3 2) empty empty) empty) empty) empty)
@@ -70,6 +111,17 @@ a_list_value_with_a_sign-refused : error_kind_of (compiled (over (43 ∷ 49 ∷ 
 unfolding is_utf8 chars encode slice fold caseless run enter_step exit_step leave
 a_list_value_with_a_sign-refused = refl
 
+abbrev a_list_value_with_a_sign_without_a_prefix : Forest
+a_list_value_with_a_sign_without_a_prefix = (span n.ListOrdered (at 1 1 0) (at 1 3 2) (span n.ListItem (at 1 1 0) (at 1 3 2) (span n.ListItemValue (at 1 1 0) (at 1 3 2) empty empty) empty) empty)
+
+a_list_value_with_a_sign_without_a_prefix-accepted : ¬ (Accepted (over (43 ∷ 49 ∷ [])) a_list_value_with_a_sign_without_a_prefix)
+unfolding is_utf8 chars encode slice fold caseless
+a_list_value_with_a_sign_without_a_prefix-accepted = conditions-fail (over (43 ∷ 49 ∷ [])) a_list_value_with_a_sign_without_a_prefix refl
+
+a_list_value_with_a_sign_without_a_prefix-refused : error_kind_of (compiled (over (43 ∷ 49 ∷ [])) (events_of a_list_value_with_a_sign_without_a_prefix)) ≡ error_kind (codes "list-value-invalid") 1 3 2
+unfolding is_utf8 chars encode slice fold caseless run enter_step exit_step leave
+a_list_value_with_a_sign_without_a_prefix-refused = refl
+
 abbrev an_empty_list_value : Forest
 an_empty_list_value = (span n.ListOrdered (at 1 1 0) (at 1 1 0) (span n.ListItem (at 1 1 0) (at 1 1 0) (span n.ListItemPrefix (at 1 1 0) (at 1 1 0) (span n.ListItemValue (at 1 1 0) (at 1 1 0) empty empty) empty) empty) empty)
 
@@ -80,6 +132,17 @@ an_empty_list_value-accepted = conditions-fail (over ([])) an_empty_list_value r
 an_empty_list_value-refused : error_kind_of (compiled (over ([])) (events_of an_empty_list_value)) ≡ error_kind (codes "list-value-invalid") 1 1 0
 unfolding is_utf8 chars encode slice fold caseless run enter_step exit_step leave
 an_empty_list_value-refused = refl
+
+abbrev an_empty_list_value_without_a_prefix : Forest
+an_empty_list_value_without_a_prefix = (span n.ListOrdered (at 1 1 0) (at 1 1 0) (span n.ListItem (at 1 1 0) (at 1 1 0) (span n.ListItemValue (at 1 1 0) (at 1 1 0) empty empty) empty) empty)
+
+an_empty_list_value_without_a_prefix-accepted : ¬ (Accepted (over ([])) an_empty_list_value_without_a_prefix)
+unfolding is_utf8 chars encode slice fold caseless
+an_empty_list_value_without_a_prefix-accepted = conditions-fail (over ([])) an_empty_list_value_without_a_prefix refl
+
+an_empty_list_value_without_a_prefix-refused : error_kind_of (compiled (over ([])) (events_of an_empty_list_value_without_a_prefix)) ≡ error_kind (codes "list-value-invalid") 1 1 0
+unfolding is_utf8 chars encode slice fold caseless run enter_step exit_step leave
+an_empty_list_value_without_a_prefix-refused = refl
 
 abbrev a_list_value_with_a_space : Forest
 a_list_value_with_a_space = (span n.ListOrdered (at 1 1 0) (at 1 3 2) (span n.ListItem (at 1 1 0) (at 1 3 2) (span n.ListItemPrefix (at 1 1 0) (at 1 3 2) (span n.ListItemValue (at 1 1 0) (at 1 3 2) empty empty) empty) empty) empty)

@@ -242,6 +242,17 @@ a_pipe_in_code_after_a_table-means : only (meaning (over (96 ∷ 97 ∷ 92 ∷ 1
 unfolding is_utf8 chars encode slice fold caseless
 a_pipe_in_code_after_a_table-means = refl
 
+abbrev a_pipe_in_code_after_a_table_of_the_same_bytes : Forest
+a_pipe_in_code_after_a_table_of_the_same_bytes = (span n.GfmTable (at 1 1 0) (at 1 7 6) (span n.GfmTableRow (at 1 1 0) (at 1 7 6) (span n.GfmTableCell (at 1 1 0) (at 1 7 6) empty empty) empty) (span n.CodeText (at 1 1 0) (at 1 7 6) (span n.CodeTextSequence (at 1 1 0) (at 1 2 1) empty (span n.CodeTextData (at 1 2 1) (at 1 6 5) empty (span n.CodeTextSequence (at 1 6 5) (at 1 7 6) empty empty))) empty))
+
+a_pipe_in_code_after_a_table_of_the_same_bytes-accepted : Accepted (over (96 ∷ 97 ∷ 92 ∷ 124 ∷ 98 ∷ 96 ∷ [])) a_pipe_in_code_after_a_table_of_the_same_bytes
+unfolding is_utf8 chars encode slice fold caseless
+a_pipe_in_code_after_a_table_of_the_same_bytes-accepted = conditions-hold (over (96 ∷ 97 ∷ 92 ∷ 124 ∷ 98 ∷ 96 ∷ [])) a_pipe_in_code_after_a_table_of_the_same_bytes refl
+
+a_pipe_in_code_after_a_table_of_the_same_bytes-means : only (meaning (over (96 ∷ 97 ∷ 92 ∷ 124 ∷ 98 ∷ 96 ∷ [])) a_pipe_in_code_after_a_table_of_the_same_bytes) ≡ (node t.root (node (t.table ([])) (node t.table_row (node t.table_cell nothing (position 1 1 0 1 7 6) nothing) (position 1 1 0 1 7 6) nothing) (position 1 1 0 1 7 6) (node (t.inline_code (97 ∷ 92 ∷ 124 ∷ 98 ∷ [])) nothing (position 1 1 0 1 7 6) nothing)) (position 1 1 0 1 7 6) nothing)
+unfolding is_utf8 chars encode slice fold caseless
+a_pipe_in_code_after_a_table_of_the_same_bytes-means = refl
+
 abbrev line_endings_around_inline_code : Forest
 line_endings_around_inline_code = (span n.CodeText (at 1 1 0) (at 3 2 5) (span n.CodeTextSequence (at 1 1 0) (at 1 2 1) empty (span n.LineEnding (at 1 2 1) (at 2 1 2) empty (span n.CodeTextData (at 2 1 2) (at 2 2 3) empty (span n.LineEnding (at 2 2 3) (at 3 1 4) empty (span n.CodeTextSequence (at 3 1 4) (at 3 2 5) empty empty))))) empty)
 

@@ -77,3 +77,14 @@ a_table_in_a_label_in_a_cell-accepted = conditions-fail (over ([])) a_table_in_a
 a_table_in_a_label_in_a_cell-refused : error_kind_of (compiled (over ([])) (events_of a_table_in_a_label_in_a_cell)) ≡ error_kind (codes "name-misplaced") 1 1 0
 unfolding is_utf8 chars encode slice fold caseless run enter_step exit_step leave
 a_table_in_a_label_in_a_cell-refused = refl
+
+abbrev a_table_in_a_label_in_a_cell_without_a_row : Forest
+a_table_in_a_label_in_a_cell_without_a_row = (span n.GfmTable (at 1 1 0) (at 1 6 5) (span n.GfmTableCell (at 1 1 0) (at 1 6 5) (span n.Link (at 1 2 1) (at 1 5 4) (span n.LabelText (at 1 3 2) (at 1 4 3) (span n.GfmTable (at 1 3 2) (at 1 4 3) empty empty) empty) empty) empty) empty)
+
+a_table_in_a_label_in_a_cell_without_a_row-accepted : ¬ (Accepted (over (124 ∷ 91 ∷ 97 ∷ 93 ∷ 124 ∷ [])) a_table_in_a_label_in_a_cell_without_a_row)
+unfolding is_utf8 chars encode slice fold caseless
+a_table_in_a_label_in_a_cell_without_a_row-accepted = conditions-fail (over (124 ∷ 91 ∷ 97 ∷ 93 ∷ 124 ∷ [])) a_table_in_a_label_in_a_cell_without_a_row refl
+
+a_table_in_a_label_in_a_cell_without_a_row-refused : error_kind_of (compiled (over (124 ∷ 91 ∷ 97 ∷ 93 ∷ 124 ∷ [])) (events_of a_table_in_a_label_in_a_cell_without_a_row)) ≡ error_kind (codes "name-misplaced") 1 3 2
+unfolding is_utf8 chars encode slice fold caseless run enter_step exit_step leave
+a_table_in_a_label_in_a_cell_without_a_row-refused = refl

@@ -121,6 +121,21 @@ a_mark_in_a_later_paragraph-ordered : IsOrdered (only (meaning (over (42 ∷ 32 
 unfolding is_utf8 chars encode slice fold caseless
 a_mark_in_a_later_paragraph-ordered = is-ordered (only (meaning (over (42 ∷ 32 ∷ 91 ∷ 97 ∷ 93 ∷ 58 ∷ 32 ∷ 98 ∷ 10 ∷ 32 ∷ 32 ∷ 91 ∷ 120 ∷ 93 ∷ 32 ∷ 99 ∷ [])) a_mark_in_a_later_paragraph)) refl
 
+abbrev a_mark_after_a_definition_without_parts : Forest
+a_mark_after_a_definition_without_parts = (span n.ListUnordered (at 1 1 0) (at 2 8 16) (span n.ListItem (at 1 1 0) (at 2 8 16) (span n.ListItemPrefix (at 1 1 0) (at 1 3 2) empty (span n.Definition (at 1 3 2) (at 1 9 8) empty (span n.Paragraph (at 2 3 11) (at 2 8 16) (span n.GfmTaskListItemValueChecked (at 2 4 12) (at 2 5 13) empty (span n.Data (at 2 6 14) (at 2 8 16) empty empty)) empty))) empty) empty)
+
+a_mark_after_a_definition_without_parts-accepted : Accepted (over (42 ∷ 32 ∷ 91 ∷ 97 ∷ 93 ∷ 58 ∷ 32 ∷ 98 ∷ 10 ∷ 32 ∷ 32 ∷ 91 ∷ 120 ∷ 93 ∷ 32 ∷ 99 ∷ [])) a_mark_after_a_definition_without_parts
+unfolding is_utf8 chars encode slice fold caseless
+a_mark_after_a_definition_without_parts-accepted = conditions-hold (over (42 ∷ 32 ∷ 91 ∷ 97 ∷ 93 ∷ 58 ∷ 32 ∷ 98 ∷ 10 ∷ 32 ∷ 32 ∷ 91 ∷ 120 ∷ 93 ∷ 32 ∷ 99 ∷ [])) a_mark_after_a_definition_without_parts refl
+
+a_mark_after_a_definition_without_parts-means : only (meaning (over (42 ∷ 32 ∷ 91 ∷ 97 ∷ 93 ∷ 58 ∷ 32 ∷ 98 ∷ 10 ∷ 32 ∷ 32 ∷ 91 ∷ 120 ∷ 93 ∷ 32 ∷ 99 ∷ [])) a_mark_after_a_definition_without_parts) ≡ (node t.root (node (t.list false None false) (node (t.list_item false (Some true)) (node (t.definition ([]) None ([]) None) nothing (position 1 3 2 1 9 8) (node t.paragraph (node (t.text (32 ∷ 99 ∷ [])) nothing (position 2 6 14 2 8 16) nothing) (position 2 3 11 2 8 16) nothing)) (position 1 1 0 2 8 16) nothing) (position 1 1 0 2 8 16) nothing) (position 1 1 0 2 8 16) nothing)
+unfolding is_utf8 chars encode slice fold caseless
+a_mark_after_a_definition_without_parts-means = refl
+
+a_mark_after_a_definition_without_parts-ordered : IsOrdered (only (meaning (over (42 ∷ 32 ∷ 91 ∷ 97 ∷ 93 ∷ 58 ∷ 32 ∷ 98 ∷ 10 ∷ 32 ∷ 32 ∷ 91 ∷ 120 ∷ 93 ∷ 32 ∷ 99 ∷ [])) a_mark_after_a_definition_without_parts))
+unfolding is_utf8 chars encode slice fold caseless
+a_mark_after_a_definition_without_parts-ordered = is-ordered (only (meaning (over (42 ∷ 32 ∷ 91 ∷ 97 ∷ 93 ∷ 58 ∷ 32 ∷ 98 ∷ 10 ∷ 32 ∷ 32 ∷ 91 ∷ 120 ∷ 93 ∷ 32 ∷ 99 ∷ [])) a_mark_after_a_definition_without_parts)) refl
+
 abbrev a_blank_from_a_reference : Forest
 a_blank_from_a_reference = (span n.ListUnordered (at 1 1 0) (at 1 6 5) (span n.ListItem (at 1 1 0) (at 1 6 5) (span n.ListItemPrefix (at 1 1 0) (at 1 3 2) empty (span n.Paragraph (at 1 3 2) (at 1 6 5) (span n.GfmTaskListItemValueChecked (at 1 4 3) (at 1 5 4) empty (span n.CharacterReference (at 1 6 5) (at 1 6 5) (span n.CharacterReferenceMarker (at 1 6 5) (at 1 6 5) empty (span n.CharacterReferenceValue (at 1 6 5) (at 1 6 5) empty empty)) empty)) empty)) empty) empty)
 
