@@ -9,6 +9,7 @@ pub mod Tasks
 pub mod Nodes
 pub mod Meaning
 pub mod Ordered
+pub mod Levels
 pub mod Refusals
 pub mod Spots
 pub mod Reasons

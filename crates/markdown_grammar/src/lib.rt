@@ -3,3 +3,4 @@
 #![tactic(auto)]
 
 pub mod error_kind;
+pub mod ordered;

@@ -1,7 +1,7 @@
 mod ComparingLevels
 mod CopyingLevels
 mod Dropping
-mod Levels
+pub mod Levels
 mod Items
 mod Quoting
 mod ReadingLevels

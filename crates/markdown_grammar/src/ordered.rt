@@ -1,0 +1,251 @@
+//! Whether the nodes of a tree nest and stand in order.
+
+ghost use Rattle.std.specs.Prelude.{◌≡◌, ◌↔◌, IsTrue};
+ghost use Rattle.markdown_nodes.specs.Access.{label_of, nodes_in};
+ghost use Rattle.markdown_nodes.specs.Tree.{only};
+ghost use Rattle.markdown_nodes.specs.View.{view, views};
+ghost use Rattle.markdown_grammar.specs.Levels.{Admits, AsAsked, bounds_after, bounds_in, bounds_of, standing_of};
+ghost use Rattle.markdown_grammar.specs.Ordered;
+ghost use Rattle.markdown_grammar.specs.Ordered.{IsOrdered, elsewhere, first_in_task};
+
+use markdown_nodes::mdast::Node;
+use markdown_nodes::unist::Position;
+use std::alloc::Global;
+
+/// Whether the nodes of a tree nest and stand in order, which a program may rely on that looks for the
+/// node at a byte, or cuts the document where nodes end.
+///
+/// It is true exactly when every node has a position and, by the offsets, which count bytes from 0,
+/// each child starts and ends within its parent, does not end before it starts, and ends at or
+/// before the start of every later child. The root's own start and end are not compared. In an item
+/// with a mark, the mark and the blank after it were cut off the front of the first paragraph: that
+/// paragraph, and the first node in it, may start after their own ends, and the nodes in it may
+/// start before it. The rule is ours. `compile` of the crate `markdown_tree` gives such trees where
+/// the offsets of the events never go back.
+///
+/// It looks at each node once, and always answers: it walks with a list of levels, and where that
+/// gets no memory it goes on by calls, one for each level.
+///
+/// A root from 0 to 2 with a text from 0 to 1 and then one from 1 to 2 is ordered; with the two the
+/// other way round it is not.
+pub fn ordered(tree: &Node) -> bool
+    ensures { IsTrue result ↔ IsOrdered (only (view tree.now)) }
+{
+    let Some(here) = tree.position() else {
+        return false;
+    };
+    match tree.children() {
+        Some(children) => {
+            let limits = limits_in(Standing::Elsewhere, tree, here);
+            in_order_by_levels(children.as_slice(), limits, *children.allocator())
+        }
+        None => true,
+    }
+}
+
+/// Where a node stands, as far as the mark of a task item matters to where it starts.
+#[derive(Clone, Copy)]
+enum Standing {
+    /// First in an item with a mark.
+    FirstInTask,
+    /// First in the paragraph that is first there.
+    FirstInParagraph,
+    /// Anywhere else.
+    Elsewhere,
+}
+
+impl Standing {
+    /// Whether a node that stands here is a paragraph that the mark was cut off.
+    fn is_first_paragraph(self, node: &Node) -> bool
+        ensures { result ≡ Ordered.is_first_paragraph (standing_of self) (label_of node.now) }
+    {
+        match self {
+            Standing::FirstInTask => is_paragraph(node),
+            _ => false,
+        }
+    }
+
+    /// Whether a node that stands here may start after its own end.
+    fn may_start_late(self, node: &Node) -> bool
+        ensures { result ≡ Ordered.may_start_late (standing_of self) (label_of node.now) }
+    {
+        match self {
+            Standing::FirstInParagraph => true,
+            _ => self.is_first_paragraph(node),
+        }
+    }
+
+    /// Where the first child of a node stands that stands here.
+    fn first_child(self, node: &Node) -> Standing
+        ensures { standing_of result ≡ Ordered.first_child (standing_of self) (label_of node.now) }
+    {
+        if self.is_first_paragraph(node) {
+            Standing::FirstInParagraph
+        } else if is_task(node) {
+            Standing::FirstInTask
+        } else {
+            Standing::Elsewhere
+        }
+    }
+}
+
+/// Whether a node is a paragraph.
+fn is_paragraph(node: &Node) -> bool
+    ensures { result ≡ Ordered.is_first_paragraph first_in_task (label_of node.now) }
+{
+    match node {
+        Node::Paragraph(_) => true,
+        _ => false,
+    }
+}
+
+/// Whether a node is an item with a mark.
+fn is_task(node: &Node) -> bool
+    ensures { IsTrue result ↔ (Ordered.first_child elsewhere (label_of node.now) ≡ first_in_task) }
+{
+    match node {
+        Node::ListItem(item) => item.checked.is_some(),
+        _ => false,
+    }
+}
+
+/// What is asked of the nodes that are left in a parent, by offsets.
+#[derive(Clone, Copy)]
+struct Limits {
+    /// Where the first of them stands.
+    standing: Standing,
+    /// Whether they may start before their parent, which a mark was cut off.
+    starts_are_free: bool,
+    /// Where their parent starts.
+    low: usize,
+    /// Where their parent ends.
+    high: usize,
+    /// The greatest end of the nodes before them.
+    reached: usize,
+}
+
+impl Limits {
+    /// Whether the first of the nodes, at this position, is as asked.
+    fn admit(self, node: &Node, here: &Position) -> bool
+        ensures { IsTrue result ↔ Admits (bounds_of self) (label_of node.now) here.now }
+    {
+        let start = here.start.offset;
+        let end = here.end.offset;
+        if !self.starts_are_free && start < self.low {
+            return false;
+        }
+        if !self.standing.may_start_late(node) && end < start {
+            return false;
+        }
+        end <= self.high && self.reached <= start
+    }
+
+    /// What is asked of the nodes after the first, which is at this position.
+    fn after(self, here: &Position) -> Limits
+        ensures { bounds_of result ≡ bounds_after (bounds_of self) here.now }
+    {
+        Limits {
+            standing: Standing::Elsewhere,
+            starts_are_free: self.starts_are_free,
+            low: self.low,
+            high: self.high,
+            reached: self.reached.max(here.end.offset),
+        }
+    }
+}
+
+/// What is asked of the nodes in a node with this standing and this position.
+fn limits_in(standing: Standing, node: &Node, here: &Position) -> Limits
+    ensures { bounds_of result ≡ bounds_in (standing_of standing) (label_of node.now) here.now }
+{
+    Limits {
+        standing: standing.first_child(node),
+        starts_are_free: standing.is_first_paragraph(node),
+        low: here.start.offset,
+        high: here.end.offset,
+        reached: 0,
+    }
+}
+
+/// The nodes in a node, and none in one that is no parent.
+fn children(node: &Node) -> &[Node]
+    ensures { result.now ≡ nodes_in node.now }
+{
+    match node.children() {
+        Some(children) => children.as_slice(),
+        None => &[],
+    }
+}
+
+/// Whether nodes are as asked. Each level of the tree takes a small frame.
+fn in_order_by_calls(nodes: &[Node], limits: Limits) -> bool
+    ensures { IsTrue result ↔ AsAsked (bounds_of limits) (views nodes.now) }
+{
+    let mut asked = limits;
+    for i in 0..nodes.len() {
+        let node = &nodes[i];
+        let Some(here) = node.position() else {
+            return false;
+        };
+        if !asked.admit(node, here) {
+            return false;
+        }
+        if !in_order_by_calls(children(node), limits_in(asked.standing, node, here)) {
+            return false;
+        }
+        asked = asked.after(here);
+    }
+    true
+}
+
+/// A level that is still to be looked at.
+#[derive(Clone, Copy)]
+struct Level<'a> {
+    /// What is asked of its nodes.
+    limits: Limits,
+    /// The nodes that are left in it.
+    nodes: &'a [Node],
+}
+
+/// Whether nodes are as asked: by a stack of levels, and by calls where there is no memory for it.
+fn in_order_by_levels(nodes: &[Node], limits: Limits, alloc: Global) -> bool
+    ensures { IsTrue result ↔ AsAsked (bounds_of limits) (views nodes.now) }
+{
+    let mut levels: Vec<Level> = Vec::new(alloc);
+    let mut left = nodes;
+    let mut asked = limits;
+    'walk: loop {
+        if let Some((first, rest)) = left.split_first() {
+            let Some(here) = first.position() else {
+                return false;
+            };
+            if !asked.admit(first, here) {
+                return false;
+            }
+            let below = limits_in(asked.standing, first, here);
+            let next = asked.after(here);
+            match levels.push(Level {
+                limits: next,
+                nodes: rest,
+            }) {
+                Ok(()) => {
+                    left = children(first);
+                    asked = below;
+                }
+                Err(_) => {
+                    if !in_order_by_calls(children(first), below) {
+                        return false;
+                    }
+                    left = rest;
+                    asked = next;
+                }
+            }
+        } else {
+            let Some(level) = levels.pop() else {
+                return true;
+            };
+            left = level.nodes;
+            asked = level.limits;
+        }
+    }
+}
