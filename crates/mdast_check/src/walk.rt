@@ -1,0 +1,53 @@
+//! The nodes of a tree, one after the other.
+
+ghost use Rattle.std.specs.Prelude.{◌≡◌, [], ◌∷◌, IfOk, MatchOption};
+ghost use Rattle.markdown_nodes.specs.Access.{nodes_in};
+ghost use Rattle.markdown_nodes.specs.View.{view};
+ghost use Rattle.mdast_check.specs.Walk.{walk};
+ghost use Rattle.mdast_check.specs.Levels.{to_come};
+
+use markdown_nodes::mdast::Node;
+use std::alloc::{AllocError, Global};
+use std::slice;
+
+/// A walk over a tree, each node before those in it. It keeps what is left of each level on the heap,
+/// so that it takes no more of the stack for a deep tree.
+#[derive(Drop)]
+pub struct Walk<'a> {
+    levels: Vec<&'a [Node]>,
+}
+
+impl<'a> Walk<'a> {
+    /// A walk that begins at a node.
+    pub fn new(alloc: Global, tree: &'a Node) -> Result<Walk<'a>, AllocError>
+        ensures { IfOk result (λ walk_from. to_come walk_from.levels.items ≡ walk (view tree.now)) }
+    {
+        let mut levels = Vec::new(alloc);
+        levels.push(slice::from_ref(tree))?;
+        Ok(Walk { levels })
+    }
+
+    /// The next node, or `None` after the last. After an error the walk is not to be gone on with.
+    pub fn next(&mut self) -> Result<Option<&'a Node>, AllocError>
+        ensures { IfOk result (λ next. MatchOption next (to_come self.old.levels.items ≡ []) (λ node. to_come self.old.levels.items ≡ view node.now ∷ to_come self.new.levels.items)) }
+    {
+        'levels: while let Some(level) = self.levels.pop() {
+            if let Some((first, rest)) = level.split_first() {
+                self.levels.push(rest)?;
+                self.levels.push(nodes(first))?;
+                return Ok(Some(first));
+            }
+        }
+        Ok(None)
+    }
+}
+
+/// The nodes in a node, and none in one that is no parent.
+fn nodes(node: &Node) -> &[Node]
+    ensures { result.now ≡ nodes_in node.now }
+{
+    match node.children() {
+        Some(children) => children.as_slice(),
+        None => &[],
+    }
+}
