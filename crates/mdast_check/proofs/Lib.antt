@@ -1,2 +1,4 @@
 pub mod Steps
 pub mod Titling
+pub mod Gathering
+pub mod Asking

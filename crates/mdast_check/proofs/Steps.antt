@@ -1,8 +1,8 @@
 -- What one step of a walk leaves to come.
-use Rattle.std.proofs.Common.{◌≡◌, List, [], ◌∷◌, ◌++◌, Bor, sym, ap, ◌∙◌, append-nil, append_assoc}
+use Rattle.std.proofs.Common.{◌≡◌, List, [], ◌∷◌, ◌++◌, Option, None, Some, MatchOption, Bor, sym, ap, subst, ◌∙◌, append-nil, append_assoc}
 use Rattle.markdown_nodes.specs.declared.mdast.Node.{Node}
 use Rattle.markdown_nodes.specs.Access.{label_of, nodes_in}
-use Rattle.markdown_nodes.specs.Tree.{Label, Tree, Trees}
+use Rattle.markdown_nodes.specs.Tree.{Tree, Trees}
 use Rattle.markdown_nodes.specs.View.{view, views}
 use Rattle.markdown_nodes.proofs.Views.{view-is}
 use Rattle.mdast_check.specs.Levels.{to_come}
@@ -37,8 +37,8 @@ takes old popped pushed new level rest inner first others is holds after pushes 
     let past = walks (views others) in
     let below = to_come popped in
     let left : to_come new ≡ inside ++ (past ++ below) =
-        ap to_come ends ∙ to_come-snoc pushed inner ∙ ap (λ (l : List Node). walks (views l) ++ to_come pushed) within
-        ∙ ap (λ (s : List Tree). inside ++ s) (ap to_come pushes ∙ to_come-snoc popped rest ∙ ap (λ (l : List Node). walks (views l) ++ below) after) in
+    ap to_come ends ∙ to_come-snoc pushed inner ∙ ap (λ (l : List Node). walks (views l) ++ to_come pushed) within
+    ∙ ap (λ (s : List Tree). inside ++ s) (ap to_come pushes ∙ to_come-snoc popped rest ∙ ap (λ (l : List Node). walks (views l) ++ below) after) in
     ap to_come is ∙ to_come-snoc popped level
     ∙ ap (λ (l : List Node). walks (views l) ++ below) holds
     ∙ ap (λ (t : Trees). (view first ∷ (walks t ++ past)) ++ below) (children-are first)
@@ -48,3 +48,15 @@ takes old popped pushed new level rest inner first others is holds after pushes 
 pub lets_go : (old popped : List (Bor (List Node))) (level : Bor (List Node)) → old ≡ popped ++ level ∷ [] → level.now ≡ [] → to_come popped ≡ to_come old
 lets_go old popped level is empty =
     sym (ap to_come is ∙ to_come-snoc popped level ∙ ap (λ (l : List Node). walks (views l) ++ to_come popped) empty)
+
+-- what the next node leaves to come
+pub next_is : (next : Option (Bor Node)) (node : Bor Node) (old new : List Tree) → MatchOption next (old ≡ []) (λ (n : Bor Node). old ≡ view n.now ∷ new) → next ≡ Some node → old ≡ view node.now ∷ new
+next_is next node old new says is =
+    let P : Option (Bor Node) → Type 0 = λ o. MatchOption o (old ≡ []) (λ (n : Bor Node). old ≡ view n.now ∷ new) in
+    subst P is says
+
+-- nothing is to come after the last
+pub none_is : (next : Option (Bor Node)) (old new : List Tree) → MatchOption next (old ≡ []) (λ (n : Bor Node). old ≡ view n.now ∷ new) → next ≡ None → old ≡ []
+none_is next old new says is =
+    let P : Option (Bor Node) → Type 0 = λ o. MatchOption o (old ≡ []) (λ (n : Bor Node). old ≡ view n.now ∷ new) in
+    subst P is says

@@ -1,3 +1,6 @@
 pub mod Walk
 pub mod Titles
+pub mod References
 pub mod Levels
+pub mod Known
+pub mod Asking

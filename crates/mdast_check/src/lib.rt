@@ -7,6 +7,4 @@
 
 pub mod outline;
 pub mod references;
-
-
 mod walk;

@@ -1,6 +1,18 @@
 //! The references of a tree that no definition answers.
 
+ghost use Rattle.std.specs.Prelude.{◌≡◌, ℕ, List, IfOk, OnOk, map, option_map};
+ghost use Rattle.markdown_nodes.specs.Access.{label_of};
+ghost use Rattle.markdown_nodes.specs.View.{view};
+ghost use Rattle.mdast_check.specs.Walk.{walk};
+ghost use Rattle.mdast_check.specs.Known.{HasAll, has, with_one};
+ghost use Rattle.mdast_check.specs.References.{answers, footnote_of, open_in, place_of, refers_to, told};
+ghost use Rattle.mdast_check.specs.Asking.{IsKnown, answered, open_node};
+
+use crate::walk::Walk;
+use markdown_nodes::mdast::Node;
 use markdown_nodes::unist::Position;
+use std::alloc::{AllocError, Global};
+use std::collections::BTreeSet;
 
 /// What a reference refers to.
 #[derive(Clone, Copy, PartialEq, Eq, Debug)]
@@ -23,4 +35,123 @@ pub struct Open {
     /// Where the reference stands, and `None` where its node has no place. Lines and columns count
     /// from 1; an offset counts bytes from 0.
     pub position: Option<Position>,
+}
+
+/// The references of a tree that no definition in it answers, in the order of the tree.
+///
+/// A link or an image by reference needs a Definition with its identifier, and a reference to a
+/// footnote a FootnoteDefinition; it may stand anywhere in the tree, also after the reference. Each
+/// reference is told, so two to one missing identifier are two. Identifiers are compared as they are:
+/// mdast has them normalized already.
+///
+/// `AllocError` comes where memory runs out, and there is no other error. That a reference needs a
+/// definition whose label matches is CommonMark's rule, and for footnotes GFM's.
+///
+/// The tree of `[a][] [^c]` and `[a]: b` gives one: a Footnote, `c`, and where `[^c]` stands.
+pub fn open_references(alloc: Global, tree: &Node) -> Result<Vec<Open>, AllocError>
+    ensures { IfOk result (λ found. map told found.items ≡ open_in (view tree.now)) }
+{
+    let known = known_in(alloc, tree)?;
+    let mut found = Vec::new(alloc);
+    let mut walk = Walk::new(alloc, tree)?;
+    'nodes: while let Some(node) = walk.next()? {
+        if let Some(open) = open_at(alloc, node, &known)? {
+            found.push(open)?;
+        }
+    }
+    Ok(found)
+}
+
+/// The identifiers that a tree defines.
+#[derive(Drop)]
+struct Known<'a> {
+    /// Those of its Definitions, which links and images refer to.
+    places: BTreeSet<&'a str>,
+    /// Those of its FootnoteDefinitions.
+    footnotes: BTreeSet<&'a str>,
+}
+
+/// The identifiers that a tree defines, in one pass over it.
+fn known_in<'a>(alloc: Global, tree: &'a Node) -> Result<Known<'a>, AllocError>
+    ensures { IfOk result (λ known. IsKnown known (walk (view tree.now))) }
+{
+    let mut places = BTreeSet::new(alloc);
+    let mut footnotes = BTreeSet::new(alloc);
+    let mut walk = Walk::new(alloc, tree)?;
+    'nodes: while let Some(node) = walk.next()? {
+        put(&mut places, place(node))?;
+        put(&mut footnotes, footnote(node))?;
+    }
+    Ok(Known { places, footnotes })
+}
+
+/// Puts a text, where there is one, into a set.
+fn put<'a>(set: &mut BTreeSet<&'a str>, text: Option<&'a str>) -> Result<(), AllocError>
+    ensures { OnOk result ((other : List ℕ) → has set.new other ≡ with_one text.entry other (has set.old other)) }
+{
+    if let Some(text) = text {
+        set.insert(text)?;
+    }
+    Ok(())
+}
+
+/// The identifier that a definition defines, and `None` for any other node.
+fn place(node: &Node) -> Option<&str>
+    ensures { option_map (λ text. text.now) result ≡ place_of (label_of node.now) }
+{
+    match node {
+        Node::Definition(node) => Some(node.identifier.as_str()),
+        _ => None,
+    }
+}
+
+/// The identifier that a footnote definition defines, and `None` for any other node.
+fn footnote(node: &Node) -> Option<&str>
+    ensures { option_map (λ text. text.now) result ≡ footnote_of (label_of node.now) }
+{
+    match node {
+        Node::FootnoteDefinition(node) => Some(node.identifier.as_str()),
+        _ => None,
+    }
+}
+
+/// A node, where it is a reference that is not known.
+fn open_at<'a>(alloc: Global, node: &'a Node, known: &Known<'a>) -> Result<Option<Open>, AllocError>
+    ensures { IfOk result (λ found. option_map told found ≡ open_node (answered known.now) (view node.now)) }
+{
+    let Some((kind, identifier)) = refers(node) else {
+        return Ok(None);
+    };
+    if is_known(known, kind, identifier) {
+        return Ok(None);
+    }
+    let identifier = String::from_str(alloc, identifier)?;
+    let position = node.position().copied();
+    Ok(Some(Open {
+        kind,
+        identifier,
+        position,
+    }))
+}
+
+/// The kind and the identifier of a reference, and `None` for any other node.
+fn refers(node: &Node) -> Option<(OpenKind, &str)>
+    ensures { option_map (λ to. (to.0, to.1.now)) result ≡ refers_to (label_of node.now) }
+{
+    match node {
+        Node::LinkReference(node) => Some((OpenKind::Link, node.identifier.as_str())),
+        Node::ImageReference(node) => Some((OpenKind::Image, node.identifier.as_str())),
+        Node::FootnoteReference(node) => Some((OpenKind::Footnote, node.identifier.as_str())),
+        _ => None,
+    }
+}
+
+/// Whether a definition answers a reference of a kind to an identifier.
+fn is_known<'a>(known: &Known<'a>, kind: OpenKind, identifier: &'a str) -> bool
+    ensures { result ≡ answered known.now kind identifier.now }
+{
+    match kind {
+        OpenKind::Link | OpenKind::Image => known.places.contains(&identifier),
+        OpenKind::Footnote => known.footnotes.contains(&identifier),
+    }
 }
