@@ -7,4 +7,6 @@
 
 pub mod outline;
 pub mod references;
+#[cfg(test)]
+mod tests;
 mod walk;
