@@ -1,5 +1,5 @@
 -- What is asked of the levels on a stack, one node after the other.
-use Rattle.std.proofs.Common.{◌≡◌, Bool, List, None, Some, [], arith, add-one, drop, drop-cons, get_or, length, max, refl, suc, sym, ap, subst, ℕ, ◌+◌, ◌++◌, ◌<◌, ◌∙◌, ◌∷◌}
+use Rattle.std.proofs.Common.{◌≡◌, Bool, List, None, Some, [], arith, max, refl, sym, ap, subst, ℕ, ◌++◌, ◌∙◌, ◌∷◌}
 use Rattle.std.proofs.Math.Nat.{le-max_left, le-max_right, max-le}
 use Rattle.markdown_events.specs.declared.unist.Position.{Position}
 use Rattle.markdown_nodes.specs.declared.mdast.Node.{Node}
@@ -111,6 +111,16 @@ asks_down whole b b_below nodes left rest below x here levels after top so_far i
       asks_levels = λ k. subst AllAsAsked (sym pushed) (keep_push levels top (so_far.asks_levels k) (subst (λ t. t) (sym in_after) (asked b left rest x here is at (so_far.asks_level k)).after));
     }
 
+-- into the first node, when no node comes after it
+pub asks_into : (whole b b_below : Bounds) (nodes left rest below : List Node) (x : Node) (here : Position) (levels : List Level) → Walks whole nodes b left levels → left ≡ x ∷ rest → rest ≡ [] → position_of x ≡ Some here → Admits b (label_of x) here → below ≡ nodes_in x → b_below ≡ bounds_in b.standing (label_of x) here → Walks whole nodes b_below below levels
+asks_into whole b b_below nodes left rest below x here levels so_far is last at first within same_below =
+    let in_below : AsAsked b_below (views below) ≡ AsAsked (bounds_in b.standing (label_of x) here) (views (nodes_in x)) = ap (λ y. AsAsked y (views below)) same_below ∙ ap (λ (l : List Node). AsAsked (bounds_in b.standing (label_of x) here) (views l)) within in
+    record {
+      tells = λ k a. so_far.tells (answered b left rest x here is at (record { first = first; below = subst (λ t. t) in_below k; after = subst (λ (l : List Node). AsAsked (bounds_after b here) (views l)) (sym last) (tt, tt) })) a;
+      asks_level = λ k. subst (λ t. t) (sym in_below) (asked b left rest x here is at (so_far.asks_level k)).below;
+      asks_levels = so_far.asks_levels;
+    }
+
 -- past the first node, when the nodes in it were found to be as asked
 pub asks_past : (whole b b_below b_after : Bounds) (nodes left rest below : List Node) (x : Node) (here : Position) (levels : List Level) → Walks whole nodes b left levels → left ≡ x ∷ rest → position_of x ≡ Some here → Admits b (label_of x) here → below ≡ nodes_in x → b_below ≡ bounds_in b.standing (label_of x) here → AsAsked b_below (views below) → b_after ≡ bounds_after b here → Walks whole nodes b_after rest levels
 asks_past whole b b_below b_after nodes left rest below x here levels so_far is at first within same_below kept same_after =
@@ -169,7 +179,3 @@ tree_placeless x at o = subst IsOrdered (tree-is x None at) o
 -- a node alone is
 pub tree_alone : (x : Node) (here : Position) → position_of x ≡ Some here → [] ≡ nodes_in x → IsOrdered (only (view x))
 tree_alone x here at bare = tree_tells x here (bounds_in elsewhere (label_of x) here) [] at bare refl (tt, tt)
-
--- the nodes from an index on
-pub from_here : (xs : List Node) (i : ℕ) (x : Node) → i < length xs → x ≡ get_or xs i x → drop i xs ≡ x ∷ drop (i + 1) xs
-from_here xs i x within is = rw add-one (drop-cons xs i x within ∙ ap (λ (y : Node). y ∷ drop (suc i) xs) (sym is))

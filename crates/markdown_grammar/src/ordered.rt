@@ -23,8 +23,8 @@ use std::alloc::Global;
 /// start before it. The rule is ours. `compile` of the crate `markdown_tree` gives such trees where
 /// the offsets of the events never go back.
 ///
-/// It looks at each node once, and always answers: it walks with a list of levels, and where that
-/// gets no memory it goes on by calls, one for each level.
+/// It looks at each node once, and always answers: it walks with a list of the levels in which nodes
+/// are left, and where that list gets no memory it goes on by a call for the nodes in a node.
 ///
 /// A root from 0 to 2 with a text from 0 to 1 and then one from 1 to 2 is ordered; with the two the
 /// other way round it is not.
@@ -36,8 +36,8 @@ pub fn ordered(tree: &Node) -> bool
     };
     match tree.children() {
         Some(children) => {
-            let limits = limits_in(Standing::Elsewhere, tree, here);
-            in_order_by_levels(children.as_slice(), limits, *children.allocator())
+            let level = level_in(Standing::Elsewhere, tree, here);
+            in_order(level, *children.allocator())
         }
         None => true,
     }
@@ -177,75 +177,65 @@ fn children(node: &Node) -> &[Node]
     }
 }
 
-/// Whether nodes are as asked. Each level of the tree takes a small frame.
-fn in_order_by_calls(nodes: &[Node], limits: Limits) -> bool
-    ensures { IsTrue result ↔ AsAsked (bounds_of limits) (views nodes.now) }
-{
-    let mut asked = limits;
-    for i in 0..nodes.len() {
-        let node = &nodes[i];
-        let Some(here) = node.position() else {
-            return false;
-        };
-        if !asked.admit(node, here) {
-            return false;
-        }
-        if !in_order_by_calls(children(node), limits_in(asked.standing, node, here)) {
-            return false;
-        }
-        asked = asked.after(here);
-    }
-    true
-}
-
-/// A level that is still to be looked at.
+/// Nodes that are left in a parent, and what is asked of them.
 #[derive(Clone, Copy)]
 struct Level<'a> {
-    /// What is asked of its nodes.
     limits: Limits,
-    /// The nodes that are left in it.
     nodes: &'a [Node],
 }
 
-/// Whether nodes are as asked: by a stack of levels, and by calls where there is no memory for it.
-fn in_order_by_levels(nodes: &[Node], limits: Limits, alloc: Global) -> bool
-    ensures { IsTrue result ↔ AsAsked (bounds_of limits) (views nodes.now) }
+/// The nodes in a node with this standing and this position.
+fn level_in<'a>(standing: Standing, node: &'a Node, here: &Position) -> Level<'a>
+    ensures limits { bounds_of result.limits ≡ bounds_in (standing_of standing) (label_of node.now) here.now }
+    ensures nodes { result.nodes.now ≡ nodes_in node.now }
+{
+    Level {
+        limits: limits_in(standing, node, here),
+        nodes: children(node),
+    }
+}
+
+/// Whether the nodes of a level are as asked: by a stack of the levels in which nodes are left, and
+/// by a call for the nodes in a node where the stack gets no memory.
+fn in_order(whole: Level, alloc: Global) -> bool
+    ensures { IsTrue result ↔ AsAsked (bounds_of whole.entry.limits) (views whole.entry.nodes.now) }
 {
     let mut levels: Vec<Level> = Vec::new(alloc);
-    let mut left = nodes;
-    let mut asked = limits;
+    let mut level = whole;
     'walk: loop {
-        if let Some((first, rest)) = left.split_first() {
-            let Some(here) = first.position() else {
-                return false;
-            };
-            if !asked.admit(first, here) {
-                return false;
-            }
-            let below = limits_in(asked.standing, first, here);
-            let next = asked.after(here);
-            match levels.push(Level {
-                limits: next,
-                nodes: rest,
-            }) {
-                Ok(()) => {
-                    left = children(first);
-                    asked = below;
-                }
-                Err(_) => {
-                    if !in_order_by_calls(children(first), below) {
-                        return false;
-                    }
-                    left = rest;
-                    asked = next;
-                }
-            }
-        } else {
-            let Some(level) = levels.pop() else {
+        let Some((first, rest)) = level.nodes.split_first() else {
+            let Some(outer) = levels.pop() else {
                 return true;
             };
-            left = level.nodes;
-            asked = level.limits;
+            level = outer;
+            continue 'walk;
+        };
+        let Some(here) = first.position() else {
+            return false;
+        };
+        if !level.limits.admit(first, here) {
+            return false;
+        }
+        let inner = level_in(level.limits.standing, first, here);
+        let next = level.limits.after(here);
+        if rest.is_empty() {
+            level = inner;
+            continue 'walk;
+        }
+        match levels.push(Level {
+            limits: next,
+            nodes: rest,
+        }) {
+            Ok(()) => level = inner,
+            Err(_) => {
+                if !in_order(inner, alloc) {
+                    return false;
+                }
+                level = Level {
+                    limits: next,
+                    nodes: rest,
+                };
+            }
         }
     }
 }

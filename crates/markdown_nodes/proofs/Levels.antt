@@ -1,5 +1,5 @@
 -- What is left of a walk over a tree with a stack of levels.
-use Rattle.std.proofs.Common.{◌≡◌, ℕ, ◌+◌, ◌*◌, ◌<◌, List, [], ◌∷◌, ◌++◌, refl, ap, ◌∙◌, arith}
+use Rattle.std.proofs.Common.{◌≡◌, ℕ, ◌+◌, ◌*◌, ◌<◌, ◌≤◌, List, [], ◌∷◌, ◌++◌, refl, ap, ◌∙◌, arith}
 use Rattle.markdown_nodes.specs.declared.mdast.Node.{Node}
 use Rattle.markdown_nodes.specs.Access.{nodes_in}
 use Rattle.markdown_nodes.proofs.Sizes.{size}
@@ -40,3 +40,14 @@ walks_up level here rest stack after top popped holds =
     let c : waiting level stack ≡ waiting level after + 2 * size (views (level top)) + 1 = ap (λ (l : List _). waiting level l) popped ∙ waiting-snoc level after top in
     let d : size (views (level top)) ≡ size (views rest) = ap (λ (l : List Node). size (views l)) holds in
     omega (arith, c, d)
+
+-- into the first node, where what comes after it is left out
+pub walks_into : {X : Type 0} (level : X → List Node) (here rest inner : List Node) (first : Node) (stack : List X) → here ≡ first ∷ rest → inner ≡ nodes_in first → to_walk level inner stack < to_walk level here stack
+walks_into level here rest inner first stack is within =
+    let a : size (views here) ≡ size (views (nodes_in first)) + size (views rest) + 1 = ap (λ (l : List Node). size (views l)) is ∙ size-cons first rest in
+    let b : size (views inner) ≡ size (views (nodes_in first)) = ap (λ (l : List Node). size (views l)) within in
+    omega (arith, a, b)
+
+-- what is in the first node is less than any number that the walk is within
+pub walks_call : {X : Type 0} (level : X → List Node) (here rest inner : List Node) (first : Node) (stack : List X) (all : ℕ) → here ≡ first ∷ rest → inner ≡ nodes_in first → to_walk level here stack ≤ all → to_walk level inner [] < all
+walks_call level here rest inner first stack all is within bound = omega (arith, walks_into level here rest inner first stack is within, bound)
