@@ -1,5 +1,6 @@
 //! Trees that are deep.
 
+use crate::ordered;
 use crate::outline::{compiled, spelled, spelled_to};
 use markdown_nodes::event::{Event, Name};
 use markdown_nodes::mdast::Node;
@@ -113,8 +114,9 @@ fn line(
     Ok(line)
 }
 
-/// A tower over the byte `a` is compiled, read, copied, compared, printed, and dropped. Its tree
-/// equals its copy, and not the tree over the byte `b`, which differs in the innermost spans alone.
+/// A tower over the byte `a` is compiled, read, copied, compared, printed, and dropped. Its tree is
+/// ordered. It equals its copy, and not the tree over the byte `b`, which differs in the innermost
+/// spans alone.
 fn expect(
     rt: &impl Abort,
     alloc: Global,
@@ -126,6 +128,7 @@ fn expect(
     let events = tower(alloc, outer, level, inner)?;
     let tree = compiled(alloc, b"a", events.as_slice())?;
     assert_eq!(rt; tree.to_string(alloc)?.as_str(), text);
+    assert!(rt; ordered(&tree));
     let copy = tree.clone(alloc)?;
     assert!(rt; copy == tree);
     assert!(rt; copy != compiled(alloc, b"b", events.as_slice())?);

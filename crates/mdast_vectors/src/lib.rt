@@ -5,6 +5,9 @@
 //! of mdast, CommonMark and GFM, or are those of the tests of markdown-rs; none comes from a run of
 //! this repository. The tables of rows are those of the program `mdast_replay`.
 //! `scripts/refuse-memory-in-rows` runs the tests with each allocation refused in turn.
+//!
+//! The crate passes `ordered` on, which asks whether a tree's nodes nest and stand in order: the trees
+//! of a list whose offsets never go back do.
 #![tactic(auto)]
 
 #[cfg(test)]
@@ -22,6 +25,8 @@ mod names;
 #[cfg(test)]
 mod nodes;
 #[cfg(test)]
+mod order;
+#[cfg(test)]
 mod outline;
 #[cfg(test)]
 mod pairs;
@@ -37,3 +42,5 @@ mod spread;
 mod texts;
 #[cfg(test)]
 mod unbalanced;
+
+pub use markdown_grammar::ordered::ordered;

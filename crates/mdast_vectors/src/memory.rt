@@ -1,5 +1,6 @@
 //! What `compile` asks of memory.
 
+use crate::ordered;
 use crate::outline::{compiled, spelled, spelled_to};
 use markdown_nodes::event::{Event, Name};
 use markdown_nodes::mdast::Node;
@@ -46,9 +47,9 @@ fn no_events_ask_for_no_memory(rt: HostRuntime) {
     assert!(rt; matches!(&answer, Ok(Node::Root(root)) if root.children.is_empty()));
 }
 
-/// The events of block quotes in one another, each of one byte, with three paragraphs before the
+/// The events of block quotes in one another, each to this byte, with three paragraphs before the
 /// quote in it and one after.
-fn wide_and_deep(alloc: Global, depth: usize) -> Result<Vec<Event>, AllocError> {
+fn wide_and_deep(alloc: Global, depth: usize, end: usize) -> Result<Vec<Event>, AllocError> {
     let mut outline = Vec::new(alloc);
     for level in 0..depth {
         for _ in 0..3 {
@@ -62,14 +63,14 @@ fn wide_and_deep(alloc: Global, depth: usize) -> Result<Vec<Event>, AllocError> 
         outline.push((level.saturating_add(1), Name::Emphasis))?;
         outline.push((level.saturating_add(2), Name::Data))?;
     }
-    spelled_to(alloc, outline.as_slice(), 1)
+    spelled_to(alloc, outline.as_slice(), end)
 }
 
 /// `scripts/release-memory` shows that all memory is given back, whichever request is refused.
 #[test]
 fn a_wide_and_deep_tree(rt: HostRuntime) -> Result<(), Fail> {
     let alloc = rt.alloc();
-    let events = wide_and_deep(alloc, 20)?;
+    let events = wide_and_deep(alloc, 20, 1)?;
     let tree = compiled(alloc, b"a", events.as_slice())?;
     let copy = tree.clone(alloc)?;
     assert!(rt; copy == tree);
@@ -78,5 +79,28 @@ fn a_wide_and_deep_tree(rt: HostRuntime) -> Result<(), Fail> {
         "a".repeat(alloc, 80)?.as_str()
     );
     assert!(rt; format!(in alloc; "{copy:?}")? == tree.to_debug_string(alloc)?);
+    Ok(())
+}
+
+/// The innermost block quote of a tree of `wide_and_deep`.
+fn innermost(tree: &mut Node) -> Option<&mut Node> {
+    let mut node = tree;
+    for _ in 0..20 {
+        node = node.children_mut()?.get_mut(3)?;
+    }
+    Some(node)
+}
+
+/// `scripts/refuse-memory-in-rows` shows that no refusal changes an answer.
+#[test]
+fn a_wide_and_deep_tree_is_ordered(rt: HostRuntime) -> Result<(), Fail> {
+    let alloc = rt.alloc();
+    let events = wide_and_deep(alloc, 20, 0)?;
+    let mut tree = compiled(alloc, b"", events.as_slice())?;
+    assert!(rt; ordered(&tree));
+    if let Some(node) = innermost(&mut tree) {
+        node.position_set(None);
+    }
+    assert!(rt; !ordered(&tree));
     Ok(())
 }
