@@ -20,6 +20,8 @@ pub struct Case<'a> {
     pub events: Vec<Event>,
     /// The tree as Debug prints it, after `= `, or the rule and the place of the refusal, after `! `.
     pub answer: &'a str,
+    /// Whether its tree is ordered, where a line says it.
+    pub ordered: Option<bool>,
     /// The checksum of its lines.
     pub checksum: Checksum,
 }

@@ -26,8 +26,8 @@ pub enum Line<'a> {
     Event(&'a str),
     /// What `compile` must give: `= Root { .. }` or `! slice-invalid 1:2 (1)`.
     Answer(&'a str),
-    /// Whether the tree is ordered, which is for theorems: `ordered yes`.
-    Ordered,
+    /// Whether the tree is ordered: `ordered yes`.
+    Ordered(bool),
 }
 
 /// Why a line was not read.
@@ -84,7 +84,8 @@ fn read_words(text: &str) -> Option<Line<'_>> {
         "doc" => Some(Line::Hexadecimal(rest)),
         "columns" if rest == "bytes" => Some(Line::OneLine),
         "decoder" if rest == "blank" => Some(Line::Blank),
-        "ordered" if rest == "yes" || rest == "no" => Some(Line::Ordered),
+        "ordered" if rest == "yes" => Some(Line::Ordered(true)),
+        "ordered" if rest == "no" => Some(Line::Ordered(false)),
         _ => None,
     }
 }

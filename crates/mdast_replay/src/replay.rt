@@ -1,6 +1,7 @@
 //! What is compiled of a case, and compared with what must come.
 
 use crate::case::Case;
+use markdown_grammar::ordered::ordered;
 use markdown_nodes::event::{Event, Kind, Point};
 use markdown_nodes::mdast::Node;
 use markdown_nodes::message::{Fault, Message, Place};
@@ -66,12 +67,14 @@ pub fn difference(alloc: Global, case: &Case<'_>) -> Result<Option<String>, Allo
     }
 }
 
-/// Compiles a case, and what comes of it when it is cut or its exits are swapped.
+/// Compiles a case, asks whether its tree is ordered, and compiles what comes of it when it is cut or
+/// its exits are swapped.
 fn replay(alloc: Global, case: &Case<'_>) -> Result<(), ReplayError> {
     let events = case.events.as_slice();
     expect(List::Whole, compiled(alloc, case, events)?, case.answer)?;
     expect(List::Counted, counted(alloc, case)?, case.answer)?;
     if case.has_tree() {
+        order(alloc, case)?;
         cut(alloc, case)?;
         swap(alloc, case)?;
     }
@@ -85,6 +88,46 @@ fn expect(list: List, answer: String, want: &str) -> Result<(), ReplayError> {
     } else {
         Err(ReplayError::Differs(list, answer))
     }
+}
+
+/// The tree is ordered where the offsets of the events never go back, and else as the case says.
+fn order(alloc: Global, case: &Case<'_>) -> Result<(), ReplayError> {
+    let events = case.events.as_slice();
+    let bytes = case.document.bytes.as_slice();
+    let tree = match compile(alloc, events, bytes, &case.decoder) {
+        Ok(tree) => tree,
+        Err(Fault::Message(message)) => {
+            return Err(ReplayError::Differs(List::Whole, refusal(alloc, message)?));
+        }
+        Err(Fault::Memory(error)) => return Err(ReplayError::Memory(error)),
+    };
+    let is_ordered = ordered(&tree);
+    if (never_goes_back(events) && !is_ordered) || case.ordered == Some(!is_ordered) {
+        let answer = String::from_str(alloc, order_text(is_ordered))?;
+        return Err(ReplayError::Differs(List::Whole, answer));
+    }
+    Ok(())
+}
+
+/// How a line says whether a tree is ordered.
+fn order_text(is_ordered: bool) -> &'static str {
+    if is_ordered {
+        "a tree that is ordered"
+    } else {
+        "a tree that is not ordered"
+    }
+}
+
+/// Whether no event's offset is below that of the event before it.
+fn never_goes_back(events: &[Event]) -> bool {
+    let mut last: usize = 0;
+    for event in events {
+        if event.point.index < last {
+            return false;
+        }
+        last = event.point.index;
+    }
+    true
 }
 
 /// Each beginning of the list that leaves a span open is unbalanced at its last event.

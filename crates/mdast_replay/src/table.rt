@@ -142,6 +142,8 @@ struct Draft<'a> {
     events: Vec<Event>,
     /// The answer, after the line that says it.
     answer: Option<&'a str>,
+    /// Whether the tree is ordered, after the line that says it.
+    ordered: Option<bool>,
     /// The checksum of its lines so far.
     checksum: Checksum,
 }
@@ -156,6 +158,7 @@ impl<'a> Draft<'a> {
             decoder: CaseDecoder::Usual,
             events: Vec::new(alloc),
             answer: None,
+            ordered: None,
             checksum: Checksum::new().with_line(name),
         }
     }
@@ -176,7 +179,7 @@ impl<'a> Draft<'a> {
             Line::Spans(text) => self.add_spans(alloc, text),
             Line::Event(text) => Ok(self.events.append(&mut events(alloc, text.as_bytes())?)?),
             Line::Answer(text) => self.set_answer(text),
-            Line::Ordered => Ok(()),
+            Line::Ordered(ordered) => self.set_ordered(ordered),
             Line::Nothing | Line::Section(_) | Line::Case(_) => Err(LineError::Unread),
         }
     }
@@ -219,6 +222,14 @@ impl<'a> Draft<'a> {
         }
     }
 
+    /// The tree is ordered, or is not. A case has at most one line for it.
+    fn set_ordered(&mut self, ordered: bool) -> Result<(), LineError> {
+        match self.ordered.replace(ordered) {
+            None => Ok(()),
+            Some(_) => Err(LineError::Unread),
+        }
+    }
+
     /// The case of a section, if nothing is missing.
     fn case(self, section: &'a str) -> Option<Case<'a>> {
         Some(Case {
@@ -228,6 +239,7 @@ impl<'a> Draft<'a> {
             decoder: self.decoder,
             events: self.events,
             answer: self.answer?,
+            ordered: self.ordered,
             checksum: self.checksum,
         })
     }

@@ -52,6 +52,15 @@ fn names_turned_answers(rt: HostRuntime) -> Result<(), Fail> {
 }
 
 #[test]
+fn names_turned_orders(rt: HostRuntime) -> Result<(), Fail> {
+    let table =
+        "row a\n\"a\"\nData 0-1\n= Root { children: [Text { value: \"a\", position: Some(1:1-1:2 (0-1)) }], position: Some(1:1-1:2 (0-1)) }\nordered no\n\nrow b\n\"ab\"\nParagraph 1-2, Paragraph 0-1\n= Root { children: [Paragraph { children: [], position: Some(1:2-1:3 (1-2)) }, Paragraph { children: [], position: Some(1:1-1:2 (0-1)) }], position: Some(1:2-1:2 (1-1)) }\nordered yes\n";
+    let said =
+        "x: row a gives a tree that is ordered\nx: row b gives a tree that is not ordered\nx: 2 cases, 2 not as they must be\n";
+    expect(&rt, &[("x", table)], said, 1)
+}
+
+#[test]
 fn names_rows_with_another_checksum(rt: HostRuntime) -> Result<(), Fail> {
     for (sums, told, ended) in [
         (
@@ -112,6 +121,7 @@ fn numbers_a_line_that_cannot_be_read(rt: HostRuntime) -> Result<(), Fail> {
         ("row a\n\"a\"\nData 0-1\ncolumns bytes\n", 4),
         ("row a\n\"a\"\n= Root\n= Root\n", 4),
         ("row a\n\"a\"\nordered perhaps\n", 3),
+        ("row a\n\"a\"\nordered yes\nordered no\n", 4),
         ("case 1\ndoc 616\n", 2),
         ("case 1\ndoc 6g\n", 2),
         ("case 1\ndoc 61\n+Data 1:1:0\n+Data 1:1\n", 4),
