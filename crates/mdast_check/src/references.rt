@@ -41,13 +41,15 @@ pub struct Open {
 ///
 /// A link or an image by reference needs a Definition with its identifier, and a reference to a
 /// footnote a FootnoteDefinition; it may stand anywhere in the tree, also after the reference. Each
-/// reference is told, so two to one missing identifier are two. Identifiers are compared as they are:
-/// mdast has them normalized already.
+/// reference is told, so two to one missing identifier are two. Identifiers are compared byte by
+/// byte, since those of mdast are normalized already.
 ///
-/// `AllocError` comes where memory runs out, and there is no other error. That a reference needs a
-/// definition whose label matches is CommonMark's rule, and for footnotes GFM's.
+/// That a reference needs a definition whose label matches is CommonMark's rule, and for footnotes
+/// GitHub's. A tokenizer that keeps it makes no others; a tree that was edited, or put together from
+/// parts, may have some. `AllocError` comes where memory runs out, and there is no other error.
 ///
-/// The tree of `[a][] [^c]` and `[a]: b` gives one: a Footnote, `c`, and where `[^c]` stands.
+/// A root of a LinkReference `a`, a FootnoteReference `c` and then a Definition `a` gives one: a
+/// Footnote, with the identifier `c` and the position of that node.
 pub fn open_references(alloc: Global, tree: &Node) -> Result<Vec<Open>, AllocError>
     ensures { IfOk result (λ found. map told found.items ≡ open_in (view tree.now)) }
 {
