@@ -17,7 +17,9 @@ mod quoted;
 mod reading;
 
 use crate::unist::Position;
+pub use escapes::escapes_of;
 pub use markdown_events::infer::AlignKind;
+pub use quoted::quote;
 use std::alloc::{AllocError, Global};
 use std::{fmt, mem};
 

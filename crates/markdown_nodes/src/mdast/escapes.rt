@@ -5,7 +5,10 @@ use crate::mdast::comparing::nodes;
 use std::alloc::{AllocError, Global};
 use std::collections::BTreeSet;
 
-/// Those in the texts of a node and of all that is in it.
+/// The characters beyond ASCII in the texts of a node, and of all that is in it, that `{:?}` writes
+/// as their Unicode escape.
+///
+/// Fails where memory runs out, and else never. Which they are is std's to say.
 pub fn escapes_of(node: &Node, alloc: Global) -> Result<BTreeSet<char>, AllocError> {
     let mut escapes = BTreeSet::new(alloc);
     add_node(node, &mut escapes)?;

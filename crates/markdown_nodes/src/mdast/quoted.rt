@@ -3,11 +3,41 @@
 ghost use Rattle.std.specs.BTreeSet.{contains};
 ghost use Rattle.std.specs.Fmt.{WritesOnOk};
 ghost use Rattle.std.specs.Ordering.{nat_cmp};
-ghost use Rattle.std.specs.Prelude.{◌≡◌, ◌<◌, ◌≤◌, ◌||◌, ◌==◌, nat_lt};
+ghost use Rattle.std.specs.Prelude.{◌≡◌, ◌<◌, ◌≤◌, ◌||◌, ◌==◌, IfOk, Some, nat_lt, string_bytes};
 ghost use Rattle.markdown_nodes.specs.Quoted.{escaped, quoted};
 
+use std::alloc::{AllocError, Global};
 use std::collections::BTreeSet;
 use std::fmt;
+
+/// A text, and the characters beyond ASCII that stand as their Unicode escape between its quotes.
+#[derive(Drop)]
+struct EscapedText<'a> {
+    text: &'a str,
+    escapes: &'a BTreeSet<char>,
+}
+
+impl fmt::Debug for EscapedText<'_> {
+    ghost debug_output = { λ whole. Some (quoted (contains nat_cmp whole.escapes.now) whole.text.now) };
+
+    fn fmt<W: fmt::Write>(&self, f: &mut fmt::Formatter<W>) -> fmt::Result {
+        write_quoted(self.text, self.escapes, f)
+    }
+}
+
+/// A text between quotes, as `{:?}` writes it.
+///
+/// `escapes` are the characters beyond ASCII that stand as their Unicode escape: those that
+/// [`escapes_of`](crate::mdast::escapes_of) gives for the tree that the text is from. Fails where
+/// memory runs out, and else never.
+///
+/// A line feed is written as a backslash and an `n`, so the text stands on one line.
+pub fn quote(text: &str, escapes: &BTreeSet<char>, alloc: Global) -> Result<String, AllocError>
+    ensures { IfOk result (λ line. string_bytes line ≡ quoted (contains nat_cmp escapes.now) text.now) }
+{
+    let whole = EscapedText { text, escapes };
+    format!(in alloc; "{whole:?}")
+}
 
 /// Writes a text between quotes. `escapes` are the characters beyond ASCII that stand as their
 /// Unicode escape.
