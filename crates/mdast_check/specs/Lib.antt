@@ -4,3 +4,4 @@ pub mod References
 pub mod Levels
 pub mod Known
 pub mod Asking
+pub mod Report

@@ -7,6 +7,7 @@
 
 pub mod outline;
 pub mod references;
+pub mod report;
 #[cfg(test)]
 mod tests;
 mod walk;
