@@ -2,3 +2,4 @@ pub mod Decoder
 pub mod Fronts
 pub mod Lines
 pub mod Run
+pub mod Check

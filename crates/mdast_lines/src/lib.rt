@@ -1,9 +1,11 @@
 //! What a program says of a document and the lines of its events: the tree, or what is wrong.
 //!
 //! `lines` reads events from their lines, `decoder` knows the character references that need no table
-//! of names, `input` reads an input whole, and `run` is one run of a program with all of these.
+//! of names, `input` reads an input whole, `run` is one run of a program with all of these, and `check`
+//! one that prints what `mdast_check` finds in the tree.
 #![tactic(auto)]
 
+pub mod check;
 pub mod decoder;
 pub mod input;
 pub mod lines;

@@ -23,7 +23,7 @@ use std::alloc::{AllocError, Global};
 use std::io::{Read, Write};
 
 /// What is printed where memory runs out, which takes none.
-const OUT_OF_MEMORY: &str = "mdast_show: out of memory\n";
+pub const OUT_OF_MEMORY: &str = "mdast_show: out of memory\n";
 
 /// What a run comes to, if memory does not run out.
 #[derive(Debug, Drop)]
@@ -40,7 +40,7 @@ pub enum Answer {
 
 impl Answer {
     /// The exit status of the program.
-    fn status(&self) -> u8
+    pub fn status(&self) -> u8
         ensures { result ≡ status_of self.now }
     {
         match self {
@@ -51,7 +51,7 @@ impl Answer {
     }
 
     /// What the program prints.
-    fn line(&self, alloc: Global) -> Result<String, AllocError>
+    pub fn line(&self, alloc: Global) -> Result<String, AllocError>
         ensures { IfOk result (λ line. Prints self.now (string_bytes line)) }
     {
         match self {
@@ -111,7 +111,7 @@ pub fn say<O: Write>(output: &mut O, line: &str, status: u8) -> u8
 }
 
 /// What the events come to.
-fn answer_to<I: Read>(alloc: Global, doc: &[u8], input: &mut I) -> Result<Answer, AllocError>
+pub fn answer_to<I: Read>(alloc: Global, doc: &[u8], input: &mut I) -> Result<Answer, AllocError>
     ensures { IfOk result (λ answer. IsAnswer answer (I.remaining input.old) (I.remaining input.new) doc.now) }
 {
     let text = match read_all(alloc, input) {
