@@ -3,6 +3,7 @@
 
 use crate::outline::headings;
 use crate::references::open_references;
+use crate::report::report_of;
 use markdown_nodes::mdast;
 use markdown_nodes::mdast::{Node, ReferenceKind};
 use markdown_nodes::unist::Position;
@@ -351,4 +352,27 @@ fn a_hundred_thousand_levels(rt: HostRuntime) -> Result<(), Fail> {
         "[Open { kind: Link, identifier: \"c\", position: None }]",
     )?;
     lists(&rt, alloc, &tree, "[Title { depth: 6, text: \"a\" }]")
+}
+
+/// The lines of a tree, headings first; a line feed in a text does not end its line.
+#[test]
+fn lines_of_what_is_found(rt: HostRuntime) -> Result<(), Fail> {
+    let alloc = rt.alloc();
+    let place = Position::new(2, 1, 4, 2, 5, 8);
+    let title = heading(2, vec![in alloc; text(alloc, "a\n\"b\"")?]?);
+    let tree = root(vec![in alloc;
+        footnote(alloc, "c", Some(place))?,
+        title,
+        image(alloc, "d", None)?,
+        link(alloc, "é", None)?,
+    ]?);
+    let found = report_of(alloc, &tree)?;
+    assert!(rt; found.is_open);
+    let want =
+        "heading 2 \"a\\n\\\"b\\\"\"\nopen footnote \"c\" 2:1-2:5 (4-8)\nopen image \"d\"\nopen link \"é\"\n";
+    assert_eq!(rt; found.text.as_str(), want);
+    let empty = report_of(alloc, &root(Vec::new(alloc)))?;
+    assert!(rt; !empty.is_open);
+    assert_eq!(rt; empty.text.as_str(), "");
+    Ok(())
 }

@@ -1,5 +1,6 @@
 ghost use Rattle.std.specs.Prelude.{◌<◌};
 
+use crate::check::run_check;
 use crate::decoder::Decoder;
 use crate::lines::events;
 use crate::run::run;
@@ -89,6 +90,36 @@ fn prints_a_tree(rt: HostRuntime) {
         "Root { children: [Paragraph { children: [Text { value: \"Hi\", position: Some(1:1-1:3 (0-2)) }], position: Some(1:1-1:3 (0-2)) }], position: Some(1:1-1:3 (0-2)) }\n";
     let mut input = HI;
     expect(&rt, &mut input, tree, 0);
+}
+
+/// The events of `# Hi`, a line ending, and `[^A]`: a heading, and a paragraph with a call of a
+/// footnote.
+const HEADING_AND_CALL: &[u8] =
+    b"+HeadingAtx 1:1:0\n+HeadingAtxSequence 1:1:0\n-HeadingAtxSequence 1:2:1\n+SpaceOrTab 1:2:1\n-SpaceOrTab 1:3:2\n+HeadingAtxText 1:3:2\n+Data 1:3:2\n-Data 1:5:4\n-HeadingAtxText 1:5:4\n-HeadingAtx 1:5:4\n+LineEnding 1:5:4\n-LineEnding 2:1:5\n+Paragraph 2:1:5\n+GfmFootnoteCall 2:1:5\n+LabelText 2:3:7\n+Data 2:3:7\n-Data 2:4:8\n-LabelText 2:4:8\n-GfmFootnoteCall 2:5:9\n-Paragraph 2:5:9\n";
+
+/// Runs the program that checks a tree, and compares what it does.
+fn expect_check<R: Abort + AllocGlobal>(rt: &R, doc: &[u8], events: &[u8], text: &str, status: u8) {
+    let mut input = events;
+    let mut output = Vec::new(rt.alloc());
+    let found = run_check(rt.alloc(), doc, &mut input, &mut output);
+    assert_eq!(rt; str::from_utf8(&output), Ok(text));
+    assert_eq!(rt; found, status);
+}
+
+#[test]
+fn checks_a_tree(rt: HostRuntime) {
+    expect_check(&rt, b"Hi", HI, "", 0);
+    let lines = "heading 1 \"Hi\"\nopen footnote \"a\" 2:1-2:5 (5-9)\n";
+    expect_check(&rt, b"# Hi\n[^A]", HEADING_AND_CALL, lines, 4);
+}
+
+#[test]
+fn checks_events_without_a_tree(rt: HostRuntime) {
+    let refused =
+        "1:3 (2): an exit does not match the open span, or a span is left open (events-unbalanced)\n";
+    expect_check(&rt, b"Hi", b"+Data 1:1:0\n-Paragraph 1:3:2\n", refused, 1);
+    let unread = "mdast_show: event line 2 cannot be read\n";
+    expect_check(&rt, b"Hi", b"+Data 1:1:0\n+Data\n", unread, 2);
 }
 
 #[test]
