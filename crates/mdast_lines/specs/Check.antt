@@ -5,7 +5,7 @@ use Rattle.mdast_check.specs.References.{Reference, open_in}
 use Rattle.mdast_check.specs.Report.{IsReport}
 use Rattle.mdast_lines.specs.declared.run.Answer.{Answer}
 use Rattle.mdast_lines.specs.declared.run.Answer.TheVariants as answers
-use Rattle.mdast_lines.specs.Run.{Prints, status_of}
+use Rattle.mdast_lines.specs.Run.{Prints}
 
 -- the exit status for a tree: 4 where a reference is open
 abbrev pub tree_status : List Reference → ℕ

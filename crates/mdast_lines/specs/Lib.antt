@@ -1,5 +1,6 @@
 pub mod Decoder
 pub mod Fronts
 pub mod Lines
+pub mod Requests
 pub mod Run
 pub mod Check

@@ -10,6 +10,7 @@ pub mod decoder;
 pub mod input;
 pub mod lines;
 mod point;
+pub mod request;
 pub mod run;
 mod search;
 #[cfg(test)]

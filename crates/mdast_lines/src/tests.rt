@@ -3,9 +3,11 @@ ghost use Rattle.std.specs.Prelude.{◌<◌};
 use crate::check::run_check;
 use crate::decoder::Decoder;
 use crate::lines::events;
+use crate::request::{DocumentError, Request};
 use crate::run::run;
 use markdown_nodes::event::{Event, Kind, Name, Point};
 use markdown_tree::to_mdast::References;
+use std::alloc::{AllocError, Global};
 use std::io::{self, ErrorKind, Read, Write};
 use std::process::Abort;
 use std::test::Fail;
@@ -111,6 +113,89 @@ fn checks_a_tree(rt: HostRuntime) {
     expect_check(&rt, b"Hi", HI, "", 0);
     let lines = "heading 1 \"Hi\"\nopen footnote \"a\" 2:1-2:5 (5-9)\n";
     expect_check(&rt, b"# Hi\n[^A]", HEADING_AND_CALL, lines, 4);
+}
+
+/// The events of `# Hi *Earth*!`, a heading with emphasis.
+const HEADING: &[u8] =
+    b"+HeadingAtx 1:1:0\n+HeadingAtxSequence 1:1:0\n-HeadingAtxSequence 1:2:1\n+SpaceOrTab 1:2:1\n-SpaceOrTab 1:3:2\n+HeadingAtxText 1:3:2\n+Data 1:3:2\n-Data 1:6:5\n+Emphasis 1:6:5\n+EmphasisSequence 1:6:5\n-EmphasisSequence 1:7:6\n+EmphasisText 1:7:6\n+Data 1:7:6\n-Data 1:12:11\n-EmphasisText 1:12:11\n+EmphasisSequence 1:12:11\n-EmphasisSequence 1:13:12\n-Emphasis 1:13:12\n+Data 1:13:12\n-Data 1:14:13\n-HeadingAtxText 1:14:13\n-HeadingAtx 1:14:13\n";
+
+/// The events of `[A]`, a line ending, `[^c]`, another, and `[a]: u`: a link that a definition
+/// answers, and a call of a footnote that nothing answers.
+const LINK_AND_CALL: &[u8] =
+    b"+Paragraph 1:1:0\n+Link 1:1:0\n+LabelText 1:2:1\n+Data 1:2:1\n-Data 1:3:2\n-LabelText 1:3:2\n-Link 1:4:3\n+LineEnding 1:4:3\n-LineEnding 2:1:4\n+GfmFootnoteCall 2:1:4\n+LabelText 2:3:6\n+Data 2:3:6\n-Data 2:4:7\n-LabelText 2:4:7\n-GfmFootnoteCall 2:5:8\n-Paragraph 2:5:8\n+LineEnding 2:5:8\n-LineEnding 3:1:9\n+Definition 3:1:9\n+DefinitionLabelString 3:2:10\n+Data 3:2:10\n-Data 3:3:11\n-DefinitionLabelString 3:3:11\n+DefinitionDestinationString 3:6:14\n+Data 3:6:14\n-Data 3:7:15\n-DefinitionDestinationString 3:7:15\n-Definition 3:7:15\n";
+
+/// The events of a link with the label `ẞ`, whose identifier is `ss`.
+const SHARP_S: &[u8] =
+    b"+Link 1:1:0\n+LabelText 1:2:1\n+Data 1:2:1\n-Data 1:5:4\n-LabelText 1:5:4\n-Link 1:6:5\n";
+
+#[test]
+fn checks_headings_and_references(rt: HostRuntime) {
+    expect_check(
+        &rt,
+        b"# Hi *Earth*!",
+        HEADING,
+        "heading 1 \"Hi Earth!\"\n",
+        0,
+    );
+    let open = "open footnote \"c\" 2:1-2:5 (4-8)\n";
+    expect_check(&rt, b"[A]\n[^c]\n[a]: u", LINK_AND_CALL, open, 4);
+    expect_check(
+        &rt,
+        "[ẞ]".as_bytes(),
+        SHARP_S,
+        "open link \"ss\" 1:1-1:6 (0-5)\n",
+        4,
+    );
+    expect_check(&rt, b"", b"", "", 0);
+}
+
+/// What some arguments ask for is printed so.
+fn expect_request<R: Abort + AllocGlobal>(
+    rt: &R,
+    arguments: [Option<&str>; 3],
+    request: &str,
+) -> Result<(), Fail> {
+    let [first, second, third] = arguments;
+    let found = Request::of(
+        own(rt.alloc(), first)?,
+        own(rt.alloc(), second)?,
+        own(rt.alloc(), third)?,
+    );
+    assert_eq!(rt; format!(in rt.alloc(); "{found:?}")?.as_str(), request);
+    Ok(())
+}
+
+/// A copy of an argument.
+fn own(alloc: Global, argument: Option<&str>) -> Result<Option<String>, AllocError> {
+    match argument {
+        Some(argument) => Ok(Some(String::from_str(alloc, argument)?)),
+        None => Ok(None),
+    }
+}
+
+#[test]
+fn tells_what_the_arguments_ask_for(rt: HostRuntime) -> Result<(), Fail> {
+    let doc = Some("hi.md");
+    let check = Some("--check");
+    expect_request(&rt, [None, None, None], "None")?;
+    expect_request(&rt, [doc, None, None], "Some(Show(\"hi.md\"))")?;
+    expect_request(&rt, [check, None, None], "Some(Show(\"--check\"))")?;
+    expect_request(&rt, [check, doc, None], "Some(Check(\"hi.md\"))")?;
+    expect_request(&rt, [check, check, None], "Some(Check(\"--check\"))")?;
+    expect_request(&rt, [doc, check, None], "None")?;
+    expect_request(&rt, [check, doc, doc], "None")
+}
+
+#[test]
+fn says_why_there_is_no_document(rt: HostRuntime) {
+    assert_eq!(rt;
+        DocumentError::Usage.line(),
+        "usage: mdast_show [--check] DOC\n"
+    );
+    assert_eq!(rt;
+        DocumentError::Unreadable.line(),
+        "mdast_show: cannot read the document\n"
+    );
 }
 
 #[test]

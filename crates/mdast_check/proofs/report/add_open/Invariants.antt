@@ -1,4 +1,4 @@
-use Rattle.std.proofs.Common.{◌≡◌, ◌++◌, take, flat_map, map, string_bytes, nat_cmp}
+use Rattle.std.proofs.Common.{◌≡◌, ◌++◌, take, flat_map, string_bytes, nat_cmp}
 use Rattle.std.specs.BTreeSet.{contains}
 use Rattle.mdast_check.specs.Report.{open_line}
 use Rattle.mdast_check.specs.References.{told}
