@@ -333,12 +333,12 @@ def quote_prefix(writer):
     writer.exit("BlockQuotePrefix")
 
 
-def definition(writer):
-    """What a reference leads to."""
+def definition(writer, name="name"):
+    """What a reference with this name leads to."""
     writer.enter("Definition", "DefinitionLabel")
     writer.span("DefinitionLabelMarker", "[")
     writer.enter("DefinitionLabelString")
-    writer.span("Data", "name")
+    writer.span("Data", name)
     writer.exit("DefinitionLabelString")
     writer.span("DefinitionLabelMarker", "]")
     writer.exit("DefinitionLabel")
@@ -513,3 +513,16 @@ def labels(size):
 def images(size):
     """Images in one another, in ten towers: ten events a level."""
     return towers(label_tower("Image"), size // 100)
+
+
+def references(count):
+    """So many paragraphs with a reference each, and then a definition for each of them, in another order."""
+    writer = Writer()
+    for number in range(count):
+        writer.enter("Paragraph")
+        link_reference(writer, "text", f"name{number}")
+        writer.exit("Paragraph")
+        writer.blank()
+    for number in range(count):
+        definition(writer, f"name{number * 7919 % count}")
+    return writer

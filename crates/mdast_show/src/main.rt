@@ -1,49 +1,45 @@
-//! Prints the syntax tree that a document and the events of its tokenizer stand for.
+//! Prints the syntax tree that a document and the events of its tokenizer stand for, or what is found
+//! in it.
 //!
 //! `mdast_show DOC < EVENTS` reads the document from the file `DOC`, and event lines from standard
-//! input. It prints one line: the tree, or what is wrong.
+//! input. It prints one line: the tree, or what is wrong. `mdast_show --check DOC < EVENTS` prints a
+//! line for each heading, and then one for each reference that no definition answers.
 #![tactic(auto)]
 
+use mdast_lines::check::run_check;
 use mdast_lines::input::read_all;
+use mdast_lines::request::{DocumentError, Request};
 use mdast_lines::run::{run, say};
 use std::env;
 use std::fs::File;
-use std::io::{self, ErrorKind};
+use std::io::{self, ErrorKind, Write};
 use std::process::ExitCode;
 
-/// Why there is no document.
-#[derive(Debug, Drop)]
-enum DocumentError {
-    /// The arguments do not name one file.
-    Usage,
-    /// The file cannot be read, or memory ran out.
-    Unreadable,
+fn main(rt: HostRuntime) -> ExitCode {
+    let mut output = io::writer(&rt);
+    ExitCode::from(match answer(&rt, &mut output) {
+        Ok(status) => status,
+        Err(error) => say(&mut output, error.line(), 2),
+    })
 }
 
-impl DocumentError {
-    /// The line that says so.
-    fn line(&self) -> &'static str {
-        match self {
-            DocumentError::Usage => "usage: mdast_show DOC\n",
-            DocumentError::Unreadable => "mdast_show: cannot read the document\n",
+/// Does what the arguments ask for, and gives the exit status.
+fn answer<O: Write>(rt: &HostRuntime, output: &mut O) -> Result<u8, DocumentError> {
+    match request(rt)? {
+        Request::Show(name) => {
+            let doc = document(rt, name.as_str())?;
+            Ok(run(rt.alloc(), doc.as_slice(), &mut rt.reader(), output))
+        }
+        Request::Check(name) => {
+            let doc = document(rt, name.as_str())?;
+            Ok(run_check(rt.alloc(), doc.as_slice(), &mut rt.reader(), output))
         }
     }
 }
 
-fn main(rt: HostRuntime) -> ExitCode {
-    let mut output = io::writer(&rt);
-    let doc = match document(&rt) {
-        Ok(doc) => doc,
-        Err(error) => return ExitCode::from(say(&mut output, error.line(), 2)),
-    };
-    let mut input = rt.reader();
-    ExitCode::from(run(rt.alloc(), doc.as_slice(), &mut input, &mut output))
-}
-
-/// The bytes of the file that the argument names.
-fn document(rt: &HostRuntime) -> Result<Vec<u8>, DocumentError> {
-    let path = path(rt)?;
-    match File::open(rt, path.as_str()) {
+/// The bytes of the file of this name.
+fn document(rt: &HostRuntime, name: &str) -> Result<Vec<u8>, DocumentError> {
+    match File::open(rt, name) {
         Ok(mut file) => match read_all(rt.alloc(), &mut file) {
             Ok(bytes) => Ok(bytes),
             Err(_) => Err(DocumentError::Unreadable),
@@ -52,8 +48,8 @@ fn document(rt: &HostRuntime) -> Result<Vec<u8>, DocumentError> {
     }
 }
 
-/// The one argument of the program.
-fn path(rt: &HostRuntime) -> Result<String, DocumentError> {
+/// What the arguments of the program ask for.
+fn request(rt: &HostRuntime) -> Result<Request, DocumentError> {
     let mut arguments = match env::args(rt) {
         Ok(arguments) => arguments,
         Err(error) if error.kind() == ErrorKind::OutOfMemory => {
@@ -62,8 +58,7 @@ fn path(rt: &HostRuntime) -> Result<String, DocumentError> {
         Err(_) => return Err(DocumentError::Usage),
     };
     let _program = arguments.next();
-    match (arguments.next(), arguments.next()) {
-        (Some(path), None) => Ok(path),
-        _ => Err(DocumentError::Usage),
-    }
+    let first = arguments.next();
+    let second = arguments.next();
+    Request::of(first, second, arguments.next()).ok_or(DocumentError::Usage)
 }
