@@ -23,22 +23,23 @@ use Rattle.markdown_steps.specs.Compiler.{ContainerState, State, compiled, fresh
 use Rattle.markdown_grammar.specs.Correct.{FailsRightly, IsMeaning, IsRefused}
 use Rattle.markdown_steps.specs.Extents.{extent_of, last_event}
 use Rattle.markdown_grammar.specs.Grammar.{any_content, leaf}
-use Rattle.markdown_tree.specs.Containers.{first_failing}
+use Rattle.markdown_builder.specs.PartsSoFar.{first_failing}
 use Rattle.markdown_grammar.specs.Ordered.{IsOrdered, NeverGoesBack}
 use Rattle.markdown_grammar.specs.Refusals.{IsFaultOf}
 use Rattle.markdown_grammar.specs.Refusals.{ErrorAt}
 use Rattle.markdown_steps.specs.Checks.{checked, refused, ◌>>=◌}
 use Rattle.markdown_grammar.specs.Document.{Source}
-use Rattle.markdown_tree.specs.States.{Completes, Fails, kept_top, leaf_container, leaf_place, opens, state_of, top_of, with_break}
+use Rattle.markdown_context.specs.States.{Completes, Fails, kept_top, leaf_container, leaf_place, opens, state_of, top_of, with_break}
 use Rattle.markdown_steps.specs.Visits.{run_visits}
 use Rattle.markdown_steps.specs.Well.{AllStand}
-use Rattle.markdown_tree.specs.declared.context.Context.{Context}
-use Rattle.markdown_tree.specs.declared.context.Frame.{Frame}
-use Rattle.markdown_tree.specs.declared.open_container.OpenContainer.{OpenContainer}
+use Rattle.markdown_context.specs.declared.context.Context.{Context}
+use Rattle.markdown_context.specs.declared.context.Frame.{Frame}
+use Rattle.markdown_context.specs.declared.open_container.OpenContainer.{OpenContainer}
 use Rattle.markdown_grammar.specs.declared.error_kind.ErrorKind.{ErrorKind}
 use Rattle.markdown_grammar.specs.declared.error_kind.ErrorKind.TheVariants.{Unbalanced, UnfinishedBreak}
 use Rattle.markdown_grammar.specs.declared.error_kind.Stop.TheVariants as stops
-use Rattle.markdown_tree.proofs.Beginnings.{checked_fails, checked_through}
+use Rattle.markdown_context.proofs.Beginnings.{checked_fails, checked_through}
+use Rattle.markdown_context.proofs.Unfinished.{no_frames, pop_none}
 use Rattle.markdown_steps.proofs.Compiled.{sound}
 use Rattle.markdown_steps.proofs.Conditions.{conditions-accept, conditions-hold}
 use Rattle.markdown_steps.proofs.BufferVisits.{accepted-walks}
@@ -113,28 +114,6 @@ tree_gives s es st r h none children position =
 
 -- ---- What is open after it
 
--- no span is open where the stack has no frame
-pop_none : (fs : List Frame) (kept : Option ContainerState) (hs : List OpenContainer) → no_open_span (opens fs kept hs) ≡ true → fs ≡ []
-pop_none [] kept hs h = refl
-pop_none (f ∷ fs) kept hs h = let z : ⊥ = cc in absurd z
-
-open_some : (fs : List Frame) (kept : Option ContainerState) (hs : List OpenContainer) → fs ≢ [] → no_open_span (opens fs kept hs) ≡ false
-open_some [] kept hs h = absurd (h refl)
-open_some (f ∷ fs) kept hs h = refl
-
-no_frames : (fs : List Frame) → reverse fs ≡ [] → fs ≡ []
-no_frames fs h = nil_from_length fs (sym (length-reverse fs) ∙ ap length h)
-
-pub none_open : (v : Vec Frame) → (vec_len v == 0) ≡ true → v.items ≡ []
-none_open v h = nil_from_length v.items (sym v.ok.0 ∙ eqb-true (vec_len v) 0 h)
-
-pub no_open_span_so : (v : Vec Frame) (kept : Option ContainerState) (hs : List OpenContainer) → (vec_len v == 0) ≡ true → no_open_span (opens (reverse v.items) kept hs) ≡ true
-no_open_span_so v kept hs h = ap (λ (fs : List Frame). no_open_span (opens (reverse fs) kept hs)) (none_open v h)
-
-pub is_open_so : (v : Vec Frame) (kept : Option ContainerState) (hs : List OpenContainer) → (vec_len v == 0) ≡ false → no_open_span (opens (reverse v.items) kept hs) ≡ false
-is_open_so v kept hs h =
-    open_some (reverse v.items) kept hs (λ e. let z : (vec_len v == 0) ≡ true = eq-eqb (vec_len v) 0 (v.ok.0 ∙ ap length (no_frames v.items e)) in let wrong : true ≡ false = sym z ∙ h in absurd cc)
-
 -- where no span is open, no leaf is
 leaf_outermost : (b : Bool) (kept : ContainerState) (in_table : Bool) → (cond b (fresh leaf (leaf_place in_table)) kept).initial_model ≡ any_content → b ≡ false
 leaf_outermost true kept in_table h = let z : ⊥ = cc in absurd z
@@ -145,11 +124,6 @@ no_leaf_open s es c h none =
     let stands : AllStand s (opens (reverse c.frames.items) (leaf_container c) (reverse c.open_containers.items)) (top_of c) = well-run s es opening (state_of c) h (well-opening s) in
     let outermost : AllStand s [] (top_of c) = subst (λ (fs : List Frame). AllStand s (opens (reverse fs) (leaf_container c) (reverse c.open_containers.items)) (top_of c)) none stands in
     leaf_outermost c.is_leaf (kept_top c) c.in_table outermost
-
--- what is left, by whether a span is open and a break waits
-pub left_by : (c : Context) (shut waits : Bool) → no_open_span (state_of c).frames ≡ shut → (top_of c).after_break ≡ waits
-    → first_failing (last_checks (state_of c)) ≡ cond shut (cond (not waits) None (Some UnfinishedBreak)) (Some Unbalanced)
-left_by c shut waits no_open_span_so waits_so = λ t. cond (no_open_span_so t) (cond (not (waits_so t)) None (Some UnfinishedBreak)) (Some Unbalanced)
 
 -- a break waits in the container that the program keeps
 pub waits_on_top : (c : Context) → c.is_leaf ≡ false → (top_of c).after_break ≡ is_some c.pending

@@ -4,7 +4,7 @@ use Rattle.markdown_events.specs.declared.unist.Position.{Position}
 use Rattle.markdown_steps.specs.Compiler.{point_of}
 use Rattle.markdown_steps.specs.Extents.{extent_of, last_event}
 use Rattle.markdown_grammar.specs.Document.{source}
-use Rattle.markdown_tree.specs.States.{state_of}
+use Rattle.markdown_context.specs.States.{state_of}
 use Rattle.markdown_tree.proofs.Answered.{left_fails, no_leaf_open, root_nodes, some_event, tree_gives}
 use Rattle.markdown_tree.proofs.to_mdast.compile_list.Goals as goal
 

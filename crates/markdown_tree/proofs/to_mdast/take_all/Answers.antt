@@ -2,7 +2,7 @@ use Rattle.std.proofs.Common.{ap, sym, ◌∙◌, arith}
 use Rattle.std.specs.Prelude.{slice_get}
 use Rattle.std.proofs.lemmas.Option.{slice_get_within}
 use Rattle.markdown_grammar.specs.Document.{source}
-use Rattle.markdown_tree.specs.States.{state_of}
+use Rattle.markdown_context.specs.States.{state_of}
 use Rattle.markdown_tree.proofs.Loop.{goes_on, stops_here, stops_within, is_done, past_end}
 use Rattle.markdown_tree.proofs.to_mdast.take_all.Goals as goal
 

@@ -1,0 +1,7 @@
+pub mod TaskWalks
+pub mod Columns
+pub mod Parents
+pub mod Headings
+pub mod Lists
+pub mod Definitions
+pub mod Fences

@@ -1,0 +1,172 @@
+//! Headings (CommonMark, "ATX headings" and "Setext headings").
+//!
+//! The original: `on_enter_heading`, `on_exit_heading_atx_sequence`,
+//! `on_exit_heading_setext_underline_sequence`, `on_exit_heading_setext_text`.
+
+ghost use Rattle.std.specs.Prelude.{◌≡◌, IfSome, None, Some, is_some, option_map};
+ghost use Rattle.markdown_blocks.specs.Headings.{atx, setext};
+ghost use Rattle.markdown_builder.specs.PartsSoFar.{GainsText, IsFresh, Makes, Reads, misfit_in, placed};
+ghost use Rattle.markdown_events.specs.declared.role.ItemKind.TheVariants as item_kinds;
+ghost use Rattle.markdown_events.specs.declared.role.Part.TheVariants as parts;
+ghost use Rattle.markdown_grammar.specs.Document.{is_depth};
+ghost use Rattle.markdown_grammar.specs.Grammar as models;
+ghost use Rattle.markdown_grammar.specs.declared.error_kind.ErrorKind.TheVariants.{HeadingDepth};
+ghost use Rattle.markdown_nodes.specs.Tree as tree;
+ghost use Rattle.markdown_nodes.specs.Tree.{Trees};
+ghost use Rattle.markdown_nodes.specs.View.{view, views};
+ghost use Rattle.markdown_steps.specs.Summaries.{count, count_of};
+
+use markdown_builder::misfits::at_most_one;
+use markdown_builder::slice::{byte_at, length_between};
+use markdown_grammar::error_kind::{ErrorKind, Stop};
+use markdown_nodes::event::Point;
+use markdown_nodes::mdast::{Heading, Node};
+use markdown_nodes::role::{Content, ItemKind, Part};
+use markdown_nodes::unist::Position;
+
+/// What has stood in an open ATX heading: the depth that its first sequence of number signs gives.
+///
+/// In `## a` it is 2.
+#[derive(Clone, Copy)]
+pub struct AtxParts {
+    pub depth: Option<u8>,
+}
+
+impl AtxParts {
+    /// Before the first sequence.
+    pub fn new() -> AtxParts
+        ensures { IsFresh (atx result) models.heading_atx }
+    {
+        AtxParts { depth: None }
+    }
+
+    /// The rule that is violated if this item may not stand here: an ATX heading takes content and
+    /// sequences.
+    pub fn misfit(&self, what: ItemKind) -> Option<ErrorKind>
+        ensures { result ≡ misfit_in (atx self.now) what }
+    {
+        match what {
+            ItemKind::Content(_) | ItemKind::Part(Part::HeadingAtxSequence) => None,
+            ItemKind::Part(_) => Some(ErrorKind::Misplaced),
+        }
+    }
+
+    /// Takes a sequence of number signs: the first gives the depth, one byte for each step, and one
+    /// after the text gives nothing. A first sequence that lies outside the document is refused as
+    /// `ErrorKind::InvalidSlice`, and one that is not 1 to 6 bytes long as
+    /// `ErrorKind::HeadingDepth`.
+    pub fn take_sequence(&mut self, bytes: &[u8], start: Point, end: Point) -> Result<(), Stop>
+        ensures { Reads bytes.now parts.HeadingAtxSequence start end (atx self.old) (atx self.new) result }
+    {
+        if self.depth.is_some() {
+            return Ok(());
+        }
+        let Some(length) = length_between(bytes, start, end) else {
+            return Err(Stop::Refused(ErrorKind::InvalidSlice));
+        };
+        let Some(depth) = depth_of(length) else {
+            return Err(Stop::Refused(ErrorKind::HeadingDepth));
+        };
+        self.depth = Some(depth);
+        Ok(())
+    }
+
+    /// Its node. Where no sequence has stood it is refused as `ErrorKind::HeadingDepth`.
+    pub fn node(self, children: Vec<Node>, position: Position) -> Result<Node, Stop>
+        ensures { Makes result (is_some self.depth) HeadingDepth (λ node. view node ≡ placed (tree.heading (count_of (option_map count self.depth))) (views children.items) position) }
+    {
+        heading(children, position, self.depth)
+    }
+}
+
+/// What has stood in an open setext heading: the depth that its underline gives, and whether its text
+/// has stood.
+///
+/// Over `===` the depth is 1, and over `---` it is 2.
+#[derive(Clone, Copy)]
+pub struct SetextParts {
+    pub depth: Option<u8>,
+    pub has_text: bool,
+}
+
+impl SetextParts {
+    /// Before its text.
+    pub fn new() -> SetextParts
+        ensures { IsFresh (setext result) models.heading_setext }
+    {
+        SetextParts {
+            depth: None,
+            has_text: false,
+        }
+    }
+
+    /// The rule that is violated if this item may not stand here: a setext heading takes one text and
+    /// one underline, content before the text alone, and line endings.
+    pub fn misfit(&self, what: ItemKind) -> Option<ErrorKind>
+        ensures { result ≡ misfit_in (setext self.now) what }
+    {
+        match what {
+            ItemKind::Part(Part::HeadingSetextUnderlineSequence) => {
+                at_most_one(self.depth.is_some())
+            }
+            ItemKind::Part(Part::HeadingSetextText) => at_most_one(self.has_text),
+            ItemKind::Content(Content::LineEnding) => None,
+            ItemKind::Content(_) if !self.has_text => None,
+            _ => Some(ErrorKind::Misplaced),
+        }
+    }
+
+    /// Takes the underline: of hyphens the depth is two, else one. One that begins outside the
+    /// document is refused as `ErrorKind::InvalidSlice`.
+    pub fn take_underline(&mut self, bytes: &[u8], start: Point, end: Point) -> Result<(), Stop>
+        requires { misfit_in (setext self.old) (item_kinds.Part parts.HeadingSetextUnderlineSequence) ≡ None }
+        ensures { Reads bytes.now parts.HeadingSetextUnderlineSequence start end (setext self.old) (setext self.new) result }
+    {
+        let Some(byte) = byte_at(bytes, start) else {
+            return Err(Stop::Refused(ErrorKind::InvalidSlice));
+        };
+        self.depth = Some(if byte == b'-' { 2 } else { 1 });
+        Ok(())
+    }
+
+    /// Takes the text, whose nodes are the heading's.
+    pub fn take_text(&mut self)
+        requires { misfit_in (setext self.old) (item_kinds.Part parts.HeadingSetextText) ≡ None }
+        ensures { (ts : Trees) → GainsText parts.HeadingSetextText ts (setext self.old) (setext self.new) }
+    {
+        self.has_text = true;
+    }
+
+    /// Its node. Where no underline has stood it is refused as `ErrorKind::HeadingDepth`.
+    pub fn node(self, children: Vec<Node>, position: Position) -> Result<Node, Stop>
+        ensures { Makes result (is_some self.depth) HeadingDepth (λ node. view node ≡ placed (tree.heading (count_of (option_map count self.depth))) (views children.items) position) }
+    {
+        heading(children, position, self.depth)
+    }
+}
+
+/// The depth that a sequence of this length gives: from 1 to 6 it is the length.
+fn depth_of(length: usize) -> Option<u8>
+    ensures value { IfSome result (λ depth. depth ≡ length) }
+    ensures variant { is_some result ≡ is_depth (Some length) }
+{
+    match length {
+        1..=6 => u8::try_from(length).ok(),
+        _ => None,
+    }
+}
+
+/// The node of a heading, which has to have a depth.
+#[tactic(auto, using(crate::proofs::Headings::heading_made))]
+fn heading(children: Vec<Node>, position: Position, depth: Option<u8>) -> Result<Node, Stop>
+    ensures { Makes result (is_some depth) HeadingDepth (λ node. view node ≡ placed (tree.heading (count_of (option_map count depth))) (views children.items) position) }
+{
+    match depth {
+        Some(depth) => Ok(Node::Heading(Heading {
+            children,
+            position: Some(position),
+            depth,
+        })),
+        None => Err(Stop::Refused(ErrorKind::HeadingDepth)),
+    }
+}

@@ -1,0 +1,34 @@
+//! HTML: blocks and spans (CommonMark, "HTML blocks" and "Raw HTML").
+//!
+//! The original: `on_enter_html`, `on_exit_html`.
+
+ghost use Rattle.std.specs.Prelude.{◌≡◌, ◌≤◌, ◌+◌, IfOk};
+ghost use Rattle.markdown_builder.specs.PartsSoFar.{placed};
+ghost use Rattle.markdown_grammar.specs.Buffers.{node_count};
+ghost use Rattle.markdown_nodes.specs.Tree as tree;
+ghost use Rattle.markdown_nodes.specs.Tree.{nothing, plain_text};
+ghost use Rattle.markdown_nodes.specs.View.{view, views};
+
+use markdown_builder::buffer::values_of;
+use markdown_nodes::mdast::{Html, Node};
+use markdown_nodes::steps::Steps;
+use markdown_nodes::unist::Position;
+use std::alloc::{AllocError, Global};
+
+/// The node of HTML, whose value is the text as it stands in the document.
+#[tactic(auto, unfolding(markdown_nodes::specs::View::view))]
+pub fn html(
+    alloc: Global,
+    steps: &mut Steps<'_>,
+    nodes: &[Node],
+    position: Position,
+) -> Result<Node, AllocError>
+    ensures node { IfOk result (λ node. view node ≡ placed (tree.html (plain_text (views nodes.now))) nothing position) }
+    ensures list { steps.new.events ≡ steps.old.events }
+    ensures bound { steps.new.count ≤ steps.old.count + node_count (views nodes.now) }
+{
+    Ok(Node::Html(Html {
+        value: values_of(alloc, steps, nodes)?,
+        position: Some(position),
+    }))
+}

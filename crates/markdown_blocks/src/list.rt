@@ -1,0 +1,292 @@
+//! Lists and their items (CommonMark, "Lists" and "List items"), with the marks of tasks (GFM, "Task
+//! list items").
+//!
+//! The original: `on_enter_list`, `on_enter_list_item`, `on_exit_list_item`,
+//! `on_exit_list_item_value`, `on_exit_gfm_task_list_item_value`.
+
+ghost use Rattle.std.specs.Prelude.{◌≡◌, ◌≤◌, ◌+◌, None, Some, false, is_some, true};
+ghost use Rattle.markdown_blocks.specs.Lists.{list_item, marked_paragraph, numbered_item, ordered_list, part_of_mark, task_paragraph};
+ghost use Rattle.markdown_builder.specs.PartsSoFar.{Gains, GainsSign, IsFresh, Makes, Reads, misfit_in, placed, summary_in};
+ghost use Rattle.markdown_events.specs.declared.event.Point.{Point};
+ghost use Rattle.markdown_events.specs.declared.role.Content.TheVariants as contents;
+ghost use Rattle.markdown_events.specs.declared.role.ItemKind.TheVariants as item_kinds;
+ghost use Rattle.markdown_events.specs.declared.role.Part.TheVariants as parts;
+ghost use Rattle.markdown_grammar.specs.Attributes.{Place};
+ghost use Rattle.markdown_grammar.specs.Document.{Source};
+ghost use Rattle.markdown_grammar.specs.Grammar as models;
+ghost use Rattle.markdown_grammar.specs.Tasks.{task_if};
+ghost use Rattle.markdown_grammar.specs.declared.error_kind.ErrorKind.TheVariants.{MissingListValue};
+ghost use Rattle.markdown_nodes.specs.Tree as tree;
+ghost use Rattle.markdown_nodes.specs.Tree.{Trees};
+ghost use Rattle.markdown_nodes.specs.View.{view, views};
+
+use crate::number::item_number;
+use crate::task::trim;
+use markdown_builder::misfits::at_most_one;
+use markdown_builder::slice::text_of;
+use markdown_grammar::error_kind::{ErrorKind, Stop};
+use markdown_nodes::event::Point;
+use markdown_nodes::mdast::{List, ListItem, Node};
+use markdown_nodes::role::{ItemKind, Part};
+use markdown_nodes::steps::Steps;
+use markdown_nodes::unist::Position;
+
+/// What has stood in an open ordered list: the number of its first item that has one.
+///
+/// In a list that begins with `7. a` it is 7.
+#[derive(Clone, Copy)]
+pub struct OrderedListParts {
+    pub start: Option<u32>,
+}
+
+/// What has stood in an open item of an unordered list: its check mark.
+///
+/// In `* [x] a` it is true.
+#[derive(Clone, Copy)]
+pub struct ListItemParts {
+    pub mark: Option<bool>,
+}
+
+/// What has stood in an open item of an ordered list: its number and its check mark.
+///
+/// In `7. [ ] a` they are 7 and false.
+#[derive(Clone, Copy)]
+pub struct NumberedItemParts {
+    pub value: Option<u32>,
+    pub mark: Option<bool>,
+}
+
+/// What has stood in an open paragraph of an item that has no check mark yet: the mark in it.
+#[derive(Clone, Copy)]
+pub struct TaskParagraphParts {
+    pub mark: Option<bool>,
+}
+
+impl OrderedListParts {
+    /// Before the first item.
+    pub fn new() -> OrderedListParts
+        ensures { IsFresh (ordered_list result) models.list_ordered }
+    {
+        OrderedListParts { start: None }
+    }
+
+    /// Takes an item, whose number is the list's if the list has none yet.
+    pub fn take_item(&mut self, item: &NumberedItemParts)
+        ensures { (s : Source) (p : Place) (a b : Point) (ts : Trees) → Gains s p (item_kinds.Content contents.ListItem) a b (summary_in (numbered_item item.now) ts) (ordered_list self.old) (ordered_list self.new) }
+    {
+        self.start = self.start.or(item.value);
+    }
+
+    /// Its node. Where no item has a number it is refused as `ErrorKind::MissingListValue`.
+    pub fn node(self, children: Vec<Node>, position: Position, spread: bool) -> Result<Node, Stop>
+        ensures { Makes result (is_some self.start) MissingListValue (λ node. view node ≡ placed (tree.list true self.start spread) (views children.items) position) }
+    {
+        if self.start.is_none() {
+            return Err(Stop::Refused(ErrorKind::MissingListValue));
+        }
+        Ok(list(children, position, true, self.start, spread))
+    }
+}
+
+impl ListItemParts {
+    /// Before the first item in it.
+    pub fn new() -> ListItemParts
+        ensures { IsFresh (list_item result) models.list_item }
+    {
+        ListItemParts { mark: None }
+    }
+
+    /// Takes a paragraph, whose mark is the item's.
+    pub fn take_paragraph(&mut self, paragraph: &TaskParagraphParts)
+        requires { self.old.mark ≡ None }
+        ensures { (s : Source) (p : Place) (a b : Point) (ts : Trees) → Gains s p (item_kinds.Content contents.Paragraph) a b (summary_in (task_paragraph paragraph.now) ts) (list_item self.old) (list_item self.new) }
+    {
+        self.mark = paragraph.mark;
+    }
+
+    /// Its node. After a check mark its first paragraph loses the blank after the mark.
+    pub fn node(
+        self,
+        steps: &mut Steps<'_>,
+        children: Vec<Node>,
+        position: Position,
+        spread: bool,
+    ) -> Node
+        ensures node { view result ≡ placed (tree.list_item spread self.mark) (task_if self.mark (views children.items)) position }
+        ensures list { steps.new.events ≡ steps.old.events }
+        ensures bound { steps.new.count ≤ steps.old.count + 1 }
+    {
+        item(steps, children, position, spread, self.mark)
+    }
+}
+
+impl NumberedItemParts {
+    /// Before the first item in it.
+    pub fn new() -> NumberedItemParts
+        ensures { IsFresh (numbered_item result) models.numbered_item }
+    {
+        NumberedItemParts {
+            value: None,
+            mark: None,
+        }
+    }
+
+    /// The rule that is violated if this item may not stand here: an item of an ordered list takes one
+    /// number, and content.
+    pub fn misfit(&self, what: ItemKind) -> Option<ErrorKind>
+        ensures { result ≡ misfit_in (numbered_item self.now) what }
+    {
+        match what {
+            ItemKind::Content(_) => None,
+            ItemKind::Part(Part::ListItemValue) => at_most_one(self.value.is_some()),
+            ItemKind::Part(_) => Some(ErrorKind::Misplaced),
+        }
+    }
+
+    /// Takes its number. A value that is no text of the document is refused as
+    /// `ErrorKind::InvalidSlice`, and one that is no number up to 4294967295 as
+    /// `ErrorKind::InvalidListValue`.
+    pub fn take_value(&mut self, bytes: &[u8], start: Point, end: Point) -> Result<(), Stop>
+        requires { misfit_in (numbered_item self.old) (item_kinds.Part parts.ListItemValue) ≡ None }
+        ensures { Reads bytes.now parts.ListItemValue start end (numbered_item self.old) (numbered_item self.new) result }
+    {
+        let text = text_of(bytes, start, end)?;
+        let Some(value) = item_number(text) else {
+            return Err(Stop::Refused(ErrorKind::InvalidListValue));
+        };
+        self.value = Some(value);
+        Ok(())
+    }
+
+    /// Takes a paragraph, whose mark is the item's.
+    pub fn take_paragraph(&mut self, paragraph: &TaskParagraphParts)
+        requires { self.old.mark ≡ None }
+        ensures { (s : Source) (p : Place) (a b : Point) (ts : Trees) → Gains s p (item_kinds.Content contents.Paragraph) a b (summary_in (task_paragraph paragraph.now) ts) (numbered_item self.old) (numbered_item self.new) }
+    {
+        self.mark = paragraph.mark;
+    }
+
+    /// Its node. After a check mark its first paragraph loses the blank after the mark.
+    pub fn node(
+        self,
+        steps: &mut Steps<'_>,
+        children: Vec<Node>,
+        position: Position,
+        spread: bool,
+    ) -> Node
+        ensures node { view result ≡ placed (tree.list_item spread self.mark) (task_if self.mark (views children.items)) position }
+        ensures list { steps.new.events ≡ steps.old.events }
+        ensures bound { steps.new.count ≤ steps.old.count + 1 }
+    {
+        item(steps, children, position, spread, self.mark)
+    }
+}
+
+impl TaskParagraphParts {
+    /// Before its first item.
+    pub fn new() -> TaskParagraphParts
+        ensures { IsFresh (task_paragraph result) models.task_paragraph }
+    {
+        TaskParagraphParts { mark: None }
+    }
+
+    /// The rule that is violated if this item may not stand here: a paragraph of such an item takes
+    /// one check mark, and content.
+    pub fn misfit(&self, what: ItemKind) -> Option<ErrorKind>
+        ensures { result ≡ misfit_in (task_paragraph self.now) what }
+    {
+        match what {
+            ItemKind::Content(_) => None,
+            ItemKind::Part(Part::TaskMarkChecked | Part::TaskMarkUnchecked) => {
+                at_most_one(self.mark.is_some())
+            }
+            ItemKind::Part(_) => Some(ErrorKind::Misplaced),
+        }
+    }
+
+    /// Takes a check mark: `[x]` is checked, and `[ ]` is not.
+    pub fn take_mark(&mut self, checked: bool)
+        requires { misfit_in (task_paragraph self.old) (item_kinds.Part (part_of_mark checked)) ≡ None }
+        ensures { GainsSign (part_of_mark checked) (task_paragraph self.old) (task_paragraph self.new) }
+    {
+        self.mark = Some(checked);
+    }
+}
+
+/// The rule that is violated if this item may not stand in a paragraph of an item that has its mark
+/// from an earlier paragraph.
+pub fn misfit_in_marked_paragraph(what: ItemKind) -> Option<ErrorKind>
+    ensures { result ≡ misfit_in marked_paragraph what }
+{
+    match what {
+        ItemKind::Content(_) => None,
+        ItemKind::Part(Part::TaskMarkChecked | Part::TaskMarkUnchecked) => {
+            Some(ErrorKind::Repeated)
+        }
+        ItemKind::Part(_) => Some(ErrorKind::Misplaced),
+    }
+}
+
+/// The node of an unordered list.
+pub fn unordered_list(children: Vec<Node>, position: Position, spread: bool) -> Node
+    ensures { view result ≡ placed (tree.list false None spread) (views children.items) position }
+{
+    list(children, position, false, None, spread)
+}
+
+/// The node of a list, of which an ordered one has a start number.
+fn list(
+    children: Vec<Node>,
+    position: Position,
+    ordered: bool,
+    start: Option<u32>,
+    spread: bool,
+) -> Node
+    ensures { view result ≡ placed (tree.list ordered start spread) (views children.items) position }
+{
+    Node::List(List {
+        children,
+        position: Some(position),
+        ordered,
+        start,
+        spread,
+    })
+}
+
+/// The node of an item. A mark is cut off the front of its first paragraph, which takes one step,
+/// from the paragraph to its first child.
+fn item(
+    steps: &mut Steps<'_>,
+    children: Vec<Node>,
+    position: Position,
+    spread: bool,
+    mark: Option<bool>,
+) -> Node
+    ensures node { view result ≡ placed (tree.list_item spread mark) (task_if mark (views children.items)) position }
+    ensures list { steps.new.events ≡ steps.old.events }
+    ensures bound { steps.new.count ≤ steps.old.count + 1 }
+{
+    let mut children = children;
+    if mark.is_some() {
+        steps.tick();
+        trim(&mut children);
+    }
+    unmarked_item(children, position, spread, mark)
+}
+
+/// The node of an item whose children are as they are to stand.
+fn unmarked_item(
+    children: Vec<Node>,
+    position: Position,
+    spread: bool,
+    checked: Option<bool>,
+) -> Node
+    ensures { view result ≡ placed (tree.list_item spread checked) (views children.items) position }
+{
+    Node::ListItem(ListItem {
+        children,
+        position: Some(position),
+        spread,
+        checked,
+    })
+}

@@ -1,0 +1,167 @@
+//! Math: blocks and spans (the math extension of micromark, "micromark-extension-math").
+//!
+//! The original: `on_enter_math_flow`, `on_exit_raw_flow_fence_meta`, `on_exit_raw_flow_fence`,
+//! `on_exit_raw_flow`, `on_enter_math_text`, `on_exit_raw_text`.
+
+ghost use Rattle.std.specs.Prelude.{◌≡◌, ◌≤◌, ◌+◌, IfOk, None, OnOk, Some, is_some, true};
+ghost use Rattle.markdown_blocks.specs.Fences.{math_fence, math_flow, math_label};
+ghost use Rattle.markdown_builder.specs.PartsSoFar.{Gains, GainsText, IsFresh, Makes, misfit_in, placed, summary_in};
+ghost use Rattle.markdown_events.specs.Texts.{raw, spaces, trim};
+ghost use Rattle.markdown_events.specs.declared.event.Point.{Point};
+ghost use Rattle.markdown_events.specs.declared.role.ItemKind.TheVariants as item_kinds;
+ghost use Rattle.markdown_events.specs.declared.role.Part.TheVariants as parts;
+ghost use Rattle.markdown_grammar.specs.Attributes.{Place};
+ghost use Rattle.markdown_grammar.specs.Buffers.{node_count};
+ghost use Rattle.markdown_grammar.specs.Document.{Source};
+ghost use Rattle.markdown_grammar.specs.Grammar as models;
+ghost use Rattle.markdown_grammar.specs.declared.error_kind.ErrorKind.TheVariants.{MissingFence};
+ghost use Rattle.markdown_nodes.specs.Tree as tree;
+ghost use Rattle.markdown_nodes.specs.Tree.{Trees, nothing, plain_text};
+ghost use Rattle.markdown_nodes.specs.View.{view, views};
+
+use markdown_builder::buffer::values_of;
+use markdown_builder::misfits::at_most_one;
+use markdown_builder::texts::{block_value, inline_value};
+use markdown_grammar::error_kind::{ErrorKind, Stop};
+use markdown_nodes::mdast::{InlineMath, Math, Node};
+use markdown_nodes::role::{Content, ItemKind, Part};
+use markdown_nodes::steps::Steps;
+use markdown_nodes::unist::Position;
+use std::alloc::{AllocError, Global};
+
+/// What has stood in an open first fence: what comes after it.
+#[derive(Drop)]
+pub struct MathFenceParts {
+    pub meta: Option<String>,
+}
+
+/// What has stood in an open block of math: its first fence.
+#[derive(Drop)]
+pub struct MathFlowParts {
+    pub fence: Option<MathFenceParts>,
+}
+
+impl MathFenceParts {
+    /// Before its parts.
+    pub fn new() -> MathFenceParts
+        ensures { IsFresh (math_fence result) models.math_fence }
+    {
+        MathFenceParts { meta: None }
+    }
+
+    /// The rule that is violated if this item may not stand here: a fence takes one text after it.
+    pub fn misfit(&self, what: ItemKind) -> Option<ErrorKind>
+        ensures { result ≡ misfit_in (math_fence self.now) what }
+    {
+        match what {
+            ItemKind::Part(Part::MathFlowFenceMeta) => at_most_one(self.meta.is_some()),
+            _ => Some(ErrorKind::Misplaced),
+        }
+    }
+
+    /// Takes what comes after the fence.
+    pub fn take_meta(
+        &mut self,
+        alloc: Global,
+        steps: &mut Steps<'_>,
+        nodes: &[Node],
+    ) -> Result<(), AllocError>
+        requires { misfit_in (math_fence self.old) (item_kinds.Part parts.MathFlowFenceMeta) ≡ None }
+        ensures taken { OnOk result (GainsText parts.MathFlowFenceMeta (views nodes.now) (math_fence self.old) (math_fence self.new)) }
+        ensures list { steps.new.events ≡ steps.old.events }
+        ensures bound { steps.new.count ≤ steps.old.count + node_count (views nodes.now) }
+    {
+        self.meta = Some(values_of(alloc, steps, nodes)?);
+        Ok(())
+    }
+}
+
+impl MathFlowParts {
+    /// Before its first fence.
+    pub fn new() -> MathFlowParts
+        ensures { IsFresh (math_flow result) models.math_flow }
+    {
+        MathFlowParts { fence: None }
+    }
+
+    /// The rule that is violated if this item may not stand here: a block of math takes fences and line
+    /// endings, and other content after its first fence.
+    pub fn misfit(&self, what: ItemKind) -> Option<ErrorKind>
+        ensures { result ≡ misfit_in (math_flow self.now) what }
+    {
+        match what {
+            ItemKind::Content(Content::LineEnding) | ItemKind::Part(Part::MathFlowFence) => None,
+            ItemKind::Content(_) if self.fence.is_some() => None,
+            _ => Some(ErrorKind::Misplaced),
+        }
+    }
+
+    /// Takes the first fence.
+    pub fn take_fence(&mut self, fence: MathFenceParts)
+        requires { self.old.fence ≡ None }
+        ensures { (s : Source) (p : Place) (a b : Point) (ts : Trees) → Gains s p (item_kinds.Part parts.MathFlowFence) a b (summary_in (math_fence fence) ts) (math_flow self.old) (math_flow self.new) }
+    {
+        self.fence = Some(fence);
+    }
+
+    /// Its node, whose value is without the line endings beside the fences. Where no fence has stood it
+    /// is refused as `ErrorKind::MissingFence`.
+    pub fn node(
+        self,
+        alloc: Global,
+        steps: &mut Steps<'_>,
+        nodes: &[Node],
+        position: Position,
+    ) -> Result<Node, Stop>
+        ensures node { Makes result (is_some self.fence) MissingFence (λ node. view node ≡ placed (math_label self.fence (trim (plain_text (views nodes.now)) true true)) nothing position) }
+        ensures list { steps.new.events ≡ steps.old.events }
+        ensures bound { steps.new.count ≤ steps.old.count + node_count (views nodes.now) }
+    {
+        match self.fence {
+            Some(fence) => Ok(block_math(alloc, steps, nodes, position, fence)?),
+            None => Err(Stop::Refused(ErrorKind::MissingFence)),
+        }
+    }
+}
+
+/// The node of a block of math.
+#[tactic(auto, unfolding(markdown_nodes::specs::View::view))]
+fn block_math(
+    alloc: Global,
+    steps: &mut Steps<'_>,
+    nodes: &[Node],
+    position: Position,
+    fence: MathFenceParts,
+) -> Result<Node, AllocError>
+    ensures node { IfOk result (λ node. view node ≡ placed (math_label (Some fence) (trim (plain_text (views nodes.now)) true true)) nothing position) }
+    ensures list { steps.new.events ≡ steps.old.events }
+    ensures bound { steps.new.count ≤ steps.old.count + node_count (views nodes.now) }
+{
+    let MathFenceParts { meta } = fence;
+    let text = values_of(alloc, steps, nodes)?;
+    Ok(Node::Math(Math {
+        value: block_value(text, true),
+        position: Some(position),
+        meta,
+    }))
+}
+
+/// The node of inline math: line endings become spaces, and one space on each side goes.
+#[tactic(auto, unfolding(markdown_nodes::specs::View::view))]
+pub fn inline_math(
+    alloc: Global,
+    steps: &mut Steps<'_>,
+    nodes: &[Node],
+    position: Position,
+    in_table: bool,
+) -> Result<Node, AllocError>
+    ensures node { IfOk result (λ node. view node ≡ placed (tree.inline_math (raw (spaces (plain_text (views nodes.now))) in_table)) nothing position) }
+    ensures list { steps.new.events ≡ steps.old.events }
+    ensures bound { steps.new.count ≤ steps.old.count + node_count (views nodes.now) }
+{
+    let text = values_of(alloc, steps, nodes)?;
+    Ok(Node::InlineMath(InlineMath {
+        value: inline_value(alloc, text, in_table)?,
+        position: Some(position),
+    }))
+}

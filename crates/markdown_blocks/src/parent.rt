@@ -1,0 +1,52 @@
+//! Plain containers: block quotes, paragraphs (CommonMark, "Block quotes" and "Paragraphs"), emphasis
+//! and strong emphasis ("Emphasis and strong emphasis"), strikethrough, table rows and table cells
+//! (GFM).
+//!
+//! The original: `on_enter_block_quote`, `on_enter_paragraph`, `on_enter_emphasis`,
+//! `on_enter_strong`, `on_enter_gfm_strikethrough`, `on_enter_gfm_table_row`,
+//! `on_enter_gfm_table_cell`.
+
+ghost use Rattle.std.specs.Prelude.{◌≡◌, true};
+ghost use Rattle.markdown_blocks.specs.Parents.{is_parent, parent_label};
+ghost use Rattle.markdown_builder.specs.PartsSoFar.{placed};
+ghost use Rattle.markdown_nodes.specs.View.{view, views};
+
+use markdown_nodes::mdast::{
+    Blockquote, Delete, Emphasis, Node, Paragraph, Strong, TableCell, TableRow,
+};
+use markdown_nodes::role::Content;
+use markdown_nodes::unist::Position;
+
+/// Whether a span gives a node that has children, and nothing else.
+pub fn is_parent(content: Content) -> bool
+    ensures { result ≡ is_parent content }
+{
+    matches!(
+        content,
+        Content::BlockQuote
+            | Content::Emphasis
+            | Content::Strong
+            | Content::Strikethrough
+            | Content::Paragraph
+            | Content::TableRow
+            | Content::TableCell
+    )
+}
+
+/// The node of a span that gives one with children, and nothing else.
+pub fn parent(content: Content, children: Vec<Node>, position: Position) -> Node
+    requires { is_parent content ≡ true }
+    ensures { view result ≡ placed (parent_label content) (views children.items) position }
+{
+    let position = Some(position);
+    match content {
+        Content::BlockQuote => Node::Blockquote(Blockquote { children, position }),
+        Content::Emphasis => Node::Emphasis(Emphasis { children, position }),
+        Content::Strong => Node::Strong(Strong { children, position }),
+        Content::Strikethrough => Node::Delete(Delete { children, position }),
+        Content::Paragraph => Node::Paragraph(Paragraph { children, position }),
+        Content::TableRow => Node::TableRow(TableRow { children, position }),
+        Content::TableCell => Node::TableCell(TableCell { children, position }),
+        _ => unreachable!(),
+    }
+}

@@ -1,0 +1,101 @@
+//! Tables (GFM, "Tables"): how their columns are aligned, and their node.
+//!
+//! The original: `on_enter_gfm_table`, `on_exit_gfm_table`. What it reads again at a table's enter
+//! (`gfm_table_align`) is kept here as the events come.
+
+ghost use Rattle.std.specs.Prelude.{◌≡◌, OnOk};
+ghost use Rattle.markdown_blocks.specs.Columns.{columns_of};
+ghost use Rattle.markdown_builder.specs.Marks.{marks_of};
+ghost use Rattle.markdown_builder.specs.PartsSoFar.{placed};
+ghost use Rattle.markdown_events.specs.declared.role.Role.TheVariants as roles;
+ghost use Rattle.markdown_nodes.specs.Tree as tree;
+ghost use Rattle.markdown_nodes.specs.View.{view, views};
+ghost use Rattle.markdown_steps.specs.Columns.{columns_entered, columns_left, no_columns};
+
+use markdown_builder::marks::Marks;
+use markdown_nodes::mdast::{AlignKind, Node, Table};
+use markdown_nodes::role::{Content, ItemKind, Role, TransparentKind};
+use markdown_nodes::unist::Position;
+use std::alloc::{AllocError, Global};
+use std::mem;
+
+/// How far the delimiter rows of the table are.
+#[derive(Clone, Copy)]
+pub enum Rows {
+    /// There was none.
+    Before,
+    /// The first is open.
+    Inside,
+    /// The first has ended.
+    After,
+}
+
+/// The entries of the first delimiter row of the open table. Tables do not stand in tables, so that
+/// there is one of these for all.
+#[derive(Drop)]
+pub struct Columns {
+    pub rows: Rows,
+    pub kinds: Vec<AlignKind>,
+}
+
+impl Columns {
+    /// Outside tables, and at the enter of one.
+    pub fn new(alloc: Global) -> Columns
+        ensures { columns_of result ≡ no_columns }
+    {
+        Columns {
+            rows: Rows::Before,
+            kinds: Vec::new(alloc),
+        }
+    }
+
+    /// A span of the role begins. A table has no entries of another.
+    pub fn enter(&mut self, alloc: Global, in_table: bool, role: Role)
+        ensures { columns_of self.new ≡ columns_entered in_table role (columns_of self.old) }
+    {
+        match role {
+            Role::Transparent(TransparentKind::DelimiterRow) => {
+                if in_table && matches!(self.rows, Rows::Before) {
+                    self.rows = Rows::Inside;
+                }
+            }
+            Role::Significant(ItemKind::Content(Content::Table)) => *self = Columns::new(alloc),
+            _ => {}
+        }
+    }
+
+    /// A transparent span ends, with what the spans in it said.
+    pub fn exit(&mut self, kind: TransparentKind, inner: Marks) -> Result<(), AllocError>
+        ensures { OnOk result (columns_of self.new ≡ columns_left (roles.Transparent kind) (marks_of inner) (columns_of self.old)) }
+    {
+        if !matches!(self.rows, Rows::Inside) {
+            return Ok(());
+        }
+        match kind {
+            TransparentKind::DelimiterRow => self.rows = Rows::After,
+            TransparentKind::DelimiterCellValue => self.kinds.push(inner.align_kind())?,
+            _ => {}
+        }
+        Ok(())
+    }
+
+    /// The entries, at the end of the table. Then there are none.
+    pub fn take(&mut self, alloc: Global) -> Vec<AlignKind>
+        ensures entries { result.items ≡ self.old.kinds.items }
+        ensures columns { columns_of self.new ≡ no_columns }
+    {
+        self.rows = Rows::Before;
+        mem::replace(&mut self.kinds, Vec::new(alloc))
+    }
+}
+
+/// The node of a table.
+pub fn table(children: Vec<Node>, position: Position, align: Vec<AlignKind>) -> Node
+    ensures { view result ≡ placed (tree.table align.items) (views children.items) position }
+{
+    Node::Table(Table {
+        children,
+        position: Some(position),
+        align,
+    })
+}

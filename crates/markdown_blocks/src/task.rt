@@ -1,0 +1,127 @@
+//! The first text of an item with a mark.
+
+ghost use Rattle.std.specs.Prelude.{◌≡◌, ◌<◌, IfNone, MatchOption, drop, length, option_map, slice_index, string_bytes};
+ghost use Rattle.std.specs.Vec.{vec_len};
+ghost use Rattle.markdown_nodes.specs.Tree.{Trees};
+ghost use Rattle.markdown_nodes.specs.View.{views};
+ghost use Rattle.markdown_blocks.specs.TaskWalks.{first_cut, paragraph_before, text_cut};
+ghost use Rattle.markdown_grammar.specs.Tasks.{after_blank, from_point, on_next_line, one_on, task};
+
+use markdown_builder::texts::remove_byte;
+use markdown_nodes::mdast::{Node, Paragraph, Text};
+use markdown_nodes::unist::{Point, Position};
+
+/// Takes the blank after a mark off the nodes of its item: where the first node is a paragraph
+/// that begins with a text, that text loses one tab, space or line ending (GFM, task list items),
+/// and goes if it was no more, and the paragraph starts where the text then does.
+pub fn trim(nodes: &mut Vec<Node>)
+    ensures { views nodes.new.items ≡ task (views nodes.old.items) }
+{
+    if let Some(first) = nodes.first_mut() {
+        if let Node::Paragraph(paragraph) = first {
+            trim_paragraph(paragraph);
+        }
+    }
+}
+
+/// The same of a paragraph.
+fn trim_paragraph(paragraph: &mut Paragraph)
+    ensures { (rest : Trees) → paragraph_before paragraph.new rest ≡ task (paragraph_before paragraph.old rest) }
+{
+    if let Some(start) = trim_first(&mut paragraph.children) {
+        paragraph.position = starting_at(paragraph.position, start);
+    }
+}
+
+/// Takes the blank off the first of these nodes, if it is a text, and says where they start then.
+fn trim_first(nodes: &mut Vec<Node>) -> Option<Point>
+    ensures cut { option_map (λ start. (views nodes.new.items, start)) result ≡ first_cut (views nodes.old.items) }
+    ensures kept { IfNone result (views nodes.new.items ≡ views nodes.old.items) }
+{
+    let first = nodes.first_mut()?;
+    let Node::Text(text) = first else {
+        return None;
+    };
+    let start = trim_text(text)?;
+    if text.value.is_empty() {
+        remove_node(nodes);
+    }
+    Some(start)
+}
+
+/// Takes the first node away.
+fn remove_node(nodes: &mut Vec<Node>)
+    requires { 0 < vec_len nodes.old }
+    ensures { nodes.new.items ≡ drop 1 nodes.old.items }
+{
+    nodes.remove(0);
+}
+
+/// Takes the blank off a text with a position, and says where it starts then.
+fn trim_text(text: &mut Text) -> Option<Point>
+    ensures cut { option_map (λ start. (string_bytes text.new.value, start)) result ≡ text_cut (string_bytes text.old.value) text.old.position }
+    ensures place { MatchOption result (text.new ≡ text.old) (λ start. text.new.position ≡ from_point start text.old.position) }
+{
+    let position = text.position?;
+    if text.value.is_empty() {
+        return None;
+    }
+    let start = trim_front(&mut text.value, position.start);
+    text.position = starting_at(text.position, start);
+    Some(start)
+}
+
+/// Takes one tab, space or line ending off the beginning of a text, a CRLF as one, and says where the
+/// rest of a text that starts here begins.
+fn trim_front(value: &mut String, start: Point) -> Point
+    ensures { (string_bytes value.new, result) ≡ after_blank (string_bytes value.old) start }
+{
+    match value.as_bytes() {
+        [b'\t' | b' ', ..] => {
+            remove_byte(value);
+            one_on(start)
+        }
+        [b'\r', b'\n', ..] => {
+            remove_byte(value);
+            remove_byte(value);
+            on_next_line(2, start)
+        }
+        [b'\r' | b'\n', ..] => {
+            remove_byte(value);
+            on_next_line(1, start)
+        }
+        _ => start,
+    }
+}
+
+/// The point after one byte that ends no line.
+fn one_on(point: Point) -> Point
+    ensures { result ≡ one_on point }
+{
+    Point {
+        line: point.line,
+        column: point.column.saturating_add(1),
+        offset: point.offset.saturating_add(1),
+    }
+}
+
+/// The point after a line ending of this many bytes.
+fn on_next_line(width: usize, point: Point) -> Point
+    ensures { result ≡ on_next_line width point }
+{
+    Point {
+        line: point.line.saturating_add(1),
+        column: 1,
+        offset: point.offset.saturating_add(width),
+    }
+}
+
+/// A position with another start.
+fn starting_at(position: Option<Position>, start: Point) -> Option<Position>
+    ensures { result ≡ from_point start position }
+{
+    match position {
+        Some(Position { start: _, end }) => Some(Position { start, end }),
+        None => None,
+    }
+}

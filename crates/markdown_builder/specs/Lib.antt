@@ -1,0 +1,5 @@
+pub mod Readings
+pub mod ValueTexts
+pub mod Marks
+pub mod PartsSoFar
+pub mod Labels

@@ -1,0 +1,128 @@
+-- What has stood so far in an open span of any construct, as the steps say it: what a construct's own record of its parts comes to.
+use Rattle.std.specs.Prelude.{◌≡◌, ◌∷◌, Bool, Err, List, None, Ok, Option, Result, Some, [], cond, false, is_some, true, ℕ}
+use Rattle.std.specs.Option.{option_or}
+use Rattle.markdown_events.specs.declared.event.Point.{Point}
+use Rattle.markdown_events.specs.declared.role.ItemKind.{ItemKind}
+use Rattle.markdown_events.specs.declared.role.ItemKind.TheVariants as item_kinds
+use Rattle.markdown_events.specs.declared.role.Part.{Part}
+use Rattle.markdown_events.specs.declared.role.Part.TheVariants as parts
+use Rattle.markdown_events.specs.declared.unist.Position.{Position}
+use Rattle.markdown_nodes.specs.Tree.{Label as TreeLabel, Tree, Trees, nothing}
+use Rattle.markdown_grammar.specs.Attributes.{Place, mark_given, value_given}
+use Rattle.markdown_grammar.specs.Document.{Source, source}
+use Rattle.markdown_grammar.specs.Grammar.{ContentModel, model_after, rules}
+use Rattle.markdown_grammar.specs.Items as Kinds
+use Rattle.markdown_grammar.specs.Refusals.{value_error}
+use Rattle.markdown_grammar.specs.Values.{is_read}
+use Rattle.markdown_grammar.specs.declared.error_kind.ErrorKind.{ErrorKind}
+use Rattle.markdown_grammar.specs.declared.error_kind.Stop.{Stop}
+use Rattle.markdown_grammar.specs.declared.error_kind.Stop.TheVariants as stops
+use Rattle.markdown_steps.specs.Compiler.{label_with, nothing_yet, part_with, rule_checks}
+use Rattle.markdown_steps.specs.Summaries.{PartSummary, Path, Summary, into, itself, path_to, stood}
+
+-- the content model with which a span began, the one that it has now, the last marker, the parts that stood, the nodes of its label, its check mark and its number
+pub record PartsSoFar : Type 0 where
+  pub initial_model : ContentModel
+  pub current_model : ContentModel
+  pub marker : Option ℕ
+  pub part : Path → Option PartSummary
+  pub label : Trees
+  pub mark : Option Bool
+  pub value : Option ℕ
+
+-- ---- Words for the parts of a construct
+
+-- one content model before, and another after
+abbrev pub after_if : {A : Type 0} → ContentModel → ContentModel → Option A → ContentModel
+after_if before after None = before
+after_if before after (Some x) = after
+
+-- a part that stood, and what is in it
+abbrev pub stood_if : Bool → Option PartSummary
+stood_if true = Some stood
+stood_if false = None
+
+-- a part with no part of its own
+abbrev pub ending : Option PartSummary → Path → Option PartSummary
+ending kept itself = kept
+ending kept (into p way) = None
+
+-- a place by its parts
+abbrev pub place_with : Bool → Bool → Option ℕ → Place
+place_with line_endings in_table marker = record { line_endings = line_endings; in_table = in_table; marker = marker }
+
+-- a node with a place
+abbrev pub placed : TreeLabel → Trees → Position → Tree
+placed label children position = record { label = label; children = children; position = Some position }
+
+-- ---- What is refused
+
+-- no nodes, and these parts
+abbrev pub empty_but : (Path → Option PartSummary) → Summary
+empty_but part = record { nodes = nothing; label = nothing; part = part; mark = None; value = None }
+
+-- the first test that fails
+abbrev pub first_failing : List (Bool × ErrorKind) → Option ErrorKind
+first_failing [] = None
+first_failing (test ∷ tests) = cond test.0 (first_failing tests) (Some test.1)
+
+-- a refusal, if this is so
+abbrev pub error_if : Bool → ErrorKind → Option ErrorKind
+error_if true error_kind = Some error_kind
+error_if false error_kind = None
+
+-- which rule one more item violates, if it violates one
+abbrev pub misfit_in : PartsSoFar → ItemKind → Option ErrorKind
+misfit_in k what = first_failing (rule_checks k.initial_model (rules k.initial_model) (empty_but k.part) what [])
+
+-- a thing is made, if what has to stand there does
+abbrev pub Makes : {X : Type 0} → Result X Stop → Bool → ErrorKind → (X → Type 0) → Type 0
+Makes (Ok x) complete why Is = (complete ≡ true) × Is x
+Makes (Err (stops.Refused error_kind)) complete why Is = (complete ≡ false) × (error_kind ≡ why)
+Makes (Err (stops.Memory error)) complete why Is = Unit {0}
+
+-- ---- What is kept
+
+-- nothing has stood yet in a span of that content model
+pub record IsFresh (k : PartsSoFar) (model : ContentModel) : Type 0 where
+  pub initial_model : k.initial_model ≡ model
+  pub current_model : k.current_model ≡ model
+  pub parts : (way : Path) → k.part way ≡ None
+  pub label : k.label ≡ nothing
+  pub marker : k.marker ≡ None
+  pub mark : k.mark ≡ None
+  pub value : k.value ≡ None
+
+-- what is kept of the items, with these nodes
+abbrev pub summary_in : PartsSoFar → Trees → Summary
+summary_in k ts = record { nodes = ts; label = k.label; part = k.part; mark = k.mark; value = k.value }
+
+-- after one more item, between two points and with this in it, this is kept
+pub record Gains (s : Source) (p : Place) (what : ItemKind) (a b : Point) (i : Summary) (old new : PartsSoFar) : Type 0 where
+  pub initial_model : new.initial_model ≡ old.initial_model
+  pub current_model : new.current_model ≡ model_after old.current_model what (is_some i.mark)
+  pub marker : new.marker ≡ option_or (Kinds.marker_of what) old.marker
+  pub kept : (way : Path) → new.part way ≡ part_with s p what a b i old.part way
+  pub label : new.label ≡ label_with what i.nodes (old.part (path_to parts.LabelText)) old.label
+  pub mark : new.mark ≡ option_or old.mark (mark_given what i.mark)
+  pub value : new.value ≡ option_or old.value (value_given s what a b i.value)
+
+-- a part in which nothing stands says all by its name
+abbrev pub GainsSign : Part → PartsSoFar → PartsSoFar → Type 0
+GainsSign q old new = (s : Source) (p : Place) (a b : Point) → Gains s p (item_kinds.Part q) a b nothing_yet old new
+
+-- a part with these nodes is kept, whatever its slice is
+abbrev pub GainsText : Part → Trees → PartsSoFar → PartsSoFar → Type 0
+GainsText q ts old new = (s : Source) (p : Place) (a b : Point) → Gains s p (item_kinds.Part q) a b (record nothing_yet { nodes = ts }) old new
+
+-- a part with these nodes, whose value is read: it is kept, or refused where it cannot be read
+abbrev pub ReadsText : {X : Type 0} → List ℕ → Part → Trees → Point → Point → PartsSoFar → PartsSoFar → Result X Stop → Type 0
+ReadsText bytes q ts a b old new result =
+    (text : List ℕ → ℕ → Option (List ℕ)) (p : Place) → Makes result (is_read (source bytes text) old.current_model p false (item_kinds.Part q) a b) (value_error (source bytes text) (item_kinds.Part q) a b)
+    (λ _. Gains (source bytes text) p (item_kinds.Part q) a b (record nothing_yet { nodes = ts }) old new)
+
+-- the same of a part in which nothing stands
+abbrev pub Reads : {X : Type 0} → List ℕ → Part → Point → Point → PartsSoFar → PartsSoFar → Result X Stop → Type 0
+Reads bytes q a b old new result =
+    (text : List ℕ → ℕ → Option (List ℕ)) (p : Place) → Makes result (is_read (source bytes text) old.current_model p false (item_kinds.Part q) a b) (value_error (source bytes text) (item_kinds.Part q) a b)
+    (λ _. Gains (source bytes text) p (item_kinds.Part q) a b nothing_yet old new)

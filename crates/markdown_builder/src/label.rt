@@ -1,0 +1,52 @@
+//! The labels by which definitions and references are matched.
+
+ghost use Rattle.std.specs.Prelude.{◌≡◌, ◌≤◌, ◌+◌, IfOk, option_map, string_bytes};
+ghost use Rattle.markdown_builder.specs.Labels.{identified_kept};
+ghost use Rattle.markdown_events.specs.Texts.{fold};
+ghost use Rattle.markdown_grammar.specs.Buffers.{node_count};
+ghost use Rattle.markdown_nodes.specs.Tree.{plain_text};
+ghost use Rattle.markdown_nodes.specs.View.{views};
+ghost use Rattle.markdown_steps.specs.Summaries.{identifier_of, words_of};
+
+use crate::buffer::values_of;
+use markdown_nodes::mdast::Node;
+use markdown_nodes::steps::Steps;
+use markdown_nodes::text::normalize_identifier;
+use std::alloc::{AllocError, Global};
+
+/// The text of a label, and the identifier by which it is matched: its slice of the document,
+/// normalized.
+#[derive(Drop)]
+pub struct Identified {
+    pub identifier: String,
+    pub label: String,
+}
+
+/// What a label says: the identifier of its slice, and its text.
+pub fn identify(
+    alloc: Global,
+    steps: &mut Steps<'_>,
+    slice: &str,
+    nodes: &[Node],
+) -> Result<Identified, AllocError>
+    ensures identifier { IfOk result (λ made. string_bytes made.identifier ≡ fold slice.now) }
+    ensures label { IfOk result (λ made. string_bytes made.label ≡ plain_text (views nodes.now)) }
+    ensures list { steps.new.events ≡ steps.old.events }
+    ensures bound { steps.new.count ≤ steps.old.count + node_count (views nodes.now) }
+{
+    Ok(Identified {
+        identifier: normalize_identifier(alloc, slice)?,
+        label: values_of(alloc, steps, nodes)?,
+    })
+}
+
+/// The identifier and the label of a definition, where it has one.
+pub fn named(alloc: Global, label: Option<Identified>) -> (String, Option<String>)
+    ensures identifier { string_bytes result.0 ≡ identifier_of (identified_kept label) }
+    ensures label { option_map string_bytes result.1 ≡ words_of (identified_kept label) }
+{
+    match label {
+        Some(Identified { identifier, label }) => (identifier, Some(label)),
+        None => (String::new(alloc), None),
+    }
+}

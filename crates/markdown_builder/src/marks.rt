@@ -1,0 +1,168 @@
+//! What an open span keeps of the spans in it, transparent ones too, for spread and alignment.
+
+ghost use Rattle.std.specs.Prelude.{◌≡◌, Some};
+ghost use Rattle.std.specs.Option.{option_or};
+ghost use Rattle.markdown_events.specs.Spread.{is_delimiter_marker};
+ghost use Rattle.markdown_events.specs.declared.role.ItemKind.TheVariants as item_kinds;
+ghost use Rattle.markdown_events.specs.declared.role.Content.TheVariants as contents;
+ghost use Rattle.markdown_events.specs.declared.role.TransparentKind.TheVariants as transparents;
+ghost use Rattle.markdown_events.specs.declared.role.Role.TheVariants as roles;
+ghost use Rattle.markdown_steps.specs.Siblings.{kind_by, marks_with, no_marks, past_space, sibling_of};
+ghost use Rattle.markdown_builder.specs.Marks.{first_of, marks_of, sibling_in};
+
+use markdown_nodes::mdast::AlignKind;
+use markdown_nodes::role::{Content, ItemKind, Role, TransparentKind};
+
+/// What a child is to its siblings and to its parent.
+#[derive(Clone, Copy)]
+pub enum Sibling {
+    Other,
+    SpaceOrTab,
+    ListItemPrefix,
+    BlockQuotePrefix,
+    /// A block quote that ends with its prefix.
+    BareBlockQuote,
+    /// An item without content at its end.
+    BareListItem,
+    DelimiterMarker,
+}
+
+/// What the first child is.
+#[derive(Clone, Copy)]
+pub enum First {
+    /// There is no child so far.
+    Absent,
+    DelimiterMarker,
+    Other,
+}
+
+/// What the children so far say.
+#[derive(Clone, Copy)]
+pub struct Marks {
+    /// The last child.
+    pub near: Sibling,
+    /// The child before it.
+    pub far: Sibling,
+    pub first: First,
+    /// Whether the span is loose, if it is an item.
+    pub item_blank: bool,
+    /// Whether the span is loose, if it is a list.
+    pub list_blank: bool,
+}
+
+impl Marks {
+    /// There is no child so far.
+    pub fn new() -> Marks
+        ensures { marks_of result ≡ no_marks }
+    {
+        Marks {
+            near: Sibling::Other,
+            far: Sibling::Other,
+            first: First::Absent,
+            item_blank: false,
+            list_blank: false,
+        }
+    }
+
+    /// The last child, one space or tab skipped.
+    fn past_space(self) -> Sibling
+        ensures { sibling_in result ≡ past_space (marks_of self) }
+    {
+        match self.near {
+            Sibling::SpaceOrTab => self.far,
+            near => near,
+        }
+    }
+
+    /// What a span of the role, with these children, is to its siblings and to its parent.
+    fn sibling(self, role: Role) -> Sibling
+        ensures { sibling_in result ≡ sibling_of role (marks_of self) }
+    {
+        match role {
+            Role::Transparent(TransparentKind::SpaceOrTab) => Sibling::SpaceOrTab,
+            Role::Transparent(TransparentKind::ListItemPrefix) => Sibling::ListItemPrefix,
+            Role::Transparent(TransparentKind::BlockQuotePrefix) => Sibling::BlockQuotePrefix,
+            Role::Transparent(TransparentKind::DelimiterMarker) => Sibling::DelimiterMarker,
+            Role::Significant(ItemKind::Content(Content::BlockQuote)) => self.block_quote(),
+            Role::Significant(ItemKind::Content(Content::ListItem)) => self.list_item(),
+            _ => Sibling::Other,
+        }
+    }
+
+    fn block_quote(self) -> Sibling
+        ensures { sibling_in result ≡ sibling_of (roles.Significant (item_kinds.Content contents.BlockQuote)) (marks_of self) }
+    {
+        match self.near {
+            Sibling::BlockQuotePrefix => Sibling::BareBlockQuote,
+            _ => Sibling::Other,
+        }
+    }
+
+    fn list_item(self) -> Sibling
+        ensures { sibling_in result ≡ sibling_of (roles.Significant (item_kinds.Content contents.ListItem)) (marks_of self) }
+    {
+        match self.past_space() {
+            Sibling::ListItemPrefix | Sibling::BareBlockQuote => Sibling::BareListItem,
+            _ => Sibling::Other,
+        }
+    }
+
+    /// The same after one child more, of a role and with children of its own.
+    pub fn with(self, role: Role, inner: Marks) -> Marks
+        ensures { marks_of result ≡ marks_with (marks_of self) role (marks_of inner) }
+    {
+        match role {
+            Role::Transparent(TransparentKind::BlankLineEnding) => self.with_blank_line(),
+            _ => Marks {
+                near: inner.sibling(role),
+                far: self.near,
+                first: self.first.or(role),
+                item_blank: self.item_blank,
+                list_blank: self.list_blank,
+            },
+        }
+    }
+
+    /// The same after a blank line. It makes a list loose, but after an item without content at its
+    /// end, and an item, but after its prefix.
+    fn with_blank_line(self) -> Marks
+        ensures { marks_of result ≡ marks_with (marks_of self) (roles.Transparent transparents.BlankLineEnding) no_marks }
+    {
+        Marks {
+            near: Sibling::Other,
+            far: self.near,
+            first: self
+                .first
+                .or(Role::Transparent(TransparentKind::BlankLineEnding)),
+            item_blank: self.item_blank || !matches!(self.past_space(), Sibling::ListItemPrefix),
+            list_blank: self.list_blank || !matches!(self.near, Sibling::BareListItem),
+        }
+    }
+
+    /// How a delimiter cell value with these children aligns its column.
+    pub fn align_kind(self) -> AlignKind
+        ensures { result ≡ kind_by (marks_of self) }
+    {
+        let first = matches!(self.first, First::DelimiterMarker);
+        match (first, self.near) {
+            (true, Sibling::DelimiterMarker) => AlignKind::Center,
+            (true, _) => AlignKind::Left,
+            (false, Sibling::DelimiterMarker) => AlignKind::Right,
+            (false, _) => AlignKind::None,
+        }
+    }
+}
+
+impl First {
+    /// The first child, where the next one has this role.
+    fn or(self, role: Role) -> First
+        ensures { first_of result ≡ option_or (first_of self) (Some (is_delimiter_marker role)) }
+    {
+        match self {
+            First::Absent if matches!(role, Role::Transparent(TransparentKind::DelimiterMarker)) =>
+                { First::DelimiterMarker }
+            First::Absent => First::Other,
+            known => known,
+        }
+    }
+}

@@ -1,0 +1,95 @@
+//! The texts of nodes that come from a buffer or a slice, and not as they stand there.
+
+ghost use Rattle.std.specs.Prelude.{◌≡◌, ◌<◌, ◌++◌, ◌&&◌, IfOk, drop, length, slice_index, string_bytes, true};
+ghost use Rattle.std.specs.List.{list_all};
+ghost use Rattle.markdown_events.specs.Texts.{raw, spaces, trim, without_first_line_ending, without_last_line_ending};
+ghost use Rattle.markdown_builder.specs.ValueTexts.{is_kept, is_unpadded};
+
+use markdown_nodes::text::{line_endings_to_spaces, raw_text, trim_eol};
+use std::alloc::{AllocError, Global};
+
+/// The value of a block, without one line ending at its end, and without one at its start where
+/// that is asked: fenced code, math and frontmatter lose the line endings beside their fences so,
+/// and indented code the last one alone. It takes no memory.
+pub fn block_value(mut text: String, at_start: bool) -> String
+    ensures { string_bytes result ≡ trim (string_bytes text) at_start true }
+{
+    if at_start {
+        trim_start(&mut text);
+    }
+    trim_end(&mut text);
+    text
+}
+
+/// Takes one line ending off the start of a text.
+fn trim_start(text: &mut String)
+    ensures { string_bytes text.new ≡ without_first_line_ending (string_bytes text.old) }
+{
+    match text.as_bytes() {
+        [b'\r', b'\n', ..] => {
+            remove_byte(text);
+            remove_byte(text);
+        }
+        [b'\r' | b'\n', ..] => remove_byte(text),
+        _ => {}
+    }
+}
+
+/// Takes one line ending off the end of a text.
+fn trim_end(text: &mut String)
+    ensures { string_bytes text.new ≡ without_last_line_ending (string_bytes text.old) }
+{
+    let length = trim_eol(text.as_str(), false, true).len();
+    text.truncate(length);
+}
+
+/// Takes the first byte off a text, which is a character.
+pub fn remove_byte(value: &mut String)
+    requires some { 0 < length (string_bytes value.old) }
+    requires ascii { slice_index (string_bytes value.old) 0 < 128 }
+    ensures { string_bytes value.new ≡ drop 1 (string_bytes value.old) }
+{
+    value.remove(0);
+}
+
+/// The value of inline code or math, in a table or not: each line ending is a space, and then a
+/// space goes off each end (CommonMark, code spans). A text that stays as it is is not copied.
+pub fn inline_value(alloc: Global, text: String, in_table: bool) -> Result<String, AllocError>
+    ensures { IfOk result (λ value. string_bytes value ≡ raw (spaces (string_bytes text)) in_table) }
+{
+    if is_its_own_value(text.as_bytes()) {
+        return Ok(text);
+    }
+    let spaced = line_endings_to_spaces(alloc, text.as_str())?;
+    raw_text(alloc, spaced.as_str(), in_table)
+}
+
+/// Whether no space is at the beginning of a text, and in it neither a line ending nor a backslash.
+fn is_its_own_value(text: &[u8]) -> bool
+    ensures { result ≡ (is_unpadded text.now && list_all is_kept text.now) }
+{
+    match text {
+        [b' ', ..] => false,
+        _ => is_kept_whole(text),
+    }
+}
+
+/// Whether neither a line ending nor a backslash is in a text.
+fn is_kept_whole(text: &[u8]) -> bool
+    ensures { result ≡ list_all is_kept text.now }
+{
+    text.iter()
+        .all(|byte| !matches!(*byte, b'\n' | b'\r' | b'\\'))
+}
+
+/// The address of a link that is written without its scheme: `mailto:` before an email address,
+/// `http://` before one that begins with `www.` (GFM, autolinks).
+pub fn address(alloc: Global, scheme: &str, value: &str) -> Result<String, AllocError>
+    ensures { IfOk result (λ url. string_bytes url ≡ scheme.now ++ value.now) }
+{
+    let length = scheme.len().saturating_add(value.len());
+    let mut url = String::with_capacity(alloc, length)?;
+    url.push_str(scheme)?;
+    url.push_str(value)?;
+    Ok(url)
+}

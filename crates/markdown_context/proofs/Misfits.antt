@@ -1,0 +1,86 @@
+-- The first test of a container that an item does not pass.
+use Rattle.std.proofs.Common.{◌≡◌, Bool, true, false, ◌||◌, ◌&&◌, not, is_some, List, [], ◌∷◌, Option, None, Some, refl, sym, ap, ◌∙◌, cond}
+use Rattle.std.specs.Option.{option_or}
+use Rattle.markdown_events.specs.declared.role.ItemKind.{ItemKind}
+use Rattle.markdown_events.specs.declared.role.Part.{Part}
+use Rattle.markdown_context.specs.declared.container.Container.{Container}
+use Rattle.markdown_grammar.specs.declared.error_kind.ErrorKind.{ErrorKind}
+use Rattle.markdown_steps.specs.Compiler.{allows, enter_checks, fresh, has_one_of, rule_checks}
+use Rattle.markdown_grammar.specs.Refusals.{rule_error}
+use Rattle.markdown_grammar.specs.Grammar.{rules}
+use Rattle.markdown_steps.specs.Compiler.{has_stood}
+use Rattle.markdown_grammar.specs.Grammar.{ContentModel, leaf}
+use Rattle.markdown_context.specs.Containers.{misfit_of, part_of, initial_model_of}
+use Rattle.markdown_builder.specs.PartsSoFar.{empty_but, first_failing}
+use Rattle.markdown_grammar.specs.Items.{is_frontmatter, is_line_ending, is_one_of, is_table}
+use Rattle.markdown_events.specs.declared.event.Point.{Point}
+use Rattle.markdown_context.specs.declared.context.Context.{Context}
+use Rattle.markdown_grammar.specs.declared.error_kind.ErrorKind.TheVariants.{InvalidSlice, Misplaced, UnfinishedBreak}
+use Rattle.markdown_grammar.specs.Document.{byte_at}
+use Rattle.markdown_grammar.specs.Document.{Source}
+use Rattle.markdown_context.specs.States.{kept_top, leaf_place, top_of}
+use Rattle.markdown_steps.specs.Summaries.{Summary}
+use Rattle.markdown_steps.specs.Checks.{passes}
+use Rattle.markdown_grammar.specs.Grammar.{Rule, none_of, at_most_one, only, only_before, only_after}
+
+-- a rule looks at nothing but the parts
+has_same : (ps : List Part) (i : Summary) → has_one_of ps i ≡ has_one_of ps (empty_but i.part)
+has_same [] i = refl
+has_same (p ∷ ps) i = ap (λ (b : Bool). has_stood p i || b) (has_same ps i)
+
+allows_same : (rule : Rule) (i : Summary) (what : ItemKind) → allows rule i what ≡ allows rule (empty_but i.part) what
+allows_same (only test) i what = refl
+allows_same (at_most_one ps) i what = ap (λ (b : Bool). not (is_one_of ps what) || not b) (has_same ps i)
+allows_same (none_of ps) i what = refl
+allows_same (only_after ps test) i what = ap (λ (b : Bool). not b || test what) (has_same ps i)
+allows_same (only_before ps test) i what = ap (λ (b : Bool). b || (is_one_of ps what || test what)) (has_same ps i)
+
+-- the tests after those of the rules come after them
+or_after : (b : Bool) (why : ErrorKind) (x y z : Option ErrorKind) → x ≡ option_or y z → cond b x (Some why) ≡ option_or (cond b y (Some why)) z
+or_after true why x y z h = h
+or_after false why x y z h = refl
+
+rules_first : (h : ContentModel) (rs : List Rule) (i : Summary) (what : ItemKind) (others : List (Bool × ErrorKind))
+    → first_failing (rule_checks h rs i what others) ≡ option_or (first_failing (rule_checks h rs (empty_but i.part) what [])) (first_failing others)
+rules_first h [] i what others = refl
+rules_first h (rule ∷ rs) i what others =
+    ap (λ (b : Bool). cond b (first_failing (rule_checks h rs i what others)) (Some (rule_error h rule))) (allows_same rule i what)
+    ∙ or_after (allows rule (empty_but i.part) what) (rule_error h rule) (first_failing (rule_checks h rs i what others)) (first_failing (rule_checks h rs (empty_but i.part) what [])) (first_failing others)
+    (rules_first h rs i what others)
+
+-- the first misfit of a container, and else the first test after it
+pub misfit_first : (h : Container) (i : Summary) (what : ItemKind) (others : List (Bool × ErrorKind)) → i.part ≡ part_of h
+    → first_failing (rule_checks (initial_model_of h) (rules (initial_model_of h)) i what others) ≡ option_or (misfit_of h what) (first_failing others)
+misfit_first h i what others same =
+    rules_first (initial_model_of h) (rules (initial_model_of h)) i what others
+    ∙ ap (λ k. option_or (first_failing (rule_checks (initial_model_of h) (rules (initial_model_of h)) (empty_but k) what [])) (first_failing others)) same
+
+-- where all tests pass, none fails first
+pub none_fails : (tests : List (Bool × ErrorKind)) → passes tests ≡ true → first_failing tests ≡ None
+none_fails [] h = refl
+none_fails (test ∷ tests) h = by-test test.0 (passes tests) (first_failing tests) (Some test.1) h (none_fails tests)
+  where
+    by-test : (b c : Bool) (x y : Option ErrorKind) → (b && c) ≡ true → (c ≡ true → x ≡ None) → cond b x y ≡ None
+    by-test true c x y h below = below h
+    by-test false c x y h below = let z : ⊥ = cc in absurd z
+
+-- no first misfit where a first test is none
+pub left_none : (x y : Option ErrorKind) → option_or x y ≡ None → x ≡ None
+left_none None y h = refl
+left_none (Some w) y h = let z : ⊥ = cc in absurd z
+
+not_false : (b c : Bool) → c ≡ not b → c ≡ false → b ≡ true
+not_false true c e h = refl
+not_false false c e h = let wrong : true ≡ false = sym e ∙ h in absurd cc
+
+-- where no leaf is open and no break is in the way, the first misfit is that of the container
+pub misfit_of_context : (s : Source) (c : Context) (what : ItemKind) (point : Point) (cut : Bool) (r : ErrorKind)
+    → c.is_leaf ≡ false → cut ≡ not (not (is_some c.pending) || is_line_ending what) → cut ≡ false → Some r ≡ misfit_of c.top.container what
+    → Some r ≡ first_failing (enter_checks s (top_of c) what point)
+misfit_of_context s c what point cut r no_leaf is_cut uncut found =
+    let others : List (Bool × ErrorKind) = (not (c.in_table && is_table what), Misplaced) ∷ (not (is_frontmatter what) || is_some (byte_at s.bytes point), InvalidSlice) ∷ [] in
+    let waits : Bool = not (is_some c.pending) || is_line_ending what in
+    sym ((λ t. first_failing (enter_checks s (cond (no_leaf t) (fresh leaf (leaf_place c.in_table)) (kept_top c)) what point))
+    ∙ ap (λ (b : Bool). cond b (first_failing (rule_checks (initial_model_of c.top.container) (rules (initial_model_of c.top.container)) (kept_top c).inner what others)) (Some UnfinishedBreak)) (not_false waits cut is_cut uncut)
+    ∙ misfit_first c.top.container (kept_top c).inner what others refl
+    ∙ ap (λ (o : Option ErrorKind). option_or o (first_failing others)) (sym found))

@@ -1,0 +1,211 @@
+-- What the program's values are to the steps of a compilation.
+use Rattle.std.specs.Prelude.{◌≡◌, ◌||◌, is_some, not, ℕ, Bool, true, false, Option, Some, None, Result, Ok, Err, List, [], ◌∷◌, ◌++◌, cond, reverse}
+use Rattle.markdown_events.specs.Names.{role_of}
+use Rattle.markdown_events.specs.declared.role.ItemKind.{ItemKind}
+use Rattle.markdown_events.specs.declared.role.Role.{Role}
+use Rattle.markdown_events.specs.declared.role.Role.TheVariants.{Transparent as transparent, Significant as significant}
+use Rattle.markdown_events.specs.declared.message.Fault.{Fault}
+use Rattle.markdown_events.specs.declared.message.Fault.TheVariants as faults
+use Rattle.markdown_grammar.specs.Refusals.{Says}
+use Rattle.markdown_steps.specs.Visits.{visits_by_owner}
+use Rattle.markdown_context.specs.declared.context.Context.{Context}
+use Rattle.markdown_context.specs.declared.context.Frame.{Frame}
+use Rattle.markdown_nodes.specs.View.{views}
+use Rattle.markdown_context.specs.declared.open_container.OpenContainer.{OpenContainer}
+use Rattle.markdown_grammar.specs.declared.error_kind.ErrorKind.{ErrorKind}
+use Rattle.markdown_grammar.specs.declared.error_kind.Stop.{Stop}
+use Rattle.markdown_grammar.specs.declared.error_kind.Stop.TheVariants as stops
+use Rattle.markdown_nodes.specs.Tree.{Trees, join, node, nothing, «break»}
+use Rattle.markdown_events.specs.declared.event.Point.{Point}
+use Rattle.markdown_events.specs.declared.unist.Position.{Position}
+use Rattle.markdown_steps.specs.Compiler.{ContainerState, OpenSpan, State, enter_checks, fresh, leave_to}
+use Rattle.markdown_grammar.specs.Grammar.{ContentModel, model_of, leaf}
+use Rattle.markdown_context.specs.Containers.{IsFresh, summary_with, marker_of, misfit_of, current_model_of, initial_model_of}
+use Rattle.markdown_builder.specs.Marks.{marks_of}
+use Rattle.markdown_builder.specs.PartsSoFar.{first_failing, place_with}
+use Rattle.markdown_grammar.specs.Refusals.{ErrorAt}
+use Rattle.markdown_steps.specs.Checks.{refused}
+use Rattle.markdown_steps.specs.Summaries.{Summary}
+use Rattle.markdown_grammar.specs.Attributes.{Place, line_ending_is_text}
+use Rattle.markdown_grammar.specs.Document.{Source}
+use Rattle.markdown_events.specs.declared.event.Name.{Name}
+use Rattle.markdown_events.specs.Around.{under}
+use Rattle.markdown_blocks.specs.Columns.{columns_of}
+use Rattle.markdown_steps.specs.Columns.{columns_entered, columns_left, child_facts}
+use Rattle.markdown_grammar.specs.Items.{is_line_ending}
+use Rattle.markdown_steps.specs.Siblings.{no_marks}
+
+-- what such a container keeps, with its nodes
+abbrev pub summary_of_container : OpenContainer → Summary
+summary_of_container h = summary_with h.container (views h.nodes.items)
+
+-- where the next item of a container stands
+abbrev pub place_of : Bool → OpenContainer → Place
+place_of in_table h = place_with h.line_endings in_table (marker_of h.container)
+
+-- the nodes, with the break that waits for its line ending
+abbrev pub with_break : Option Position → Trees → Trees
+with_break None ts = ts
+with_break (Some here) ts = join ts (node «break» nothing (Some here) nothing)
+
+-- a container, by whether it is in a table, and the break that is its last item
+abbrev pub container_state_of : Bool → Option Position → OpenContainer → ContainerState
+container_state_of in_table pending h = record {
+  initial_model = initial_model_of h.container;
+  model = current_model_of h.container;
+  place = place_of in_table h;
+  after_break = is_some pending;
+  inner = summary_with h.container (with_break pending (views h.nodes.items));
+}
+
+-- how a step that stops at a point agrees with what is expected
+abbrev pub Stops : {Y : Type 0} → Stop → Point → Result Y ErrorAt → Type 0
+Stops (stops.Memory error) point expected = Unit {0}
+Stops (stops.Refused why) point expected = expected ≡ refused why point
+
+-- a function gave, by this view, what is expected, unless memory ran out
+abbrev pub Gives : {X Y : Type 0} → (X → Y) → Point → Result X Stop → Result Y ErrorAt → Type 0
+Gives seen point (Ok x) expected = expected ≡ Ok (seen x)
+Gives seen point (Err stop) expected = Stops stop point expected
+
+-- how a fault agrees with what is expected: it names the refusal and its point
+abbrev pub Fails : {Y : Type 0} → Fault → Result Y ErrorAt → Type 0
+Fails (faults.Memory error) expected = Unit {0}
+Fails (faults.Message message) expected = (why : ErrorAt) × (expected ≡ Err why) × Says message why.error_kind why.point
+
+-- a function gave, by this view, what is expected, or a fault that agrees with it
+abbrev pub Completes : {X Y : Type 0} → (X → Y) → Result X Fault → Result Y ErrorAt → Type 0
+Completes seen (Ok x) expected = expected ≡ Ok (seen x)
+Completes seen (Err fault) expected = Fails fault expected
+
+-- a container of that content model at its end, where no break waits
+abbrev pub ended_with : ContentModel → Place → Summary → ContainerState
+ended_with initial_model place inner = record { initial_model = initial_model; model = initial_model; place = place; after_break = false; inner = inner }
+
+-- ---- The state
+
+-- the container around an open significant span: that of the innermost leaf, or the next on the stack
+abbrev pub outer_of : Role → Bool → Option ContainerState → List OpenContainer → Option (ItemKind × ContainerState)
+outer_of (transparent k) in_table held hs = None
+outer_of (significant what) in_table (Some around) hs = Some (what, around)
+outer_of (significant what) in_table None [] = None
+outer_of (significant what) in_table None (h ∷ hs) = Some (what, container_state_of in_table None h)
+
+-- the same is left for the spans outside
+abbrev pub leaf_left : Role → Option ContainerState → Option ContainerState
+leaf_left (transparent k) held = held
+leaf_left (significant what) held = None
+
+-- the open containers that are left for the spans outside
+abbrev pub containers_left : Role → Option ContainerState → List OpenContainer → List OpenContainer
+containers_left (significant what) None (h ∷ hs) = hs
+containers_left role held hs = hs
+
+-- the open spans, the innermost first
+abbrev pub opens : List Frame → Option ContainerState → List OpenContainer → List OpenSpan
+opens [] held hs = []
+opens (f ∷ fs) held hs = record {
+  name = f.name;
+  start = f.start;
+  around = f.around;
+  before = marks_of f.marks;
+  outer = outer_of (role_of f.name) f.in_table held hs;
+} ∷ opens fs (leaf_left (role_of f.name) held) (containers_left (role_of f.name) held hs)
+
+-- the innermost container that the program keeps: a leaf has none of its own
+abbrev pub kept_top : Context → ContainerState
+kept_top c = container_state_of c.in_table c.pending c.top
+
+-- the place of the items in a leaf, of which it has none
+abbrev pub leaf_place : Bool → Place
+leaf_place in_table = place_with true in_table None
+
+-- the innermost container: a leaf has kept nothing
+abbrev pub top_of : Context → ContainerState
+top_of c = cond c.is_leaf (fresh leaf (leaf_place c.in_table)) (kept_top c)
+
+-- the container around a leaf
+abbrev pub leaf_container : Context → Option ContainerState
+leaf_container c = cond c.is_leaf (Some (kept_top c)) None
+
+-- the state of a compilation
+abbrev pub state_of : Context → State
+state_of c = record {
+  frames = opens (reverse c.frames.items) (leaf_container c) (reverse c.open_containers.items);
+  around = c.around;
+  marks = marks_of c.marks;
+  columns = columns_of c.columns;
+  top = top_of c;
+}
+
+-- a leaf begins: nothing of the program's changes
+pub record OpenedLeaf (s : Source) (what : ItemKind) (point : Point) (old new : Context) : Type 0 where
+  pub taken : first_failing (enter_checks s (top_of old) what point) ≡ None
+  pub leaf_row : model_of (current_model_of old.top.container) what ≡ leaf
+  pub same : new ≡ old
+
+-- a container begins: it is the innermost, over the one that was
+pub record OpenedContainer (s : Source) (what : ItemKind) (point : Point) (old new : Context) : Type 0 where
+  pub taken : first_failing (enter_checks s (top_of old) what point) ≡ None
+  pub top : OpenContainer
+  pub fresh_container : IsFresh top.container (model_of (current_model_of old.top.container) what)
+  pub line_endings : top.line_endings ≡ line_ending_is_text what
+  pub nodes : top.nodes.items ≡ []
+  pub open_containers : new.open_containers.items ≡ old.open_containers.items ++ old.top ∷ []
+  pub others : new ≡ record old { top = top; open_containers = new.open_containers }
+
+-- a significant span begins, as a leaf or as a container, if it may
+abbrev pub Opened : Source → ItemKind → Point → Context → Context → Result Bool Stop → Type 0
+Opened s what point old new (Ok true) = OpenedLeaf s what point old new
+Opened s what point old new (Ok false) = OpenedContainer s what point old new
+Opened s what point old new (Err (stops.Refused why)) = first_failing (enter_checks s (top_of old) what point) ≡ Some why
+Opened s what point old new (Err (stops.Memory error)) = Unit {0}
+
+-- a span is on the stack: what was around it stays there, and what is in it begins
+pub record Begun (name : Name) (role : Role) (point : Point) (is_leaf in_table : Bool) (old new : Context) : Type 0 where
+  pub frames : new.frames.items ≡ old.frames.items ++ record { name = name; start = point; around = old.around; in_table = old.in_table; marks = old.marks } ∷ []
+  pub marks : marks_of new.marks ≡ no_marks
+  pub columns : columns_of new.columns ≡ columns_entered old.in_table role (columns_of old.columns)
+  pub others : new ≡ record old { frames = new.frames; marks = new.marks; columns = new.columns; around = under old.around role; is_leaf = is_leaf; in_table = in_table }
+
+-- ---- The end of a span
+
+-- the innermost span, a leaf, ends: the innermost container took it
+pub record LeafEnds (what : ItemKind) (c : Context) : Type 0 where
+  pub initial_model : model_of (current_model_of c.top.container) what ≡ leaf
+  pub fits : misfit_of c.top.container what ≡ None
+  pub awaited : (not (is_some c.pending) || is_line_ending what) ≡ true
+
+-- the innermost span, which has a container of its own, ends: the container around it took it
+pub record ContainerEnds (what : ItemKind) (c : Context) : Type 0 where
+  pub outer : OpenContainer
+  pub others : List OpenContainer
+  pub open_containers : reverse c.open_containers.items ≡ outer ∷ others
+  pub initial_model : initial_model_of c.top.container ≡ model_of (current_model_of outer.container) what
+  pub fits : misfit_of outer.container what ≡ None
+
+-- the innermost span may end, by whether it is a leaf, and by its role: of a transparent one nothing is asked
+abbrev pub EndsAs : Bool → Role → Context → Type 0
+EndsAs leaves (transparent k) c = Unit {0}
+EndsAs true (significant what) c = LeafEnds what c
+EndsAs false (significant what) c = ContainerEnds what c
+
+-- the innermost span may end, by its role
+abbrev pub Ends : Role → Context → Type 0
+Ends role c = EndsAs c.is_leaf role c
+
+-- what the innermost span belongs to, and what is made of that at its end
+abbrev pub left_to : Source → Role → Frame → Point → Context → Result ContainerState ErrorAt
+left_to s role f end c = leave_to s f.start end (child_facts (marks_of c.marks) (columns_of c.columns)) (top_of c) (outer_of role f.in_table (leaf_container c) (reverse c.open_containers.items))
+
+-- how many nodes are walked over there
+abbrev pub left_visits : Role → Frame → Context → ℕ
+left_visits role f c = visits_by_owner (outer_of role f.in_table (leaf_container c) (reverse c.open_containers.items)) (top_of c).inner
+
+-- the innermost span has left the stack, and the container around it is on top
+pub record Closed (role : Role) (old new : Context) : Type 0 where
+  pub frames : new.frames ≡ old.frames
+  pub marks : new.marks ≡ old.marks
+  pub columns : columns_of new.columns ≡ columns_left role (marks_of old.marks) (columns_of old.columns)
+  pub leaf : leaf_container new ≡ leaf_left role (leaf_container old)
+  pub open_containers : reverse new.open_containers.items ≡ containers_left role (leaf_container old) (reverse old.open_containers.items)

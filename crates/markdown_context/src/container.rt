@@ -1,0 +1,539 @@
+//! What an open span is to the items in it: one arm for each construct.
+
+ghost use Rattle.std.specs.Prelude.{◌≡◌, ◌≢◌, ◌≤◌, ◌+◌, List, None, OnOk, Option, false, true, ℕ};
+ghost use Rattle.markdown_context.specs.Containers.{IsFresh, Keeps, KeepsPart, current_model_of, initial_model_of, is_label_string, is_model_of, is_part_model, is_text_part, misfit_of, summary_with};
+ghost use Rattle.markdown_context.specs.declared.container.Container.TheVariants as containers;
+ghost use Rattle.markdown_events.specs.declared.event.Point.{Point};
+ghost use Rattle.markdown_events.specs.declared.role.Content.TheVariants as contents;
+ghost use Rattle.markdown_events.specs.declared.role.ItemKind.TheVariants as item_kinds;
+ghost use Rattle.markdown_events.specs.declared.role.Part.TheVariants as parts;
+ghost use Rattle.markdown_grammar.specs.Attributes.{Place};
+ghost use Rattle.markdown_grammar.specs.Buffers.{node_count};
+ghost use Rattle.markdown_grammar.specs.Document.{Source, source};
+ghost use Rattle.markdown_grammar.specs.Grammar as Models;
+ghost use Rattle.markdown_grammar.specs.Grammar.{ContentModel};
+ghost use Rattle.markdown_nodes.specs.Tree.{Trees};
+ghost use Rattle.markdown_nodes.specs.View.{views};
+ghost use Rattle.markdown_steps.specs.Compiler.{nothing_yet};
+ghost use Rattle.markdown_steps.specs.Visits.{visits_at_end};
+
+use markdown_blocks::code::{CodeFenceParts, CodeFencedParts};
+use markdown_blocks::definition::DefinitionParts;
+use markdown_blocks::footnote_definition::FootnoteDefinitionParts;
+use markdown_blocks::heading::{AtxParts, SetextParts};
+use markdown_blocks::list::{
+    ListItemParts, NumberedItemParts, OrderedListParts, TaskParagraphParts,
+    misfit_in_marked_paragraph,
+};
+use markdown_blocks::math::{MathFenceParts, MathFlowParts};
+use markdown_grammar::error_kind::{ErrorKind, Stop};
+use markdown_inlines::autolink::AutolinkParts;
+use markdown_inlines::character_reference::{CharacterReferenceParts, Marker};
+use markdown_inlines::footnote_call::FootnoteCallParts;
+use markdown_inlines::media::{MediaParts, ReferenceParts, ResourceParts};
+use markdown_inlines::references::References;
+use markdown_nodes::event::Point;
+use markdown_nodes::mdast::Node;
+use markdown_nodes::role::{Content, ItemKind, Part};
+use markdown_nodes::steps::Steps;
+use std::alloc::{AllocError, Global};
+
+/// What an open significant span is to the items in it, with the parts that have stood in it. Each
+/// content model of the grammar but that of the leaves is one of these.
+#[derive(Drop)]
+pub enum Container<'a> {
+    /// It takes any content, and no part.
+    AnyContent,
+    Autolink(AutolinkParts<'a>),
+    /// A link or an image.
+    Media(MediaParts<'a>),
+    FootnoteCall(FootnoteCallParts<'a>),
+    /// The resource of a link or an image.
+    Resource(ResourceParts),
+    /// The reference of a link or an image.
+    Reference(ReferenceParts),
+    Definition(DefinitionParts),
+    CharacterReference(CharacterReferenceParts),
+    /// The first fence of a block of code.
+    CodeFence(CodeFenceParts),
+    /// The first fence of a block of math.
+    MathFence(MathFenceParts),
+    ListOrdered(OrderedListParts),
+    /// An item of an unordered list.
+    ListItem(ListItemParts),
+    /// An item of an ordered list.
+    NumberedItem(NumberedItemParts),
+    /// A paragraph of an item that has no mark yet.
+    TaskParagraph(TaskParagraphParts),
+    /// A paragraph of an item that has a mark.
+    MarkedParagraph,
+    FootnoteDefinition(FootnoteDefinitionParts),
+    HeadingAtx(AtxParts),
+    HeadingSetext(SetextParts),
+    CodeFenced(CodeFencedParts),
+    MathFlow(MathFlowParts),
+}
+
+impl<'a> Container<'a> {
+    /// The rule that is violated if this item may not stand here.
+    pub fn misfit(&self, what: ItemKind) -> Option<ErrorKind>
+        ensures { result ≡ misfit_of self.now what }
+    {
+        match self {
+            Container::AnyContent | Container::ListOrdered(_) | Container::ListItem(_) => {
+                match what {
+                    ItemKind::Content(_) => None,
+                    ItemKind::Part(_) => Some(ErrorKind::Misplaced),
+                }
+            }
+            Container::Autolink(parts) => parts.misfit(what),
+            Container::Media(parts) => parts.misfit(what),
+            Container::FootnoteCall(parts) => parts.misfit(what),
+            Container::Resource(parts) => parts.misfit(what),
+            Container::Reference(parts) => parts.misfit(what),
+            Container::Definition(parts) => parts.misfit(what),
+            Container::CharacterReference(parts) => parts.misfit(what),
+            Container::CodeFence(parts) => parts.misfit(what),
+            Container::MathFence(parts) => parts.misfit(what),
+            Container::NumberedItem(parts) => parts.misfit(what),
+            Container::TaskParagraph(parts) => parts.misfit(what),
+            Container::MarkedParagraph => misfit_in_marked_paragraph(what),
+            Container::FootnoteDefinition(parts) => parts.misfit(what),
+            Container::HeadingAtx(parts) => parts.misfit(what),
+            Container::HeadingSetext(parts) => parts.misfit(what),
+            Container::CodeFenced(parts) => parts.misfit(what),
+            Container::MathFlow(parts) => parts.misfit(what),
+        }
+    }
+}
+
+impl<'a> Container<'a> {
+    /// Whether a span is a leaf in this container: it takes no items, and is no container. A fence
+    /// after the first is one.
+    pub fn has_leaf(&self, what: ItemKind) -> bool
+        ensures leaf { result ≡ true → Models.model_of (current_model_of self.now) what ≡ Models.leaf }
+        ensures container { result ≡ false → Models.model_of (current_model_of self.now) what ≢ Models.leaf }
+    {
+        match what {
+            ItemKind::Content(content) => is_leaf(content),
+            ItemKind::Part(part) => self.has_leaf_part(part),
+        }
+    }
+
+    /// Whether a part is a leaf in this container.
+    fn has_leaf_part(&self, part: Part) -> bool
+        ensures leaf { result ≡ true → Models.part_model (current_model_of self.now) part ≡ Models.leaf }
+        ensures container { result ≡ false → Models.part_model (current_model_of self.now) part ≢ Models.leaf }
+    {
+        match part {
+            Part::CodeFencedFence => !self.has_first_code_fence(),
+            Part::MathFlowFence => !self.has_first_math_fence(),
+            other => is_leaf_part(other),
+        }
+    }
+
+    /// Whether a fence is the first of this block of code.
+    fn has_first_code_fence(&self) -> bool
+        ensures leaf { result ≡ false → Models.part_model (current_model_of self.now) parts.CodeFencedFence ≡ Models.leaf }
+        ensures container { result ≡ true → Models.part_model (current_model_of self.now) parts.CodeFencedFence ≢ Models.leaf }
+    {
+        match self {
+            Container::CodeFenced(parts) => parts.fence.is_none(),
+            _ => false,
+        }
+    }
+
+    /// Whether a fence is the first of this block of math.
+    fn has_first_math_fence(&self) -> bool
+        ensures leaf { result ≡ false → Models.part_model (current_model_of self.now) parts.MathFlowFence ≡ Models.leaf }
+        ensures container { result ≡ true → Models.part_model (current_model_of self.now) parts.MathFlowFence ≢ Models.leaf }
+    {
+        match self {
+            Container::MathFlow(parts) => parts.fence.is_none(),
+            _ => false,
+        }
+    }
+
+    /// What a span that is no leaf is to the items in it, at its enter in this container.
+    pub fn opened(&self, what: ItemKind) -> Container<'a>
+        requires { Models.model_of (current_model_of self.now) what ≢ Models.leaf }
+        ensures { IsFresh result (Models.model_of (current_model_of self.now) what) }
+    {
+        match what {
+            ItemKind::Content(content) => self.opened_by_content(content),
+            ItemKind::Part(part) => self.opened_by_part(part),
+        }
+    }
+
+    /// The same of content.
+    fn opened_by_content(&self, content: Content) -> Container<'a>
+        requires { Models.content_model (current_model_of self.now) content ≢ Models.leaf }
+        ensures { IsFresh result (Models.content_model (current_model_of self.now) content) }
+    {
+        match content {
+            Content::CharacterReference => {
+                Container::CharacterReference(CharacterReferenceParts::new())
+            }
+            Content::Autolink => Container::Autolink(AutolinkParts::new()),
+            Content::Link | Content::Image => Container::Media(MediaParts::new()),
+            Content::FootnoteCall => Container::FootnoteCall(FootnoteCallParts::new()),
+            Content::Definition => Container::Definition(DefinitionParts::new()),
+            Content::ListOrdered => Container::ListOrdered(OrderedListParts::new()),
+            Content::ListItem => self.opened_item(),
+            Content::Paragraph => self.opened_paragraph(),
+            Content::FootnoteDefinition => {
+                Container::FootnoteDefinition(FootnoteDefinitionParts::new())
+            }
+            Content::HeadingAtx => Container::HeadingAtx(AtxParts::new()),
+            Content::HeadingSetext => Container::HeadingSetext(SetextParts::new()),
+            Content::CodeFenced => Container::CodeFenced(CodeFencedParts::new()),
+            Content::MathFlow => Container::MathFlow(MathFlowParts::new()),
+            other if !is_leaf(other) => Container::AnyContent,
+            _ => unreachable!(),
+        }
+    }
+
+    /// An item, which has a number in an ordered list.
+    fn opened_item(&self) -> Container<'a>
+        ensures { IsFresh result (Models.content_model (current_model_of self.now) contents.ListItem) }
+    {
+        match self {
+            Container::ListOrdered(_) => Container::NumberedItem(NumberedItemParts::new()),
+            _ => Container::ListItem(ListItemParts::new()),
+        }
+    }
+
+    /// A paragraph, which may have a mark in an item without one.
+    fn opened_paragraph(&self) -> Container<'a>
+        ensures { IsFresh result (Models.content_model (current_model_of self.now) contents.Paragraph) }
+    {
+        match self {
+            Container::ListItem(ListItemParts { mark: None })
+            | Container::NumberedItem(NumberedItemParts { mark: None, .. }) => {
+                Container::TaskParagraph(TaskParagraphParts::new())
+            }
+            Container::ListItem(_) | Container::NumberedItem(_) => Container::MarkedParagraph,
+            _ => Container::AnyContent,
+        }
+    }
+
+    /// The same of a part.
+    fn opened_by_part(&self, part: Part) -> Container<'a>
+        requires { Models.part_model (current_model_of self.now) part ≢ Models.leaf }
+        ensures { IsFresh result (Models.part_model (current_model_of self.now) part) }
+    {
+        match part {
+            Part::CodeFencedFence => Container::CodeFence(CodeFenceParts::new()),
+            Part::MathFlowFence => Container::MathFence(MathFenceParts::new()),
+            Part::Resource => Container::Resource(ResourceParts::new()),
+            Part::Reference => Container::Reference(ReferenceParts::new()),
+            other if !is_leaf_part(other) => Container::AnyContent,
+            _ => unreachable!(),
+        }
+    }
+}
+
+impl<'a> Container<'a> {
+    /// Takes a part in which nothing stands: a marker, a mark, a value or a sequence.
+    pub fn take_leaf_part<R: References>(
+        &mut self,
+        alloc: Global,
+        bytes: &'a [u8],
+        references: &R,
+        part: Part,
+        start: Point,
+        end: Point,
+    ) -> Result<(), Stop>
+        requires leaf { Models.part_model (current_model_of self.old) part ≡ Models.leaf }
+        requires fits { misfit_of self.old (item_kinds.Part part) ≡ None }
+        ensures { KeepsPart (source bytes.now (R.text references.now)) part start end nothing_yet self.old self.new result }
+    {
+        match (self, part) {
+            (Container::Autolink(parts), Part::AutolinkEmail) => {
+                parts.take_email(bytes, start, end)
+            }
+            (Container::Autolink(parts), Part::AutolinkProtocol) => {
+                parts.take_protocol(bytes, start, end)
+            }
+            (Container::CharacterReference(parts), Part::CharacterReferenceValue) => {
+                parts.take_value(alloc, bytes, references, start, end)
+            }
+            (Container::HeadingAtx(parts), Part::HeadingAtxSequence) => {
+                parts.take_sequence(bytes, start, end)
+            }
+            (Container::HeadingSetext(parts), Part::HeadingSetextUnderlineSequence) => {
+                parts.take_underline(bytes, start, end)
+            }
+            (Container::NumberedItem(parts), Part::ListItemValue) => {
+                parts.take_value(bytes, start, end)
+            }
+            (Container::CharacterReference(parts), Part::CharacterReferenceMarker) => {
+                parts.take_marker(Marker::Named);
+                Ok(())
+            }
+            (Container::CharacterReference(parts), Part::CharacterReferenceMarkerNumeric) => {
+                parts.take_marker(Marker::Decimal);
+                Ok(())
+            }
+            (Container::CharacterReference(parts), Part::CharacterReferenceMarkerHexadecimal) => {
+                parts.take_marker(Marker::Hexadecimal);
+                Ok(())
+            }
+            (Container::TaskParagraph(parts), Part::TaskMarkChecked) => {
+                parts.take_mark(true);
+                Ok(())
+            }
+            (Container::TaskParagraph(parts), Part::TaskMarkUnchecked) => {
+                parts.take_mark(false);
+                Ok(())
+            }
+            (Container::CodeFenced(_), Part::CodeFencedFence)
+            | (Container::MathFlow(_), Part::MathFlowFence) => Ok(()),
+            _ => unreachable!(),
+        }
+    }
+
+    /// Takes a part in which content stood: a label, a destination, a title, or what comes after a
+    /// fence.
+    pub fn take_text(
+        &mut self,
+        alloc: Global,
+        steps: &mut Steps<'_>,
+        bytes: &'a [u8],
+        part: Part,
+        nodes: Vec<Node>,
+        start: Point,
+        end: Point,
+    ) -> Result<(), Stop>
+        requires such { is_part_model part Models.any_content ≡ true }
+        requires heading { part ≢ parts.HeadingSetextText }
+        requires fits { misfit_of self.old (item_kinds.Part part) ≡ None }
+        ensures taken { (text : List ℕ → ℕ → Option (List ℕ)) → KeepsPart (source bytes.now text) part start end (summary_with containers.AnyContent (views nodes.items)) self.old self.new result }
+        ensures list { steps.new.events ≡ steps.old.events }
+        ensures bound { steps.new.count ≤ steps.old.count + visits_at_end (item_kinds.Part part) (summary_with containers.AnyContent (views nodes.items)) }
+    {
+        match part {
+            Part::LabelText => self.take_label(bytes, nodes, start, end),
+            Part::ReferenceString
+            | Part::DefinitionLabelString
+            | Part::FootnoteDefinitionLabelString => {
+                self.take_identified(alloc, steps, bytes, part, &nodes, start, end)
+            }
+            _ => Ok(self.take_value(alloc, steps, part, &nodes)?),
+        }
+    }
+
+    /// Takes the label of a link, an image or a footnote call.
+    fn take_label(
+        &mut self,
+        bytes: &'a [u8],
+        nodes: Vec<Node>,
+        start: Point,
+        end: Point,
+    ) -> Result<(), Stop>
+        requires { misfit_of self.old (item_kinds.Part parts.LabelText) ≡ None }
+        ensures { (text : List ℕ → ℕ → Option (List ℕ)) → KeepsPart (source bytes.now text) parts.LabelText start end (summary_with containers.AnyContent (views nodes.items)) self.old self.new result }
+    {
+        match self {
+            Container::Media(parts) => parts.take_label(bytes, nodes, start, end),
+            Container::FootnoteCall(parts) => parts.take_label(bytes, nodes, start, end),
+            _ => unreachable!(),
+        }
+    }
+
+    /// Takes the label of a reference, a definition or a footnote definition.
+    fn take_identified(
+        &mut self,
+        alloc: Global,
+        steps: &mut Steps<'_>,
+        bytes: &[u8],
+        part: Part,
+        nodes: &[Node],
+        start: Point,
+        end: Point,
+    ) -> Result<(), Stop>
+        requires such { is_label_string part ≡ true }
+        requires fits { misfit_of self.old (item_kinds.Part part) ≡ None }
+        ensures taken { (text : List ℕ → ℕ → Option (List ℕ)) → KeepsPart (source bytes.now text) part start end (summary_with containers.AnyContent (views nodes.now)) self.old self.new result }
+        ensures list { steps.new.events ≡ steps.old.events }
+        ensures bound { steps.new.count ≤ steps.old.count + node_count (views nodes.now) }
+    {
+        match (self, part) {
+            (Container::Reference(parts), Part::ReferenceString) => {
+                parts.take_string(alloc, steps, bytes, nodes, start, end)
+            }
+            (Container::Definition(parts), Part::DefinitionLabelString) => {
+                parts.take_label(alloc, steps, bytes, nodes, start, end)
+            }
+            (Container::FootnoteDefinition(parts), Part::FootnoteDefinitionLabelString) => {
+                parts.take_label(alloc, steps, bytes, nodes, start, end)
+            }
+            _ => unreachable!(),
+        }
+    }
+
+    /// Takes a part of which nothing but its text is read.
+    fn take_value(
+        &mut self,
+        alloc: Global,
+        steps: &mut Steps<'_>,
+        part: Part,
+        nodes: &[Node],
+    ) -> Result<(), AllocError>
+        requires such { is_text_part part ≡ true }
+        requires fits { misfit_of self.old (item_kinds.Part part) ≡ None }
+        ensures taken { OnOk result ((s : Source) (p : Place) (a b : Point) → Keeps s p (item_kinds.Part part) a b (summary_with containers.AnyContent (views nodes.now)) self.old self.new) }
+        ensures list { steps.new.events ≡ steps.old.events }
+        ensures bound { steps.new.count ≤ steps.old.count + node_count (views nodes.now) }
+    {
+        match (self, part) {
+            (Container::Definition(parts), Part::DefinitionDestinationString) => {
+                parts.take_destination(alloc, steps, nodes)
+            }
+            (Container::Definition(parts), Part::DefinitionTitleString) => {
+                parts.take_title(alloc, steps, nodes)
+            }
+            (Container::Resource(parts), Part::ResourceDestinationString) => {
+                parts.take_destination(alloc, steps, nodes)
+            }
+            (Container::Resource(parts), Part::ResourceTitleString) => {
+                parts.take_title(alloc, steps, nodes)
+            }
+            (Container::CodeFence(parts), Part::CodeFencedFenceInfo) => {
+                parts.take_info(alloc, steps, nodes)
+            }
+            (Container::CodeFence(parts), Part::CodeFencedFenceMeta) => {
+                parts.take_meta(alloc, steps, nodes)
+            }
+            (Container::MathFence(parts), Part::MathFlowFenceMeta) => {
+                parts.take_meta(alloc, steps, nodes)
+            }
+            _ => unreachable!(),
+        }
+    }
+}
+
+impl<'a> Container<'a> {
+    /// Takes the text of a heading over its underline.
+    pub fn take_heading_text(&mut self)
+        requires { misfit_of self.old (item_kinds.Part parts.HeadingSetextText) ≡ None }
+        ensures { (s : Source) (p : Place) (a b : Point) (ts : Trees) → Keeps s p (item_kinds.Part parts.HeadingSetextText) a b (summary_with containers.AnyContent ts) self.old self.new }
+    {
+        match self {
+            Container::HeadingSetext(parts) => parts.take_text(),
+            _ => unreachable!(),
+        }
+    }
+
+    /// Takes a part with parts of its own: the resource or the reference of a link or an image, or the
+    /// first fence of a block.
+    pub fn take_part(&mut self, part: Part, inner: Container<'_>)
+        requires model { initial_model_of inner ≡ Models.part_model (current_model_of self.old) part }
+        requires inner { inner ≢ containers.AnyContent }
+        requires such { is_part_model part (initial_model_of inner) ≡ true }
+        requires fits { misfit_of self.old (item_kinds.Part part) ≡ None }
+        ensures { (s : Source) (p : Place) (a b : Point) (ts : Trees) → Keeps s p (item_kinds.Part part) a b (summary_with inner.entry ts) self.old self.new }
+    {
+        match (self, inner, part) {
+            (Container::Media(parts), Container::Resource(resource), Part::Resource) => {
+                parts.take_resource(resource);
+            }
+            (Container::Media(parts), Container::Reference(reference), Part::Reference) => {
+                parts.take_reference(reference);
+            }
+            (Container::CodeFenced(parts), Container::CodeFence(fence), Part::CodeFencedFence) => {
+                parts.take_fence(fence);
+            }
+            (Container::MathFlow(parts), Container::MathFence(fence), Part::MathFlowFence) => {
+                parts.take_fence(fence);
+            }
+            _ => unreachable!(),
+        }
+    }
+}
+
+impl<'a> Container<'a> {
+    /// Takes what content gives besides its node: a paragraph the mark in it, and an item its number.
+    pub fn take_content(&mut self, content: Content, inner: &Container<'_>)
+        requires initial_model { initial_model_of inner.now ≡ Models.content_model (current_model_of self.old) content }
+        requires such { is_model_of content (initial_model_of inner.now) ≡ true }
+        ensures { (s : Source) (p : Place) (a b : Point) (ts : Trees) → Keeps s p (item_kinds.Content content) a b (summary_with inner.now ts) self.old self.new }
+    {
+        match content {
+            Content::Paragraph => self.take_paragraph(inner),
+            Content::ListItem => self.take_item(inner),
+            _ => {}
+        }
+    }
+
+    /// The mark of a paragraph is that of its item.
+    fn take_paragraph(&mut self, inner: &Container<'_>)
+        requires initial_model { initial_model_of inner.now ≡ Models.content_model (current_model_of self.old) contents.Paragraph }
+        requires such { is_model_of contents.Paragraph (initial_model_of inner.now) ≡ true }
+        ensures { (s : Source) (p : Place) (a b : Point) (ts : Trees) → Keeps s p (item_kinds.Content contents.Paragraph) a b (summary_with inner.now ts) self.old self.new }
+    {
+        match inner {
+            Container::TaskParagraph(paragraph) => match self {
+                Container::ListItem(item) => item.take_paragraph(paragraph),
+                Container::NumberedItem(item) => item.take_paragraph(paragraph),
+                _ => unreachable!(),
+            },
+            Container::AnyContent | Container::MarkedParagraph => {}
+            _ => unreachable!(),
+        }
+    }
+
+    /// The first number of an item is that of its list.
+    fn take_item(&mut self, inner: &Container<'_>)
+        requires initial_model { initial_model_of inner.now ≡ Models.content_model (current_model_of self.old) contents.ListItem }
+        requires such { is_model_of contents.ListItem (initial_model_of inner.now) ≡ true }
+        ensures { (s : Source) (p : Place) (a b : Point) (ts : Trees) → Keeps s p (item_kinds.Content contents.ListItem) a b (summary_with inner.now ts) self.old self.new }
+    {
+        match inner {
+            Container::NumberedItem(item) => match self {
+                Container::ListOrdered(list) => list.take_item(item),
+                _ => unreachable!(),
+            },
+            Container::ListItem(_) => {}
+            _ => unreachable!(),
+        }
+    }
+}
+
+/// Whether content is a leaf, which it is in each container or in none.
+fn is_leaf(content: Content) -> bool
+    ensures leaf { result ≡ true → (h : ContentModel) → Models.content_model h content ≡ Models.leaf }
+    ensures container { result ≡ false → (h : ContentModel) → Models.content_model h content ≢ Models.leaf }
+{
+    matches!(
+        content,
+        Content::Data
+            | Content::AutolinkLiteralEmail
+            | Content::AutolinkLiteralWww
+            | Content::AutolinkLiteralWhole
+            | Content::ThematicBreak
+            | Content::HardBreak
+            | Content::LineEnding
+    )
+}
+
+/// Whether a part is a leaf. Of a fence its container says that.
+fn is_leaf_part(part: Part) -> bool
+    ensures leaf { result ≡ true → (h : ContentModel) → Models.part_model h part ≡ Models.leaf }
+    ensures container { result ≡ false → part ≢ parts.CodeFencedFence → part ≢ parts.MathFlowFence → (h : ContentModel) → Models.part_model h part ≢ Models.leaf }
+{
+    matches!(
+        part,
+        Part::AutolinkEmail
+            | Part::AutolinkProtocol
+            | Part::CharacterReferenceMarker
+            | Part::CharacterReferenceMarkerNumeric
+            | Part::CharacterReferenceMarkerHexadecimal
+            | Part::CharacterReferenceValue
+            | Part::TaskMarkChecked
+            | Part::TaskMarkUnchecked
+            | Part::HeadingAtxSequence
+            | Part::HeadingSetextUnderlineSequence
+            | Part::ListItemValue
+    )
+}

@@ -1,0 +1,491 @@
+//! An open span with the nodes made in it: what it takes at the exit of each span in it.
+
+ghost use Rattle.std.specs.Prelude.{◌≡◌, ◌≢◌, ◌≤◌, ◌+◌, ◌||◌, Bool, IfOk, List, None, Ok, OnOk, Option, Some, false, is_some, not, true, ℕ};
+ghost use Rattle.markdown_blocks.specs.Columns.{columns_of};
+ghost use Rattle.markdown_blocks.specs.Parents.{is_parent};
+ghost use Rattle.markdown_builder.specs.Marks.{marks_of};
+ghost use Rattle.markdown_builder.specs.PartsSoFar.{Makes};
+ghost use Rattle.markdown_context.specs.Containers.{current_model_of, initial_model_of, is_model_of, is_part_model, misfit_of, summary_with};
+ghost use Rattle.markdown_context.specs.States.{container_state_of, summary_of_container};
+ghost use Rattle.markdown_context.specs.Takings.{IsNodeOf, Takes, TakesContainer, TakesLeaf, TakesText};
+ghost use Rattle.markdown_context.specs.declared.container.Container.TheVariants as containers;
+ghost use Rattle.markdown_events.specs.Slices.{between};
+ghost use Rattle.markdown_events.specs.declared.role.Content.TheVariants as contents;
+ghost use Rattle.markdown_events.specs.declared.role.ItemKind.TheVariants as item_kinds;
+ghost use Rattle.markdown_events.specs.declared.role.Part.TheVariants as parts;
+ghost use Rattle.markdown_events.specs.declared.role.Role.TheVariants as roles;
+ghost use Rattle.markdown_grammar.specs.Attributes.{line_ending_is_text, line_ending_is_text_after};
+ghost use Rattle.markdown_grammar.specs.Document.{Source, source};
+ghost use Rattle.markdown_grammar.specs.Grammar as Models;
+ghost use Rattle.markdown_grammar.specs.Items.{is_line_ending};
+ghost use Rattle.markdown_grammar.specs.Refusals.{missing_error};
+ghost use Rattle.markdown_inlines.specs.Autolinks.{is_literal};
+ghost use Rattle.markdown_nodes.specs.Tree.{Trees, join};
+ghost use Rattle.markdown_nodes.specs.View.{views};
+ghost use Rattle.markdown_steps.specs.ChildFacts.{ChildFacts};
+ghost use Rattle.markdown_steps.specs.Columns.{child_facts, columns_left};
+ghost use Rattle.markdown_steps.specs.Compiler.{all_stood, leave};
+ghost use Rattle.markdown_steps.specs.Summaries.{path_to, text_of};
+ghost use Rattle.markdown_steps.specs.TextNodes.{one_text};
+ghost use Rattle.markdown_steps.specs.Visits.{visits_at_end};
+
+use crate::container::Container;
+use markdown_blocks::code::{indented_code, inline_code};
+use markdown_blocks::frontmatter::frontmatter;
+use markdown_blocks::html::html;
+use markdown_blocks::list::unordered_list;
+use markdown_blocks::math::inline_math;
+use markdown_blocks::parent::parent;
+use markdown_blocks::table::{Columns, table};
+use markdown_blocks::thematic_break::thematic_break;
+use markdown_builder::joining::{append, put, put_text};
+use markdown_builder::marks::Marks;
+use markdown_builder::slice::{byte_at, position_of};
+use markdown_grammar::error_kind::Stop;
+use markdown_inlines::autolink::literal;
+use markdown_inlines::references::References;
+use markdown_inlines::text::{hard_break, put_slice};
+use markdown_nodes::event::Point;
+use markdown_nodes::mdast::Node;
+use markdown_nodes::role::{Content, ItemKind, Part};
+use markdown_nodes::steps::Steps;
+use markdown_nodes::unist::Position;
+use std::alloc::{AllocError, Global};
+
+/// An open significant span that is no leaf, or the root, with the nodes made in it so far.
+#[derive(Drop)]
+pub struct OpenContainer<'a> {
+    pub container: Container<'a>,
+    /// Whether a line ending is text in it now.
+    pub line_endings: bool,
+    pub nodes: Vec<Node>,
+}
+
+/// A span that ends, and what its node asks of where it stands.
+#[derive(Clone, Copy)]
+pub struct Ending {
+    pub start: Point,
+    pub end: Point,
+    /// Whether a table is around it.
+    pub in_table: bool,
+    /// What the spans in it said.
+    pub marks: Marks,
+}
+
+/// Whether a line ending is text in a span: not where blocks, cells or parts alone stand, and in a
+/// block of code or math not before its first fence.
+pub fn has_line_endings(what: ItemKind) -> bool
+    ensures { result ≡ line_ending_is_text what }
+{
+    match what {
+        ItemKind::Content(content) => match content {
+            Content::Table
+            | Content::BlockQuote
+            | Content::TableRow
+            | Content::TableCell
+            | Content::ListOrdered
+            | Content::ListUnordered
+            | Content::ListItem
+            | Content::FootnoteDefinition
+            | Content::CodeFenced
+            | Content::MathFlow
+            | Content::Autolink
+            | Content::Link
+            | Content::Image
+            | Content::FootnoteCall
+            | Content::Definition => false,
+            _ => true,
+        },
+        ItemKind::Part(part) => match part {
+            Part::Resource | Part::Reference => false,
+            _ => true,
+        },
+    }
+}
+
+/// Whether a line ending is text after a part: after a fence it is, after the text of a heading it is
+/// not, and else it is what it was.
+fn has_line_endings_after(part: Part, before: bool) -> bool
+    ensures { result ≡ line_ending_is_text_after (item_kinds.Part part) before }
+{
+    match part {
+        Part::CodeFencedFence | Part::MathFlowFence => true,
+        Part::HeadingSetextText => false,
+        _ => before,
+    }
+}
+
+impl<'a> OpenContainer<'a> {
+    /// Takes a leaf that has ended. `pending` is the break that waits for its line ending, if one
+    /// does.
+    pub fn take_leaf<R: References>(
+        &mut self,
+        pending: &mut Option<Position>,
+        alloc: Global,
+        bytes: &'a [u8],
+        references: &R,
+        what: ItemKind,
+        ending: Ending,
+    ) -> Result<(), Stop>
+        requires leaf { Models.model_of (current_model_of self.old.container) what ≡ Models.leaf }
+        requires fits { misfit_of self.old.container what ≡ None }
+        requires waits { (not (is_some pending.old) || is_line_ending what) ≡ true }
+        ensures { TakesLeaf (source bytes.now (R.text references.now)) what ending pending.old self.old pending.new self.new result }
+    {
+        match what {
+            ItemKind::Content(content) => {
+                self.take_leaf_content(pending, alloc, bytes, content, ending)
+            }
+            ItemKind::Part(part) => self.take_leaf_part(alloc, bytes, references, part, ending),
+        }
+    }
+
+    /// Takes content that is a leaf, which gives nodes.
+    fn take_leaf_content(
+        &mut self,
+        pending: &mut Option<Position>,
+        alloc: Global,
+        bytes: &[u8],
+        content: Content,
+        ending: Ending,
+    ) -> Result<(), Stop>
+        requires leaf { Models.content_model (current_model_of self.old.container) content ≡ Models.leaf }
+        requires waits { (not (is_some pending.old) || is_line_ending (item_kinds.Content content)) ≡ true }
+        ensures { (text : List ℕ → ℕ → Option (List ℕ)) → TakesLeaf (source bytes.now text) (item_kinds.Content content) ending pending.old self.old pending.new self.new result }
+    {
+        match content {
+            Content::Data => self.take_data(alloc, bytes, ending),
+            Content::AutolinkLiteralEmail
+            | Content::AutolinkLiteralWww
+            | Content::AutolinkLiteralWhole => self.take_literal(alloc, bytes, content, ending),
+            Content::ThematicBreak => self.take_thematic_break(ending),
+            Content::HardBreak => {
+                *pending = Some(position_of(ending.start, ending.end));
+                Ok(())
+            }
+            Content::LineEnding => self.take_line_ending(pending, alloc, bytes, ending),
+            _ => unreachable!(),
+        }
+    }
+
+    /// Takes a part that is a leaf, of which the container keeps what it asks for.
+    fn take_leaf_part<R: References>(
+        &mut self,
+        alloc: Global,
+        bytes: &'a [u8],
+        references: &R,
+        part: Part,
+        ending: Ending,
+    ) -> Result<(), Stop>
+        requires leaf { Models.part_model (current_model_of self.old.container) part ≡ Models.leaf }
+        requires fits { misfit_of self.old.container (item_kinds.Part part) ≡ None }
+        ensures { TakesLeaf (source bytes.now (R.text references.now)) (item_kinds.Part part) ending None self.old None self.new result }
+    {
+        let taken = self
+            .container
+            .take_leaf_part(alloc, bytes, references, part, ending.start, ending.end);
+        self.line_endings = has_line_endings_after(part, self.line_endings);
+        taken
+    }
+
+    /// Takes a run of characters: a text.
+    fn take_data(&mut self, alloc: Global, bytes: &[u8], ending: Ending) -> Result<(), Stop>
+        ensures { (text : List ℕ → ℕ → Option (List ℕ)) → TakesLeaf (source bytes.now text) (item_kinds.Content contents.Data) ending None self.old None self.new result }
+    {
+        put_slice(alloc, &mut self.nodes, bytes, ending.start, ending.end)
+    }
+
+    /// Takes an address that stands in the text as it is: a link to it.
+    fn take_literal(
+        &mut self,
+        alloc: Global,
+        bytes: &[u8],
+        content: Content,
+        ending: Ending,
+    ) -> Result<(), Stop>
+        requires { is_literal content ≡ true }
+        ensures { (text : List ℕ → ℕ → Option (List ℕ)) → TakesLeaf (source bytes.now text) (item_kinds.Content content) ending None self.old None self.new result }
+    {
+        let node = literal(alloc, bytes, content, ending.start, ending.end)?;
+        put(&mut self.nodes, node)?;
+        Ok(())
+    }
+
+    /// Takes a thematic break.
+    fn take_thematic_break(&mut self, ending: Ending) -> Result<(), Stop>
+        ensures { (s : Source) → TakesLeaf s (item_kinds.Content contents.ThematicBreak) ending None self.old None self.new result }
+    {
+        let position = position_of(ending.start, ending.end);
+        put(&mut self.nodes, thematic_break(position))?;
+        Ok(())
+    }
+
+    /// Takes a line ending. After a break that waits for it, it ends the break, which is then a node:
+    /// in mdast a break reaches over its line ending. Else it is text, where line endings are.
+    fn take_line_ending(
+        &mut self,
+        pending: &mut Option<Position>,
+        alloc: Global,
+        bytes: &[u8],
+        ending: Ending,
+    ) -> Result<(), Stop>
+        ensures { (text : List ℕ → ℕ → Option (List ℕ)) → TakesLeaf (source bytes.now text) (item_kinds.Content contents.LineEnding) ending pending.old self.old pending.new self.new result }
+    {
+        if let Some(position) = pending.take() {
+            put(&mut self.nodes, hard_break(position, ending.end))?;
+            return Ok(());
+        }
+        if self.line_endings {
+            return put_slice(alloc, &mut self.nodes, bytes, ending.start, ending.end);
+        }
+        Ok(())
+    }
+}
+
+impl<'a> OpenContainer<'a> {
+    /// Takes a part that has ended, which was no leaf.
+    pub fn take_part(
+        &mut self,
+        alloc: Global,
+        steps: &mut Steps<'_>,
+        bytes: &'a [u8],
+        part: Part,
+        own: OpenContainer<'a>,
+        ending: Ending,
+    ) -> Result<(), Stop>
+        requires initial_model { initial_model_of own.container ≡ Models.part_model (current_model_of self.old.container) part }
+        requires such { is_part_model part (initial_model_of own.container) ≡ true }
+        requires fits { misfit_of self.old.container (item_kinds.Part part) ≡ None }
+        ensures left { (children : ChildFacts) → TakesContainer bytes.now (item_kinds.Part part) own.entry ending children self.old self.new result }
+        ensures list { steps.new.events ≡ steps.old.events }
+        ensures bound { steps.new.count ≤ steps.old.count + visits_at_end (item_kinds.Part part) (summary_of_container own.entry) }
+    {
+        let OpenContainer {
+            container,
+            nodes,
+            ..
+        } = own;
+        match (container, part) {
+            (Container::AnyContent, Part::HeadingSetextText) => Ok(self.take_heading_text(nodes)?),
+            (Container::AnyContent, _) => self.take_text(alloc, steps, bytes, part, nodes, ending),
+            (inner, _) => {
+                self.take_parts(part, inner);
+                Ok(())
+            }
+        }
+    }
+
+    /// Takes the text of a heading over its underline, whose nodes are the heading's. After it line
+    /// endings are no text.
+    fn take_heading_text(&mut self, nodes: Vec<Node>) -> Result<(), AllocError>
+        requires { misfit_of self.old.container (item_kinds.Part parts.HeadingSetextText) ≡ None }
+        ensures { OnOk result (Takes (item_kinds.Part parts.HeadingSetextText) Models.any_content (summary_with containers.AnyContent (views nodes.items)) self.old self.new) }
+    {
+        self.container.take_heading_text();
+        append(&mut self.nodes, nodes)?;
+        self.line_endings = false;
+        Ok(())
+    }
+
+    /// Takes a part in which content stood: a label, a destination, a title, or what comes after a
+    /// fence.
+    fn take_text(
+        &mut self,
+        alloc: Global,
+        steps: &mut Steps<'_>,
+        bytes: &'a [u8],
+        part: Part,
+        nodes: Vec<Node>,
+        ending: Ending,
+    ) -> Result<(), Stop>
+        requires such { is_part_model part Models.any_content ≡ true }
+        requires heading { part ≢ parts.HeadingSetextText }
+        requires fits { misfit_of self.old.container (item_kinds.Part part) ≡ None }
+        ensures left { TakesText bytes.now part (views nodes.items) ending self.old self.new result }
+        ensures list { steps.new.events ≡ steps.old.events }
+        ensures bound { steps.new.count ≤ steps.old.count + visits_at_end (item_kinds.Part part) (summary_with containers.AnyContent (views nodes.items)) }
+    {
+        self.container
+            .take_text(alloc, steps, bytes, part, nodes, ending.start, ending.end)
+    }
+
+    /// Takes a part with parts of its own. After a first fence line endings are text.
+    fn take_parts(&mut self, part: Part, inner: Container<'_>)
+        requires model { initial_model_of inner ≡ Models.part_model (current_model_of self.old.container) part }
+        requires inner { inner ≢ containers.AnyContent }
+        requires such { is_part_model part (initial_model_of inner) ≡ true }
+        requires fits { misfit_of self.old.container (item_kinds.Part part) ≡ None }
+        ensures { (ts : Trees) → Takes (item_kinds.Part part) (initial_model_of inner.entry) (summary_with inner.entry ts) self.old self.new }
+    {
+        self.container.take_part(part, inner);
+        self.line_endings = has_line_endings_after(part, self.line_endings);
+    }
+}
+
+impl OpenContainer<'_> {
+    /// Takes a parent that has ended, of which nothing but nodes is kept.
+    pub fn take_parent(
+        &mut self,
+        content: Content,
+        nodes: Vec<Node>,
+        start: Point,
+        end: Point,
+    ) -> Result<(), AllocError>
+        requires { is_parent content ≡ true }
+        ensures { OnOk result ((s : Source) (in_table inner_table line_endings : Bool) (children : ChildFacts) → leave s (item_kinds.Content content) start end children (container_state_of inner_table None (record { container = containers.AnyContent; line_endings = line_endings; nodes = nodes })) (container_state_of in_table None self.old) ≡ Ok (container_state_of in_table None self.new)) }
+    {
+        let node = parent(content, nodes, position_of(start, end));
+        put(&mut self.nodes, node)?;
+        Ok(())
+    }
+}
+
+impl<'a> OpenContainer<'a> {
+    /// Takes content that has ended: its node, and what else it gives.
+    pub fn take_content(
+        &mut self,
+        alloc: Global,
+        steps: &mut Steps<'_>,
+        bytes: &[u8],
+        columns: &mut Columns,
+        content: Content,
+        own: OpenContainer<'_>,
+        ending: Ending,
+    ) -> Result<(), Stop>
+        requires initial_model { initial_model_of own.container ≡ Models.content_model (current_model_of self.old.container) content }
+        requires such { is_model_of content (initial_model_of own.container) ≡ true }
+        requires no_parent { own.container ≡ containers.AnyContent → is_parent content ≡ false }
+        ensures left { TakesContainer bytes.now (item_kinds.Content content) own.entry ending (child_facts (marks_of ending.marks) (columns_of columns.old)) self.old self.new result }
+        ensures columns { OnOk result (columns_of columns.new ≡ columns_left (roles.Significant (item_kinds.Content content)) (marks_of ending.marks) (columns_of columns.old)) }
+        ensures list { steps.new.events ≡ steps.old.events }
+        ensures bound { steps.new.count ≤ steps.old.count + visits_at_end (item_kinds.Content content) (summary_of_container own.entry) + 1 }
+    {
+        self.container.take_content(content, &own.container);
+        match content {
+            Content::CharacterReference => self.take_reference(alloc, own, ending),
+            _ => {
+                let node = own.node(alloc, steps, bytes, columns, content, ending)?;
+                put(&mut self.nodes, node)?;
+                Ok(())
+            }
+        }
+    }
+
+    /// Takes the text that a character reference stands for, if it has a value.
+    fn take_reference(
+        &mut self,
+        alloc: Global,
+        own: OpenContainer<'_>,
+        ending: Ending,
+    ) -> Result<(), Stop>
+        requires { is_model_of contents.CharacterReference (initial_model_of own.container) ≡ true }
+        ensures container { self.new.container ≡ self.old.container }
+        ensures line_endings { self.new.line_endings ≡ self.old.line_endings }
+        ensures text { Makes result (all_stood (initial_model_of own.entry.container) (summary_of_container own.entry)) (missing_error (initial_model_of own.entry.container)) (λ _. views self.new.nodes.items ≡ join (views self.old.nodes.items) (one_text (text_of ((summary_of_container own.entry).part (path_to parts.CharacterReferenceValue))) (between ending.start ending.end))) }
+    {
+        let OpenContainer { container, .. } = own;
+        match container {
+            Container::CharacterReference(parts) => {
+                let text = parts.text()?;
+                let position = position_of(ending.start, ending.end);
+                put_text(alloc, &mut self.nodes, text.as_str(), position)?;
+                Ok(())
+            }
+            _ => unreachable!(),
+        }
+    }
+}
+
+impl<'a> OpenContainer<'a> {
+    /// The node of a span of content at its exit, if what has to stand in it does.
+    fn node(
+        self,
+        alloc: Global,
+        steps: &mut Steps<'_>,
+        bytes: &[u8],
+        columns: &mut Columns,
+        content: Content,
+        ending: Ending,
+    ) -> Result<Node, Stop>
+        requires such { is_model_of content (initial_model_of self.container) ≡ true }
+        requires other { content ≢ contents.CharacterReference }
+        requires no_parent { self.container ≡ containers.AnyContent → is_parent content ≡ false }
+        ensures node { Makes result (all_stood (initial_model_of self.entry.container) (summary_of_container self.entry)) (missing_error (initial_model_of self.entry.container)) (IsNodeOf bytes.now content ending columns.old (summary_of_container self.entry)) }
+        ensures columns { OnOk result (columns_of columns.new ≡ columns_left (roles.Significant (item_kinds.Content content)) (marks_of ending.marks) (columns_of columns.old)) }
+        ensures list { steps.new.events ≡ steps.old.events }
+        ensures bound { steps.new.count ≤ steps.old.count + visits_at_end (item_kinds.Content content) (summary_of_container self.entry) + 1 }
+    {
+        let OpenContainer {
+            container,
+            line_endings: _,
+            nodes,
+        } = self;
+        let position = position_of(ending.start, ending.end);
+        match container {
+            Container::AnyContent => {
+                Ok(any_content_node(alloc, steps, bytes, columns, content, nodes, ending)?)
+            }
+            Container::TaskParagraph(_) | Container::MarkedParagraph => {
+                Ok(parent(Content::Paragraph, nodes, position))
+            }
+            Container::ListOrdered(parts) => parts.node(nodes, position, ending.marks.list_blank),
+            Container::ListItem(parts) => {
+                Ok(parts.node(steps, nodes, position, ending.marks.item_blank))
+            }
+            Container::NumberedItem(parts) => {
+                Ok(parts.node(steps, nodes, position, ending.marks.item_blank))
+            }
+            Container::FootnoteDefinition(parts) => Ok(parts.node(alloc, nodes, position)),
+            Container::HeadingAtx(parts) => parts.node(nodes, position),
+            Container::HeadingSetext(parts) => parts.node(nodes, position),
+            Container::CodeFenced(parts) => parts.node(alloc, steps, &nodes, position),
+            Container::MathFlow(parts) => parts.node(alloc, steps, &nodes, position),
+            Container::Autolink(parts) => Ok(parts.node(alloc, ending.start, ending.end)?),
+            Container::Media(parts) if content == Content::Image => {
+                Ok(parts.image(alloc, steps, position)?)
+            }
+            Container::Media(parts) => Ok(parts.link(alloc, steps, position)?),
+            Container::FootnoteCall(parts) => Ok(parts.node(alloc, steps, position)?),
+            Container::Definition(parts) => Ok(parts.node(alloc, position)),
+            Container::CharacterReference(_)
+            | Container::Resource(_)
+            | Container::Reference(_)
+            | Container::CodeFence(_)
+            | Container::MathFence(_) => unreachable!(),
+        }
+    }
+}
+
+/// The node of content in which any content may stand, and which is no parent.
+#[tactic(auto, unfolding(markdown_nodes::specs::View::view))]
+fn any_content_node(
+    alloc: Global,
+    steps: &mut Steps<'_>,
+    bytes: &[u8],
+    columns: &mut Columns,
+    content: Content,
+    nodes: Vec<Node>,
+    ending: Ending,
+) -> Result<Node, AllocError>
+    requires such { is_model_of content Models.any_content ≡ true }
+    requires no_parent { is_parent content ≡ false }
+    ensures node { IfOk result (IsNodeOf bytes.now content ending columns.old (summary_with containers.AnyContent (views nodes.items))) }
+    ensures columns { OnOk result (columns_of columns.new ≡ columns_left (roles.Significant (item_kinds.Content content)) (marks_of ending.marks) (columns_of columns.old)) }
+    ensures list { steps.new.events ≡ steps.old.events }
+    ensures bound { steps.new.count ≤ steps.old.count + visits_at_end (item_kinds.Content content) (summary_with containers.AnyContent (views nodes.items)) }
+{
+    let position = position_of(ending.start, ending.end);
+    match content {
+        Content::Table => Ok(table(nodes, position, columns.take(alloc))),
+        Content::ListUnordered => Ok(unordered_list(nodes, position, ending.marks.list_blank)),
+        Content::CodeIndented => indented_code(alloc, steps, &nodes, position),
+        Content::CodeText => inline_code(alloc, steps, &nodes, position, ending.in_table),
+        Content::MathText => inline_math(alloc, steps, &nodes, position, ending.in_table),
+        Content::Html => html(alloc, steps, &nodes, position),
+        Content::Frontmatter => {
+            let is_toml = byte_at(bytes, ending.start) == Some(b'+');
+            frontmatter(alloc, steps, &nodes, position, is_toml)
+        }
+        _ => unreachable!(),
+    }
+}

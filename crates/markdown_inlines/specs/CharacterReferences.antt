@@ -1,0 +1,91 @@
+-- What has stood so far in a character reference.
+use Rattle.std.specs.Prelude.{Bool, None, Option, Result, Some, false, option_map, string_bytes, true, ℕ, ◌||◌}
+use Rattle.markdown_events.specs.declared.event.Point.{Point}
+use Rattle.markdown_events.specs.declared.role.ItemKind.TheVariants as item_kinds
+use Rattle.markdown_events.specs.declared.role.Part.{Part}
+use Rattle.markdown_events.specs.declared.role.Part.TheVariants as parts
+use Rattle.markdown_nodes.specs.Tree.{nothing}
+use Rattle.markdown_grammar.specs.Attributes.{Place}
+use Rattle.markdown_grammar.specs.Document.{Source}
+use Rattle.markdown_grammar.specs.Grammar as Models
+use Rattle.markdown_grammar.specs.Refusals.{value_error}
+use Rattle.markdown_grammar.specs.Values.{is_read}
+use Rattle.markdown_grammar.specs.declared.error_kind.Stop.{Stop}
+use Rattle.markdown_steps.specs.Compiler.{nothing_yet}
+use Rattle.markdown_steps.specs.Summaries.{PartSummary, Path, into, words}
+use Rattle.markdown_builder.specs.PartsSoFar.{Gains, Makes, PartsSoFar, ending, place_with, stood_if}
+use Rattle.markdown_inlines.specs.declared.character_reference.CharacterReferenceParts.{CharacterReferenceParts}
+use Rattle.markdown_inlines.specs.declared.character_reference.Marker.{Marker}
+use Rattle.markdown_inlines.specs.declared.character_reference.Marker.TheVariants as markers
+use Rattle.markdown_inlines.specs.declared.character_reference.Markers.{Markers}
+
+-- ---- Markers
+
+-- the part that a marker is
+abbrev pub part_of_marker : Marker → Part
+part_of_marker markers.Named = parts.CharacterReferenceMarker
+part_of_marker markers.Decimal = parts.CharacterReferenceMarkerNumeric
+part_of_marker markers.Hexadecimal = parts.CharacterReferenceMarkerHexadecimal
+
+-- its byte: & or # or x
+abbrev pub byte_of : Marker → ℕ
+byte_of markers.Named = 38
+byte_of markers.Decimal = 35
+byte_of markers.Hexadecimal = 120
+
+-- one marker is another
+abbrev pub is_marker : Marker → Marker → Bool
+is_marker markers.Named markers.Named = true
+is_marker markers.Decimal markers.Decimal = true
+is_marker markers.Hexadecimal markers.Hexadecimal = true
+is_marker _ _ = false
+
+-- a marker stood before the last
+abbrev pub stood_before : Marker → Markers → Bool
+stood_before markers.Named x = x.named
+stood_before markers.Decimal x = x.decimal
+stood_before markers.Hexadecimal x = x.hexadecimal
+
+-- a marker stood
+abbrev pub has_marker : Marker → Option Markers → Bool
+has_marker marker None = false
+has_marker marker (Some x) = stood_before marker x || is_marker marker x.last
+
+-- the markers with one more, which is the last
+abbrev pub marked : Option Markers → Marker → Markers
+marked None marker = record { last = marker; named = false; decimal = false; hexadecimal = false }
+marked (Some x) marker = record {
+  last = marker;
+  named = has_marker markers.Named (Some x);
+  decimal = has_marker markers.Decimal (Some x);
+  hexadecimal = has_marker markers.Hexadecimal (Some x);
+}
+
+-- ---- The reference
+
+-- the parts of a character reference
+abbrev pub in_character_reference : CharacterReferenceParts → Path → Option PartSummary
+in_character_reference x (into parts.CharacterReferenceMarker way) = ending (stood_if (has_marker markers.Named x.markers)) way
+in_character_reference x (into parts.CharacterReferenceMarkerNumeric way) = ending (stood_if (has_marker markers.Decimal x.markers)) way
+in_character_reference x (into parts.CharacterReferenceMarkerHexadecimal way) = ending (stood_if (has_marker markers.Hexadecimal x.markers)) way
+in_character_reference x (into parts.CharacterReferenceValue way) = ending (option_map words (option_map string_bytes x.text)) way
+in_character_reference x way = None
+
+-- a character reference, of which its parts and its last marker are kept
+abbrev pub character_reference : CharacterReferenceParts → PartsSoFar
+character_reference x = record {
+  initial_model = Models.character_reference;
+  current_model = Models.character_reference;
+  marker = option_map (λ (m : Markers). byte_of m.last) x.markers;
+  part = in_character_reference x;
+  label = nothing;
+  mark = None;
+  value = None;
+}
+
+-- its value is read after the last marker: it is kept, or refused where it stands for no text
+abbrev pub ReadsValue : {X : Type 0} → Source → Point → Point → PartsSoFar → PartsSoFar → Result X Stop → Type 0
+ReadsValue s a b old new result =
+    (line_endings in_table : Bool) → let p : Place = place_with line_endings in_table old.marker in
+    Makes result (is_read s old.current_model p false (item_kinds.Part parts.CharacterReferenceValue) a b) (value_error s (item_kinds.Part parts.CharacterReferenceValue) a b)
+    (λ _. Gains s p (item_kinds.Part parts.CharacterReferenceValue) a b nothing_yet old new)

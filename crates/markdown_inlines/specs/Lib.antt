@@ -1,0 +1,5 @@
+pub mod Labels
+pub mod Autolinks
+pub mod CharacterReferences
+pub mod Media
+pub mod FootnoteCalls

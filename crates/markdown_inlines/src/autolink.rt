@@ -1,0 +1,173 @@
+//! Autolinks (CommonMark), and addresses that stand in the text as they are (GFM, autolinks): the
+//! node Link of mdast.
+//!
+//! The original's `on_enter_autolink`, `on_exit_autolink_email`, `on_exit_autolink_protocol`,
+//! `on_enter_gfm_autolink_literal` and `on_exit_gfm_autolink_literal`.
+
+ghost use Rattle.std.specs.Prelude.{◌≡◌, ◌++◌, IfOk, List, None, Option, is_some, true, ℕ};
+ghost use Rattle.markdown_events.specs.Slices.{slice};
+ghost use Rattle.markdown_events.specs.declared.event.Point.{Point};
+ghost use Rattle.markdown_events.specs.declared.role.ItemKind.TheVariants as item_kinds;
+ghost use Rattle.markdown_events.specs.declared.role.Part.TheVariants as parts;
+ghost use Rattle.markdown_nodes.specs.Tree as tree;
+ghost use Rattle.markdown_nodes.specs.Tree.{nothing, only};
+ghost use Rattle.markdown_nodes.specs.View.{view};
+ghost use Rattle.markdown_grammar.specs.Attributes.{Place};
+ghost use Rattle.markdown_grammar.specs.Document.{Source, source, text_read};
+ghost use Rattle.markdown_grammar.specs.Grammar as Models;
+ghost use Rattle.markdown_grammar.specs.Nodes.{linked};
+ghost use Rattle.markdown_grammar.specs.declared.error_kind.ErrorKind.TheVariants.{InvalidSlice};
+ghost use Rattle.markdown_steps.specs.ChildFacts.{ChildFacts};
+ghost use Rattle.markdown_steps.specs.Summaries.{Summary, path_to};
+ghost use Rattle.markdown_steps.specs.SummaryNodes;
+ghost use Rattle.markdown_steps.specs.SummaryNodes.{node_of};
+ghost use Rattle.markdown_builder.specs.PartsSoFar.{IsFresh, Makes, Reads, misfit_in, placed};
+ghost use Rattle.markdown_inlines.specs.Autolinks.{autolink, is_literal};
+
+use crate::link::link_to;
+use markdown_builder::joining::new_text;
+use markdown_builder::misfits::at_most_one;
+use markdown_builder::slice::{position_of, text_of};
+use markdown_builder::texts::address;
+use markdown_grammar::error_kind::{ErrorKind, Stop};
+use markdown_nodes::event::Point;
+use markdown_nodes::mdast::Node;
+use markdown_nodes::role::{Content, ItemKind, Part};
+use markdown_nodes::unist::Position;
+use std::alloc::{AllocError, Global};
+
+/// An address as it stands in the document, and where: `a@b.c` in `<a@b.c>`.
+#[derive(Clone, Copy)]
+pub struct Address<'a> {
+    pub start: Point,
+    pub end: Point,
+    pub value: &'a str,
+}
+
+/// What has stood in an autolink, which has at most one address.
+#[derive(Clone, Copy)]
+pub enum AutolinkParts<'a> {
+    /// No address so far.
+    Empty,
+    /// An email address, as in `<a@b.c>`.
+    Email(Address<'a>),
+    /// An address with its scheme, as in `<https://a.b>`.
+    Protocol(Address<'a>),
+}
+
+impl<'a> AutolinkParts<'a> {
+    /// An autolink at its enter, as at the `<` of `<a@b.c>`.
+    pub fn new() -> AutolinkParts<'a>
+        ensures { IsFresh (autolink result) Models.autolink }
+    {
+        AutolinkParts::Empty
+    }
+
+    /// The rule that is violated if this item may not stand here: an autolink takes one address,
+    /// and line endings. A second address is `ErrorKind::Repeated`, any other item
+    /// `ErrorKind::Misplaced`.
+    pub fn misfit(&self, what: ItemKind) -> Option<ErrorKind>
+        ensures { result ≡ misfit_in (autolink self.now) what }
+    {
+        match what {
+            ItemKind::Content(Content::LineEnding) => None,
+            ItemKind::Part(Part::AutolinkEmail | Part::AutolinkProtocol) => {
+                at_most_one(!matches!(self, AutolinkParts::Empty))
+            }
+            _ => Some(ErrorKind::Misplaced),
+        }
+    }
+
+    /// Takes the email address between two points: `a@b.c` in `<a@b.c>`. One that is no text of the
+    /// document is refused as `ErrorKind::InvalidSlice`.
+    pub fn take_email(&mut self, bytes: &'a [u8], start: Point, end: Point) -> Result<(), Stop>
+        requires { misfit_in (autolink self.old) (item_kinds.Part parts.AutolinkEmail) ≡ None }
+        ensures { Reads bytes.now parts.AutolinkEmail start end (autolink self.old) (autolink self.new) result }
+    {
+        let value = text_of(bytes, start, end)?;
+        *self = AutolinkParts::Email(Address { start, end, value });
+        Ok(())
+    }
+
+    /// Takes the address with its scheme between two points: `https://a.b` in `<https://a.b>`. One
+    /// that is no text of the document is refused as `ErrorKind::InvalidSlice`.
+    pub fn take_protocol(&mut self, bytes: &'a [u8], start: Point, end: Point) -> Result<(), Stop>
+        requires { misfit_in (autolink self.old) (item_kinds.Part parts.AutolinkProtocol) ≡ None }
+        ensures { Reads bytes.now parts.AutolinkProtocol start end (autolink self.old) (autolink self.new) result }
+    {
+        let value = text_of(bytes, start, end)?;
+        *self = AutolinkParts::Protocol(Address { start, end, value });
+        Ok(())
+    }
+
+    /// The node of an autolink between two points: a link to its address, or to nothing where none
+    /// has stood.
+    ///
+    /// For `<a@b.c>` it is a link to `mailto:a@b.c`, with the text `a@b.c` in it.
+    pub fn node(self, alloc: Global, start: Point, end: Point) -> Result<Node, AllocError>
+        ensures { IfOk result (λ node. only (view node) ≡ SummaryNodes.autolink ((autolink self.entry).part (path_to parts.AutolinkEmail)) ((autolink self.entry).part (path_to parts.AutolinkProtocol)) start end) }
+    {
+        let position = position_of(start, end);
+        match self {
+            AutolinkParts::Email(address) => {
+                let place = position_of(address.start, address.end);
+                linked(alloc, "mailto:", address.value, position, place)
+            }
+            AutolinkParts::Protocol(address) => {
+                let place = position_of(address.start, address.end);
+                linked(alloc, "", address.value, position, place)
+            }
+            AutolinkParts::Empty => {
+                Ok(link_to(Vec::new(alloc), position, String::new(alloc), None))
+            }
+        }
+    }
+}
+
+/// The node of an address that stands in the text as it is, between two points: a link to it. One
+/// that is no text of the document is refused as `ErrorKind::InvalidSlice`.
+///
+/// For `www.a.b` it is a link to `http://www.a.b`, with the text `www.a.b` in it.
+pub fn literal(
+    alloc: Global,
+    bytes: &[u8],
+    content: Content,
+    start: Point,
+    end: Point,
+) -> Result<Node, Stop>
+    requires { is_literal content ≡ true }
+    ensures { Makes result (is_some (slice bytes.now start end)) InvalidSlice (λ node. (text : List ℕ → ℕ → Option (List ℕ)) (p : Place) (children : ChildFacts) (i : Summary) → only (view node) ≡ node_of (source bytes.now text) p (item_kinds.Content content) start end children i) }
+{
+    let value = text_of(bytes, start, end)?;
+    let position = position_of(start, end);
+    Ok(linked(alloc, scheme_of(content), value, position, position)?)
+}
+
+/// The scheme that an address leaves out where it stands in the text as it is (GFM, autolinks).
+fn scheme_of(content: Content) -> &'static str
+    requires { is_literal content ≡ true }
+    ensures { (s : Source) (p : Place) (a b : Point) (children : ChildFacts) (i : Summary) → node_of s p (item_kinds.Content content) a b children i ≡ linked result.now (text_read s a b) a b a b }
+{
+    match content {
+        Content::AutolinkLiteralEmail => "mailto:",
+        Content::AutolinkLiteralWww => "http://",
+        _ => "",
+    }
+}
+
+/// A link to an address, with that address for its text. A scheme that it leaves out is put before.
+#[tactic(auto, unfolding(markdown_nodes::specs::View::view))]
+fn linked(
+    alloc: Global,
+    scheme: &str,
+    value: &str,
+    position: Position,
+    place: Position,
+) -> Result<Node, AllocError>
+    ensures { IfOk result (λ node. view node ≡ placed (tree.link (scheme.now ++ value.now) None) (only (placed (tree.text value.now) nothing place)) position) }
+{
+    let mut children = Vec::new(alloc);
+    children.push(new_text(alloc, value, place)?)?;
+    let url = address(alloc, scheme, value)?;
+    Ok(link_to(children, position, url, None))
+}

@@ -1,0 +1,123 @@
+//! Labels: what stands in the first brackets of a link, an image or a footnote call (CommonMark,
+//! link text, image description and link label; GFM, footnotes).
+//!
+//! The original's `on_exit_label_text`, and of `on_exit_media` what is made of the label.
+
+ghost use Rattle.std.specs.Prelude.{◌≡◌, ◌≤◌, ◌+◌, [], IfOk, is_some, string_bytes, unwrap_or};
+ghost use Rattle.markdown_events.specs.Slices.{slice};
+ghost use Rattle.markdown_nodes.specs.View.{views};
+ghost use Rattle.markdown_grammar.specs.Buffers.{node_count};
+ghost use Rattle.markdown_grammar.specs.declared.error_kind.ErrorKind.TheVariants.{InvalidSlice};
+ghost use Rattle.markdown_steps.specs.Summaries.{identifier_of, text_of as text_in};
+ghost use Rattle.markdown_builder.specs.PartsSoFar.{Makes};
+ghost use Rattle.markdown_inlines.specs.Labels;
+ghost use Rattle.markdown_inlines.specs.Labels.{label_kept};
+
+use markdown_builder::buffer::label_of;
+use markdown_builder::label::Identified;
+use markdown_builder::slice::text_of;
+use markdown_grammar::error_kind::Stop;
+use markdown_nodes::event::Point;
+use markdown_nodes::mdast::Node;
+use markdown_nodes::steps::Steps;
+use markdown_nodes::text::normalize_identifier;
+use std::alloc::{AllocError, Global};
+
+/// The label of a link, an image or a footnote call. Its identifier and its text are made only
+/// where a node asks for them.
+#[derive(Drop)]
+pub struct Label<'a> {
+    /// Its slice of the document.
+    pub slice: &'a str,
+    /// The nodes made in it.
+    pub nodes: Vec<Node>,
+}
+
+impl<'a> Label<'a> {
+    /// The label between two points, with the nodes made in it. One that is no text of the document
+    /// is refused as `ErrorKind::InvalidSlice`.
+    ///
+    /// In `[a *b*](c)` its slice is `a *b*`, and its nodes are a text and an emphasis.
+    pub fn read(
+        bytes: &'a [u8],
+        nodes: Vec<Node>,
+        start: Point,
+        end: Point,
+    ) -> Result<Label<'a>, Stop>
+        ensures { Makes result (is_some (slice bytes.now start end)) InvalidSlice (λ label. (label.slice.now ≡ unwrap_or (slice bytes.now start end) []) × (views label.nodes.items ≡ views nodes.items)) }
+    {
+        let slice = text_of(bytes, start, end)?;
+        Ok(Label { slice, nodes })
+    }
+}
+
+/// The identifier by which a label is matched, which is empty where there is no label.
+pub(crate) fn label_identifier(
+    alloc: Global,
+    label: &Option<Label<'_>>,
+) -> Result<String, AllocError>
+    ensures { IfOk result (λ made. string_bytes made ≡ identifier_of (label_kept label.now)) }
+{
+    match label {
+        Some(label) => normalize_identifier(alloc, label.slice),
+        None => Ok(String::new(alloc)),
+    }
+}
+
+/// The text of a label, by one step for each node in it.
+pub(crate) fn label_text(
+    alloc: Global,
+    steps: &mut Steps<'_>,
+    label: &Option<Label<'_>>,
+) -> Result<String, AllocError>
+    ensures text { IfOk result (λ made. string_bytes made ≡ text_in (label_kept label.now)) }
+    ensures list { steps.new.events ≡ steps.old.events }
+    ensures bound { steps.new.count ≤ steps.old.count + node_count (Labels.label_nodes label.now) }
+{
+    match label {
+        Some(label) => label_of(alloc, steps, &label.nodes),
+        None => Ok(String::new(alloc)),
+    }
+}
+
+/// What a label refers to: its identifier, and its text.
+pub(crate) fn identified(
+    alloc: Global,
+    steps: &mut Steps<'_>,
+    label: &Option<Label<'_>>,
+) -> Result<Identified, AllocError>
+    ensures identifier { IfOk result (λ made. string_bytes made.identifier ≡ identifier_of (label_kept label.now)) }
+    ensures label { IfOk result (λ made. string_bytes made.label ≡ text_in (label_kept label.now)) }
+    ensures list { steps.new.events ≡ steps.old.events }
+    ensures bound { steps.new.count ≤ steps.old.count + node_count (Labels.label_nodes label.now) }
+{
+    Ok(Identified {
+        identifier: label_identifier(alloc, label)?,
+        label: label_text(alloc, steps, label)?,
+    })
+}
+
+/// What a label refers to, where its text has been made already.
+pub(crate) fn identified_by(
+    alloc: Global,
+    label: &Option<Label<'_>>,
+    text: &str,
+) -> Result<Identified, AllocError>
+    ensures identifier { IfOk result (λ made. string_bytes made.identifier ≡ identifier_of (label_kept label.now)) }
+    ensures label { IfOk result (λ made. string_bytes made.label ≡ text.now) }
+{
+    Ok(Identified {
+        identifier: label_identifier(alloc, label)?,
+        label: String::from_str(alloc, text)?,
+    })
+}
+
+/// The nodes of a label, which are none where there is no label.
+pub(crate) fn label_nodes(alloc: Global, label: Option<Label<'_>>) -> Vec<Node>
+    ensures { views result.items ≡ Labels.label_nodes label.entry }
+{
+    match label {
+        Some(label) => label.nodes,
+        None => Vec::new(alloc),
+    }
+}

@@ -1,0 +1,113 @@
+//! Links (CommonMark): the nodes Link and LinkReference of mdast.
+//!
+//! The original's `on_exit_media`, for a link.
+
+ghost use Rattle.std.specs.Prelude.{◌≡◌, ◌≤◌, ◌+◌, IfOk, Some, option_map, string_bytes};
+ghost use Rattle.markdown_nodes.specs.Tree as tree;
+ghost use Rattle.markdown_nodes.specs.Tree.{nothing};
+ghost use Rattle.markdown_nodes.specs.View.{view, views};
+ghost use Rattle.markdown_grammar.specs.Buffers.{node_count};
+ghost use Rattle.markdown_grammar.specs.Nodes.{link_label};
+ghost use Rattle.markdown_steps.specs.Summaries.{identifier_of, text_of};
+ghost use Rattle.markdown_steps.specs.SummaryNodes.{media_of};
+ghost use Rattle.markdown_builder.specs.PartsSoFar.{placed, summary_in};
+ghost use Rattle.markdown_inlines.specs.Labels;
+ghost use Rattle.markdown_inlines.specs.Labels.{label_kept};
+ghost use Rattle.markdown_inlines.specs.Media.{media};
+
+use crate::label::{Label, identified, label_nodes};
+use crate::media::{MediaParts, ReferenceParts, ResourceParts, Target};
+use markdown_builder::label::Identified;
+use markdown_nodes::mdast::{Link, LinkReference, Node, ReferenceKind};
+use markdown_nodes::steps::Steps;
+use markdown_nodes::unist::Position;
+use std::alloc::{AllocError, Global};
+
+impl MediaParts<'_> {
+    /// The node of a link. With a resource it leads there, and without one it refers to what its
+    /// reference names, or else its label.
+    ///
+    /// For `[a](b)` it is a Link to `b`, and for `[a]` a LinkReference to `a`, each with the text
+    /// `a` in it. A label that is referred to is read by one step for each node in it.
+    pub fn link(
+        self,
+        alloc: Global,
+        steps: &mut Steps<'_>,
+        position: Position,
+    ) -> Result<Node, AllocError>
+        ensures node { IfOk result (λ node. view node ≡ placed (link_label (media_of (summary_in (media self.entry) nothing))) (media self.entry).label position) }
+        ensures list { steps.new.events ≡ steps.old.events }
+        ensures bound { steps.new.count ≤ steps.old.count + node_count (media self.entry).label }
+    {
+        let MediaParts { label, target } = self;
+        match target {
+            Target::Resource(ResourceParts { destination, title }) => {
+                let url = destination.unwrap_or(String::new(alloc));
+                Ok(link_to(label_nodes(alloc, label), position, url, title))
+            }
+            Target::Label => {
+                link_by_label(alloc, steps, label, position, ReferenceKind::Shortcut)
+            }
+            Target::Reference(ReferenceParts { string }) => match string {
+                None => link_by_label(alloc, steps, label, position, ReferenceKind::Collapsed),
+                Some(named) => {
+                    let children = label_nodes(alloc, label);
+                    Ok(link_reference(children, position, ReferenceKind::Full, named))
+                }
+            },
+        }
+    }
+}
+
+/// A link to what its label names.
+fn link_by_label(
+    alloc: Global,
+    steps: &mut Steps<'_>,
+    label: Option<Label<'_>>,
+    position: Position,
+    reference_kind: ReferenceKind,
+) -> Result<Node, AllocError>
+    ensures node { IfOk result (λ node. view node ≡ placed (tree.link_reference reference_kind (identifier_of (label_kept label.entry)) (Some (text_of (label_kept label.entry)))) (Labels.label_nodes label.entry) position) }
+    ensures list { steps.new.events ≡ steps.old.events }
+    ensures bound { steps.new.count ≤ steps.old.count + node_count (Labels.label_nodes label.entry) }
+{
+    let named = identified(alloc, steps, &label)?;
+    let children = label_nodes(alloc, label);
+    Ok(link_reference(children, position, reference_kind, named))
+}
+
+/// A link to an address.
+pub(crate) fn link_to(
+    children: Vec<Node>,
+    position: Position,
+    url: String,
+    title: Option<String>,
+) -> Node
+    ensures { view result ≡ placed (tree.link (string_bytes url) (option_map string_bytes title)) (views children.items) position }
+{
+    Node::Link(Link {
+        children,
+        position: Some(position),
+        url,
+        title,
+    })
+}
+
+/// A link to what is named by an identifier and a label.
+fn link_reference(
+    children: Vec<Node>,
+    position: Position,
+    reference_kind: ReferenceKind,
+    named: Identified,
+) -> Node
+    ensures { view result ≡ placed (tree.link_reference reference_kind (string_bytes named.identifier) (Some (string_bytes named.label))) (views children.items) position }
+{
+    let Identified { identifier, label } = named;
+    Node::LinkReference(LinkReference {
+        children,
+        position: Some(position),
+        reference_kind,
+        identifier,
+        label: Some(label),
+    })
+}

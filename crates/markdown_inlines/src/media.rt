@@ -1,0 +1,235 @@
+//! What links and images have in common (CommonMark): a label, and after it a resource or a
+//! reference.
+//!
+//! The original's `on_enter_link`, `on_enter_image`, `on_enter_resource`,
+//! `on_exit_resource_destination_string`, `on_exit_resource_title_string`, `on_enter_reference` and
+//! `on_exit_reference_string`.
+
+ghost use Rattle.std.specs.Prelude.{◌≡◌, ◌≤◌, ◌+◌, None, OnOk};
+ghost use Rattle.markdown_events.specs.declared.event.Point.{Point};
+ghost use Rattle.markdown_events.specs.declared.role.ItemKind.TheVariants as item_kinds;
+ghost use Rattle.markdown_events.specs.declared.role.Part.TheVariants as parts;
+ghost use Rattle.markdown_nodes.specs.Tree.{Trees};
+ghost use Rattle.markdown_nodes.specs.View.{views};
+ghost use Rattle.markdown_grammar.specs.Attributes.{Place};
+ghost use Rattle.markdown_grammar.specs.Buffers.{node_count};
+ghost use Rattle.markdown_grammar.specs.Document.{Source};
+ghost use Rattle.markdown_grammar.specs.Grammar as Models;
+ghost use Rattle.markdown_builder.specs.PartsSoFar.{Gains, GainsText, IsFresh, ReadsText, misfit_in, summary_in};
+ghost use Rattle.markdown_inlines.specs.Media;
+ghost use Rattle.markdown_inlines.specs.Media.{media, reference, resource};
+
+use crate::label::Label;
+use markdown_builder::buffer::values_of;
+use markdown_builder::label::{Identified, identify};
+use markdown_builder::misfits::at_most_one;
+use markdown_builder::slice::text_of;
+use markdown_grammar::error_kind::{ErrorKind, Stop};
+use markdown_nodes::event::Point;
+use markdown_nodes::mdast::Node;
+use markdown_nodes::role::{Content, ItemKind, Part};
+use markdown_nodes::steps::Steps;
+use std::alloc::{AllocError, Global};
+
+/// What has stood in a resource.
+///
+/// In `[a](b "c")` the destination is `b` and the title `c`.
+#[derive(Drop)]
+pub struct ResourceParts {
+    pub destination: Option<String>,
+    pub title: Option<String>,
+}
+
+/// What has stood in a reference.
+///
+/// In `[a][b]` the string is `b`, and in `[a][]` there is none.
+#[derive(Drop)]
+pub struct ReferenceParts {
+    pub string: Option<Identified>,
+}
+
+/// Where a link or an image leads.
+#[derive(Drop)]
+pub enum Target {
+    /// To what its label names, as in `[a]`.
+    Label,
+    /// To an address, as in `[a](b)`.
+    Resource(ResourceParts),
+    /// To what the string of its reference names, as in `[a][b]`, or its label, as in `[a][]`.
+    Reference(ReferenceParts),
+}
+
+/// What has stood in a link or an image: its label, and where it leads.
+#[derive(Drop)]
+pub struct MediaParts<'a> {
+    pub label: Option<Label<'a>>,
+    pub target: Target,
+}
+
+impl ResourceParts {
+    /// A resource at its enter, as at the `(` of `[a](b "c")`.
+    pub fn new() -> ResourceParts
+        ensures { IsFresh (resource result) Models.resource }
+    {
+        ResourceParts {
+            destination: None,
+            title: None,
+        }
+    }
+
+    /// The rule that is violated if this item may not stand here: a resource takes one destination,
+    /// one title, and line endings. A part that has stood is `ErrorKind::Repeated`, any other item
+    /// `ErrorKind::Misplaced`.
+    pub fn misfit(&self, what: ItemKind) -> Option<ErrorKind>
+        ensures { result ≡ misfit_in (resource self.now) what }
+    {
+        match what {
+            ItemKind::Content(Content::LineEnding) => None,
+            ItemKind::Part(Part::ResourceDestinationString) => {
+                at_most_one(self.destination.is_some())
+            }
+            ItemKind::Part(Part::ResourceTitleString) => at_most_one(self.title.is_some()),
+            _ => Some(ErrorKind::Misplaced),
+        }
+    }
+
+    /// Takes the destination, which is the text of its nodes: `b` in `[a](b "c")`. Each node takes
+    /// one step.
+    pub fn take_destination(
+        &mut self,
+        alloc: Global,
+        steps: &mut Steps<'_>,
+        nodes: &[Node],
+    ) -> Result<(), AllocError>
+        requires { misfit_in (resource self.old) (item_kinds.Part parts.ResourceDestinationString) ≡ None }
+        ensures taken { OnOk result (GainsText parts.ResourceDestinationString (views nodes.now) (resource self.old) (resource self.new)) }
+        ensures list { steps.new.events ≡ steps.old.events }
+        ensures bound { steps.new.count ≤ steps.old.count + node_count (views nodes.now) }
+    {
+        self.destination = Some(values_of(alloc, steps, nodes)?);
+        Ok(())
+    }
+
+    /// Takes the title, which is the text of its nodes: `c` in `[a](b "c")`. Each node takes one
+    /// step.
+    pub fn take_title(
+        &mut self,
+        alloc: Global,
+        steps: &mut Steps<'_>,
+        nodes: &[Node],
+    ) -> Result<(), AllocError>
+        requires { misfit_in (resource self.old) (item_kinds.Part parts.ResourceTitleString) ≡ None }
+        ensures taken { OnOk result (GainsText parts.ResourceTitleString (views nodes.now) (resource self.old) (resource self.new)) }
+        ensures list { steps.new.events ≡ steps.old.events }
+        ensures bound { steps.new.count ≤ steps.old.count + node_count (views nodes.now) }
+    {
+        self.title = Some(values_of(alloc, steps, nodes)?);
+        Ok(())
+    }
+}
+
+impl ReferenceParts {
+    /// A reference at its enter, as at the second `[` of `[a][b]`.
+    pub fn new() -> ReferenceParts
+        ensures { IsFresh (reference result) Models.reference }
+    {
+        ReferenceParts { string: None }
+    }
+
+    /// The rule that is violated if this item may not stand here: a reference takes one string, and
+    /// line endings. A second string is `ErrorKind::Repeated`, any other item
+    /// `ErrorKind::Misplaced`.
+    pub fn misfit(&self, what: ItemKind) -> Option<ErrorKind>
+        ensures { result ≡ misfit_in (reference self.now) what }
+    {
+        match what {
+            ItemKind::Content(Content::LineEnding) => None,
+            ItemKind::Part(Part::ReferenceString) => at_most_one(self.string.is_some()),
+            _ => Some(ErrorKind::Misplaced),
+        }
+    }
+
+    /// Takes the string between two points, with the nodes made in it, by one step for each: `b` in
+    /// `[a][b]`. One that is no text of the document is refused as `ErrorKind::InvalidSlice`.
+    pub fn take_string(
+        &mut self,
+        alloc: Global,
+        steps: &mut Steps<'_>,
+        bytes: &[u8],
+        nodes: &[Node],
+        start: Point,
+        end: Point,
+    ) -> Result<(), Stop>
+        requires { misfit_in (reference self.old) (item_kinds.Part parts.ReferenceString) ≡ None }
+        ensures taken { ReadsText bytes.now parts.ReferenceString (views nodes.now) start end (reference self.old) (reference self.new) result }
+        ensures list { steps.new.events ≡ steps.old.events }
+        ensures bound { steps.new.count ≤ steps.old.count + node_count (views nodes.now) }
+    {
+        let slice = text_of(bytes, start, end)?;
+        self.string = Some(identify(alloc, steps, slice, nodes)?);
+        Ok(())
+    }
+}
+
+impl<'a> MediaParts<'a> {
+    /// A link or an image at its enter, as at the first `[` of `[a](b)`.
+    pub fn new() -> MediaParts<'a>
+        ensures { IsFresh (media result) Models.media }
+    {
+        MediaParts {
+            label: None,
+            target: Target::Label,
+        }
+    }
+
+    /// The rule that is violated if this item may not stand here: a link or an image takes one
+    /// label, then one resource or one reference, and line endings. A part that has stood is
+    /// `ErrorKind::Repeated`, any other item `ErrorKind::Misplaced`.
+    pub fn misfit(&self, what: ItemKind) -> Option<ErrorKind>
+        ensures { result ≡ misfit_in (media self.now) what }
+    {
+        let has_label = self.label.is_some();
+        match (what, &self.target) {
+            (ItemKind::Content(Content::LineEnding), _) => None,
+            (ItemKind::Part(Part::LabelText), _) if has_label => Some(ErrorKind::Repeated),
+            (ItemKind::Part(Part::LabelText | Part::Resource | Part::Reference), Target::Label) => {
+                None
+            }
+            (ItemKind::Part(Part::Resource), Target::Resource(_)) => Some(ErrorKind::Repeated),
+            (ItemKind::Part(Part::Reference), Target::Reference(_)) => Some(ErrorKind::Repeated),
+            _ => Some(ErrorKind::Misplaced),
+        }
+    }
+
+    /// Takes the label between two points, with the nodes made in it: `a` in `[a](b)`. One that is
+    /// no text of the document is refused as `ErrorKind::InvalidSlice`.
+    pub fn take_label(
+        &mut self,
+        bytes: &'a [u8],
+        nodes: Vec<Node>,
+        start: Point,
+        end: Point,
+    ) -> Result<(), Stop>
+        requires { misfit_in (media self.old) (item_kinds.Part parts.LabelText) ≡ None }
+        ensures { ReadsText bytes.now parts.LabelText (views nodes.items) start end (media self.old) (media self.new) result }
+    {
+        self.label = Some(Label::read(bytes, nodes, start, end)?);
+        Ok(())
+    }
+
+    /// Takes the resource that has ended in it: `(b)` in `[a](b)`.
+    pub fn take_resource(&mut self, resource: ResourceParts)
+        requires { misfit_in (media self.old) (item_kinds.Part parts.Resource) ≡ None }
+        ensures { (s : Source) (p : Place) (a b : Point) (ts : Trees) → Gains s p (item_kinds.Part parts.Resource) a b (summary_in (Media.resource resource) ts) (media self.old) (media self.new) }
+    {
+        self.target = Target::Resource(resource);
+    }
+
+    /// Takes the reference that has ended in it: `[b]` in `[a][b]`.
+    pub fn take_reference(&mut self, reference: ReferenceParts)
+        requires { misfit_in (media self.old) (item_kinds.Part parts.Reference) ≡ None }
+        ensures { (s : Source) (p : Place) (a b : Point) (ts : Trees) → Gains s p (item_kinds.Part parts.Reference) a b (summary_in (Media.reference reference) ts) (media self.old) (media self.new) }
+    {
+        self.target = Target::Reference(reference);
+    }
+}

@@ -1,0 +1,56 @@
+//! Text, and hard breaks in it (CommonMark, textual content and hard line breaks).
+//!
+//! The original's `on_enter_data`, `on_exit_data`, `on_enter_hard_break`, `on_exit_hard_break`, and
+//! what `on_exit_line_ending` does after a break.
+
+ghost use Rattle.std.specs.Prelude.{◌≡◌, [], is_some, unwrap_or};
+ghost use Rattle.markdown_events.specs.Slices.{between, slice, to_unist};
+ghost use Rattle.markdown_nodes.specs.Tree as tree;
+ghost use Rattle.markdown_nodes.specs.Tree.{join, nothing};
+ghost use Rattle.markdown_nodes.specs.View.{view, views};
+ghost use Rattle.markdown_grammar.specs.declared.error_kind.ErrorKind.TheVariants.{InvalidSlice};
+ghost use Rattle.markdown_steps.specs.TextNodes.{one_text};
+ghost use Rattle.markdown_builder.specs.PartsSoFar.{Makes, placed};
+
+use markdown_builder::joining::put_text;
+use markdown_builder::slice::{position_of, text_of};
+use markdown_grammar::error_kind::Stop;
+use markdown_nodes::event::Point;
+use markdown_nodes::mdast::{Break, Node};
+use markdown_nodes::unist::Position;
+use std::alloc::Global;
+
+/// Adds the text of a span to the nodes: it goes on with a text that is the last of them, since the
+/// data, references and line endings of one run of characters are one text in mdast.
+///
+/// Of the document `ab`, the span from byte 0 to byte 1 adds the text `a`, and the next one makes
+/// `ab` of it. A span that is no text of the document is refused as `ErrorKind::InvalidSlice`.
+pub fn put_slice(
+    alloc: Global,
+    nodes: &mut Vec<Node>,
+    bytes: &[u8],
+    start: Point,
+    end: Point,
+) -> Result<(), Stop>
+    ensures { Makes result (is_some (slice bytes.now start end)) InvalidSlice (λ _. views nodes.new.items ≡ join (views nodes.old.items) (one_text (unwrap_or (slice bytes.now start end) []) (between start end))) }
+{
+    let value = text_of(bytes, start, end)?;
+    put_text(alloc, nodes, value, position_of(start, end))?;
+    Ok(())
+}
+
+/// The node of a hard break that has waited for the line ending after it. In mdast a break reaches
+/// over that line ending, so it ends where the line ending does.
+///
+/// For the two spaces and the line ending in `a  \nb` it reaches from offset 1 to offset 4.
+#[tactic(auto, unfolding(markdown_nodes::specs::View::view))]
+pub fn hard_break(position: Position, end: Point) -> Node
+    ensures { view result ≡ placed tree.«break» nothing (record position { end = to_unist end }) }
+{
+    Node::Break(Break {
+        position: Some(Position {
+            start: position.start,
+            end: end.to_unist(),
+        }),
+    })
+}
