@@ -1,9 +1,7 @@
 -- What comes up at the exit of a span, in the program and in the steps.
-use Rattle.std.proofs.Common.{◌≡◌, ◌≢◌, ℕ, List, [], Bool, true, false, Option, None, Some, Result, Ok, Err, refl, sym, ap, ◌∙◌, cond}
-use Rattle.std.specs.Prelude.{is_some, unwrap_or}
-use Rattle.markdown_events.specs.Slices.{between, slice}
+use Rattle.std.proofs.Common.{◌≡◌, ◌≢◌, ℕ, List, Bool, true, false, Option, None, Some, Result, Ok, Err, refl, sym, ap, ◌∙◌, cond}
+use Rattle.markdown_events.specs.Slices.{between}
 use Rattle.markdown_steps.specs.ChildFacts.{ChildFacts}
-use Rattle.markdown_grammar.specs.Document.{text_read}
 use Rattle.markdown_nodes.specs.Tree.{Label, Tree, Trees, join, node, nothing, only}
 use Rattle.markdown_nodes.specs.Tree as tree
 use Rattle.markdown_nodes.specs.View.{views}
@@ -14,10 +12,8 @@ use Rattle.markdown_events.specs.declared.role.Content.{Content}
 use Rattle.markdown_events.specs.declared.role.Content.TheVariants as contents
 use Rattle.markdown_events.specs.declared.role.Part.{Part}
 use Rattle.markdown_nodes.proofs.Joining.{join-nothing}
-use Rattle.markdown_events.specs.declared.role.Part.TheVariants as parts
 use Rattle.markdown_context.specs.declared.open_container.OpenContainer.{OpenContainer}
 use Rattle.markdown_grammar.specs.declared.error_kind.ErrorKind.{ErrorKind}
-use Rattle.markdown_grammar.specs.declared.error_kind.ErrorKind.TheVariants.{InvalidSlice}
 use Rattle.markdown_steps.specs.Compiler.{ContainerState, with_child, leave}
 use Rattle.markdown_grammar.specs.Refusals.{missing_error, value_error}
 use Rattle.markdown_steps.specs.Compiler.{all_stood}

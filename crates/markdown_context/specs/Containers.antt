@@ -1,5 +1,5 @@
 -- What an open span is to the items in it: what has stood in it so far, by its construct.
-use Rattle.std.specs.Prelude.{◌≡◌, List, None, Option, Result, [], false, true, Bool, ℕ}
+use Rattle.std.specs.Prelude.{None, Option, Result, false, true, Bool, ℕ}
 use Rattle.markdown_blocks.specs.Definitions.{definition, footnote_definition}
 use Rattle.markdown_blocks.specs.Fences.{code_fence, code_fenced, math_fence, math_flow}
 use Rattle.markdown_blocks.specs.Headings.{atx, setext}
@@ -27,7 +27,6 @@ use Rattle.markdown_inlines.specs.CharacterReferences.{character_reference}
 use Rattle.markdown_inlines.specs.FootnoteCalls.{footnote_call}
 use Rattle.markdown_inlines.specs.Media.{media, reference, resource}
 use Rattle.markdown_nodes.specs.Tree.{Trees, nothing}
-use Rattle.markdown_steps.specs.Compiler.{nothing_yet}
 use Rattle.markdown_steps.specs.Summaries.{PartSummary, Path, Summary}
 
 -- a span in which any content may stand, and no part

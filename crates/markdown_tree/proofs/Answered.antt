@@ -1,9 +1,6 @@
 -- From what the steps give to what `compile` says.
-use Rattle.std.proofs.Common.{◌≡◌, ◌≢◌, ◌==◌, ℕ, ◌+◌, ◌*◌, ◌<◌, ◌≤◌, ◌^◌, arith, Bool, true, false, not, List, [], ◌∷◌, length, Option, None, Some, Result, Ok, Err, cond, eq-eqb, reverse, refl, sym, ap, subst, ◌∙◌}
-use Rattle.std.specs.Prelude.{IfErr, IfOk, is_some, vec_len}
-use Rattle.std.specs.Global.{Vec}
-use Rattle.std.proofs.lemmas.Bool.{eqb-true}
-use Rattle.std.proofs.lemmas.List.{length-reverse, nil_from_length}
+use Rattle.std.proofs.Common.{◌≡◌, ℕ, ◌+◌, ◌*◌, ◌<◌, ◌≤◌, ◌^◌, arith, Bool, true, false, not, List, [], ◌∷◌, length, Option, None, Some, Result, Ok, Err, cond, reverse, refl, sym, ap, subst, ◌∙◌}
+use Rattle.std.specs.Prelude.{IfErr, IfOk, is_some}
 use Rattle.markdown_events.specs.Forest.{Forest, events_of}
 use Rattle.markdown_events.proofs.Unique.{one_forest}
 use Rattle.markdown_events.specs.declared.event.Event.{Event}
@@ -34,7 +31,6 @@ use Rattle.markdown_steps.specs.Visits.{run_visits}
 use Rattle.markdown_steps.specs.Well.{AllStand}
 use Rattle.markdown_context.specs.declared.context.Context.{Context}
 use Rattle.markdown_context.specs.declared.context.Frame.{Frame}
-use Rattle.markdown_context.specs.declared.open_container.OpenContainer.{OpenContainer}
 use Rattle.markdown_grammar.specs.declared.error_kind.ErrorKind.{ErrorKind}
 use Rattle.markdown_grammar.specs.declared.error_kind.ErrorKind.TheVariants.{Unbalanced, UnfinishedBreak}
 use Rattle.markdown_grammar.specs.declared.error_kind.Stop.TheVariants as stops

@@ -1,4 +1,4 @@
-use Rattle.std.proofs.Common.{arith, Bool, List, ap, subst, true, ◌≡◌}
+use Rattle.std.proofs.Common.{arith, List, ap, subst, true, ◌≡◌}
 use Rattle.markdown_builder.specs.PartsSoFar.{place_with}
 use Rattle.markdown_events.specs.declared.role.ItemKind.TheVariants.{Part as part}
 use Rattle.markdown_grammar.specs.Buffers.{node_count}

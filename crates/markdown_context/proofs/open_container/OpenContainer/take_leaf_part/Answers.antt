@@ -1,5 +1,4 @@
 use Rattle.std.proofs.Common.{refl}
-use Rattle.markdown_grammar.specs.Document.{source}
 use Rattle.markdown_context.proofs.PartEnds.{leaf_part_taken}
 use Rattle.markdown_context.proofs.open_container.OpenContainer.take_leaf_part.Goals as goal
 
