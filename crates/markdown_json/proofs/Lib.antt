@@ -1,0 +1,3 @@
+mod Escapes
+mod Runs
+mod WritingLevels

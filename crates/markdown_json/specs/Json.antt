@@ -1,0 +1,139 @@
+-- A tree as JSON, with the names and the fields that mdast gives to nodes. The order of the fields is ours: to JSON it makes no difference.
+use Rattle.std.specs.Prelude.{ℕ, List, [], ◌∷◌, ◌++◌, Option, Some, None, codes}
+use Rattle.std.specs.Fmt.{decimal}
+use Rattle.markdown_events.specs.declared.infer.AlignKind.{AlignKind}
+use Rattle.markdown_events.specs.declared.infer.AlignKind.TheVariants as aligns
+use Rattle.markdown_events.specs.declared.unist.Point.{Point}
+use Rattle.markdown_events.specs.declared.unist.Position.{Position}
+use Rattle.markdown_nodes.specs.Shown.{bool_text}
+use Rattle.markdown_nodes.specs.declared.mdast.ReferenceKind.{ReferenceKind}
+use Rattle.markdown_nodes.specs.declared.mdast.ReferenceKind.TheVariants.{Shortcut, Collapsed, Full}
+use Rattle.markdown_nodes.specs.Tree.{Label, Tree, Trees, nothing, node, root, paragraph, blockquote, emphasis, strong, delete, table_row, table_cell, thematic_break, «break», text, html, inline_code, inline_math, yaml, toml, heading, list, list_item, table, code, math, link, image, link_reference, image_reference, footnote_reference, footnote_definition, definition}
+use Rattle.markdown_json.specs.Strings.{string}
+
+-- the kind of a node
+unfoldable pub kind : List ℕ → List ℕ
+kind name = codes "{\"type\":\"" ++ name ++ codes "\""
+
+-- the name of a field, after a comma
+unfoldable pub key : List ℕ → List ℕ
+key name = codes ",\"" ++ name ++ codes "\":"
+
+-- a field
+unfoldable pub field : List ℕ → List ℕ → List ℕ
+field name value = key name ++ value
+
+-- what stands before the children of a parent
+unfoldable pub children : List ℕ
+children = codes ",\"children\":["
+
+-- a value, or null
+abbrev pub or_null : {X : Type 0} → (X → List ℕ) → Option X → List ℕ
+or_null value_json None = codes "null"
+or_null value_json (Some value) = value_json value
+
+-- how a reference is written
+abbrev pub reference_type : ReferenceKind → List ℕ
+reference_type Shortcut = codes "\"shortcut\""
+reference_type Collapsed = codes "\"collapsed\""
+reference_type Full = codes "\"full\""
+
+-- how a column is aligned
+abbrev pub alignment : AlignKind → List ℕ
+alignment aligns.Left = codes "\"left\""
+alignment aligns.Right = codes "\"right\""
+alignment aligns.Center = codes "\"center\""
+alignment aligns.None = codes "null"
+
+-- how columns are aligned, the first after `lead` and each other one after a comma
+abbrev pub alignments : List ℕ → List AlignKind → List ℕ
+alignments lead [] = []
+alignments lead (column ∷ columns) = lead ++ alignment column ++ alignments (codes ",") columns
+
+-- the fields of a resource
+unfoldable pub resource : List ℕ → Option (List ℕ) → List ℕ
+resource url title = field (codes "title") (or_null string title) ++ field (codes "url") (string url)
+
+-- the fields of an association
+unfoldable pub association : List ℕ → Option (List ℕ) → List ℕ
+association identifier label = field (codes "identifier") (string identifier) ++ field (codes "label") (or_null string label)
+
+-- the fields of a reference
+unfoldable pub reference : ReferenceKind → List ℕ → Option (List ℕ) → List ℕ
+reference reference_kind identifier label = association identifier label ++ field (codes "referenceType") (reference_type reference_kind)
+
+-- the kind of a node and its fields, up to its children
+abbrev pub opening : Label → List ℕ
+opening root = kind (codes "root") ++ children
+opening paragraph = kind (codes "paragraph") ++ children
+opening blockquote = kind (codes "blockquote") ++ children
+opening emphasis = kind (codes "emphasis") ++ children
+opening strong = kind (codes "strong") ++ children
+opening delete = kind (codes "delete") ++ children
+opening table_row = kind (codes "tableRow") ++ children
+opening table_cell = kind (codes "tableCell") ++ children
+opening thematic_break = kind (codes "thematicBreak")
+opening «break» = kind (codes "break")
+opening (text value) = kind (codes "text") ++ field (codes "value") (string value)
+opening (html value) = kind (codes "html") ++ field (codes "value") (string value)
+opening (inline_code value) = kind (codes "inlineCode") ++ field (codes "value") (string value)
+opening (inline_math value) = kind (codes "inlineMath") ++ field (codes "value") (string value)
+opening (yaml value) = kind (codes "yaml") ++ field (codes "value") (string value)
+opening (toml value) = kind (codes "toml") ++ field (codes "value") (string value)
+opening (heading depth) = kind (codes "heading") ++ field (codes "depth") (decimal depth) ++ children
+opening (list ordered start spread) = kind (codes "list") ++ field (codes "ordered") (bool_text ordered) ++ field (codes "start") (or_null decimal start) ++ field (codes "spread") (bool_text spread) ++ children
+opening (list_item spread checked) = kind (codes "listItem") ++ field (codes "spread") (bool_text spread) ++ field (codes "checked") (or_null bool_text checked) ++ children
+opening (table align) = kind (codes "table") ++ field (codes "align") (codes "[" ++ alignments [] align ++ codes "]") ++ children
+opening (code value lang meta) = kind (codes "code") ++ field (codes "lang") (or_null string lang) ++ field (codes "meta") (or_null string meta) ++ field (codes "value") (string value)
+opening (math value meta) = kind (codes "math") ++ field (codes "meta") (or_null string meta) ++ field (codes "value") (string value)
+opening (link url title) = kind (codes "link") ++ resource url title ++ children
+opening (image alt url title) = kind (codes "image") ++ resource url title ++ field (codes "alt") (string alt)
+opening (link_reference reference_kind identifier label) = kind (codes "linkReference") ++ reference reference_kind identifier label ++ children
+opening (image_reference alt reference_kind identifier label) = kind (codes "imageReference") ++ reference reference_kind identifier label ++ field (codes "alt") (string alt)
+opening (footnote_reference identifier label) = kind (codes "footnoteReference") ++ association identifier label
+opening (footnote_definition identifier label) = kind (codes "footnoteDefinition") ++ association identifier label ++ children
+opening (definition url title identifier label) = kind (codes "definition") ++ association identifier label ++ resource url title
+
+-- the end of the children of a parent
+abbrev pub children_end : Label → List ℕ
+children_end thematic_break = []
+children_end «break» = []
+children_end (text _) = []
+children_end (html _) = []
+children_end (inline_code _) = []
+children_end (inline_math _) = []
+children_end (yaml _) = []
+children_end (toml _) = []
+children_end (code _ _ _) = []
+children_end (math _ _) = []
+children_end (image _ _ _) = []
+children_end (image_reference _ _ _ _) = []
+children_end (footnote_reference _ _) = []
+children_end (definition _ _ _ _) = []
+children_end _ = codes "]"
+
+-- a place in a document
+unfoldable pub point : Point → List ℕ
+point place = codes "{\"line\":" ++ decimal place.line ++ field (codes "column") (decimal place.column) ++ field (codes "offset") (decimal place.offset) ++ codes "}"
+
+-- where a node stands
+unfoldable pub span : Position → List ℕ
+span position = codes "{\"start\":" ++ point position.start ++ field (codes "end") (point position.end) ++ codes "}"
+
+-- the field of a position, which is left out where there is none
+abbrev pub position_field : Option Position → List ℕ
+position_field None = []
+position_field (Some position) = field (codes "position") (span position)
+
+-- what stands after the children
+abbrev pub closing : Label → Option Position → List ℕ
+closing label position = children_end label ++ position_field position ++ codes "}"
+
+-- nodes in order, the first after `lead` and each other one after a comma
+abbrev pub nodes_json : List ℕ → Trees → List ℕ
+nodes_json lead nothing = []
+nodes_json lead (node label children position rest) = lead ++ opening label ++ nodes_json [] children ++ closing label position ++ nodes_json (codes ",") rest
+
+-- one node
+abbrev pub json : Tree → List ℕ
+json tree = opening tree.label ++ nodes_json [] tree.children ++ closing tree.label tree.position

@@ -1,0 +1,85 @@
+//! Texts as JSON strings.
+
+ghost use Rattle.std.specs.Char.{digit_char};
+ghost use Rattle.std.specs.Prelude.{◌≡◌, ◌++◌, ◌∷◌, ◌<◌, [], OnOk, IsFalse, IsTrue, string_bytes};
+ghost use Rattle.markdown_json.specs.Strings.{escape, escaped, string};
+
+use std::alloc::AllocError;
+
+/// Puts a text after what is written, as it is.
+pub fn push(out: &mut String, text: &str) -> Result<(), AllocError>
+    ensures { OnOk result (string_bytes out.new ≡ string_bytes out.old ++ text.now) }
+{
+    out.push_str(text)
+}
+
+/// Puts a text between quotes after what is written.
+#[tactic(auto, unfolding(crate::specs::Strings::string))]
+pub fn push_string(out: &mut String, text: &str) -> Result<(), AllocError>
+    ensures { OnOk result (string_bytes out.new ≡ string_bytes out.old ++ string text.now) }
+{
+    push(out, "\"")?;
+    push_escaped(out, text)?;
+    push(out, "\"")
+}
+
+/// Puts a text after what is written, as it stands between quotes. What needs no escape is put as
+/// one run.
+fn push_escaped(out: &mut String, text: &str) -> Result<(), AllocError>
+    ensures { OnOk result (string_bytes out.new ≡ string_bytes out.old ++ escaped text.now) }
+{
+    let bytes = text.as_bytes();
+    let mut start = 0;
+    for at in 0..bytes.len() {
+        if is_escaped(bytes[at]) {
+            out.push_str(&text[start..at])?;
+            push_escape(out, bytes[at])?;
+            start = at + 1;
+        }
+    }
+    out.push_str(&text[start..])
+}
+
+/// Whether a byte has an escape: a quote, a backslash or a control character.
+#[tactic(auto, unfolding(crate::specs::Strings::escape))]
+fn is_escaped(byte: u8) -> bool
+    ensures ascii { IsTrue result → byte < 128 }
+    ensures plain { IsFalse result → escape byte ≡ byte ∷ [] }
+{
+    byte < b' ' || byte == b'"' || byte == b'\\'
+}
+
+/// Puts what stands for a byte between quotes after what is written.
+#[tactic(auto, unfolding(crate::specs::Strings::escape))]
+fn push_escape(out: &mut String, byte: u8) -> Result<(), AllocError>
+    requires { byte < 128 }
+    ensures { OnOk result (string_bytes out.new ≡ string_bytes out.old ++ escape byte) }
+{
+    match byte {
+        b'"' => push(out, "\\\""),
+        b'\\' => push(out, "\\\\"),
+        8 => push(out, "\\b"),
+        b'\t' => push(out, "\\t"),
+        b'\n' => push(out, "\\n"),
+        12 => push(out, "\\f"),
+        b'\r' => push(out, "\\r"),
+        0..32 => {
+            push(out, "\\u00")?;
+            out.push(hex_digit(byte / 16))?;
+            out.push(hex_digit(byte % 16))
+        }
+        _ => out.push(byte as char),
+    }
+}
+
+/// A hexadecimal digit, in lower case.
+fn hex_digit(value: u8) -> char
+    requires { value < 16 }
+    ensures { result ≡ digit_char value }
+{
+    if value < 10 {
+        (b'0' + value) as char
+    } else {
+        (b'a' - 10 + value) as char
+    }
+}
