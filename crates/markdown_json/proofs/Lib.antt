@@ -1,3 +1,3 @@
 mod Escapes
-mod Runs
+mod Fragments
 mod WritingLevels

@@ -117,13 +117,13 @@ unfoldable pub point : Point → List ℕ
 point place = codes "{\"line\":" ++ decimal place.line ++ field (codes "column") (decimal place.column) ++ field (codes "offset") (decimal place.offset) ++ codes "}"
 
 -- where a node stands
-unfoldable pub span : Position → List ℕ
-span position = codes "{\"start\":" ++ point position.start ++ field (codes "end") (point position.end) ++ codes "}"
+unfoldable pub position_value : Position → List ℕ
+position_value position = codes "{\"start\":" ++ point position.start ++ field (codes "end") (point position.end) ++ codes "}"
 
 -- the field of a position, which is left out where there is none
 abbrev pub position_field : Option Position → List ℕ
 position_field None = []
-position_field (Some position) = field (codes "position") (span position)
+position_field (Some position) = field (codes "position") (position_value position)
 
 -- what stands after the children
 abbrev pub closing : Label → Option Position → List ℕ

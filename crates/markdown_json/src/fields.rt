@@ -22,7 +22,7 @@ ghost use Rattle.markdown_json.specs.Json.{
   reference,
   reference_type,
   resource,
-  span,
+  position_value,
 };
 ghost use Rattle.markdown_json.specs.Strings.{string};
 
@@ -108,15 +108,15 @@ fn push_position(out: &mut String, node: &Node) -> Result<(), AllocError>
     ensures { OnOk result (string_bytes out.new ≡ string_bytes out.old ++ position_field (position_of node.now)) }
 {
     match node.position() {
-        Some(position) => push_span(out, *position),
+        Some(position) => push_position_field(out, *position),
         None => Ok(()),
     }
 }
 
 /// Puts the field of a position after what is written.
-#[tactic(auto, unfolding(crate::specs::Json::field, crate::specs::Json::span))]
-fn push_span(out: &mut String, position: Position) -> Result<(), AllocError>
-    ensures { OnOk result (string_bytes out.new ≡ string_bytes out.old ++ field (codes "position") (span position)) }
+#[tactic(auto, unfolding(crate::specs::Json::field, crate::specs::Json::position_value))]
+fn push_position_field(out: &mut String, position: Position) -> Result<(), AllocError>
+    ensures { OnOk result (string_bytes out.new ≡ string_bytes out.old ++ field (codes "position") (position_value position)) }
 {
     push_key(out, "position")?;
     push(out, "{\"start\":")?;

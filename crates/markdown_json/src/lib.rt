@@ -5,5 +5,7 @@ mod fields;
 mod json;
 pub mod laws;
 mod strings;
+#[cfg(test)]
+mod tests;
 
 pub use json::to_json;

@@ -23,8 +23,8 @@ pub fn push_string(out: &mut String, text: &str) -> Result<(), AllocError>
     push(out, "\"")
 }
 
-/// Puts a text after what is written, as it stands between quotes. What needs no escape is put as
-/// one run.
+/// Puts a text after what is written, as it stands between quotes. Bytes that need no
+/// escape are put as one fragment.
 fn push_escaped(out: &mut String, text: &str) -> Result<(), AllocError>
     ensures { OnOk result (string_bytes out.new ≡ string_bytes out.old ++ escaped text.now) }
 {

@@ -1,7 +1,7 @@
 use Rattle.std.proofs.Common.{List, ℕ, ◌++◌, ap, ◌∙◌, rules, arith}
 use Rattle.std.proofs.lemmas.Str.{IsCharBoundary-start}
 use Rattle.markdown_json.specs.Strings.{escape}
-use Rattle.markdown_json.proofs.Runs.{ends, goes_on}
+use Rattle.markdown_json.proofs.Fragments.{ends, goes_on}
 use Rattle.markdown_json.proofs.strings.push_escaped.Goals as goal
 use Rattle.markdown_json.proofs.strings.push_escaped.Goals.{then-is_escaped+in_ok-push_str+in_ok-push_escape, else-is_escaped}
 
