@@ -5,7 +5,5 @@ mod fields;
 mod json;
 pub mod laws;
 mod strings;
-#[cfg(test)]
-mod tests;
 
 pub use json::to_json;

@@ -8,6 +8,4 @@
 pub mod outline;
 pub mod references;
 pub mod report;
-#[cfg(test)]
-mod tests;
 mod walk;

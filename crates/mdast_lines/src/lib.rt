@@ -13,5 +13,3 @@ mod point;
 pub mod request;
 pub mod run;
 mod search;
-#[cfg(test)]
-mod tests;

@@ -7,19 +7,7 @@
 //! wrong or a file cannot be read, and with 3 where memory ran out.
 #![tactic(auto)]
 
-mod case;
-mod decoder;
-mod document;
-mod line;
-mod replay;
-mod run;
-mod spans;
-mod sums;
-mod table;
-#[cfg(test)]
-mod tests;
-
-use crate::run::{Input, RunError, run, status};
+use mdast_cases::run::{Input, RunError, run, status};
 use mdast_lines::input::{ReadError, read_all};
 use std::alloc::AllocError;
 use std::env;

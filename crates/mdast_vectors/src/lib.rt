@@ -3,7 +3,8 @@
 //! They show what no contract says: that calls succeed, how nodes are printed, how deep they go, and
 //! that the contracts mean what they were meant to. Their values were worked by hand from the rules
 //! of mdast, CommonMark and GFM, or are those of the tests of markdown-rs; none comes from a run of
-//! this repository. The tables of rows are those of the program `mdast_replay`.
+//! this repository. Lists of events with their trees are the tables that `mdast_replay` reads, and stand
+//! here only where they are too long, or where the tree comes from no list.
 //! `scripts/refuse-memory-in-rows` runs the tests with each allocation refused in turn.
 //!
 //! The crate passes `ordered` on, which asks whether a tree's nodes nest and stand in order: the trees
@@ -13,11 +14,15 @@
 #[cfg(test)]
 mod alignment;
 #[cfg(test)]
+mod check;
+#[cfg(test)]
 mod debug_form;
 #[cfg(test)]
 mod depths;
 #[cfg(test)]
-mod labels;
+mod json;
+#[cfg(test)]
+mod lines;
 #[cfg(test)]
 mod memory;
 #[cfg(test)]
@@ -32,6 +37,8 @@ mod outline;
 mod pairs;
 #[cfg(test)]
 mod refusals;
+#[cfg(test)]
+mod replay;
 #[cfg(test)]
 mod shown;
 #[cfg(test)]

@@ -1,4 +1,4 @@
-//! Lists that are no forest's, and all that is said of them.
+//! All that is said of a list that is no forest's. The cases of `forms.txt` have more.
 
 use crate::outline::{compiled, event_at};
 use markdown_nodes::event::{Event, Kind, Name};
@@ -35,36 +35,4 @@ fn unbalanced(rt: &impl Abort, alloc: Global, events: &[Event], point: Point) ->
 fn an_enter_alone(rt: HostRuntime) -> Result<(), Fail> {
     let events = [event_at(Kind::Enter, Name::Paragraph, 0)];
     unbalanced(&rt, rt.alloc(), &events, Point::new(1, 1, 0))
-}
-
-/// An exit with no span open is unbalanced.
-#[test]
-fn an_exit_alone(rt: HostRuntime) -> Result<(), Fail> {
-    let events = [event_at(Kind::Exit, Name::Paragraph, 0)];
-    unbalanced(&rt, rt.alloc(), &events, Point::new(1, 1, 0))
-}
-
-/// An exit of another name is unbalanced also where a break waits for its line ending: that the
-/// break is unfinished comes after it.
-#[test]
-fn an_exit_of_another_name_after_a_break(rt: HostRuntime) -> Result<(), Fail> {
-    let events = [
-        event_at(Kind::Enter, Name::Paragraph, 0),
-        event_at(Kind::Enter, Name::HardBreakEscape, 0),
-        event_at(Kind::Exit, Name::HardBreakEscape, 1),
-        event_at(Kind::Exit, Name::Emphasis, 2),
-    ];
-    unbalanced(&rt, rt.alloc(), &events, Point::new(1, 3, 2))
-}
-
-/// Of two crossed exits the first is unbalanced.
-#[test]
-fn crossed_exits(rt: HostRuntime) -> Result<(), Fail> {
-    let events = [
-        event_at(Kind::Enter, Name::Paragraph, 0),
-        event_at(Kind::Enter, Name::Data, 0),
-        event_at(Kind::Exit, Name::Paragraph, 1),
-        event_at(Kind::Exit, Name::Data, 2),
-    ];
-    unbalanced(&rt, rt.alloc(), &events, Point::new(1, 2, 1))
 }

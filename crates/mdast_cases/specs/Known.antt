@@ -2,8 +2,8 @@
 use Rattle.std.specs.Prelude.{ℕ, List, Option, Some, None, codes, if◌then◌else◌}
 use Rattle.std.specs.Str.{bytes_eq}
 use Rattle.mdast_lines.specs.Decoder.{decoded}
-use Rattle.mdast_replay.specs.declared.decoder.CaseDecoder.{CaseDecoder}
-use Rattle.mdast_replay.specs.declared.decoder.CaseDecoder.TheVariants.{Usual, Blank}
+use Rattle.mdast_cases.specs.declared.decoder.CaseDecoder.{CaseDecoder}
+use Rattle.mdast_cases.specs.declared.decoder.CaseDecoder.TheVariants.{Usual, Blank}
 
 -- a space for the empty value
 abbrev pub blank : List ℕ → Option (List ℕ)

@@ -28,6 +28,13 @@ pub enum Line<'a> {
     Answer(&'a str),
     /// Whether the tree is ordered: `ordered yes`.
     Ordered(bool),
+    /// The tree as JSON: `json {"type":"root","children":[]}`.
+    Json(&'a str),
+    /// The plain text of the tree, between quotes and with escapes: `plain "Hi"`.
+    Plain(&'a str),
+    /// The lines of what is found in the tree, between quotes and with escapes:
+    /// `report "heading 1 \"Hi\"\n"`.
+    Report(&'a str),
 }
 
 /// Why a line was not read.
@@ -64,7 +71,7 @@ impl From<LinesError> for LineError {
 pub fn read_line(text: &str) -> Option<Line<'_>> {
     match text.as_bytes().first() {
         None | Some(b'#') => Some(Line::Nothing),
-        Some(b'"') => Some(Line::Quoted(text.strip_prefix('"')?.strip_suffix('"')?)),
+        Some(b'"') => Some(Line::Quoted(between_quotes(text)?)),
         Some(b'+' | b'-') => Some(Line::Event(text)),
         Some(b'=' | b'!') => Some(Line::Answer(text)),
         Some(b'A'..=b'Z') => Some(Line::Spans(text)),
@@ -86,6 +93,14 @@ fn read_words(text: &str) -> Option<Line<'_>> {
         "decoder" if rest == "blank" => Some(Line::Blank),
         "ordered" if rest == "yes" => Some(Line::Ordered(true)),
         "ordered" if rest == "no" => Some(Line::Ordered(false)),
+        "json" => Some(Line::Json(rest)),
+        "plain" => Some(Line::Plain(between_quotes(rest)?)),
+        "report" => Some(Line::Report(between_quotes(rest)?)),
         _ => None,
     }
+}
+
+/// What stands between the quotes of a text.
+fn between_quotes(text: &str) -> Option<&str> {
+    text.strip_prefix('"')?.strip_suffix('"')
 }

@@ -1,11 +1,13 @@
 //! What is compiled of a case, and compared with what must come.
 
-use crate::case::Case;
+use crate::case::{Case, Forms};
 use markdown_grammar::ordered::ordered;
+use markdown_json::to_json;
 use markdown_nodes::event::{Event, Kind, Point};
 use markdown_nodes::mdast::Node;
 use markdown_nodes::message::{Fault, Message, Place};
 use markdown_tree::to_mdast::{Steps, compile, compile_counted};
+use mdast_check::report::report_of;
 use std::alloc::{AllocError, AllocFailed, Global};
 
 /// A list of events that is compiled for a case.
@@ -67,14 +69,17 @@ pub fn difference(alloc: Global, case: &Case<'_>) -> Result<Option<String>, Allo
     }
 }
 
-/// Compiles a case, asks whether its tree is ordered, and compiles what comes of it when it is cut or
-/// its exits are swapped.
+/// Compiles a case, looks at what is made of its tree, and compiles what comes of the list when it is
+/// cut or its exits are swapped.
 fn replay(alloc: Global, case: &Case<'_>) -> Result<(), ReplayError> {
     let events = case.events.as_slice();
     expect(List::Whole, compiled(alloc, case, events)?, case.answer)?;
     expect(List::Counted, counted(alloc, case)?, case.answer)?;
     if case.has_tree() {
-        order(alloc, case)?;
+        let tree = tree(alloc, case)?;
+        order(alloc, case, &tree)?;
+        copy(alloc, case, &tree)?;
+        forms(alloc, &case.forms, &tree)?;
         cut(alloc, case)?;
         swap(alloc, case)?;
     }
@@ -90,23 +95,67 @@ fn expect(list: List, answer: String, want: &str) -> Result<(), ReplayError> {
     }
 }
 
-/// The tree is ordered where the offsets of the events never go back, and else as the case says.
-fn order(alloc: Global, case: &Case<'_>) -> Result<(), ReplayError> {
-    let events = case.events.as_slice();
+/// The tree of a case.
+fn tree(alloc: Global, case: &Case<'_>) -> Result<Node, ReplayError> {
     let bytes = case.document.bytes.as_slice();
-    let tree = match compile(alloc, events, bytes, &case.decoder) {
-        Ok(tree) => tree,
+    match compile(alloc, case.events.as_slice(), bytes, &case.decoder) {
+        Ok(tree) => Ok(tree),
         Err(Fault::Message(message)) => {
-            return Err(ReplayError::Differs(List::Whole, refusal(alloc, message)?));
+            Err(ReplayError::Differs(List::Whole, refusal(alloc, message)?))
         }
-        Err(Fault::Memory(error)) => return Err(ReplayError::Memory(error)),
-    };
-    let is_ordered = ordered(&tree);
+        Err(Fault::Memory(error)) => Err(ReplayError::Memory(error)),
+    }
+}
+
+/// The tree is ordered where the offsets of the events never go back, and else as the case says.
+fn order(alloc: Global, case: &Case<'_>, tree: &Node) -> Result<(), ReplayError> {
+    let events = case.events.as_slice();
+    let is_ordered = ordered(tree);
     if (never_goes_back(events) && !is_ordered) || case.ordered == Some(!is_ordered) {
         let answer = String::from_str(alloc, order_text(is_ordered))?;
         return Err(ReplayError::Differs(List::Whole, answer));
     }
     Ok(())
+}
+
+/// A copy of the tree equals it, and `to_debug_string` gives the answer of the case.
+fn copy(alloc: Global, case: &Case<'_>, tree: &Node) -> Result<(), ReplayError> {
+    let copy = tree.clone(alloc)?;
+    if copy != *tree {
+        let answer = format!(in alloc; "another copy, {copy:?}")?;
+        return Err(ReplayError::Differs(List::Whole, answer));
+    }
+    let line = copy.to_debug_string(alloc)?;
+    expect(List::Whole, format!(in alloc; "= {line}")?, case.answer)
+}
+
+/// The JSON, the plain text and the report of the tree are as the case says.
+fn forms(alloc: Global, forms: &Forms<'_>, tree: &Node) -> Result<(), ReplayError> {
+    if let Some(want) = forms.json {
+        expect_form(alloc, "JSON", to_json(alloc, tree)?, want.as_bytes())?;
+    }
+    if let Some(want) = &forms.plain {
+        expect_form(alloc, "plain text", tree.to_string(alloc)?, want.as_slice())?;
+    }
+    if let Some(want) = &forms.report {
+        expect_form(
+            alloc,
+            "report",
+            report_of(alloc, tree)?.text,
+            want.as_slice(),
+        )?;
+    }
+    Ok(())
+}
+
+/// Compares what is made of a tree with what must be made.
+fn expect_form(alloc: Global, what: &str, form: String, want: &[u8]) -> Result<(), ReplayError> {
+    if form.as_bytes() == want {
+        Ok(())
+    } else {
+        let answer = format!(in alloc; "the {what} {form}")?;
+        Err(ReplayError::Differs(List::Whole, answer))
+    }
 }
 
 /// How a line says whether a tree is ordered.

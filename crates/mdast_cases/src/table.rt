@@ -18,10 +18,11 @@
 //! = Root { .. }
 //! ```
 
-use crate::case::Case;
+use crate::case::{Case, Forms};
 use crate::decoder::CaseDecoder;
 use crate::document::Document;
 use crate::line::{Line, LineError, read_line};
+use crate::quoted::unescaped;
 use crate::spans::events_of_spans;
 use crate::sums::Checksum;
 use markdown_nodes::event::Event;
@@ -144,6 +145,8 @@ struct Draft<'a> {
     answer: Option<&'a str>,
     /// Whether the tree is ordered, after the line that says it.
     ordered: Option<bool>,
+    /// What else is made of the tree, after the lines that say it.
+    forms: Forms<'a>,
     /// The checksum of its lines so far.
     checksum: Checksum,
 }
@@ -159,6 +162,7 @@ impl<'a> Draft<'a> {
             events: Vec::new(alloc),
             answer: None,
             ordered: None,
+            forms: Forms::new(),
             checksum: Checksum::new().with_line(name),
         }
     }
@@ -167,9 +171,12 @@ impl<'a> Draft<'a> {
     fn add(&mut self, alloc: Global, line: Line<'a>, text: &str) -> Result<(), LineError> {
         self.checksum = self.checksum.with_line(text);
         match line {
-            Line::Quoted(text) => self.set_document(Document::from_quoted(alloc, text)?),
+            Line::Quoted(text) => once(&mut self.document, Document::from_quoted(alloc, text)?),
             Line::Hexadecimal(digits) => {
-                self.set_document(Document::from_hexadecimal(alloc, digits)?)
+                once(
+                    &mut self.document,
+                    Document::from_hexadecimal(alloc, digits)?,
+                )
             }
             Line::OneLine => self.join_lines(),
             Line::Blank => {
@@ -178,17 +185,12 @@ impl<'a> Draft<'a> {
             }
             Line::Spans(text) => self.add_spans(alloc, text),
             Line::Event(text) => Ok(self.events.append(&mut events(alloc, text.as_bytes())?)?),
-            Line::Answer(text) => self.set_answer(text),
-            Line::Ordered(ordered) => self.set_ordered(ordered),
+            Line::Answer(text) => once(&mut self.answer, text),
+            Line::Ordered(ordered) => once(&mut self.ordered, ordered),
+            Line::Json(text) => once(&mut self.forms.json, text),
+            Line::Plain(text) => once(&mut self.forms.plain, unescaped(alloc, text)?),
+            Line::Report(text) => once(&mut self.forms.report, unescaped(alloc, text)?),
             Line::Nothing | Line::Section(_) | Line::Case(_) => Err(LineError::Unread),
-        }
-    }
-
-    /// The document is this one. A case has one line for it.
-    fn set_document(&mut self, document: Document) -> Result<(), LineError> {
-        match self.document.replace(document) {
-            None => Ok(()),
-            Some(_) => Err(LineError::Unread),
         }
     }
 
@@ -214,22 +216,6 @@ impl<'a> Draft<'a> {
         }
     }
 
-    /// The answer is this one. A case has one line for it.
-    fn set_answer(&mut self, answer: &'a str) -> Result<(), LineError> {
-        match self.answer.replace(answer) {
-            None => Ok(()),
-            Some(_) => Err(LineError::Unread),
-        }
-    }
-
-    /// The tree is ordered, or is not. A case has at most one line for it.
-    fn set_ordered(&mut self, ordered: bool) -> Result<(), LineError> {
-        match self.ordered.replace(ordered) {
-            None => Ok(()),
-            Some(_) => Err(LineError::Unread),
-        }
-    }
-
     /// The case of a section, if nothing is missing.
     fn case(self, section: &'a str) -> Option<Case<'a>> {
         Some(Case {
@@ -240,7 +226,16 @@ impl<'a> Draft<'a> {
             events: self.events,
             answer: self.answer?,
             ordered: self.ordered,
+            forms: self.forms,
             checksum: self.checksum,
         })
+    }
+}
+
+/// Keeps what a line says. A case has at most one line for it.
+fn once<T: Drop>(place: &mut Option<T>, value: T) -> Result<(), LineError> {
+    match place.replace(value) {
+        None => Ok(()),
+        Some(_) => Err(LineError::Unread),
     }
 }

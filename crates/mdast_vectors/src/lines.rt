@@ -1,12 +1,14 @@
+//! What the runs of a program print, and what its reader and its decoder take.
+
 ghost use Rattle.std.specs.Prelude.{◌<◌};
 
-use crate::check::run_check;
-use crate::decoder::Decoder;
-use crate::lines::events;
-use crate::request::{DocumentError, Request};
-use crate::run::run;
 use markdown_nodes::event::{Event, Kind, Name, Point};
 use markdown_tree::to_mdast::References;
+use mdast_lines::check::run_check;
+use mdast_lines::decoder::Decoder;
+use mdast_lines::lines::events;
+use mdast_lines::request::{DocumentError, Request};
+use mdast_lines::run::run;
 use std::alloc::{AllocError, Global};
 use std::io::{self, ErrorKind, Read, Write};
 use std::process::Abort;

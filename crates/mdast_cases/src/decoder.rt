@@ -14,7 +14,7 @@ pub enum CaseDecoder {
 }
 
 impl References for CaseDecoder {
-    ghost use Rattle.mdast_replay.specs.Known.{known};
+    ghost use Rattle.mdast_cases.specs.Known.{known};
 
     ghost text = { known };
 

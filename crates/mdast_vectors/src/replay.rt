@@ -1,4 +1,6 @@
-use crate::run::{Input, run, status};
+//! What a run over tables of cases says of those that are not as they must be.
+
+use mdast_cases::run::{Input, run, status};
 use std::process::Abort;
 use std::test::Fail;
 

@@ -22,8 +22,32 @@ pub struct Case<'a> {
     pub answer: &'a str,
     /// Whether its tree is ordered, where a line says it.
     pub ordered: Option<bool>,
+    /// What else is made of its tree, where lines say it.
+    pub forms: Forms<'a>,
     /// The checksum of its lines.
     pub checksum: Checksum,
+}
+
+/// What is made of a tree beside its Debug form.
+#[derive(Drop)]
+pub struct Forms<'a> {
+    /// The tree as JSON.
+    pub json: Option<&'a str>,
+    /// Its plain text.
+    pub plain: Option<Vec<u8>>,
+    /// The lines of what is found in it.
+    pub report: Option<Vec<u8>>,
+}
+
+impl Forms<'_> {
+    /// Before any line says one.
+    pub fn new() -> Forms<'static> {
+        Forms {
+            json: None,
+            plain: None,
+            report: None,
+        }
+    }
 }
 
 impl Case<'_> {

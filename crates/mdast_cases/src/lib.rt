@@ -1,0 +1,17 @@
+//! Tables of cases: lists of events over documents, and what `compile` must give for each. The
+//! program `mdast_replay` replays them.
+//!
+//! `table` reads a table, `replay` compares one case with what `compile` gives, and `run` is a run over
+//! the files of a program.
+#![tactic(auto)]
+
+mod case;
+mod decoder;
+mod document;
+mod line;
+mod quoted;
+mod replay;
+pub mod run;
+mod spans;
+mod sums;
+mod table;

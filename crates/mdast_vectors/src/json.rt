@@ -1,0 +1,51 @@
+//! What trees are as JSON that no list of events gives. The cases of `forms.txt` and of the lists of the
+//! original have each kind of node.
+
+use markdown_json::to_json;
+use markdown_nodes::mdast;
+use markdown_nodes::mdast::Node;
+use std::alloc::{AllocError, Global};
+use std::test::Fail;
+
+/// A text without a position.
+fn text(alloc: Global, value: &str) -> Result<Node, AllocError> {
+    Ok(Node::Text(mdast::Text {
+        value: String::from_str(alloc, value)?,
+        position: None,
+    }))
+}
+
+#[test]
+fn nodes_without_positions(rt: HostRuntime) -> Result<(), Fail> {
+    let alloc = rt.alloc();
+    let tree = Node::Root(mdast::Root {
+        children: vec![in alloc; text(alloc, "a")?, text(alloc, "")?]?,
+        position: None,
+    });
+    assert_eq!(rt;
+        to_json(alloc, &tree)?.as_str(),
+        r#"{"type":"root","children":[{"type":"text","value":"a"},{"type":"text","value":""}]}"#
+    );
+    Ok(())
+}
+
+/// How many block quotes stand in one another.
+const LEVELS: usize = 100_000;
+
+#[test]
+fn a_hundred_thousand_levels(rt: HostRuntime) -> Result<(), Fail> {
+    let alloc = rt.alloc();
+    let mut tree = text(alloc, "a")?;
+    for _ in 0..LEVELS {
+        tree = Node::Blockquote(mdast::Blockquote {
+            children: vec![in alloc; tree]?,
+            position: None,
+        });
+    }
+    let line = to_json(alloc, &tree)?;
+    let mut want = "{\"type\":\"blockquote\",\"children\":[".repeat(alloc, LEVELS)?;
+    want.push_str("{\"type\":\"text\",\"value\":\"a\"}")?;
+    want.push_str("]}".repeat(alloc, LEVELS)?.as_str())?;
+    assert!(rt; line == want);
+    Ok(())
+}
