@@ -160,6 +160,19 @@ impl Node {
         }
     }
 
+    /// The children of a node, in order, and an empty slice for a node that is no parent.
+    ///
+    /// For a list of two items it has the two items, and for a text it is empty, as it is for a
+    /// paragraph without children.
+    pub fn child_nodes(&self) -> &[Node]
+        ensures { result.now ≡ nodes_in self.now }
+    {
+        match self.children() {
+            Some(children) => children.as_slice(),
+            None => &[],
+        }
+    }
+
     /// The children of a parent, to be changed, and `None` for a node that is no parent.
     ///
     /// What is written through it becomes the node's children, and nothing else changes.
