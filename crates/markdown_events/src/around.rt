@@ -1,16 +1,17 @@
-//! What is around a span, as far as well-formedness asks.
+//! What is around a span, as far as well-formedness asks: for the crates of this repository.
 
 ghost use Rattle.std.specs.Prelude.{◌≡◌};
 ghost use Rattle.markdown_events.specs.Around.{in_the_open, may_begin, under};
 
 use crate::role::{Role, TransparentKind};
 
-/// What is around a span, as far as well-formedness asks (ours).
+/// What is around a span, as far as well-formedness asks (ours). It is there for the crates of this
+/// repository; whoever compiles events needs none.
 ///
 /// In a `GfmTableDelimiterRow`, `in_row` is true at any depth, and no other such row may begin.
 #[derive(Clone, Copy, PartialEq, Eq, Debug)]
 pub struct Around {
-    /// The innermost open span may not hold any span.
+    /// The innermost open span may contain no span.
     pub in_sealed: bool,
     /// A delimiter row is open.
     pub in_row: bool,
@@ -19,7 +20,7 @@ pub struct Around {
 }
 
 impl Around {
-    /// Nothing is around: no span is open.
+    /// What is around a span where no span is open.
     ///
     /// A span of any role may begin there.
     pub fn in_the_open() -> Around
@@ -32,10 +33,11 @@ impl Around {
         }
     }
 
-    /// Whether a span of the role may begin here: not in what holds nothing, no delimiter row in a
-    /// delimiter row, and no delimiter cell value in a delimiter cell value.
+    /// Whether a span of the role may begin here: none directly in a span that is sealed
+    /// ([`Role::is_sealed`]), no delimiter row inside a delimiter row, and no delimiter cell value
+    /// inside a delimiter cell value.
     ///
-    /// In a line ending, no span may.
+    /// In a line ending, no span may begin.
     #[inline]
     pub fn allows(self, role: Role) -> bool
         ensures { result ≡ may_begin self role }
@@ -48,9 +50,9 @@ impl Around {
         }
     }
 
-    /// What is around the spans in a span of the role that stands here.
+    /// What is around the spans in a span of this role that begins here.
     ///
-    /// In a delimiter row outside others, `in_row` alone is true.
+    /// In a delimiter row with no span around it, `in_row` alone is true.
     #[inline]
     pub fn inside(self, role: Role) -> Around
         ensures { result ≡ under self role }

@@ -1,4 +1,4 @@
-//! Events: the flat list in which a tokenizer says what a document is made of.
+//! Events: the flat list of enters and exits that a tokenizer gives for a document (micromark).
 
 ghost use Rattle.std.specs.Prelude.{◌≡◌, ◌↔◌, IsTrue, Some, map};
 ghost use Rattle.markdown_events.specs.Spelling.{spelling, first_spelled, name_of_length, name_of};
@@ -12,7 +12,7 @@ mod spans;
 
 pub use spans::span_begins;
 
-/// Whether an event is where a span begins or where it ends (micromark).
+/// Whether an event is the enter or the exit of a span (micromark).
 ///
 /// In an event line `Kind::Enter` is written `+`, and `Kind::Exit` is written `-`.
 #[derive(Clone, Copy, PartialEq, Eq, Debug)]
@@ -23,12 +23,14 @@ pub enum Kind {
     Exit,
 }
 
-/// What a span is, in the terms of micromark and of the tokenizer of the crate `markdown`.
+/// The name of a span: what the tokenizer found there (micromark, by the names of the crate
+/// `markdown`).
 ///
-/// [`Name::role`] says what a name is to the tree, and [`Name::text`] how it is written.
+/// [`Name::role`] says what a name is to the tree, and [`Name::text`] how it is written. The tables
+/// of `docs/EVENTS.md` have an example of each.
 ///
-/// In the document `*a*` the whole is `Name::Emphasis`, each star `Name::EmphasisSequence`, and the
-/// `a` is `Name::EmphasisText`, which holds a `Name::Data`.
+/// In the document `*a*` the whole is a `Name::Emphasis`, each star a `Name::EmphasisSequence`, and
+/// the `a` a `Name::EmphasisText` with a `Name::Data` in it.
 #[derive(Clone, Copy, PartialEq, Eq, Debug)]
 pub enum Name {
     // Data: a part of a text.
@@ -119,7 +121,9 @@ pub enum Name {
     GfmTableDelimiterRow,
     GfmTableDelimiterCellValue,
     GfmTableDelimiterMarker,
-    // Transparent names that nothing looks at.
+    // Transparent names that no rule names. Their spans still count as children: where one is the
+    // first or the last child of a delimiter cell value, no colon is, and where one comes directly
+    // before a blank line ending, no prefix does.
     AttentionSequence,
     AutolinkMarker,
     BlockQuoteMarker,
@@ -372,7 +376,7 @@ static NAMES_BY_LENGTH: [&[Name]; 36] = [
 ];
 
 impl Name {
-    /// How the name is written in an event line.
+    /// The name as it is written in an event line.
     ///
     /// `Name::BlockQuote.text()` is `BlockQuote`.
     pub fn text(self) -> &'static str
@@ -523,7 +527,8 @@ impl Name {
         }
     }
 
-    /// Whether it is the same name.
+    /// Whether two names are the same, as `==` says, with a contract of its own for the crates of
+    /// this repository.
     ///
     /// `Name::Data.is(Name::Data)` is true, and `Name::HtmlFlow.is(Name::HtmlText)` is false.
     pub fn is(self, other: Name) -> bool
@@ -533,7 +538,7 @@ impl Name {
         self == other
     }
 
-    /// The name that is written so, if there is one. Letters count as they are: `data` is no name.
+    /// The name that is written like this, or none. Case matters: `data` is no name.
     ///
     /// `Name::find("Data")` is `Some(Name::Data)`, and `Name::find("Nope")` is `None`.
     pub fn find(text: &str) -> Option<Name>
@@ -543,7 +548,7 @@ impl Name {
         Name::find_bytes(text.as_bytes())
     }
 
-    /// The same for bytes, which need not be UTF-8.
+    /// The same as [`find`](Name::find) for bytes, which need not be UTF-8.
     ///
     /// `Name::find_bytes(b"Data")` is `Some(Name::Data)`.
     pub fn find_bytes(text: &[u8]) -> Option<Name>
@@ -576,24 +581,25 @@ fn find_in_row(names: &[Name], text: &[u8]) -> Option<Name>
     None
 }
 
-/// A place between two characters of a document, as the tokenizer of the crate `markdown` has it.
+/// A place in a document, as the tokenizer of the crate `markdown` has it.
 ///
-/// In the document `Hi` the place after the `H` is
+/// In the document `Hi` the point after the `H` is
 /// `Point { line: 1, column: 2, index: 1, vs: 0 }`.
 #[derive(Clone, Copy, PartialEq, Eq, Debug)]
 pub struct Point {
-    /// The line, counted from 1.
+    /// The line, counted from 1. It is not compared with the document.
     pub line: usize,
-    /// The column, counted from 1.
+    /// The column, counted from 1, in whatever unit the tokenizer counts.
     pub column: usize,
-    /// The byte of the document, counted from 0: how many bytes stand before the place.
+    /// The offset: how many bytes of the document come before the point, counted from 0.
     pub index: usize,
-    /// How many spaces of the tab at the index stand before the place.
+    /// Virtual spaces: of a point within a tab, how many of the tab's columns come before the point,
+    /// and otherwise 0.
     pub vs: usize,
 }
 
 impl Point {
-    /// The place in the tree: the index is the offset, and virtual spaces are dropped.
+    /// The point as unist has it: the index is the offset, and virtual spaces are dropped.
     ///
     /// `Point { line: 1, column: 3, index: 2, vs: 1 }.to_unist()` is `unist::Point::new(1, 3, 2)`.
     pub fn to_unist(&self) -> unist::Point
@@ -603,16 +609,16 @@ impl Point {
     }
 }
 
-/// Where a span begins or ends (micromark).
+/// The enter or the exit of a span (micromark).
 ///
 /// The event line `+Data 1:1:0` is `Event { kind: Kind::Enter, name: Name::Data, point }`, where
 /// `point` is the start of the document.
 #[derive(Clone, Copy, PartialEq, Eq, Debug)]
 pub struct Event {
-    /// Whether the span begins or ends here.
+    /// Whether it is the enter or the exit.
     pub kind: Kind,
-    /// What the span is.
+    /// The name of the span.
     pub name: Name,
-    /// Where it begins or ends.
+    /// Where the span begins or ends.
     pub point: Point,
 }

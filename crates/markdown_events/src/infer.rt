@@ -1,8 +1,8 @@
-//! What the events of a span say of its node: whether a list or an item is spread, and how the
-//! columns of a table are aligned.
+//! Fields of nodes that are read off the events of a whole span: whether a list or an item is spread,
+//! and how the columns of a table are aligned.
 //!
-//! Each function asks for the events of a well-formed span, which
-//! [`span_begins`](crate::event::span_begins) finds.
+//! Each function asks that a well-formed span begins at the index, which
+//! [`span_begins`](crate::event::span_begins) finds out.
 
 ghost use Rattle.std.specs.Prelude.{◌≡◌, IsOk, IfOk, false, []};
 ghost use Rattle.markdown_events.specs.declared.event.Name.TheVariants as names;
@@ -15,16 +15,16 @@ use crate::event::{Event, Kind, Name};
 use std::alloc::{AllocError, Global};
 use std::fmt;
 
-/// How a column of a table is aligned (GFM, tables). Debug prints its name.
+/// The alignment of a column of a table (GFM, tables; mdast, `alignType`). Debug prints its name.
 #[derive(Clone, Copy, PartialEq, Eq)]
 pub enum AlignKind {
-    /// `| :-- |`
+    /// Left: `| :-- |`.
     Left,
-    /// `| --: |`
+    /// Right: `| --: |`.
     Right,
-    /// `| :-: |`
+    /// Center: `| :-: |`.
     Center,
-    /// `| --- |`
+    /// None is given: `| --- |`.
     None,
 }
 
@@ -44,18 +44,17 @@ impl fmt::Debug for AlignKind {
     }
 }
 
-/// Whether the list that begins at this index is loose.
+/// Whether the list whose enter is at this index, counted from 0, is loose.
 ///
-/// It is, if a blank line ending that is its direct child counts: it does not where the sibling
-/// directly before it is an item without content at its end, that is, one whose last child, one
-/// `SpaceOrTab` skipped, is its prefix or a block quote that ends with its own prefix. With
-/// `include_items` a loose item makes it loose too, as [`list_item_loose`] says: CommonMark's
-/// loose lists are these, and mdast's `spread` of a list leaves the items out. Which blank lines
-/// do not count is a rule of markdown-rs, whose tokenizer puts them there. This cannot fail, and
-/// takes no memory.
+/// It is loose where a blank line ending that is its direct child counts. Such a blank line ending
+/// counts unless the sibling directly before it is an item without content at its end: an item whose
+/// last child, one `SpaceOrTab` skipped, is its prefix, or a block quote that ends with its own
+/// prefix. With `include_items`, a loose item, as [`list_item_loose`] says, makes the list loose too:
+/// these are the loose lists of CommonMark, and mdast's `spread` of a list leaves the items out.
+/// Which blank lines do not count is a rule of markdown-rs. This cannot fail, and takes no memory.
 ///
-/// A list of an item with a paragraph, a blank line ending and another item is loose; it is not,
-/// if there is nothing but its prefix in the first item.
+/// A list of an item with a paragraph, a blank line ending and another item is loose. It is not
+/// where the first item has only its prefix.
 pub fn list_loose(events: &[Event], index: usize, include_items: bool) -> bool
     requires span { Begins events.now index }
     requires name { IsListAt events.now index }
@@ -65,12 +64,12 @@ pub fn list_loose(events: &[Event], index: usize, include_items: bool) -> bool
     list_walk(&events[index + 1..], include_items)
 }
 
-/// Whether the list item that begins at this index is loose.
+/// Whether the list item whose enter is at this index, counted from 0, is loose.
 ///
-/// It is, if a blank line ending that is its direct child counts: it does not where the sibling
-/// before it, one `SpaceOrTab` skipped, is the item's prefix. This is mdast's `spread` of a list
-/// item; that the line of the prefix may be blank is CommonMark's. This cannot fail, and takes no
-/// memory.
+/// It is loose where a blank line ending that is its direct child counts. Such a blank line ending
+/// counts unless the sibling before it, one `SpaceOrTab` skipped, is the item's prefix. This is
+/// mdast's `spread` of a list item; that an item may begin with a blank line is CommonMark's. This
+/// cannot fail, and takes no memory.
 ///
 /// An item of a prefix, a paragraph and a blank line ending is loose, and one of a prefix and a
 /// blank line ending is not.
@@ -83,13 +82,13 @@ pub fn list_item_loose(events: &[Event], index: usize) -> bool
     item_walk(&events[index + 1..])
 }
 
-/// How the columns of the table that begins at this index are aligned.
+/// The alignment of each column of the table whose enter is at this index, counted from 0.
 ///
-/// Each delimiter cell value in the table's first delimiter row, at any depth, gives one entry, in
-/// order: `Center` where its first and its last child are colons, also a lone one, `Left` where its
-/// first alone is one, `Right` where its last alone is one, and otherwise `None` (GFM). A table
-/// without such a row has no entry. The only error is that memory ran out, and a table without
-/// entries takes none.
+/// Each delimiter cell value inside the table's first delimiter row gives one entry, in order:
+/// `Center` where its first and its last child are colons, even if they are one and the same, `Left`
+/// where only the first is, `Right` where only the last is, and otherwise `None` (GFM). A table
+/// without a delimiter row has no entries. The only error is that memory ran out, and a table
+/// without entries takes no memory.
 ///
 /// A table with the delimiter row `| :-- | - |` gives `[AlignKind::Left, AlignKind::None]`.
 pub fn gfm_table_align(

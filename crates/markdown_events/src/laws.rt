@@ -3,9 +3,10 @@
 ghost use Rattle.std.specs.Prelude.{◌≡◌};
 ghost use Rattle.markdown_events.specs.Forest.{Forest, events_of};
 
-/// A list of events is that of at most one forest (ours).
+/// A list of events is the list of at most one forest (ours).
 ///
-/// The four events of the document `Hi` are those of a `Paragraph` that contains a `Data`.
+/// The four events of the document `Hi` are those of a `Paragraph` with a `Data` in it, and of no other
+/// forest.
 #[tactic(auto, using(crate::proofs::Unique::one_forest))]
 pub fn one_forest()
     ensures { (first second : Forest) → events_of first ≡ events_of second → first ≡ second }

@@ -1,4 +1,4 @@
-//! Why no tree was made.
+//! Messages and errors: why no tree was made.
 
 ghost use Rattle.std.specs.Prelude.{◌≡◌, alloc_error};
 ghost use Rattle.markdown_events.specs.declared.message.Fault.TheVariants.{Memory};
@@ -6,43 +6,43 @@ ghost use Rattle.markdown_events.specs.declared.message.Fault.TheVariants.{Memor
 use crate::unist::{Point, Position};
 use std::alloc::{AllocError, AllocFailed};
 
-/// Where a message points to (the crate `markdown`).
+/// The place that a message is about (as in the crate `markdown`).
 ///
-/// `Place::Point(Point::new(1, 3, 2))` points to line 1, column 3, before which two bytes stand.
+/// `Place::Point(Point::new(1, 3, 2))` is line 1, column 3, after two bytes of the document.
 #[derive(Clone, Copy, PartialEq, Eq, Debug)]
 pub enum Place {
-    /// One place.
+    /// A point.
     Point(Point),
-    /// From one place to another.
+    /// A position: from one point to another.
     Position(Position),
 }
 
-/// What is wrong with an input, and where. Making one takes no memory. The fields are those of the
-/// crate `markdown`; the rules are ours.
+/// What is wrong with an input, and where (the fields are those of the crate `markdown`; the rules
+/// are ours, and `docs/REFUSALS.md` lists them). Making one takes no memory.
 ///
 /// For a list of events that leaves a span open `rule_id` is `events-unbalanced`, and `place` is
 /// the point of the last event.
 #[derive(Clone, Copy, PartialEq, Eq, Debug)]
 pub struct Message {
-    /// Where it is wrong. The compiler of trees always gives a point.
+    /// The place of the error. `compile` always gives a point, that of an event.
     pub place: Option<Place>,
-    /// What is wrong, for a reader.
+    /// What is wrong: a sentence for people.
     pub reason: &'static str,
-    /// The rule that is broken, for a program: `slice-invalid`, for one.
+    /// The rule that is violated: an identifier for programs, such as `slice-invalid`.
     pub rule_id: &'static str,
-    /// Who says so: `markdown-rs`.
+    /// Where the message comes from: `markdown-rs`.
     pub source: &'static str,
 }
 
-/// Why no tree was made: the input is refused, or memory ran out (ours).
+/// The error of a call that makes a tree: the input is refused, or memory ran out (ours).
 ///
-/// `Fault::Memory(error)` says nothing of the input; `Fault::Message(message)` says what is wrong
-/// with it.
+/// `Fault::Message(message)` says what is wrong with the input; `Fault::Memory(error)` says nothing
+/// of the input.
 #[derive(Debug, Drop)]
 pub enum Fault {
     /// The input is refused.
     Message(Message),
-    /// The allocator gave no memory. This says nothing of the input.
+    /// Memory ran out.
     Memory(AllocError),
 }
 

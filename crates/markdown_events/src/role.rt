@@ -1,6 +1,6 @@
-//! What each name is to the tree. Besides, names are looked at for their spelling, and two are
-//! compared for whether they are the same. One name is written elsewhere: `row_align` in `infer`
-//! begins with `Name::GfmTableDelimiterRow`, which says that nothing stands before in the row.
+//! What each name is to the tree. The other crates ask of names only their roles, their spelling, and
+//! whether two are the same. One name is written elsewhere: `row_align` in `infer` begins with
+//! `Name::GfmTableDelimiterRow`, which says that nothing comes before in the row.
 
 ghost use Rattle.std.specs.Prelude.{◌≡◌};
 ghost use Rattle.markdown_events.specs.Names.{role_of};
@@ -11,109 +11,112 @@ ghost use Rattle.markdown_events.specs.Walks.{is_list_item, is_block_quote};
 
 use crate::event::Name;
 
-/// A transparent name: it makes no node, and what is in its span counts as its container's (ours).
+/// A transparent name: its span gives no node and no field, and the spans in it count as if they were
+/// in the span around it (ours).
 ///
-/// `Name::EmphasisText.role()` is `Role::Transparent(TransparentKind::Other)`: what is in its span is
-/// the emphasis's.
+/// `Name::EmphasisText.role()` is `Role::Transparent(TransparentKind::Other)`: the spans in it count as
+/// if they were directly in the emphasis.
 #[derive(Clone, Copy, PartialEq, Eq, Debug)]
 pub enum TransparentKind {
-    /// The line ending of a line that has nothing but white space (CommonMark, blank lines).
+    /// The line ending of a blank line (CommonMark, blank lines).
     BlankLineEnding,
     /// White space in a line.
     SpaceOrTab,
-    /// The bullet or the number of an item, with the white space beside it.
+    /// The bullet or the number of a list item, with the white space around it.
     ListItemPrefix,
-    /// The `>` of a block quote, with the white space beside it.
+    /// The `>` of a block quote, with the white space around it.
     BlockQuotePrefix,
-    /// The row under the head of a table.
+    /// The delimiter row of a table, under its head (GFM).
     DelimiterRow,
-    /// What says how a column is aligned.
+    /// The value of a cell in a delimiter row, which says how a column is aligned (GFM).
     DelimiterCellValue,
-    /// A colon in a delimiter cell value.
+    /// A colon in a delimiter cell value (GFM).
     DelimiterMarker,
-    /// Any other, which nothing looks at.
+    /// Any other, which no rule names. Its span still counts as a child: where it is the first or
+    /// the last child of a delimiter cell value, no colon is.
     Other,
 }
 
-/// An item that a container of content takes, any number of times (ours). Names that mean the same
-/// are one.
+/// What content an item is: an item that containers of content take any number of times (ours). Names
+/// that mean the same to the tree are one.
 ///
 /// `Name::HardBreakEscape` and `Name::HardBreakTrailing` are both `Content::HardBreak`.
 #[derive(Clone, Copy, PartialEq, Eq, Debug)]
 pub enum Content {
-    /// A part of a text: its slice.
+    /// Text as it is written.
     Data,
-    /// A character by its name or its number: `&amp;`.
+    /// A character reference, by name or by number: `&amp;`.
     CharacterReference,
-    /// An address in angle brackets: `<https://a.b>`.
+    /// An autolink in angle brackets: `<https://a.b>`.
     Autolink,
     BlockQuote,
     CodeFenced,
     CodeIndented,
-    /// Code among words.
+    /// Inline code.
     CodeText,
     /// A link reference definition: `[a]: b`.
     Definition,
     Emphasis,
-    /// Metadata at the head of a document.
+    /// Frontmatter, YAML or TOML.
     Frontmatter,
-    /// An address without its `mailto:`.
+    /// A literal autolink of an email address, to which `mailto:` is added (GFM).
     AutolinkLiteralEmail,
-    /// An address without its `http://`.
+    /// A literal autolink that begins with `www.`, to which `http://` is added (GFM).
     AutolinkLiteralWww,
-    /// An address with its scheme.
+    /// A literal autolink with its scheme (GFM).
     AutolinkLiteralWhole,
-    /// A mark that leads to a footnote: `[^a]`.
+    /// A reference to a footnote: `[^a]` (GFM).
     FootnoteCall,
-    /// What a footnote says: `[^a]: b`.
+    /// The definition of a footnote: `[^a]: b` (GFM).
     FootnoteDefinition,
     Strikethrough,
     Table,
     TableRow,
     TableCell,
-    /// A heading after number signs.
+    /// An ATX heading: `# a`.
     HeadingAtx,
-    /// A heading above a line of equals signs or hyphens.
+    /// A setext heading, with an underline of equals signs or hyphens.
     HeadingSetext,
-    /// HTML, flow or text.
+    /// HTML, block or inline.
     Html,
     Image,
     Link,
     ListItem,
     ListOrdered,
     ListUnordered,
-    /// Lines of mathematics.
+    /// A block of math.
     MathFlow,
-    /// Mathematics among words.
+    /// Inline math.
     MathText,
     Paragraph,
     Strong,
     ThematicBreak,
-    /// A hard break, however it is written.
+    /// A hard line break, with a backslash or with spaces.
     HardBreak,
     LineEnding,
 }
 
-/// An item that only some containers take (ours).
+/// What part an item is: an item that only some containers take, and that gives a field of the
+/// container's node (ours).
 ///
-/// `Part::LabelText` has its place in a link, an image and a footnote call alone.
+/// `Part::LabelText` is taken by a link, an image and a footnote call alone.
 #[derive(Clone, Copy, PartialEq, Eq, Debug)]
 pub enum Part {
-    /// An email address in angle brackets, without them.
+    /// The email address of an autolink: `a@b.c` in `<a@b.c>`.
     AutolinkEmail,
-    /// An address with its scheme in angle brackets, without them.
+    /// The URL of an autolink: `https://a.b` in `<https://a.b>`.
     AutolinkProtocol,
-    /// The `&` with which a character reference begins.
+    /// The `&` that begins a character reference.
     CharacterReferenceMarker,
-    /// The `#` of a reference by number. Alone it says that the number is decimal.
+    /// The `#` of a character reference by number, which is decimal if there is no `x`.
     CharacterReferenceMarkerNumeric,
-    /// The `x` or `X` after the `#`, which says that the number is hexadecimal.
+    /// The `x` or `X` after the `#`: the number is hexadecimal.
     CharacterReferenceMarkerHexadecimal,
-    /// What comes after the markers: `amp` in `&amp;`.
+    /// The name or the digits: `amp` in `&amp;`.
     CharacterReferenceValue,
-    /// The first word after a fence of code, which names the language.
+    /// The first word after a code fence, which is the language.
     CodeFencedFenceInfo,
-    /// What comes after that word.
+    /// What comes after that word on the line of the fence.
     CodeFencedFenceMeta,
     /// `b` in `[a]: b "c"`.
     DefinitionDestinationString,
@@ -123,9 +126,9 @@ pub enum Part {
     DefinitionTitleString,
     /// `a` in `[^a]: b`.
     FootnoteDefinitionLabelString,
-    /// What stands in the first brackets of a link, an image or a footnote call: `a` in `[a][b]`.
+    /// What is in the first brackets of a link, an image or a footnote call: `a` in `[a][b]`.
     LabelText,
-    /// What comes after a fence of mathematics.
+    /// What comes after a math fence on its line.
     MathFlowFenceMeta,
     /// `b` in `[a][b]`.
     ReferenceString,
@@ -133,17 +136,17 @@ pub enum Part {
     ResourceDestinationString,
     /// `c` in `[a](b "c")`.
     ResourceTitleString,
-    /// The line that opens fenced code, or the one that closes it.
+    /// A code fence, opening or closing, with what is on its line.
     CodeFencedFence,
-    /// The line that opens a block of mathematics, or the one that closes it.
+    /// A math fence, opening or closing, with what is on its line.
     MathFlowFence,
     /// The `x` in `[x]`: the task is done (GFM).
     TaskMarkChecked,
-    /// The blank in `[ ]`: the task is not done (GFM).
+    /// The space in `[ ]`: the task is not done (GFM).
     TaskMarkUnchecked,
-    /// Number signs before the text of an ATX heading, or after it.
+    /// The number signs before the text of an ATX heading, or after it.
     HeadingAtxSequence,
-    /// The text of a setext heading, without the line under it.
+    /// The text of a setext heading, without the underline.
     HeadingSetextText,
     /// The equals signs or hyphens under a setext heading.
     HeadingSetextUnderlineSequence,
@@ -155,10 +158,11 @@ pub enum Part {
     Resource,
 }
 
-/// What an item is: a span whose name is significant, which matters to the tree (ours).
+/// What an item is: content, or a part (ours). An item is a span whose name is significant: it matters
+/// to the tree.
 ///
-/// `ItemKind::Content(Content::Paragraph)` gives a node, and `ItemKind::Part(Part::LabelText)` tells
-/// its container a label.
+/// `ItemKind::Content(Content::Paragraph)` gives a node, and `ItemKind::Part(Part::LabelText)` gives its
+/// container a label.
 #[derive(Clone, Copy, PartialEq, Eq, Debug)]
 pub enum ItemKind {
     Content(Content),
@@ -374,10 +378,10 @@ impl Name {
 }
 
 impl Role {
-    /// Whether a span of this role may not hold any span: a line ending, the ending of a blank line,
-    /// and white space in a line (ours: micromark has none in them).
+    /// Whether a span of this role may contain no span: a line ending, the ending of a blank line, or
+    /// white space in a line (ours; micromark has no spans in them).
     ///
-    /// `Name::LineEnding.role().holds_nothing()` is true.
+    /// `Name::LineEnding.role().is_sealed()` is true.
     pub fn is_sealed(self) -> bool
         ensures { result ≡ is_sealed self }
     {
@@ -416,7 +420,7 @@ impl Role {
         matches!(self, Role::Transparent(TransparentKind::BlockQuotePrefix))
     }
 
-    /// Whether it is the row under the head of a table (GFM).
+    /// Whether it is the delimiter row of a table (GFM).
     ///
     /// `Name::GfmTableDelimiterRow.role().is_delimiter_row()` is true.
     pub fn is_delimiter_row(self) -> bool
@@ -425,7 +429,7 @@ impl Role {
         matches!(self, Role::Transparent(TransparentKind::DelimiterRow))
     }
 
-    /// Whether it says how a column is aligned (GFM).
+    /// Whether it is the value of a cell in a delimiter row (GFM).
     ///
     /// `Name::GfmTableDelimiterCellValue.role().is_delimiter_cell_value()` is true.
     pub fn is_delimiter_cell_value(self) -> bool

@@ -1,4 +1,4 @@
-//! The one reader of a list of events, which counts what the compiler does.
+//! A reader of a list of events that counts what `compile` does, for its contract.
 
 ghost use Rattle.std.specs.Prelude.{◌≡◌, ℕ, ◌+◌, ◌^◌, ◌<◌, slice_get, IfSome};
 ghost use Rattle.markdown_events.specs.Steps.{steps_of};
@@ -7,13 +7,13 @@ use crate::count::Count;
 use crate::event::Event;
 use std::marker::Model;
 
-/// A list of events, and how many steps were taken over it (ours).
+/// A list of events, and the number of steps that were taken over it (ours).
+///
+/// A step is one read of an event, or one descent from a node to a child. The number is a natural
+/// number without a limit. Contracts see it as `count`, and the list as `events`; at run time it
+/// takes no memory and no time.
 ///
 /// In `Steps::new(&events)` no step is taken; `steps.read(0)` takes one, if there is an event.
-///
-/// A step is one read of an event, or one descent from a node to a child. The count is a whole
-/// number without a greatest value; contracts see it as `count`, the list as `events`, and at run
-/// time it is not there.
 #[derive(Drop)]
 pub struct Steps<'a> {
     events: &'a [Event],
@@ -53,7 +53,8 @@ impl<'a> Steps<'a> {
         self.count = self.count.next();
     }
 
-    /// The event at an index, counted from 0, by one step. Past the list there is none, and no step.
+    /// The event at an index, counted from 0, in one step. Past the end of the list it is `None`, and
+    /// no step is taken.
     ///
     /// `Steps::new(&events).read(0)` is the first event.
     #[inline]

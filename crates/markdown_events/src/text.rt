@@ -1,4 +1,4 @@
-//! What is done to a text before it is a value of the tree.
+//! What is done to the text of a span before it is a field of a node.
 
 ghost use Rattle.std.specs.Prelude.{◌≡◌, ◌<◌, ◌++◌, IfOk, string_bytes, unwrap_or, chars, encode_utf8_all};
 ghost use Rattle.std.specs.Option.{option_copied};
@@ -9,12 +9,12 @@ ghost use Rattle.markdown_events.specs.TextWalks.{after_first, before_last, blan
 
 use std::alloc::{AllocError, Global};
 
-/// The value without one line ending at its start, where that is asked, and then without one at
-/// the end of what is left, where that is asked.
+/// The value without one line ending at its start, if `at_start`, and then without one line ending
+/// at the end of what is left, if `at_end`.
 ///
-/// Frontmatter, code and math lose the line endings beside their fences so. A line ending is an
-/// LF, a CR or a CRLF (CommonMark); the order is ours, so that a lone line ending goes once. This
-/// cannot fail, and takes no memory.
+/// So frontmatter, code and math lose the line endings next to their fences. A line ending is an LF,
+/// a CR or a CRLF (CommonMark). The start comes first, so that a value of one line ending becomes
+/// empty (ours). This cannot fail, and takes no memory.
 ///
 /// `trim_eol("\na\n", true, true)` is `a`, and `trim_eol("\na\n", false, true)` keeps the first.
 pub fn trim_eol(value: &str, at_start: bool, at_end: bool) -> &str
@@ -32,12 +32,12 @@ pub fn trim_eol(value: &str, at_start: bool, at_end: bool) -> &str
     }
 }
 
-/// The value of inline code or math, in a table or not.
+/// The value of inline code or inline math from its text, in a table or not.
 ///
-/// In a table each backslash directly before a pipe goes, since it is the table's (GFM). Then one
-/// space goes off each end, if the text is longer than two bytes, begins and ends with a space,
-/// and is not all spaces (CommonMark). Line endings stay: [`line_endings_to_spaces`] is for them.
-/// The only error is that memory ran out.
+/// In a table, each backslash directly before a pipe is removed, since it escapes the pipe for the
+/// table (GFM). Then one space is removed from each end, if the text is longer than two bytes, begins
+/// and ends with a space, and is not all spaces (CommonMark). Line endings stay:
+/// [`line_endings_to_spaces`] is for them. The only error is that memory ran out.
 ///
 /// `raw_text(alloc, " a ", false)?` is `a`, and `raw_text(alloc, "a\\|b", true)?` is `a|b`.
 pub fn raw_text(alloc: Global, value: &str, in_table: bool) -> Result<String, AllocError>
@@ -50,7 +50,7 @@ pub fn raw_text(alloc: Global, value: &str, in_table: bool) -> Result<String, Al
     String::from_str(alloc, without_padding(text.as_str()))
 }
 
-/// The value with one space for each CRLF, LF and CR, as inline code has it (CommonMark).
+/// The value with one space in place of each line ending: CRLF, LF or CR (CommonMark, code spans).
 ///
 /// The only error is that memory ran out.
 ///
@@ -67,11 +67,11 @@ pub fn line_endings_to_spaces(alloc: Global, value: &str) -> Result<String, Allo
     Ok(text)
 }
 
-/// The identifier that a label spells, by which references and definitions match.
+/// The identifier of a label, by which references and definitions match.
 ///
-/// Every run of tabs, LFs, CRs and spaces is one space, a space at either end goes, and the rest
-/// is folded by full case folding (CommonMark, how labels match). The only error is that memory
-/// ran out.
+/// Each run of tabs, LFs, CRs and spaces becomes one space, a space at either end is removed, and
+/// what is left is case-folded by Unicode's full case folding (CommonMark, matching of labels). The
+/// only error is that memory ran out.
 ///
 /// `normalize_identifier(alloc, "\na\t\tB\r")?` is `a b`, and of both `ẞ` and `ß` it is `ss`.
 pub fn normalize_identifier(alloc: Global, value: &str) -> Result<String, AllocError>

@@ -1,23 +1,25 @@
-//! Places in a document, in the terms of unist.
+//! Points and positions in a document, as unist has them.
 
 ghost use Rattle.std.specs.Prelude.{◌≡◌, Some};
 ghost use Rattle.markdown_events.specs.Places.{point_text, position_text};
 
 use std::fmt;
 
-/// One place in a document. Debug prints it as `1:3 (2)`: line, column and offset.
+/// One place in a document (unist, `Point`). Debug prints it as `1:3 (2)`: line, column and offset.
+///
+/// In the document `Hi` the point after the `H` is `Point { line: 1, column: 2, offset: 1 }`.
 #[derive(Clone, Copy, PartialEq, Eq)]
 pub struct Point {
     /// The line, counted from 1.
     pub line: usize,
     /// The column, counted from 1.
     pub column: usize,
-    /// The byte of the document, counted from 0.
+    /// The offset: how many bytes of the document come before the point, counted from 0.
     pub offset: usize,
 }
 
 impl Point {
-    /// The place at a line, a column and an offset.
+    /// The point at a line and a column, which count from 1, and an offset, which counts bytes from 0.
     ///
     /// `Point::new(1, 3, 2)` is printed as `1:3 (2)`.
     pub fn new(line: usize, column: usize, offset: usize) -> Point
@@ -42,18 +44,21 @@ impl fmt::Debug for Point {
     }
 }
 
-/// Where a node stands in a document. Debug prints it as `1:1-1:3 (0-2)`: line and column of both
-/// ends, and then their offsets.
+/// Where a node is in a document (unist, `Position`). Debug prints it as `1:1-1:3 (0-2)`: line and
+/// column of both ends, and then their offsets.
+///
+/// The root of the document `Hi` is printed with the position `1:1-1:3 (0-2)`.
 #[derive(Clone, Copy, PartialEq, Eq)]
 pub struct Position {
-    /// The place of the first character.
+    /// The point before the first character.
     pub start: Point,
-    /// The place after the last character.
+    /// The point after the last character.
     pub end: Point,
 }
 
 impl Position {
-    /// From one place to another, each by its line, column and offset.
+    /// From one point to another, each by its line and column, which count from 1, and its offset,
+    /// which counts bytes from 0.
     ///
     /// `Position::new(1, 1, 0, 1, 3, 2)` is printed as `1:1-1:3 (0-2)`.
     pub fn new(

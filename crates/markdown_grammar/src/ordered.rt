@@ -167,16 +167,6 @@ fn limits_in(standing: Standing, node: &Node, here: &Position) -> Limits
     }
 }
 
-/// The nodes in a node, and none in one that is no parent.
-fn children(node: &Node) -> &[Node]
-    ensures { result.now ≡ nodes_in node.now }
-{
-    match node.children() {
-        Some(children) => children.as_slice(),
-        None => &[],
-    }
-}
-
 /// Nodes that are left in a parent, and what is asked of them.
 #[derive(Clone, Copy)]
 struct Level<'a> {
@@ -191,7 +181,7 @@ fn level_in<'a>(standing: Standing, node: &'a Node, here: &Position) -> Level<'a
 {
     Level {
         limits: limits_in(standing, node, here),
-        nodes: children(node),
+        nodes: node.child_nodes(),
     }
 }
 

@@ -2,7 +2,7 @@
 
 ghost use Rattle.std.specs.Prelude.{◌≡◌, ◌++◌, [], IfOk, OnOk, codes, if◌then◌else◌, string_bytes};
 ghost use Rattle.markdown_json.specs.Json.{json, opening};
-ghost use Rattle.markdown_nodes.specs.Access.{label_of, nodes_in};
+ghost use Rattle.markdown_nodes.specs.Access.{label_of};
 ghost use Rattle.markdown_nodes.specs.View.{view};
 
 use crate::fields::{push_closing, push_opening};
@@ -36,14 +36,14 @@ pub fn to_json(alloc: Global, tree: &Node) -> Result<String, AllocError>
     let mut frames: Vec<Frame> = Vec::new(alloc);
     push_opening(&mut out, tree)?;
     let mut parent = tree;
-    let mut level = nodes(tree);
+    let mut level = tree.child_nodes();
     let mut later = false;
     'walk: loop {
         if let Some((first, rest)) = level.split_first() {
             begin(&mut out, first, later)?;
             frames.push(Frame { parent, rest })?;
             parent = first;
-            level = nodes(first);
+            level = first.child_nodes();
             later = false;
         } else {
             push_closing(&mut out, parent)?;
@@ -66,14 +66,4 @@ fn begin(out: &mut String, node: &Node, later: bool) -> Result<(), AllocError>
         push(out, ",")?;
     }
     push_opening(out, node)
-}
-
-/// The nodes in a node, and none in one that is no parent.
-fn nodes(node: &Node) -> &[Node]
-    ensures { result.now ≡ nodes_in node.now }
-{
-    match node.children() {
-        Some(children) => children.as_slice(),
-        None => &[],
-    }
 }

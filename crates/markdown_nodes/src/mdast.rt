@@ -1,7 +1,7 @@
-//! The nodes of the syntax tree, in the terms of mdast.
+//! The nodes of the syntax tree, as mdast has them.
 //!
-//! A `Node` is one of 29 kinds. Fifteen of them are parents and hold nodes; eight are literals and
-//! hold a value; six are neither. Each has a place in a document, or none where it was made by hand.
+//! A `Node` is one of 29 kinds. Fifteen are parents, which have children; eight are literals, which
+//! have a value; six are neither. Each has a position in the document, or none where it was generated.
 
 ghost use Rattle.std.specs.Prelude.{◌≡◌, ◌<◌, [], IfOk, IsFalse, IsTrue, length, option_map, string_bytes};
 ghost use Rattle.markdown_nodes.specs.Access.{children_of, nodes_in, position_of, with_position};
@@ -23,14 +23,14 @@ pub use quoted::quote;
 use std::alloc::{AllocError, Global};
 use std::{fmt, mem};
 
-/// How a reference was written (mdast, reference type).
+/// The form in which a reference is written (mdast, `referenceType`).
 #[derive(Clone, Copy, PartialEq, Eq)]
 pub enum ReferenceKind {
-    /// `[a]`
+    /// Shortcut: `[a]`.
     Shortcut,
-    /// `[a][]`
+    /// Collapsed: `[a][]`.
     Collapsed,
-    /// `[a][b]`
+    /// Full: `[a][b]`.
     Full,
 }
 
@@ -49,69 +49,69 @@ impl fmt::Debug for ReferenceKind {
     }
 }
 
-/// A node of the tree. Debug prints it as its struct.
+/// A node of the tree (mdast). Debug prints it as its struct.
 ///
-/// The text `a` with no place is `Node::Text(Text { value, position: None })` and is printed as
+/// The text `a` without a position is `Node::Text(Text { value, position: None })` and is printed as
 /// `Text { value: "a", position: None }`.
 #[cycle(node)]
 pub enum Node {
     /// A whole document.
     Root(Root),
-    /// A quote set off from its surroundings.
+    /// A block quote.
     Blockquote(Blockquote),
-    /// What a footnote says.
+    /// The definition of a footnote (GFM).
     FootnoteDefinition(FootnoteDefinition),
-    /// Items, numbered or with bullets.
+    /// A list, ordered or unordered.
     List(List),
-    /// Metadata in TOML.
+    /// TOML frontmatter.
     Toml(Toml),
-    /// Metadata in YAML.
+    /// YAML frontmatter.
     Yaml(Yaml),
-    /// A line that ends on purpose.
+    /// A hard line break.
     Break(Break),
-    /// Code among words.
+    /// Inline code.
     InlineCode(InlineCode),
-    /// Mathematics among words.
+    /// Inline math.
     InlineMath(InlineMath),
-    /// Words that no longer hold.
+    /// Strikethrough (GFM).
     Delete(Delete),
-    /// Words with stress.
+    /// Emphasis.
     Emphasis(Emphasis),
-    /// A mark that leads to a footnote.
+    /// A reference to a footnote (GFM).
     FootnoteReference(FootnoteReference),
-    /// HTML as it was written.
+    /// HTML, block or inline.
     Html(Html),
-    /// A picture that names its place itself.
+    /// An image with an inline URL.
     Image(Image),
-    /// A picture whose place a definition names.
+    /// An image that refers to a definition.
     ImageReference(ImageReference),
-    /// A link to a place that it names itself.
+    /// A link with an inline URL, or an autolink.
     Link(Link),
-    /// A link to a place that a definition names.
+    /// A link that refers to a definition.
     LinkReference(LinkReference),
-    /// Words that matter.
+    /// Strong emphasis.
     Strong(Strong),
-    /// Characters that mean themselves.
+    /// Text.
     Text(Text),
-    /// Lines of code.
+    /// A code block, fenced or indented.
     Code(Code),
-    /// Lines of mathematics.
+    /// A block of math.
     Math(Math),
     /// A heading.
     Heading(Heading),
-    /// Rows of cells.
+    /// A table (GFM).
     Table(Table),
-    /// A change of topic.
+    /// A thematic break.
     ThematicBreak(ThematicBreak),
-    /// One row of a table.
+    /// A row of a table (GFM).
     TableRow(TableRow),
-    /// One cell of a row.
+    /// A cell of a table row (GFM).
     TableCell(TableCell),
-    /// One item of a list.
+    /// An item of a list.
     ListItem(ListItem),
-    /// The place that references name.
+    /// A definition that links and images refer to.
     Definition(Definition),
-    /// Words that stand together.
+    /// A paragraph.
     Paragraph(Paragraph),
 }
 
@@ -121,9 +121,9 @@ impl Node {
     ghost use Rattle.markdown_nodes.specs.Shown.{shown};
     ghost use Rattle.markdown_nodes.specs.Lends.{LendsChildren, LendsPosition};
 
-    /// The nodes in a parent, in order, and `None` for a node that is no parent.
+    /// The children of a parent, in order, and `None` for a node that is no parent.
     ///
-    /// An empty paragraph has `Some` of an empty list; a text has `None`.
+    /// For a paragraph without children it is `Some` of an empty list; for a text it is `None`.
     pub fn children(&self) -> Option<&Vec<Node>>
         ensures { option_map (λ c. c.now) result ≡ children_of self.now }
     {
@@ -160,10 +160,23 @@ impl Node {
         }
     }
 
-    /// The nodes in a parent, to be changed, and `None` for a node that is no parent.
+    /// The children of a node, in order, and an empty slice for a node that is no parent.
     ///
-    /// What is written through it becomes the node's children, and changes nothing else.
-    /// `children.push(node)?` puts a node at their end.
+    /// For a list of two items it has the two items, and for a text it is empty, as it is for a
+    /// paragraph without children.
+    pub fn child_nodes(&self) -> &[Node]
+        ensures { result.now ≡ nodes_in self.now }
+    {
+        match self.children() {
+            Some(children) => children.as_slice(),
+            None => &[],
+        }
+    }
+
+    /// The children of a parent, to be changed, and `None` for a node that is no parent.
+    ///
+    /// What is written through it becomes the node's children, and nothing else changes.
+    /// `children.push(node)?` adds a last child.
     pub fn children_mut(&mut self) -> Option<&mut Vec<Node>>
         ensures* writes_back { sem 𝓛 (LendsChildren self.entry result) }
         ensures value { option_map (λ c. c.now) result ≡ children_of self.old }
@@ -201,7 +214,7 @@ impl Node {
         }
     }
 
-    /// Where the node stands, and `None` for one that stands in no document.
+    /// The position of the node in the document, and `None` for a generated node.
     ///
     /// The root of the document `a` has a position that is printed as `1:1-1:2 (0-1)`.
     pub fn position(&self) -> Option<&Position>
@@ -240,11 +253,11 @@ impl Node {
         }
     }
 
-    /// Where the node stands, to be changed, and `None` for one that stands in no document.
+    /// The position of the node in the document, to be changed, and `None` for a generated node.
     ///
-    /// What is written through it becomes the node's position, and changes nothing else. Give a
-    /// position to a node that has none by `position_set`. Where `node.position_mut()` is
-    /// `Some(position)`, `position.end = end` lets the node end at the point `end`.
+    /// What is written through it becomes the node's position, and nothing else changes. To a node
+    /// without a position, [`position_set`](Node::position_set) gives one. Where `node.position_mut()`
+    /// is `Some(position)`, `position.end = end` lets the node end at the point `end`.
     pub fn position_mut(&mut self) -> Option<&mut Position>
         ensures* writes_back { sem 𝓛 (LendsPosition self.entry result) }
         ensures value { option_map (λ p. p.now) result ≡ position_of self.old }
@@ -282,9 +295,9 @@ impl Node {
         }
     }
 
-    /// Gives the node a position, or takes it away, and changes nothing else.
+    /// Sets the position of the node, and changes nothing else.
     ///
-    /// `node.position_set(None)` leaves a node with no place.
+    /// After `node.position_set(None)` the node has no position.
     pub fn position_set(&mut self, position: Option<Position>)
         ensures { self.new ≡ with_position self.old position }
     {
@@ -321,10 +334,11 @@ impl Node {
         }
     }
 
-    /// The node's plain text: the values of the literals in it, in tree order.
+    /// The plain text of the node: the values of all literals in it, itself included, in tree order
+    /// (as `to_string` of the crate `markdown` gives it).
     ///
-    /// An image has no such value, and its alternative text is left out. A paragraph of the text
-    /// `a` and an emphasis of the text `b` gives `ab`. Fails where memory runs out, and else never.
+    /// An image is no literal, so its alternative text is left out. A paragraph of the text `a` and
+    /// an emphasis of the text `b` gives `ab`. The only error is that memory ran out.
     pub fn to_string(&self, alloc: Global) -> Result<String, AllocError>
         ensures { IfOk result (λ text. string_bytes text ≡ plain_text (only (view self.now))) }
     {
@@ -333,10 +347,10 @@ impl Node {
         Ok(text)
     }
 
-    /// The text that `{:?}` writes, in a string of its own.
+    /// The text that `{:?}` writes, as a string.
     ///
-    /// It is that of a derived Debug, with each position as `Some(1:1-1:3 (0-2))`. Fails where memory
-    /// runs out, and else never.
+    /// It is that of a derived Debug, with each position as `Some(1:1-1:3 (0-2))`. The only error is
+    /// that memory ran out.
     pub fn to_debug_string(&self, alloc: Global) -> Result<String, AllocError>
         ensures { IfOk result (λ text. (escapes : ℕ → Bool) × (string_bytes text ≡ shown escapes (view self.now))) }
     {
@@ -349,16 +363,16 @@ impl Node {
         format!(in alloc; "{escaped:?}")
     }
 
-    /// A copy of the node with all that is in it, in memory of its own.
+    /// A copy of the node and of everything in it.
     ///
-    /// The copy equals the node. Fails where memory runs out, and else never.
+    /// The copy equals the node. The only error is that memory ran out.
     pub fn clone(&self, alloc: Global) -> Result<Node, AllocError>
         ensures { IfOk result (λ copy. view copy ≡ view self.now) }
     {
         copying::copy(self, alloc)
     }
 
-    /// Exchanges the nodes in it for those of a level, where there are some.
+    /// Exchanges the children for the nodes of a level, where there are children.
     fn swap_children(&mut self, level: &mut Vec<Node>) -> bool
         ensures some { IsTrue result → (0 < length (nodes_in self.old)) × (level.new.items ≡ nodes_in self.old) × (nodes_in self.new ≡ level.old.items) }
         ensures none { IsFalse result → (nodes_in self.old ≡ []) × (self.new ≡ self.old) × (level.new ≡ level.old) }
@@ -373,7 +387,7 @@ impl Node {
         true
     }
 
-    /// Frees the last of the nodes in it, as long as they are no parents.
+    /// Frees the last children, as long as they are no parents.
     fn drop_last_leaves(&mut self)
         ensures { WithoutLast (nodes_in self.old) (nodes_in self.new) }
     {
@@ -382,7 +396,7 @@ impl Node {
         }
     }
 
-    /// Frees a node with no nodes in it. Texts, which most nodes are, do not wait for the rest.
+    /// Frees a node without children. Texts, which most nodes are, do not wait for the rest.
     fn drop_childless(self)
         requires { nodes_in self ≡ [] }
     {
@@ -392,7 +406,7 @@ impl Node {
         }
     }
 
-    /// Frees a node of any kind with no nodes in it.
+    /// Frees a node of any kind without children.
     #[inline(never)]
     fn drop_any_childless(self)
         requires { nodes_in self ≡ [] }
@@ -535,7 +549,7 @@ impl Node {
     }
 }
 
-/// Frees the last of some nodes, as long as they are no parents.
+/// Frees the last nodes of a list, as long as they are no parents.
 fn drop_leaves(nodes: &mut Vec<Node>)
     ensures { WithoutLast nodes.old.items nodes.new.items }
 {
@@ -597,385 +611,391 @@ impl fmt::Debug for Node {
 
 /// A whole document (mdast).
 ///
-/// The file `a` is a root that holds a paragraph.
+/// The document `a` gives a root with one paragraph in it.
 #[cycle(node)]
 #[derive(PartialEq, Eq, Debug, Drop)]
 pub struct Root {
-    /// What it holds, in order.
+    /// The child nodes, in order.
     pub children: Vec<Node>,
-    /// Where it stands, if it stands in a document.
+    /// The position in the document, or none for a generated node.
     pub position: Option<Position>,
 }
 
-/// A quote set off from its surroundings (CommonMark, block quotes).
+/// A block quote (CommonMark, block quotes).
 ///
-/// `> a` is a block quote of a paragraph.
+/// `> a` is a block quote with one paragraph in it.
 #[cycle(node)]
 #[derive(PartialEq, Eq, Debug, Drop)]
 pub struct Blockquote {
-    /// What it holds, in order.
+    /// The child nodes, in order.
     pub children: Vec<Node>,
-    /// Where it stands, if it stands in a document.
+    /// The position in the document, or none for a generated node.
     pub position: Option<Position>,
 }
 
-/// What a footnote says (footnotes, as GitHub has them).
+/// The definition of a footnote: what the footnote says (GFM, footnotes).
 ///
 /// `[^a]: b` defines the footnote `a`.
 #[cycle(node)]
 #[derive(PartialEq, Eq, Debug, Drop)]
 pub struct FootnoteDefinition {
-    /// What it holds, in order.
+    /// The child nodes, in order.
     pub children: Vec<Node>,
-    /// Where it stands, if it stands in a document.
+    /// The position in the document, or none for a generated node.
     pub position: Option<Position>,
-    /// The name of the footnote, cut down to what names are compared by.
+    /// The normalized identifier, by which references and definitions match (as
+    /// [`normalize_identifier`](crate::text::normalize_identifier) gives it).
     pub identifier: String,
-    /// The name as it was written, if it is known.
+    /// The label as it is written, if it is known.
     pub label: Option<String>,
 }
 
-/// Items, numbered or with bullets (CommonMark, lists).
+/// A list, ordered or unordered (CommonMark, lists).
 ///
-/// `* a` is a list of one item with no number; `3. a` is an ordered one that starts at 3.
+/// `* a` is an unordered list of one item; `3. a` is an ordered list that starts at 3.
 #[cycle(node)]
 #[derive(PartialEq, Eq, Debug, Drop)]
 pub struct List {
-    /// What it holds, in order.
+    /// The child nodes, in order.
     pub children: Vec<Node>,
-    /// Where it stands, if it stands in a document.
+    /// The position in the document, or none for a generated node.
     pub position: Option<Position>,
-    /// Whether the items are numbered.
+    /// Whether the list is ordered: its items are numbered.
     pub ordered: bool,
-    /// The number of the first item that has one, if the items are numbered.
+    /// The number that an ordered list starts with, which is that of the first item that has one.
     pub start: Option<u32>,
-    /// Whether a blank line stands directly in it, a last one too (markdown-rs). One directly
-    /// after an item without content at its end does not count, and blank lines in the items are
-    /// not asked for.
+    /// Whether a blank line is directly in the list: between items, or after the last one
+    /// (mdast; which ones count is from markdown-rs). One directly after an item without content at
+    /// its end does not count, and neither do blank lines in the items.
     pub spread: bool,
 }
 
-/// Metadata in TOML at the head of a document (frontmatter, an extension of mdast).
+/// TOML frontmatter: metadata at the start of a document (mdast, the extension for frontmatter).
 ///
-/// `+++` above `a = 1` above `+++` is one.
+/// The lines `+++`, `a = 1` and `+++` are frontmatter with the value `a = 1`.
 #[derive(PartialEq, Eq, Debug, Drop)]
 pub struct Toml {
-    /// Its characters.
+    /// The value.
     pub value: String,
-    /// Where it stands, if it stands in a document.
+    /// The position in the document, or none for a generated node.
     pub position: Option<Position>,
 }
 
-/// Metadata in YAML at the head of a document (frontmatter, an extension of mdast).
+/// YAML frontmatter: metadata at the start of a document (mdast, the extension for frontmatter).
 ///
-/// `---` above `a: b` above `---` is one.
+/// The lines `---`, `a: b` and `---` are frontmatter with the value `a: b`.
 #[derive(PartialEq, Eq, Debug, Drop)]
 pub struct Yaml {
-    /// Its characters.
+    /// The value.
     pub value: String,
-    /// Where it stands, if it stands in a document.
+    /// The position in the document, or none for a generated node.
     pub position: Option<Position>,
 }
 
-/// A line that ends on purpose (CommonMark, hard line breaks).
+/// A hard line break (CommonMark, hard line breaks).
 ///
-/// A backslash at the end of a line is one.
+/// A backslash at the end of a line gives one, and so do two spaces there.
 #[derive(PartialEq, Eq, Debug, Drop)]
 pub struct Break {
-    /// Where it stands, if it stands in a document.
+    /// The position in the document, or none for a generated node.
     pub position: Option<Position>,
 }
 
-/// Code among words (CommonMark, code spans).
+/// Inline code (CommonMark, code spans).
 ///
-/// `` `a` `` is one.
+/// `` `a` `` is inline code with the value `a`.
 #[derive(PartialEq, Eq, Debug, Drop)]
 pub struct InlineCode {
-    /// Its characters.
+    /// The value.
     pub value: String,
-    /// Where it stands, if it stands in a document.
+    /// The position in the document, or none for a generated node.
     pub position: Option<Position>,
 }
 
-/// Mathematics among words (math, an extension of mdast).
+/// Inline math (mdast, the extension for math).
 ///
-/// `$a$` is one.
+/// `$a$` is inline math with the value `a`.
 #[derive(PartialEq, Eq, Debug, Drop)]
 pub struct InlineMath {
-    /// Its characters.
+    /// The value.
     pub value: String,
-    /// Where it stands, if it stands in a document.
+    /// The position in the document, or none for a generated node.
     pub position: Option<Position>,
 }
 
-/// Words that no longer hold (GFM, strikethrough).
+/// Strikethrough (GFM, strikethrough).
 ///
-/// `~~a~~` is a deletion of the text `a`.
+/// `~~a~~` is a deletion with the text `a` in it.
 #[cycle(node)]
 #[derive(PartialEq, Eq, Debug, Drop)]
 pub struct Delete {
-    /// What it holds, in order.
+    /// The child nodes, in order.
     pub children: Vec<Node>,
-    /// Where it stands, if it stands in a document.
+    /// The position in the document, or none for a generated node.
     pub position: Option<Position>,
 }
 
-/// Words with stress (CommonMark, emphasis).
+/// Emphasis (CommonMark, emphasis).
 ///
-/// `*a*` is emphasis of the text `a`.
+/// `*a*` is an emphasis with the text `a` in it.
 #[cycle(node)]
 #[derive(PartialEq, Eq, Debug, Drop)]
 pub struct Emphasis {
-    /// What it holds, in order.
+    /// The child nodes, in order.
     pub children: Vec<Node>,
-    /// Where it stands, if it stands in a document.
+    /// The position in the document, or none for a generated node.
     pub position: Option<Position>,
 }
 
-/// A mark that leads to a footnote (footnotes, as GitHub has them).
+/// A reference to a footnote (GFM, footnotes).
 ///
 /// `[^a]` refers to the definition of the footnote `a`.
 #[derive(PartialEq, Eq, Debug, Drop)]
 pub struct FootnoteReference {
-    /// Where it stands, if it stands in a document.
+    /// The position in the document, or none for a generated node.
     pub position: Option<Position>,
-    /// The name of the footnote, cut down to what names are compared by.
+    /// The normalized identifier, by which references and definitions match (as
+    /// [`normalize_identifier`](crate::text::normalize_identifier) gives it).
     pub identifier: String,
-    /// The name as it was written, if it is known.
+    /// The label as it is written, if it is known.
     pub label: Option<String>,
 }
 
-/// HTML as it was written (CommonMark, HTML blocks and raw HTML).
+/// HTML as it is written, block or inline (CommonMark, HTML blocks and raw HTML).
 ///
-/// `<a>` is one, and is not looked into.
+/// `<a>` gives one with the value `<a>`; HTML is not parsed.
 #[derive(PartialEq, Eq, Debug, Drop)]
 pub struct Html {
-    /// Its characters.
+    /// The value.
     pub value: String,
-    /// Where it stands, if it stands in a document.
+    /// The position in the document, or none for a generated node.
     pub position: Option<Position>,
 }
 
-/// A picture that names its place itself (CommonMark, images).
+/// An image with an inline URL (CommonMark, images).
 ///
-/// `![a](b "c")` shows `b`, with the alternative text `a` and the title `c`.
+/// `![a](b "c")` is an image of the URL `b`, with the alternative text `a` and the title `c`.
 #[derive(PartialEq, Eq, Debug, Drop)]
 pub struct Image {
-    /// Where it stands, if it stands in a document.
+    /// The position in the document, or none for a generated node.
     pub position: Option<Position>,
-    /// What to read where the picture is not seen.
+    /// The alternative text, for where the image cannot be shown.
     pub alt: String,
-    /// The place that it names.
+    /// The URL.
     pub url: String,
-    /// More about that place, if it is given.
+    /// The title, if there is one.
     pub title: Option<String>,
 }
 
-/// A picture whose place a definition names (CommonMark, images).
+/// An image that refers to a definition (CommonMark, images).
 ///
 /// `![a][b]` refers to the definition `b`.
 #[derive(PartialEq, Eq, Debug, Drop)]
 pub struct ImageReference {
-    /// Where it stands, if it stands in a document.
+    /// The position in the document, or none for a generated node.
     pub position: Option<Position>,
-    /// What to read where the picture is not seen.
+    /// The alternative text, for where the image cannot be shown.
     pub alt: String,
-    /// How it was written.
+    /// The form of the reference.
     pub reference_kind: ReferenceKind,
-    /// The name of the definition, cut down to what names are compared by.
+    /// The normalized identifier, by which references and definitions match (as
+    /// [`normalize_identifier`](crate::text::normalize_identifier) gives it).
     pub identifier: String,
-    /// The name as it was written, if it is known.
+    /// The label as it is written, if it is known.
     pub label: Option<String>,
 }
 
-/// A link to a place that it names itself (CommonMark, links).
+/// A link with an inline URL, or an autolink (CommonMark, links and autolinks; GFM, autolinks).
 ///
-/// `[a](b "c")` is a link to `b` with the title `c`.
+/// `[a](b "c")` is a link to the URL `b` with the title `c`.
 #[cycle(node)]
 #[derive(PartialEq, Eq, Debug, Drop)]
 pub struct Link {
-    /// What it holds, in order.
+    /// The child nodes, in order.
     pub children: Vec<Node>,
-    /// Where it stands, if it stands in a document.
+    /// The position in the document, or none for a generated node.
     pub position: Option<Position>,
-    /// The place that it names.
+    /// The URL.
     pub url: String,
-    /// More about that place, if it is given.
+    /// The title, if there is one.
     pub title: Option<String>,
 }
 
-/// A link to a place that a definition names (CommonMark, reference links).
+/// A link that refers to a definition (CommonMark, reference links).
 ///
 /// `[a][b]` refers to the definition `b`.
 #[cycle(node)]
 #[derive(PartialEq, Eq, Debug, Drop)]
 pub struct LinkReference {
-    /// What it holds, in order.
+    /// The child nodes, in order.
     pub children: Vec<Node>,
-    /// Where it stands, if it stands in a document.
+    /// The position in the document, or none for a generated node.
     pub position: Option<Position>,
-    /// How it was written.
+    /// The form of the reference.
     pub reference_kind: ReferenceKind,
-    /// The name of the definition, cut down to what names are compared by.
+    /// The normalized identifier, by which references and definitions match (as
+    /// [`normalize_identifier`](crate::text::normalize_identifier) gives it).
     pub identifier: String,
-    /// The name as it was written, if it is known.
+    /// The label as it is written, if it is known.
     pub label: Option<String>,
 }
 
-/// Words that matter (CommonMark, strong emphasis).
+/// Strong emphasis (CommonMark, strong emphasis).
 ///
-/// `**a**` is strong emphasis of the text `a`.
+/// `**a**` is a strong emphasis with the text `a` in it.
 #[cycle(node)]
 #[derive(PartialEq, Eq, Debug, Drop)]
 pub struct Strong {
-    /// What it holds, in order.
+    /// The child nodes, in order.
     pub children: Vec<Node>,
-    /// Where it stands, if it stands in a document.
+    /// The position in the document, or none for a generated node.
     pub position: Option<Position>,
 }
 
-/// Characters that mean themselves (CommonMark, textual content).
+/// Text (CommonMark, textual content).
 ///
-/// The line `a` holds the text `a`.
+/// The line `a` gives the text `a`.
 #[derive(PartialEq, Eq, Debug, Drop)]
 pub struct Text {
-    /// Its characters.
+    /// The value.
     pub value: String,
-    /// Where it stands, if it stands in a document.
+    /// The position in the document, or none for a generated node.
     pub position: Option<Position>,
 }
 
-/// Lines of code (CommonMark, indented and fenced code blocks).
+/// A code block, fenced or indented (CommonMark, fenced code blocks and indented code blocks).
 ///
-/// A fence with the words `rust ignore` after it has the language `rust` and the meta `ignore`.
+/// A fence followed by `rust ignore` gives the language `rust` and the meta `ignore`.
 #[derive(PartialEq, Eq, Debug, Drop)]
 pub struct Code {
-    /// Its characters.
+    /// The value.
     pub value: String,
-    /// Where it stands, if it stands in a document.
+    /// The position in the document, or none for a generated node.
     pub position: Option<Position>,
-    /// The language that it is in, if it is given.
+    /// The language, which is the first word after the opening fence, if there is one.
     pub lang: Option<String>,
-    /// What is said after the language, if it is given.
+    /// What follows the language on that line, if there is something.
     pub meta: Option<String>,
 }
 
-/// Lines of mathematics (math, an extension of mdast).
+/// A block of math (mdast, the extension for math).
 ///
-/// `$$` above `a` above `$$` is one.
+/// The lines `$$`, `a` and `$$` are a block of math with the value `a`.
 #[derive(PartialEq, Eq, Debug, Drop)]
 pub struct Math {
-    /// Its characters.
+    /// The value.
     pub value: String,
-    /// Where it stands, if it stands in a document.
+    /// The position in the document, or none for a generated node.
     pub position: Option<Position>,
-    /// What is said after the fence, if it is given.
+    /// What follows the opening fence on its line, if there is something.
     pub meta: Option<String>,
 }
 
-/// A heading (CommonMark, ATX and setext headings).
+/// A heading (CommonMark, ATX headings and setext headings).
 ///
 /// `## a` is a heading of depth 2.
 #[cycle(node)]
 #[derive(PartialEq, Eq, Debug, Drop)]
 pub struct Heading {
-    /// What it holds, in order.
+    /// The child nodes, in order.
     pub children: Vec<Node>,
-    /// Where it stands, if it stands in a document.
+    /// The position in the document, or none for a generated node.
     pub position: Option<Position>,
-    /// Its rank, from 1 to 6.
+    /// The depth, from 1, the highest rank, to 6.
     pub depth: u8,
 }
 
-/// Rows of cells (GFM, tables).
+/// A table (GFM, tables). Its children are rows, and the first is its head.
 ///
-/// `| a |` above `| - |` is a table of one row and one column.
+/// The lines `| a |` and `| - |` are a table of one row and one column.
 #[cycle(node)]
 #[derive(PartialEq, Eq, Debug, Drop)]
 pub struct Table {
-    /// What it holds, in order.
+    /// The child nodes, in order.
     pub children: Vec<Node>,
-    /// Where it stands, if it stands in a document.
+    /// The position in the document, or none for a generated node.
     pub position: Option<Position>,
-    /// How each column is aligned, from the first one on.
+    /// The alignment of each column, from the first one on.
     pub align: Vec<AlignKind>,
 }
 
-/// A change of topic (CommonMark, thematic breaks).
+/// A thematic break (CommonMark, thematic breaks).
 ///
 /// `***` alone on a line is one.
 #[derive(PartialEq, Eq, Debug, Drop)]
 pub struct ThematicBreak {
-    /// Where it stands, if it stands in a document.
+    /// The position in the document, or none for a generated node.
     pub position: Option<Position>,
 }
 
-/// One row of a table; the first one is its head (GFM, tables).
+/// A row of a table; the first row of a table is its head (GFM, tables).
 ///
 /// `| a | b |` is a row of two cells.
 #[cycle(node)]
 #[derive(PartialEq, Eq, Debug, Drop)]
 pub struct TableRow {
-    /// What it holds, in order.
+    /// The child nodes, in order.
     pub children: Vec<Node>,
-    /// Where it stands, if it stands in a document.
+    /// The position in the document, or none for a generated node.
     pub position: Option<Position>,
 }
 
-/// One cell of a row (GFM, tables).
+/// A cell of a table row (GFM, tables).
 ///
-/// `| a |` is a row of a cell that holds the text `a`.
+/// `| a |` is a row of one cell with the text `a` in it.
 #[cycle(node)]
 #[derive(PartialEq, Eq, Debug, Drop)]
 pub struct TableCell {
-    /// What it holds, in order.
+    /// The child nodes, in order.
     pub children: Vec<Node>,
-    /// Where it stands, if it stands in a document.
+    /// The position in the document, or none for a generated node.
     pub position: Option<Position>,
 }
 
-/// One item of a list (CommonMark, list items; GFM, task list items).
+/// An item of a list (CommonMark, list items; GFM, task list items).
 ///
-/// `* [x] a` is an item that is checked.
+/// `* [x] a` is an item whose task is done.
 #[cycle(node)]
 #[derive(PartialEq, Eq, Debug, Drop)]
 pub struct ListItem {
-    /// What it holds, in order.
+    /// The child nodes, in order.
     pub children: Vec<Node>,
-    /// Where it stands, if it stands in a document.
+    /// The position in the document, or none for a generated node.
     pub position: Option<Position>,
-    /// Whether a blank line stands directly in it, a last one too (markdown-rs). One directly
-    /// after the item's prefix, a span of white space between them skipped, does not count.
+    /// Whether a blank line is directly in the item: between its children, or after the last one
+    /// (mdast; which ones count is from markdown-rs). One directly after the item's prefix, or with
+    /// one span of white space between them, does not count.
     pub spread: bool,
-    /// Whether the task is done, if it is a task.
+    /// Whether the task is done, or none for an item that is no task.
     pub checked: Option<bool>,
 }
 
-/// The place that references name (CommonMark, link reference definitions).
+/// A definition that links and images refer to (CommonMark, link reference definitions).
 ///
-/// `[a]: b "c"` says that `a` is at `b` and has the title `c`.
+/// `[a]: b "c"` gives the label `a` the URL `b` and the title `c`.
 #[derive(PartialEq, Eq, Debug, Drop)]
 pub struct Definition {
-    /// Where it stands, if it stands in a document.
+    /// The position in the document, or none for a generated node.
     pub position: Option<Position>,
-    /// The place that it names.
+    /// The URL.
     pub url: String,
-    /// More about that place, if it is given.
+    /// The title, if there is one.
     pub title: Option<String>,
-    /// The name that it defines, cut down to what names are compared by.
+    /// The normalized identifier, by which references and definitions match (as
+    /// [`normalize_identifier`](crate::text::normalize_identifier) gives it).
     pub identifier: String,
-    /// The name as it was written, if it is known.
+    /// The label as it is written, if it is known.
     pub label: Option<String>,
 }
 
-/// Words that stand together (CommonMark, paragraphs).
+/// A paragraph (CommonMark, paragraphs).
 ///
-/// The line `a` is a paragraph of the text `a`.
+/// The line `a` is a paragraph with the text `a` in it.
 #[cycle(node)]
 #[derive(PartialEq, Eq, Debug, Drop)]
 pub struct Paragraph {
-    /// What it holds, in order.
+    /// The child nodes, in order.
     pub children: Vec<Node>,
-    /// Where it stands, if it stands in a document.
+    /// The position in the document, or none for a generated node.
     pub position: Option<Position>,
 }

@@ -1,7 +1,6 @@
 //! The nodes of a tree, one after the other.
 
 ghost use Rattle.std.specs.Prelude.{◌≡◌, [], ◌∷◌, IfOk, MatchOption};
-ghost use Rattle.markdown_nodes.specs.Access.{nodes_in};
 ghost use Rattle.markdown_nodes.specs.View.{view};
 ghost use Rattle.mdast_check.specs.Walk.{walk};
 ghost use Rattle.mdast_check.specs.Levels.{to_come};
@@ -34,20 +33,10 @@ impl<'a> Walk<'a> {
         'levels: while let Some(level) = self.levels.pop() {
             if let Some((first, rest)) = level.split_first() {
                 self.levels.push(rest)?;
-                self.levels.push(nodes(first))?;
+                self.levels.push(first.child_nodes())?;
                 return Ok(Some(first));
             }
         }
         Ok(None)
-    }
-}
-
-/// The nodes in a node, and none in one that is no parent.
-fn nodes(node: &Node) -> &[Node]
-    ensures { result.now ≡ nodes_in node.now }
-{
-    match node.children() {
-        Some(children) => children.as_slice(),
-        None => &[],
     }
 }

@@ -9,15 +9,17 @@ use super::{Event, Kind, Name};
 use crate::around::Around;
 use std::alloc::{AllocError, Global};
 
-/// Where the span that begins at this index ends, if a well-formed one begins there.
+/// The index of the exit of the well-formed span whose enter is at this index, both counted from 0,
+/// or `None` where no such span begins there.
 ///
-/// `Some(last)` says that the events from `index` to `last`, both included, are one span: each
-/// enter has its exit, of the same name and in order, line endings, blank line endings and spaces
-/// hold nothing, and neither delimiter rows nor delimiter cell values stand in one another. It is
-/// `None` otherwise, also where the index is past the list. The rule is ours: the functions of
-/// [`infer`](crate::infer) ask for such a span. The only error is that memory ran out.
+/// `Some(last)` says that the events from `index` to `last`, both included, are one span: each enter
+/// has its exit, of the same name and in order; line endings, blank line endings and spaces contain
+/// no span; and no delimiter row is inside a delimiter row, and no delimiter cell value inside a
+/// delimiter cell value. It is `None` also where the index is past the end of the list. The rule is
+/// ours: the functions of [`infer`](crate::infer) ask for such a span. The only error is that memory
+/// ran out.
 ///
-/// In the events of a `Paragraph` that holds a `Data` it is `Some(3)` at 0, `Some(2)` at 1, and
+/// In the events of a `Paragraph` with a `Data` in it, it is `Some(3)` at 0, `Some(2)` at 1, and
 /// `None` at 2.
 pub fn span_begins(
     alloc: Global,

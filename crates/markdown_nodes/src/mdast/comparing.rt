@@ -2,7 +2,7 @@
 
 ghost use Rattle.std.specs.Prelude.{◌≡◌, ◌↔◌, IsTrue, option_map, string_bytes};
 ghost use Rattle.std.specs.Cmp.{on_equiv, partial_equiv_from_equiv};
-ghost use Rattle.markdown_nodes.specs.Access.{label_of, nodes_in, position_of};
+ghost use Rattle.markdown_nodes.specs.Access.{label_of, position_of};
 ghost use Rattle.markdown_nodes.specs.Equality.{same_tree};
 ghost use Rattle.markdown_nodes.specs.Tree.{
   code,
@@ -283,16 +283,6 @@ fn same_position(a: &Node, b: &Node) -> bool
     }
 }
 
-/// The nodes in a node, and none in one that is no parent.
-pub fn nodes(node: &Node) -> &[Node]
-    ensures { result.now ≡ nodes_in node.now }
-{
-    match node.children() {
-        Some(children) => children.as_slice(),
-        None => &[],
-    }
-}
-
 /// Whether two lists of nodes are the same.
 #[cycle(same_node)]
 fn same_nodes(xs: &[Node], ys: &[Node]) -> bool
@@ -320,7 +310,7 @@ fn same_node(a: &Node, b: &Node) -> bool
     if !same_position(a, b) {
         return false;
     }
-    same_nodes(nodes(a), nodes(b))
+    same_nodes(a.child_nodes(), b.child_nodes())
 }
 
 /// Two levels that are still to be compared.
@@ -341,8 +331,8 @@ fn same_trees(a: &Node, b: &Node) -> bool
         return false;
     }
     match a.children() {
-        Some(children) => same_levels(children.as_slice(), nodes(b), *children.allocator()),
-        None => nodes(b).is_empty(),
+        Some(children) => same_levels(children.as_slice(), b.child_nodes(), *children.allocator()),
+        None => b.child_nodes().is_empty(),
     }
 }
 
@@ -370,11 +360,11 @@ fn same_levels(xs: &[Node], ys: &[Node], alloc: Global) -> bool
                 ys: rest_y,
             }) {
                 Ok(()) => {
-                    left = nodes(x);
-                    right = nodes(y);
+                    left = x.child_nodes();
+                    right = y.child_nodes();
                 }
                 Err(_) => {
-                    if !same_nodes(nodes(x), nodes(y)) {
+                    if !same_nodes(x.child_nodes(), y.child_nodes()) {
                         return false;
                     }
                     left = rest_x;

@@ -4,7 +4,6 @@ ghost use Rattle.std.specs.Prelude.{◌≡◌, IfOk, option_map, string_bytes};
 ghost use Rattle.markdown_nodes.specs.Access.{nodes_in};
 ghost use Rattle.markdown_nodes.specs.View.{view, views};
 
-use crate::mdast::comparing::nodes;
 use crate::mdast::{
     AlignKind, Blockquote, Break, Code, Definition, Delete, Emphasis, FootnoteDefinition,
     FootnoteReference, Heading, Html, Image, ImageReference, InlineCode, InlineMath, Link,
@@ -197,7 +196,7 @@ pub fn copy(node: &Node, alloc: Global) -> Result<Node, AllocError>
 {
     let mut frames: Vec<Frame> = Vec::new(alloc);
     let mut parent = node;
-    let mut level = nodes(node);
+    let mut level = node.child_nodes();
     let mut copies = Vec::new(alloc);
     'walk: loop {
         if let Some((first, rest)) = level.split_first() {
@@ -207,7 +206,7 @@ pub fn copy(node: &Node, alloc: Global) -> Result<Node, AllocError>
                 copies,
             })?;
             parent = first;
-            level = nodes(first);
+            level = first.child_nodes();
             copies = Vec::new(alloc);
         } else {
             let copy = remake(parent, copies)?;

@@ -24,7 +24,6 @@ ghost use Rattle.markdown_nodes.specs.Shown.{
 ghost use Rattle.markdown_nodes.specs.Tree.{«break», thematic_break};
 ghost use Rattle.markdown_nodes.specs.View.{view};
 
-use crate::mdast::comparing::nodes;
 use crate::mdast::escapes::escapes_of;
 use crate::mdast::quoted::write_quoted;
 use crate::mdast::{AlignKind, List, ListItem, Node, ReferenceKind};
@@ -127,7 +126,7 @@ pub fn write_tree<W: fmt::Write>(
     let mut frames: Vec<Frame> = Vec::new(alloc);
     begin(node, false, f)?;
     let mut parent = node;
-    let mut level = nodes(node);
+    let mut level = node.child_nodes();
     let mut later = false;
     'walk: loop {
         if let Some((first, rest)) = level.split_first() {
@@ -136,7 +135,7 @@ pub fn write_tree<W: fmt::Write>(
                 return Err(fmt::Error);
             };
             parent = first;
-            level = nodes(first);
+            level = first.child_nodes();
             later = false;
         } else {
             close(parent, escapes, f)?;

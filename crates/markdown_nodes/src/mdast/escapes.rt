@@ -1,7 +1,6 @@
 //! The characters beyond ASCII that std's Debug writes as their Unicode escape.
 
 use crate::mdast::Node;
-use crate::mdast::comparing::nodes;
 use std::alloc::{AllocError, Global};
 use std::collections::BTreeSet;
 
@@ -13,12 +12,12 @@ pub fn escapes_of(node: &Node, alloc: Global) -> Result<BTreeSet<char>, AllocErr
     let mut escapes = BTreeSet::new(alloc);
     add_node(node, &mut escapes)?;
     let mut levels: Vec<&[Node]> = Vec::new(alloc);
-    let mut level = nodes(node);
+    let mut level = node.child_nodes();
     'walk: loop {
         if let Some((first, rest)) = level.split_first() {
             add_node(first, &mut escapes)?;
             levels.push(rest)?;
-            level = nodes(first);
+            level = first.child_nodes();
         } else {
             let Some(rest) = levels.pop() else {
                 return Ok(escapes);

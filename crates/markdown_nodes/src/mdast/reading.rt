@@ -6,7 +6,6 @@ ghost use Rattle.markdown_nodes.specs.Tree.{only, plain_text, value_of};
 ghost use Rattle.markdown_nodes.specs.View.{view};
 
 use crate::mdast::Node;
-use crate::mdast::comparing::nodes;
 use std::alloc::{AllocError, Global};
 
 /// The value of a literal, and no characters for any other kind.
@@ -32,12 +31,12 @@ pub fn add_text(node: &Node, text: &mut String, alloc: Global) -> Result<(), All
 {
     text.push_str(value(node))?;
     let mut levels: Vec<&[Node]> = Vec::new(alloc);
-    let mut level = nodes(node);
+    let mut level = node.child_nodes();
     'walk: loop {
         if let Some((first, rest)) = level.split_first() {
             text.push_str(value(first))?;
             levels.push(rest)?;
-            level = nodes(first);
+            level = first.child_nodes();
         } else {
             let Some(rest) = levels.pop() else {
                 return Ok(());

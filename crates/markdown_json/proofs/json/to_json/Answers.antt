@@ -9,13 +9,13 @@ use Rattle.markdown_json.proofs.json.to_json.Goals as goal
 pub walk-init : goal.walk-init
 walk-init c =
     let begun = c.in_ok-push_opening.ensures ∙ ap (λ (s : List ℕ). s ++ opening (label_of c.args.tree.now)) c.new-out.ensures.bytes in
-    writes_first _ _ _ c.args.tree.now begun c.nodes-level.ensures c.new-frames.ensures.items
+    writes_first _ _ _ c.args.tree.now begun c.child_nodes-level.ensures c.new-frames.ensures.items
 
 pub walk-smaller-in-Some : goal.walk-smaller-in-Some
-walk-smaller-in-Some c = walks_down (λ x. x.rest.now) c.walk.level.now c.in-Some.rest.now c.nodes-level-in-Some.result.now c.in-Some.first.now c.walk.frames.items c.push.new.self.items _ c.in-Some.ensures.cases.0 c.nodes-level-in-Some.ensures c.in_ok-push.ensures.items refl
+walk-smaller-in-Some c = walks_down (λ x. x.rest.now) c.walk.level.now c.in-Some.rest.now c.child_nodes-level-in-Some.result.now c.in-Some.first.now c.walk.frames.items c.push.new.self.items _ c.in-Some.ensures.cases.0 c.child_nodes-level-in-Some.ensures c.in_ok-push.ensures.items refl
 
 pub walk-preserved-in-Some : goal.walk-preserved-in-Some
-walk-preserved-in-Some c = writes_down _ _ _ c.walk.level.now c.in-Some.rest.now _ c.walk.parent.now c.in-Some.first.now c.walk.frames.items _ _ c.args.tree.now c.walk.invariant c.in-Some.ensures.cases.0 c.nodes-level-in-Some.ensures c.in_ok-push.ensures.items refl refl c.in_ok-begin.ensures
+walk-preserved-in-Some c = writes_down _ _ _ c.walk.level.now c.in-Some.rest.now _ c.walk.parent.now c.in-Some.first.now c.walk.frames.items _ _ c.args.tree.now c.walk.invariant c.in-Some.ensures.cases.0 c.child_nodes-level-in-Some.ensures c.in_ok-push.ensures.items refl refl c.in_ok-begin.ensures
 
 pub walk-smaller : goal.walk-smaller
 walk-smaller c = walks_up (λ x. x.rest.now) c.walk.level.now _ c.walk.frames.items c.pop.new.self.items c.in-Some-pop.frame c.in-Some-pop.ensures.items refl

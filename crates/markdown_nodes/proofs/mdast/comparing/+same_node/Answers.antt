@@ -11,8 +11,8 @@ same_node-returns-then-not-same_position t c = (λ e. absurd (true≢false (sym 
 
 pub same_node-returns : goal.same_node-returns
 same_node-returns t c = (
-  λ r. same_parts c.args.a.now c.args.b.now (c.if-not-same_label.ensures.0 refl) (c.if-not-same_position.ensures.0 refl) (ap views (sym c.nodes.ensures) ∙ c.same_nodes.ensures.0 r ∙ ap views c.nodes-2.ensures),
-  λ e. c.same_nodes.ensures.1 (ap views c.nodes.ensures ∙ nodes-same c.args.a.now c.args.b.now e ∙ ap views (sym c.nodes-2.ensures)),
+  λ r. same_parts c.args.a.now c.args.b.now (c.if-not-same_label.ensures.0 refl) (c.if-not-same_position.ensures.0 refl) (ap views (sym c.child_nodes.ensures) ∙ c.same_nodes.ensures.0 r ∙ ap views c.child_nodes-2.ensures),
+  λ e. c.same_nodes.ensures.1 (ap views c.child_nodes.ensures ∙ nodes-same c.args.a.now c.args.b.now e ∙ ap views (sym c.child_nodes-2.ensures)),
 )
 
 pub same_nodes-returns-then-xs-ys : goal.same_nodes-returns-then-xs-ys

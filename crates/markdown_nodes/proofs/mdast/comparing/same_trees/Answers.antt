@@ -17,13 +17,13 @@ pub returns-in-Some : goal.returns-in-Some
 returns-in-Some c =
     let held : c.in-Some.children.now.items ≡ nodes_in c.args.a.now = ap items_in c.in-Some.ensures in
     let shown : c.as_slice.result.now ≡ c.in-Some.children.now.items = c.as_slice.ensures.value in (
-      λ r. same_parts c.args.a.now c.args.b.now (c.if-not-same_label.ensures.0 refl) (c.if-not-same_position.ensures.0 refl) (ap views (sym held) ∙ ap views (sym shown) ∙ c.same_levels.ensures.0 r ∙ ap views c.nodes.ensures),
-      λ e. c.same_levels.ensures.1 (ap views shown ∙ ap views held ∙ nodes-same c.args.a.now c.args.b.now e ∙ ap views (sym c.nodes.ensures)),
+      λ r. same_parts c.args.a.now c.args.b.now (c.if-not-same_label.ensures.0 refl) (c.if-not-same_position.ensures.0 refl) (ap views (sym held) ∙ ap views (sym shown) ∙ c.same_levels.ensures.0 r ∙ ap views c.child_nodes.ensures),
+      λ e. c.same_levels.ensures.1 (ap views shown ∙ ap views held ∙ nodes-same c.args.a.now c.args.b.now e ∙ ap views (sym c.child_nodes.ensures)),
     )
 
 pub returns-in-None : goal.returns-in-None
 returns-in-None c =
     let none : nodes_in c.args.a.now ≡ [] = ap items_in (sym c.in-None.ensures) in (
-      λ r. same_parts c.args.a.now c.args.b.now (c.if-not-same_label.ensures.0 refl) (c.if-not-same_position.ensures.0 refl) (ap views none ∙ ap views (sym (nil_from_length _ (eqb-true _ 0 (sym c.is_empty.ensures ∙ r)))) ∙ ap views c.nodes-in-None.ensures),
-      λ e. c.is_empty.ensures ∙ eq-eqb _ 0 (ap (λ (l : List Node). length l) c.nodes-in-None.ensures ∙ sym (same_length (nodes_in c.args.a.now) (nodes_in c.args.b.now) (nodes-same c.args.a.now c.args.b.now e)) ∙ ap (λ (l : List Node). length l) none),
+      λ r. same_parts c.args.a.now c.args.b.now (c.if-not-same_label.ensures.0 refl) (c.if-not-same_position.ensures.0 refl) (ap views none ∙ ap views (sym (nil_from_length _ (eqb-true _ 0 (sym c.is_empty.ensures ∙ r)))) ∙ ap views c.child_nodes-in-None.ensures),
+      λ e. c.is_empty.ensures ∙ eq-eqb _ 0 (ap (λ (l : List Node). length l) c.child_nodes-in-None.ensures ∙ sym (same_length (nodes_in c.args.a.now) (nodes_in c.args.b.now) (nodes-same c.args.a.now c.args.b.now e)) ∙ ap (λ (l : List Node). length l) none),
     )

@@ -5,13 +5,13 @@ use Rattle.markdown_nodes.proofs.Levels.{walks_down, walks_up}
 use Rattle.markdown_nodes.proofs.mdast.copying.copy.Goals as goal
 
 pub walk-init : goal.walk-init
-walk-init c = copies_first c.args.node.now _ _ _ c.nodes-level.ensures c.new-copies.ensures.items c.new-frames.ensures.items
+walk-init c = copies_first c.args.node.now _ _ _ c.child_nodes-level.ensures c.new-copies.ensures.items c.new-frames.ensures.items
 
 pub walk-smaller-in-Some : goal.walk-smaller-in-Some
-walk-smaller-in-Some c = walks_down (λ x. x.rest.now) c.walk.level.now c.in-Some.rest.now c.nodes-level-in-Some.result.now c.in-Some.first.now c.walk.frames.items c.push.new.self.items _ c.in-Some.ensures.cases.0 c.nodes-level-in-Some.ensures c.in_ok-push.ensures.items refl
+walk-smaller-in-Some c = walks_down (λ x. x.rest.now) c.walk.level.now c.in-Some.rest.now c.child_nodes-level-in-Some.result.now c.in-Some.first.now c.walk.frames.items c.push.new.self.items _ c.in-Some.ensures.cases.0 c.child_nodes-level-in-Some.ensures c.in_ok-push.ensures.items refl
 
 pub walk-preserved-in-Some : goal.walk-preserved-in-Some
-walk-preserved-in-Some c = copies_down c.args.node.now c.walk.parent.now c.in-Some.first.now c.walk.level.now c.in-Some.rest.now _ c.walk.copies.items _ c.walk.frames.items _ _ c.walk.invariant c.in-Some.ensures.cases.0 c.nodes-level-in-Some.ensures c.new-copies-in-Some.ensures.items c.in_ok-push.ensures.items refl refl refl
+walk-preserved-in-Some c = copies_down c.args.node.now c.walk.parent.now c.in-Some.first.now c.walk.level.now c.in-Some.rest.now _ c.walk.copies.items _ c.walk.frames.items _ _ c.walk.invariant c.in-Some.ensures.cases.0 c.child_nodes-level-in-Some.ensures c.new-copies-in-Some.ensures.items c.in_ok-push.ensures.items refl refl refl
 
 pub walk-smaller : goal.walk-smaller
 walk-smaller c = walks_up (λ x. x.rest.now) c.walk.level.now _ c.walk.frames.items c.pop.new.self.items c.in-Some-pop.frame c.in-Some-pop.ensures.items refl

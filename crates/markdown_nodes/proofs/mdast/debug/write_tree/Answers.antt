@@ -12,11 +12,11 @@ pub walk-init : goal.walk-init
 walk-init g c = λ plain. (
   opening (label_of c.args.node.now),
   c.in_ok-begin.ensures plain (search rules),
-  writes_first (contains nat_cmp c.args.escapes.now) _ _ c.args.node.now c.nodes-level.ensures c.new-frames.ensures.items,
+  writes_first (contains nat_cmp c.args.escapes.now) _ _ c.args.node.now c.child_nodes-level.ensures c.new-frames.ensures.items,
 )
 
 pub walk-smaller-in-Some : goal.walk-smaller-in-Some
-walk-smaller-in-Some g c = walks_down (λ x. x.rest.now) c.walk.level.now c.in-Some.rest.now c.nodes-level-in-Some.result.now c.in-Some.first.now c.walk.frames.items c.push.new.self.items _ c.in-Some.ensures.cases.0 c.nodes-level-in-Some.ensures c.in-Ok.ensures.items refl
+walk-smaller-in-Some g c = walks_down (λ x. x.rest.now) c.walk.level.now c.in-Some.rest.now c.child_nodes-level-in-Some.result.now c.in-Some.first.now c.walk.frames.items c.push.new.self.items _ c.in-Some.ensures.cases.0 c.child_nodes-level-in-Some.ensures c.in-Ok.ensures.items refl
 
 pub walk-preserved-in-Some : goal.walk-preserved-in-Some
 walk-preserved-in-Some g c = λ plain.
@@ -24,7 +24,7 @@ walk-preserved-in-Some g c = λ plain.
     let lead = if c.walk.later then codes ", " else [] in (
       so_far.0 ++ (lead ++ opening (label_of c.in-Some.first.now)),
       has_written_append _ _ _ _ _ _ so_far.1 (c.in_ok-begin-2.ensures so_far.1.plain (search rules)),
-      writes_down (contains nat_cmp c.args.escapes.now) so_far.0 lead c.walk.level.now c.in-Some.rest.now _ c.walk.parent.now c.in-Some.first.now c.walk.frames.items _ _ c.args.node.now so_far.2 c.in-Some.ensures.cases.0 c.nodes-level-in-Some.ensures c.in-Ok.ensures.items refl refl,
+      writes_down (contains nat_cmp c.args.escapes.now) so_far.0 lead c.walk.level.now c.in-Some.rest.now _ c.walk.parent.now c.in-Some.first.now c.walk.frames.items _ _ c.args.node.now so_far.2 c.in-Some.ensures.cases.0 c.child_nodes-level-in-Some.ensures c.in-Ok.ensures.items refl refl,
     )
 
 pub walk-smaller : goal.walk-smaller

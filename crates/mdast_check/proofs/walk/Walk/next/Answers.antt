@@ -6,7 +6,7 @@ use Rattle.mdast_check.proofs.walk.Walk.next.Goals as goal
 pub returns-in-Some-split_first : goal.returns-in-Some-split_first
 returns-in-Some-split_first c =
     sym c.levels.invariant
-    ∙ takes c.levels.self.levels.items c.pop.new.self.items c.push.new.self.items c.push-in-Some-split_first.new.self.items c.in-Some.level c.in-Some-split_first.rest c.nodes.result c.in-Some-split_first.first.now c.in-Some-split_first.rest.now c.in-Some.ensures.items c.in-Some-split_first.ensures.cases.0 refl c.in_ok-push.ensures.items c.nodes.ensures c.in_ok-push-2.ensures.items
+    ∙ takes c.levels.self.levels.items c.pop.new.self.items c.push.new.self.items c.push-in-Some-split_first.new.self.items c.in-Some.level c.in-Some-split_first.rest c.child_nodes.result c.in-Some-split_first.first.now c.in-Some-split_first.rest.now c.in-Some.ensures.items c.in-Some-split_first.ensures.cases.0 refl c.in_ok-push.ensures.items c.child_nodes.ensures c.in_ok-push-2.ensures.items
 
 pub levels-preserved : goal.levels-preserved
 levels-preserved c =
