@@ -17,6 +17,10 @@ use Rattle.mdast_lines.specs.declared.run.Answer.{Answer}
 use Rattle.mdast_lines.specs.declared.run.Answer.TheVariants as answers
 use Rattle.mdast_lines.specs.Decoder.{decoded}
 use Rattle.mdast_lines.specs.Lines.{lines, IsFirstUnread}
+use Rattle.mdast_lines.specs.Programs.{program_name}
+use Rattle.mdast_lines.specs.declared.program.Program.{Program}
+use Rattle.mdast_lines.specs.declared.program.Program.TheVariants.{Show, Json}
+use Rattle.markdown_json.specs.Json.{json}
 
 -- the document, with what the program's decoder knows
 abbrev pub over : List ℕ → Source
@@ -57,12 +61,21 @@ message_line m = place_text (point_of_place m.place) ++ m.reason.now ++ codes " 
 abbrev pub IsTreeLine : Tree → List ℕ → Type 0
 IsTreeLine tree text = (escapes : ℕ → Bool) × (text ≡ shown escapes tree ++ codes "\n")
 
+-- a tree as JSON, and a line feed
+abbrev pub json_line : Tree → List ℕ
+json_line tree = json tree ++ codes "\n"
+
+-- the line of a tree, by the program
+abbrev pub IsLineOf : Program → Tree → List ℕ → Type 0
+IsLineOf Show tree text = IsTreeLine tree text
+IsLineOf Json tree text = text ≡ json_line tree
+
 -- the line of an answer
-abbrev pub Prints : Answer → List ℕ → Type 0
-Prints (answers.Tree tree) text = IsTreeLine (view tree) text
-Prints (answers.Refused message) text = text ≡ message_line message
-Prints (answers.UnreadLine number) text = text ≡ codes "mdast_show: event line " ++ decimal number ++ codes " cannot be read\n"
-Prints answers.UnreadEvents text = text ≡ codes "mdast_show: cannot read the events\n"
+abbrev pub Prints : Program → Answer → List ℕ → Type 0
+Prints program (answers.Tree tree) text = IsLineOf program (view tree) text
+Prints program (answers.Refused message) text = text ≡ message_line message
+Prints program (answers.UnreadLine number) text = text ≡ program_name program ++ codes ": event line " ++ decimal number ++ codes " cannot be read\n"
+Prints program answers.UnreadEvents text = text ≡ program_name program ++ codes ": cannot read the events\n"
 
 -- the exit status of an answer
 abbrev pub status_of : Answer → ℕ

@@ -14,7 +14,8 @@ ghost use Rattle.mdast_lines.specs.Run.{over};
 ghost use Rattle.mdast_lines.specs.declared.run.Answer.TheVariants as answers;
 ghost use Rattle.markdown_nodes.specs.View.{view};
 
-use crate::run::{Answer, OUT_OF_MEMORY, answer_to, say};
+use crate::program::Program;
+use crate::run::{Answer, answer_to, say};
 use markdown_nodes::mdast::Node;
 use mdast_check::report::report_of;
 use std::alloc::{AllocError, Global};
@@ -49,11 +50,11 @@ pub fn run_check<I: Read, O: Write>(alloc: Global, doc: &[u8], input: &mut I, ou
     ensures memory { result ≡ 3 → Appends (O.contents output.old) (O.contents output.new) (codes "mdast_show: out of memory\n") }
 {
     let Ok(answer) = answer_to(alloc, doc, input) else {
-        return say(output, OUT_OF_MEMORY, 3);
+        return say(output, Program::Show.out_of_memory(), 3);
     };
     match checked(alloc, &answer) {
         Ok(said) => say(output, said.text.as_str(), said.status),
-        Err(_) => say(output, OUT_OF_MEMORY, 3),
+        Err(_) => say(output, Program::Show.out_of_memory(), 3),
     }
 }
 
@@ -71,7 +72,7 @@ fn checked(alloc: Global, answer: &Answer) -> Result<Said, AllocError>
     if let Answer::Tree(tree) = answer {
         return checked_tree(alloc, tree);
     }
-    let text = answer.line(alloc)?;
+    let text = answer.line(Program::Show, alloc)?;
     let status = answer.status();
     Ok(Said { text, status })
 }

@@ -1,9 +1,11 @@
-//! What the arguments of the program ask for, and what it prints where there is no document.
+//! What the arguments of a program ask for, and what it prints where there is no document.
 
 ghost use Rattle.std.specs.Prelude.{◌≡◌};
-ghost use Rattle.mdast_lines.specs.Requests.{error_line, requested};
+ghost use Rattle.mdast_lines.specs.Requests.{error_line, only_argument, requested};
 
-/// What the program is asked to do.
+use crate::program::Program;
+
+/// What `mdast_show` is asked to do.
 #[derive(Debug, PartialEq, Eq, Drop)]
 pub enum Request {
     /// To print the tree of the document in the file of this name.
@@ -38,6 +40,19 @@ impl Request {
     }
 }
 
+/// The one argument of a program that takes the name of a document and nothing else, as `mdast_json`
+/// does. Gives `None` where there is another number of arguments.
+///
+/// `hi.md` alone names the document `hi.md`.
+pub fn only(first: Option<String>, second: Option<String>) -> Option<String>
+    ensures { result ≡ only_argument first second }
+{
+    if second.is_some() {
+        return None;
+    }
+    first
+}
+
 /// Why there is no document.
 #[derive(Debug, Drop)]
 pub enum DocumentError {
@@ -48,15 +63,15 @@ pub enum DocumentError {
 }
 
 impl DocumentError {
-    /// The line that says so.
+    /// The line with which a program says so.
     ///
-    /// Wrong arguments give the usage line, `usage: mdast_show [--check] DOC`.
-    pub fn line(&self) -> &'static str
-        ensures { result.now ≡ error_line self.now }
+    /// Wrong arguments of `mdast_show` give its usage line, `usage: mdast_show [--check] DOC`.
+    pub fn line(&self, program: Program) -> &'static str
+        ensures { result.now ≡ error_line program self.now }
     {
         match self {
-            DocumentError::Usage => "usage: mdast_show [--check] DOC\n",
-            DocumentError::Unreadable => "mdast_show: cannot read the document\n",
+            DocumentError::Usage => program.usage(),
+            DocumentError::Unreadable => program.unreadable(),
         }
     }
 }

@@ -7,13 +7,17 @@ ghost use Rattle.markdown_events.specs.declared.message.Message.{Message};
 ghost use Rattle.markdown_grammar.specs.Correct.{IsMeaning, Refuses};
 ghost use Rattle.mdast_lines.specs.Lines.{lines};
 ghost use Rattle.mdast_lines.specs.Run;
-ghost use Rattle.mdast_lines.specs.Run.{IsAnswer, IsCompiled, IsTreeLine, Prints, status_of, over};
+ghost use Rattle.mdast_lines.specs.Programs.{memory_line};
+ghost use Rattle.mdast_lines.specs.Run.{IsAnswer, IsCompiled, IsLineOf, IsTreeLine, Prints, status_of, over};
+ghost use Rattle.mdast_lines.specs.declared.program.Program.TheVariants as programs;
 ghost use Rattle.mdast_lines.specs.declared.run.Answer.TheVariants as answers;
 ghost use Rattle.markdown_nodes.specs.View.{view};
 
 use crate::decoder::Decoder;
 use crate::input::{ReadError, read_all};
 use crate::lines::{LinesError, events};
+use crate::program::Program;
+use markdown_json::to_json;
 use markdown_nodes::event::Event;
 use markdown_nodes::mdast::Node;
 use markdown_nodes::message::{Fault, Message, Place};
@@ -21,9 +25,6 @@ use markdown_nodes::unist::Point;
 use markdown_tree::to_mdast::compile;
 use std::alloc::{AllocError, Global};
 use std::io::{Read, Write};
-
-/// What is printed where memory runs out, which takes none.
-pub const OUT_OF_MEMORY: &str = "mdast_show: out of memory\n";
 
 /// What a run comes to, if memory does not run out.
 #[derive(Debug, Drop)]
@@ -50,17 +51,19 @@ impl Answer {
         }
     }
 
-    /// What the program prints.
-    pub fn line(&self, alloc: Global) -> Result<String, AllocError>
-        ensures { IfOk result (λ line. Prints self.now (string_bytes line)) }
+    /// What a program prints.
+    pub fn line(&self, program: Program, alloc: Global) -> Result<String, AllocError>
+        ensures { IfOk result (λ line. Prints program self.now (string_bytes line)) }
     {
         match self {
-            Answer::Tree(tree) => tree_line(alloc, tree),
+            Answer::Tree(tree) => tree_line(program, alloc, tree),
             Answer::Refused(message) => message_line(alloc, message),
-            Answer::UnreadLine(number) => {
-                format!(in alloc; "mdast_show: event line {number} cannot be read\n")
+            Answer::UnreadLine(number) => unread_line(program, alloc, *number),
+            Answer::UnreadEvents => {
+                let mut line = String::from_str(alloc, program.name())?;
+                line.push_str(": cannot read the events\n")?;
+                Ok(line)
             }
-            Answer::UnreadEvents => String::from_str(alloc, "mdast_show: cannot read the events\n"),
         }
     }
 }
@@ -87,15 +90,59 @@ pub fn run<I: Read, O: Write>(alloc: Global, doc: &[u8], input: &mut I, output: 
     // The line says that memory ran out, and nothing else is written.
     ensures memory { result ≡ 3 → Appends (O.contents output.old) (O.contents output.new) (codes "mdast_show: out of memory\n") }
 {
+    run_as(Program::Show, alloc, doc, input, output)
+}
+
+/// Prints the tree that the events in `input` stand for over the bytes of a document, as JSON, or what
+/// is wrong, and gives the exit status.
+///
+/// The line of a tree is that of [`to_json`](markdown_json::to_json). The statuses, and all other
+/// lines, are those of [`run`], under the name of the program `mdast_json`.
+pub fn run_json<I: Read, O: Write>(alloc: Global, doc: &[u8], input: &mut I, output: &mut O) -> u8
+    ensures bound { result ≤ 3 }
+
+    // The events were read to their end.
+    ensures end { result ≤ 1 → IsAtEnd (I.remaining input.new) }
+
+    // They are events with a tree, and what is written is that tree as JSON, and a line feed.
+    ensures tree { result ≡ 0 → (tree : Node) × IfSome (I.remaining input.old) (λ all. IsSomeAnd (lines all) (λ events. IsMeaning tree events (over doc.now)))
+        × Appends (O.contents output.old) (O.contents output.new) (Run.json_line (view tree)) }
+
+    // They are events without one, and a message of the compiler is written.
+    ensures refused { result ≡ 1 → IfSome (I.remaining input.old) (λ all. IsSomeAnd (lines all) (λ events.
+        (message : Message) × Refuses message events (over doc.now) × Appends (O.contents output.old) (O.contents output.new) (Run.message_line message))) }
+
+    // The line says that memory ran out, and nothing else is written.
+    ensures memory { result ≡ 3 → Appends (O.contents output.old) (O.contents output.new) (codes "mdast_json: out of memory\n") }
+{
+    run_as(Program::Json, alloc, doc, input, output)
+}
+
+/// One run of a program that prints the tree.
+fn run_as<I: Read, O: Write>(
+    program: Program,
+    alloc: Global,
+    doc: &[u8],
+    input: &mut I,
+    output: &mut O,
+) -> u8
+    ensures bound { result ≤ 3 }
+    ensures end { result ≤ 1 → IsAtEnd (I.remaining input.new) }
+    ensures tree { result ≡ 0 → (tree : Node) × IfSome (I.remaining input.old) (λ all. IsSomeAnd (lines all) (λ events. IsMeaning tree events (over doc.now)))
+        × ((line : List ℕ) × IsLineOf program (view tree) line × Appends (O.contents output.old) (O.contents output.new) line) }
+    ensures refused { result ≡ 1 → IfSome (I.remaining input.old) (λ all. IsSomeAnd (lines all) (λ events.
+        (message : Message) × Refuses message events (over doc.now) × Appends (O.contents output.old) (O.contents output.new) (Run.message_line message))) }
+    ensures memory { result ≡ 3 → Appends (O.contents output.old) (O.contents output.new) (memory_line program) }
+{
     let Ok(answer) = answer_to(alloc, doc, input) else {
-        return say(output, OUT_OF_MEMORY, 3);
+        return say(output, program.out_of_memory(), 3);
     };
     let status = answer.status();
-    let line = answer.line(alloc);
+    let line = answer.line(program, alloc);
     drop(answer);
     match line {
         Ok(line) => say(output, line.as_str(), status),
-        Err(_) => say(output, OUT_OF_MEMORY, 3),
+        Err(_) => say(output, program.out_of_memory(), 3),
     }
 }
 
@@ -138,12 +185,42 @@ fn compiled(alloc: Global, events: &[Event], doc: &[u8]) -> Result<Answer, Alloc
     }
 }
 
+/// The tree as Debug prints it, or as JSON.
+fn tree_line(program: Program, alloc: Global, tree: &Node) -> Result<String, AllocError>
+    ensures { IfOk result (λ line. IsLineOf program (view tree.now) (string_bytes line)) }
+{
+    match program {
+        Program::Show => debug_line(alloc, tree),
+        Program::Json => json_line(alloc, tree),
+    }
+}
+
 /// The tree as Debug prints it.
-fn tree_line(alloc: Global, tree: &Node) -> Result<String, AllocError>
-    ensures { IfOk result (λ line. Prints (answers.Tree tree.now) (string_bytes line)) }
+fn debug_line(alloc: Global, tree: &Node) -> Result<String, AllocError>
+    ensures { IfOk result (λ line. IsTreeLine (view tree.now) (string_bytes line)) }
 {
     let mut line = tree.to_debug_string(alloc)?;
     line.push_str("\n")?;
+    Ok(line)
+}
+
+/// The tree as JSON.
+fn json_line(alloc: Global, tree: &Node) -> Result<String, AllocError>
+    ensures { IfOk result (λ line. string_bytes line ≡ Run.json_line (view tree.now)) }
+{
+    let mut line = to_json(alloc, tree)?;
+    line.push_str("\n")?;
+    Ok(line)
+}
+
+/// `mdast_show: event line 2 cannot be read`
+fn unread_line(program: Program, alloc: Global, number: usize) -> Result<String, AllocError>
+    ensures { IfOk result (λ line. Prints program (answers.UnreadLine number) (string_bytes line)) }
+{
+    let mut line = String::from_str(alloc, program.name())?;
+    line.push_str(": event line ")?;
+    line.push_str(number.to_string(alloc)?.as_str())?;
+    line.push_str(" cannot be read\n")?;
     Ok(line)
 }
 

@@ -7,19 +7,18 @@
 #![tactic(auto)]
 
 use mdast_lines::check::run_check;
-use mdast_lines::input::read_all;
+use mdast_lines::document::{arguments, document};
+use mdast_lines::program::Program;
 use mdast_lines::request::{DocumentError, Request};
 use mdast_lines::run::{run, say};
-use std::env;
-use std::fs::File;
-use std::io::{self, ErrorKind, Write};
+use std::io::{self, Write};
 use std::process::ExitCode;
 
 fn main(rt: HostRuntime) -> ExitCode {
     let mut output = io::writer(&rt);
     ExitCode::from(match answer(&rt, &mut output) {
         Ok(status) => status,
-        Err(error) => say(&mut output, error.line(), 2),
+        Err(error) => say(&mut output, error.line(Program::Show), 2),
     })
 }
 
@@ -37,28 +36,8 @@ fn answer<O: Write>(rt: &HostRuntime, output: &mut O) -> Result<u8, DocumentErro
     }
 }
 
-/// The bytes of the file of this name.
-fn document(rt: &HostRuntime, name: &str) -> Result<Vec<u8>, DocumentError> {
-    match File::open(rt, name) {
-        Ok(mut file) => match read_all(rt.alloc(), &mut file) {
-            Ok(bytes) => Ok(bytes),
-            Err(_) => Err(DocumentError::Unreadable),
-        },
-        Err(_) => Err(DocumentError::Unreadable),
-    }
-}
-
 /// What the arguments of the program ask for.
 fn request(rt: &HostRuntime) -> Result<Request, DocumentError> {
-    let mut arguments = match env::args(rt) {
-        Ok(arguments) => arguments,
-        Err(error) if error.kind() == ErrorKind::OutOfMemory => {
-            return Err(DocumentError::Unreadable);
-        }
-        Err(_) => return Err(DocumentError::Usage),
-    };
-    let _program = arguments.next();
-    let first = arguments.next();
-    let second = arguments.next();
-    Request::of(first, second, arguments.next()).ok_or(DocumentError::Usage)
+    let [first, second, third] = arguments(rt)?;
+    Request::of(first, second, third).ok_or(DocumentError::Usage)
 }

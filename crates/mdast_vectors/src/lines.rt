@@ -7,8 +7,9 @@ use markdown_tree::to_mdast::References;
 use mdast_lines::check::run_check;
 use mdast_lines::decoder::Decoder;
 use mdast_lines::lines::events;
-use mdast_lines::request::{DocumentError, Request};
-use mdast_lines::run::run;
+use mdast_lines::program::Program;
+use mdast_lines::request::{DocumentError, Request, only};
+use mdast_lines::run::{run, run_json};
 use std::alloc::{AllocError, Global};
 use std::io::{self, ErrorKind, Read, Write};
 use std::process::Abort;
@@ -94,6 +95,39 @@ fn prints_a_tree(rt: HostRuntime) {
         "Root { children: [Paragraph { children: [Text { value: \"Hi\", position: Some(1:1-1:3 (0-2)) }], position: Some(1:1-1:3 (0-2)) }], position: Some(1:1-1:3 (0-2)) }\n";
     let mut input = HI;
     expect(&rt, &mut input, tree, 0);
+}
+
+/// Runs the program that prints JSON over the document `Hi`, and compares what it does.
+fn expect_json<R: Abort + AllocGlobal>(rt: &R, events: &[u8], line: &str, status: u8) {
+    let mut input = events;
+    let mut output = Vec::new(rt.alloc());
+    let found = run_json(rt.alloc(), b"Hi", &mut input, &mut output);
+    assert_eq!(rt; str::from_utf8(&output), Ok(line));
+    assert_eq!(rt; found, status);
+}
+
+#[test]
+fn prints_json(rt: HostRuntime) {
+    let tree =
+        "{\"type\":\"root\",\"children\":[{\"type\":\"thematicBreak\",\"position\":{\"start\":{\"line\":1,\"column\":1,\"offset\":0},\"end\":{\"line\":1,\"column\":3,\"offset\":2}}}],\"position\":{\"start\":{\"line\":1,\"column\":1,\"offset\":0},\"end\":{\"line\":1,\"column\":3,\"offset\":2}}}\n";
+    expect_json(
+        &rt,
+        b"+ThematicBreak 1:1:0\n-ThematicBreak 1:3:2\n",
+        tree,
+        0,
+    );
+    let unread = "mdast_json: event line 2 cannot be read\n";
+    expect_json(&rt, b"+Data 1:1:0\n+Data\n", unread, 2);
+}
+
+#[test]
+fn takes_one_argument(rt: HostRuntime) -> Result<(), Fail> {
+    let doc = own(rt.alloc(), Some("hi.md"))?;
+    assert_eq!(rt; only(doc, None).as_deref(), Some("hi.md"));
+    let doc = own(rt.alloc(), Some("hi.md"))?;
+    assert!(rt; only(doc, own(rt.alloc(), Some("hi.md"))?).is_none());
+    assert!(rt; only(None, None).is_none());
+    Ok(())
 }
 
 /// The events of `# Hi`, a line ending, and `[^A]`: a heading, and a paragraph with a call of a
@@ -191,12 +225,12 @@ fn tells_what_the_arguments_ask_for(rt: HostRuntime) -> Result<(), Fail> {
 #[test]
 fn says_why_there_is_no_document(rt: HostRuntime) {
     assert_eq!(rt;
-        DocumentError::Usage.line(),
+        DocumentError::Usage.line(Program::Show),
         "usage: mdast_show [--check] DOC\n"
     );
     assert_eq!(rt;
-        DocumentError::Unreadable.line(),
-        "mdast_show: cannot read the document\n"
+        DocumentError::Unreadable.line(Program::Json),
+        "mdast_json: cannot read the document\n"
     );
 }
 

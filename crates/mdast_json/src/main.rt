@@ -1,0 +1,29 @@
+//! Prints the syntax tree that a document and the events of its tokenizer stand for, as JSON.
+//!
+//! `mdast_json DOC < EVENTS` reads the document from the file `DOC`, and event lines from standard
+//! input. It prints one line: the tree as JSON, with the names and fields of mdast, or what is wrong.
+//! Offsets and columns count bytes.
+#![tactic(auto)]
+
+use mdast_lines::document::{arguments, document};
+use mdast_lines::program::Program;
+use mdast_lines::request::{DocumentError, only};
+use mdast_lines::run::{run_json, say};
+use std::io::{self, Write};
+use std::process::ExitCode;
+
+fn main(rt: HostRuntime) -> ExitCode {
+    let mut output = io::writer(&rt);
+    ExitCode::from(match answer(&rt, &mut output) {
+        Ok(status) => status,
+        Err(error) => say(&mut output, error.line(Program::Json), 2),
+    })
+}
+
+/// Prints the tree, or what is wrong, and gives the exit status.
+fn answer<O: Write>(rt: &HostRuntime, output: &mut O) -> Result<u8, DocumentError> {
+    let [first, second, _] = arguments(rt)?;
+    let name = only(first, second).ok_or(DocumentError::Usage)?;
+    let doc = document(rt, name.as_str())?;
+    Ok(run_json(rt.alloc(), doc.as_slice(), &mut rt.reader(), output))
+}
