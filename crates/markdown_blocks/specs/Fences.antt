@@ -4,12 +4,12 @@ use Rattle.markdown_blocks.specs.declared.code.CodeFenceParts.{CodeFenceParts}
 use Rattle.markdown_blocks.specs.declared.code.CodeFencedParts.{CodeFencedParts}
 use Rattle.markdown_blocks.specs.declared.math.MathFenceParts.{MathFenceParts}
 use Rattle.markdown_blocks.specs.declared.math.MathFlowParts.{MathFlowParts}
-use Rattle.markdown_builder.specs.PartsSoFar.{PartsSoFar, after_if, ending}
+use Rattle.markdown_builder.specs.PartsSoFar.{PartsSoFar, after_if, ending_text, with_parts}
 use Rattle.markdown_events.specs.declared.role.Part.TheVariants as parts
 use Rattle.markdown_grammar.specs.Grammar as models
 use Rattle.markdown_nodes.specs.Tree as tree
-use Rattle.markdown_nodes.specs.Tree.{Label as TreeLabel, nothing}
-use Rattle.markdown_steps.specs.Summaries.{PartSummary, Path, into, itself, stood, words}
+use Rattle.markdown_nodes.specs.Tree.{Label as TreeLabel}
+use Rattle.markdown_steps.specs.Summaries.{PartSummary, Path, into, itself, stood}
 
 -- a first fence, and the parts in it
 abbrev pub fence_of : {A : Type 0} → (A → Path → Option PartSummary) → Option A → Path → Option PartSummary
@@ -19,13 +19,13 @@ fence_of inside (Some f) (into p way) = inside f (into p way)
 
 -- the parts of a first fence of code
 abbrev pub in_code_fence : CodeFenceParts → Path → Option PartSummary
-in_code_fence x (into parts.CodeFencedFenceInfo way) = ending (option_map words (option_map string_bytes x.info)) way
-in_code_fence x (into parts.CodeFencedFenceMeta way) = ending (option_map words (option_map string_bytes x.meta)) way
+in_code_fence x (into parts.CodeFencedFenceInfo way) = ending_text x.info way
+in_code_fence x (into parts.CodeFencedFenceMeta way) = ending_text x.meta way
 in_code_fence x way = None
 
 -- a first fence of code
 abbrev pub code_fence : CodeFenceParts → PartsSoFar
-code_fence x = record { initial_model = models.code_fence; current_model = models.code_fence; marker = None; part = in_code_fence x; label = nothing; mark = None; value = None }
+code_fence x = with_parts models.code_fence (in_code_fence x)
 
 -- the parts of a block of fenced code
 abbrev pub in_code_fenced : CodeFencedParts → Path → Option PartSummary
@@ -34,7 +34,9 @@ in_code_fenced x way = None
 
 -- a block of fenced code, which takes content after its first fence
 abbrev pub code_fenced : CodeFencedParts → PartsSoFar
-code_fenced x = record { initial_model = models.code_fenced; current_model = after_if models.code_fenced models.code_buffer x.fence; marker = None; part = in_code_fenced x; label = nothing; mark = None; value = None }
+code_fenced x = record (with_parts models.code_fenced (in_code_fenced x)) {
+  current_model = after_if models.code_fenced models.code_buffer x.fence;
+}
 
 -- the label of a node of fenced code
 abbrev pub code_label : Option CodeFenceParts → List ℕ → TreeLabel
@@ -43,12 +45,12 @@ code_label (Some x) value = tree.code value (option_map string_bytes x.info) (op
 
 -- the part of a first fence of math
 abbrev pub in_math_fence : MathFenceParts → Path → Option PartSummary
-in_math_fence x (into parts.MathFlowFenceMeta way) = ending (option_map words (option_map string_bytes x.meta)) way
+in_math_fence x (into parts.MathFlowFenceMeta way) = ending_text x.meta way
 in_math_fence x way = None
 
 -- a first fence of math
 abbrev pub math_fence : MathFenceParts → PartsSoFar
-math_fence x = record { initial_model = models.math_fence; current_model = models.math_fence; marker = None; part = in_math_fence x; label = nothing; mark = None; value = None }
+math_fence x = with_parts models.math_fence (in_math_fence x)
 
 -- the parts of a block of math
 abbrev pub in_math_flow : MathFlowParts → Path → Option PartSummary
@@ -57,7 +59,9 @@ in_math_flow x way = None
 
 -- a block of math, which takes content after its first fence
 abbrev pub math_flow : MathFlowParts → PartsSoFar
-math_flow x = record { initial_model = models.math_flow; current_model = after_if models.math_flow models.math_buffer x.fence; marker = None; part = in_math_flow x; label = nothing; mark = None; value = None }
+math_flow x = record (with_parts models.math_flow (in_math_flow x)) {
+  current_model = after_if models.math_flow models.math_buffer x.fence;
+}
 
 -- the label of a node of math
 abbrev pub math_label : Option MathFenceParts → List ℕ → TreeLabel

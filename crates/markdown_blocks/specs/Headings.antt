@@ -1,12 +1,13 @@
 -- What has stood in an open heading.
-use Rattle.std.specs.Prelude.{None, Option, option_map}
+use Rattle.std.specs.Prelude.{None, Option, option_map, ℕ}
 use Rattle.markdown_blocks.specs.declared.heading.AtxParts.{AtxParts}
 use Rattle.markdown_blocks.specs.declared.heading.SetextParts.{SetextParts}
-use Rattle.markdown_builder.specs.PartsSoFar.{PartsSoFar, after_if, ending, stood_if}
+use Rattle.markdown_builder.specs.PartsSoFar.{PartsSoFar, after_if, ending, stood_if, with_parts}
 use Rattle.markdown_events.specs.declared.role.Part.TheVariants as parts
 use Rattle.markdown_grammar.specs.Grammar.{heading_atx, heading_setext, heading_text}
-use Rattle.markdown_nodes.specs.Tree.{nothing}
-use Rattle.markdown_steps.specs.Summaries.{PartSummary, Path, count, into}
+use Rattle.markdown_nodes.specs.Tree as tree
+use Rattle.markdown_nodes.specs.Tree.{Label as TreeLabel}
+use Rattle.markdown_steps.specs.Summaries.{PartSummary, Path, count, count_of, into}
 
 -- the parts of an ATX heading
 abbrev pub in_atx : AtxParts → Path → Option PartSummary
@@ -15,7 +16,7 @@ in_atx x way = None
 
 -- an ATX heading, which takes other content once it has a depth
 abbrev pub atx : AtxParts → PartsSoFar
-atx x = record { initial_model = heading_atx; current_model = after_if heading_atx heading_text x.depth; marker = None; part = in_atx x; label = nothing; mark = None; value = None }
+atx x = record (with_parts heading_atx (in_atx x)) { current_model = after_if heading_atx heading_text x.depth }
 
 -- the parts of a setext heading
 abbrev pub in_setext : SetextParts → Path → Option PartSummary
@@ -25,4 +26,8 @@ in_setext x way = None
 
 -- a setext heading
 abbrev pub setext : SetextParts → PartsSoFar
-setext x = record { initial_model = heading_setext; current_model = heading_setext; marker = None; part = in_setext x; label = nothing; mark = None; value = None }
+setext x = with_parts heading_setext (in_setext x)
+
+-- the label of a heading with this depth
+abbrev pub heading_label : Option ℕ → TreeLabel
+heading_label depth = tree.heading (count_of (option_map count depth))

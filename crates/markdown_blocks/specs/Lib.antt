@@ -5,3 +5,4 @@ pub mod Headings
 pub mod Lists
 pub mod Definitions
 pub mod Fences
+pub mod RawTexts

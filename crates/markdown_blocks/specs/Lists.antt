@@ -4,20 +4,24 @@ use Rattle.markdown_blocks.specs.declared.list.ListItemParts.{ListItemParts}
 use Rattle.markdown_blocks.specs.declared.list.NumberedItemParts.{NumberedItemParts}
 use Rattle.markdown_blocks.specs.declared.list.OrderedListParts.{OrderedListParts}
 use Rattle.markdown_blocks.specs.declared.list.TaskParagraphParts.{TaskParagraphParts}
-use Rattle.markdown_builder.specs.PartsSoFar.{PartsSoFar, after_if, ending, stood_if}
+use Rattle.markdown_builder.specs.PartsSoFar.{GainsItem, PartsSoFar, after_if, ending, stood_if, with_parts, without_parts}
+use Rattle.markdown_events.specs.declared.role.Content.TheVariants as contents
+use Rattle.markdown_events.specs.declared.role.ItemKind.TheVariants as item_kinds
 use Rattle.markdown_events.specs.declared.role.Part.{Part}
 use Rattle.markdown_events.specs.declared.role.Part.TheVariants as parts
 use Rattle.markdown_grammar.specs.Grammar as models
-use Rattle.markdown_nodes.specs.Tree.{nothing}
 use Rattle.markdown_steps.specs.Summaries.{PartSummary, Path, into, stood}
 
 -- an ordered list
 abbrev pub ordered_list : OrderedListParts → PartsSoFar
-ordered_list x = record { initial_model = models.list_ordered; current_model = models.list_ordered; marker = None; part = λ way. None; label = nothing; mark = None; value = x.start }
+ordered_list x = record (without_parts models.list_ordered) { value = x.start }
 
 -- an item of an unordered list
 abbrev pub list_item : ListItemParts → PartsSoFar
-list_item x = record { initial_model = models.list_item; current_model = after_if models.list_item models.marked_item x.mark; marker = None; part = λ way. None; label = nothing; mark = x.mark; value = None }
+list_item x = record (without_parts models.list_item) {
+  current_model = after_if models.list_item models.marked_item x.mark;
+  mark = x.mark;
+}
 
 -- the parts of an item of an ordered list
 abbrev pub in_numbered_item : NumberedItemParts → Path → Option PartSummary
@@ -26,7 +30,15 @@ in_numbered_item x way = None
 
 -- an item of an ordered list
 abbrev pub numbered_item : NumberedItemParts → PartsSoFar
-numbered_item x = record { initial_model = models.numbered_item; current_model = after_if models.numbered_item models.marked_numbered_item x.mark; marker = None; part = in_numbered_item x; label = nothing; mark = x.mark; value = x.value }
+numbered_item x = record (with_parts models.numbered_item (in_numbered_item x)) {
+  current_model = after_if models.numbered_item models.marked_numbered_item x.mark;
+  mark = x.mark;
+  value = x.value;
+}
+
+-- a list keeps the number of an item
+abbrev pub GainsNumberedItem : NumberedItemParts → PartsSoFar → PartsSoFar → Type 0
+GainsNumberedItem item old new = GainsItem (item_kinds.Content contents.ListItem) (numbered_item item) old new
 
 -- the mark that stood, by which it is
 abbrev pub mark_if : Bool → Option Bool → Option PartSummary
@@ -42,11 +54,15 @@ in_task_paragraph x way = None
 
 -- a paragraph in an item without a mark
 abbrev pub task_paragraph : TaskParagraphParts → PartsSoFar
-task_paragraph x = record { initial_model = models.task_paragraph; current_model = models.task_paragraph; marker = None; part = in_task_paragraph x; label = nothing; mark = x.mark; value = None }
+task_paragraph x = record (with_parts models.task_paragraph (in_task_paragraph x)) { mark = x.mark }
+
+-- an item keeps the mark of a paragraph
+abbrev pub GainsParagraph : TaskParagraphParts → PartsSoFar → PartsSoFar → Type 0
+GainsParagraph paragraph old new = GainsItem (item_kinds.Content contents.Paragraph) (task_paragraph paragraph) old new
 
 -- a paragraph in an item with a mark
 abbrev pub marked_paragraph : PartsSoFar
-marked_paragraph = record { initial_model = models.marked_paragraph; current_model = models.marked_paragraph; marker = None; part = λ way. None; label = nothing; mark = None; value = None }
+marked_paragraph = without_parts models.marked_paragraph
 
 -- the part that a mark is
 abbrev pub part_of_mark : Bool → Part

@@ -5,21 +5,18 @@
 //! `on_exit_raw_flow_fence_meta`, `on_exit_raw_flow_fence`, `on_exit_raw_flow`,
 //! `on_enter_code_indented`, `on_exit_code_indented`, `on_enter_code_text`, `on_exit_raw_text`.
 
-ghost use Rattle.std.specs.Prelude.{◌≡◌, ◌≤◌, ◌+◌, IfOk, None, OnOk, Some, false, is_some, true};
+ghost use Rattle.std.specs.Prelude.{◌≡◌, ◌≤◌, ◌+◌, IfOk, None, Some, is_some, string_bytes};
 ghost use Rattle.markdown_blocks.specs.Fences.{code_fence, code_fenced, code_label};
-ghost use Rattle.markdown_builder.specs.PartsSoFar.{Gains, GainsText, IsFresh, Makes, misfit_in, placed, summary_in};
-ghost use Rattle.markdown_events.specs.Texts.{raw, spaces, trim};
-ghost use Rattle.markdown_events.specs.declared.event.Point.{Point};
+ghost use Rattle.markdown_blocks.specs.RawTexts.{fenced_text, indented_text, inline_text};
+ghost use Rattle.markdown_builder.specs.PartsSoFar.{GainsItem, GainsWords, IsFresh, IsNode, Makes, misfit_in};
 ghost use Rattle.markdown_events.specs.declared.role.ItemKind.TheVariants as item_kinds;
 ghost use Rattle.markdown_events.specs.declared.role.Part.TheVariants as parts;
-ghost use Rattle.markdown_grammar.specs.Attributes.{Place};
 ghost use Rattle.markdown_grammar.specs.Buffers.{node_count};
-ghost use Rattle.markdown_grammar.specs.Document.{Source};
 ghost use Rattle.markdown_grammar.specs.Grammar as models;
 ghost use Rattle.markdown_grammar.specs.declared.error_kind.ErrorKind.TheVariants.{MissingFence};
 ghost use Rattle.markdown_nodes.specs.Tree as tree;
-ghost use Rattle.markdown_nodes.specs.Tree.{Trees, nothing, plain_text};
-ghost use Rattle.markdown_nodes.specs.View.{view, views};
+ghost use Rattle.markdown_nodes.specs.Tree.{nothing};
+ghost use Rattle.markdown_nodes.specs.View.{views};
 
 use markdown_builder::buffer::values_of;
 use markdown_builder::misfits::at_most_one;
@@ -31,23 +28,24 @@ use markdown_nodes::steps::Steps;
 use markdown_nodes::unist::Position;
 use std::alloc::{AllocError, Global};
 
-/// What has stood in an open first fence: the language after it, and what comes after the language.
+/// What has stood in the first fence of a block of code: the language, which is `lang` of the node,
+/// and what is written after it, which is `meta`.
 ///
-/// In a fence with `rust no_run` they are `rust` and `no_run`.
+/// In the fence <code>```rust no_run</code> they are `rust` and `no_run`.
 #[derive(Drop)]
 pub struct CodeFenceParts {
     pub info: Option<String>,
     pub meta: Option<String>,
 }
 
-/// What has stood in an open block of fenced code: its first fence.
+/// What has stood in a block of fenced code: its first fence.
 #[derive(Drop)]
 pub struct CodeFencedParts {
     pub fence: Option<CodeFenceParts>,
 }
 
 impl CodeFenceParts {
-    /// Before its parts.
+    /// A first fence at its enter.
     pub fn new() -> CodeFenceParts
         ensures { IsFresh (code_fence result) models.code_fence }
     {
@@ -58,7 +56,7 @@ impl CodeFenceParts {
     }
 
     /// The rule that is violated if this item may not stand here: a fence takes one language and one
-    /// text after it.
+    /// text after it. A second one is `ErrorKind::Repeated`, any other item `ErrorKind::Misplaced`.
     pub fn misfit(&self, what: ItemKind) -> Option<ErrorKind>
         ensures { result ≡ misfit_in (code_fence self.now) what }
     {
@@ -70,40 +68,24 @@ impl CodeFenceParts {
     }
 
     /// Takes the language.
-    pub fn take_info(
-        &mut self,
-        alloc: Global,
-        steps: &mut Steps<'_>,
-        nodes: &[Node],
-    ) -> Result<(), AllocError>
+    pub fn take_info(&mut self, info: String)
         requires { misfit_in (code_fence self.old) (item_kinds.Part parts.CodeFencedFenceInfo) ≡ None }
-        ensures taken { OnOk result (GainsText parts.CodeFencedFenceInfo (views nodes.now) (code_fence self.old) (code_fence self.new)) }
-        ensures list { steps.new.events ≡ steps.old.events }
-        ensures bound { steps.new.count ≤ steps.old.count + node_count (views nodes.now) }
+        ensures { GainsWords parts.CodeFencedFenceInfo (string_bytes info) (code_fence self.old) (code_fence self.new) }
     {
-        self.info = Some(values_of(alloc, steps, nodes)?);
-        Ok(())
+        self.info = Some(info);
     }
 
-    /// Takes what comes after the language.
-    pub fn take_meta(
-        &mut self,
-        alloc: Global,
-        steps: &mut Steps<'_>,
-        nodes: &[Node],
-    ) -> Result<(), AllocError>
+    /// Takes what is written after the language.
+    pub fn take_meta(&mut self, meta: String)
         requires { misfit_in (code_fence self.old) (item_kinds.Part parts.CodeFencedFenceMeta) ≡ None }
-        ensures taken { OnOk result (GainsText parts.CodeFencedFenceMeta (views nodes.now) (code_fence self.old) (code_fence self.new)) }
-        ensures list { steps.new.events ≡ steps.old.events }
-        ensures bound { steps.new.count ≤ steps.old.count + node_count (views nodes.now) }
+        ensures { GainsWords parts.CodeFencedFenceMeta (string_bytes meta) (code_fence self.old) (code_fence self.new) }
     {
-        self.meta = Some(values_of(alloc, steps, nodes)?);
-        Ok(())
+        self.meta = Some(meta);
     }
 }
 
 impl CodeFencedParts {
-    /// Before its first fence.
+    /// A block of fenced code at its enter, before its first fence.
     pub fn new() -> CodeFencedParts
         ensures { IsFresh (code_fenced result) models.code_fenced }
     {
@@ -111,7 +93,7 @@ impl CodeFencedParts {
     }
 
     /// The rule that is violated if this item may not stand here: a block of code takes fences and line
-    /// endings, and other content after its first fence.
+    /// endings, and other content after its first fence. Any other item is `ErrorKind::Misplaced`.
     pub fn misfit(&self, what: ItemKind) -> Option<ErrorKind>
         ensures { result ≡ misfit_in (code_fenced self.now) what }
     {
@@ -125,13 +107,14 @@ impl CodeFencedParts {
     /// Takes the first fence.
     pub fn take_fence(&mut self, fence: CodeFenceParts)
         requires { self.old.fence ≡ None }
-        ensures { (s : Source) (p : Place) (a b : Point) (ts : Trees) → Gains s p (item_kinds.Part parts.CodeFencedFence) a b (summary_in (code_fence fence) ts) (code_fenced self.old) (code_fenced self.new) }
+        ensures { GainsItem (item_kinds.Part parts.CodeFencedFence) (code_fence fence) (code_fenced self.old) (code_fenced self.new) }
     {
         self.fence = Some(fence);
     }
 
-    /// Its node, whose value is without the line endings beside the fences. Where no fence has stood it
-    /// is refused as `ErrorKind::MissingFence`.
+    /// The node of a block of fenced code. Its value is the text of the nodes made in it, without the
+    /// line endings beside the fences, and is read by one step for each node. Where no fence has stood
+    /// the block is refused as `ErrorKind::MissingFence`.
     pub fn node(
         self,
         alloc: Global,
@@ -139,7 +122,8 @@ impl CodeFencedParts {
         nodes: &[Node],
         position: Position,
     ) -> Result<Node, Stop>
-        ensures node { Makes result (is_some self.fence) MissingFence (λ node. view node ≡ placed (code_label self.fence (trim (plain_text (views nodes.now)) true true)) nothing position) }
+        ensures node { Makes result (is_some self.fence) MissingFence
+            (IsNode (code_label self.fence (fenced_text nodes.now)) nothing position) }
         ensures list { steps.new.events ≡ steps.old.events }
         ensures bound { steps.new.count ≤ steps.old.count + node_count (views nodes.now) }
     {
@@ -159,7 +143,7 @@ fn fenced_code(
     position: Position,
     fence: CodeFenceParts,
 ) -> Result<Node, AllocError>
-    ensures node { IfOk result (λ node. view node ≡ placed (code_label (Some fence) (trim (plain_text (views nodes.now)) true true)) nothing position) }
+    ensures node { IfOk result (IsNode (code_label (Some fence) (fenced_text nodes.now)) nothing position) }
     ensures list { steps.new.events ≡ steps.old.events }
     ensures bound { steps.new.count ≤ steps.old.count + node_count (views nodes.now) }
 {
@@ -173,7 +157,8 @@ fn fenced_code(
     }))
 }
 
-/// The node of indented code, whose value is without its last line ending.
+/// The node of indented code. Its value is the text of the nodes made in it, without one line ending
+/// at its end, and is read by one step for each node. It errs only where memory runs out.
 #[tactic(auto, unfolding(markdown_nodes::specs::View::view))]
 pub fn indented_code(
     alloc: Global,
@@ -181,7 +166,7 @@ pub fn indented_code(
     nodes: &[Node],
     position: Position,
 ) -> Result<Node, AllocError>
-    ensures node { IfOk result (λ node. view node ≡ placed (tree.code (trim (plain_text (views nodes.now)) false true) None None) nothing position) }
+    ensures node { IfOk result (IsNode (tree.code (indented_text nodes.now) None None) nothing position) }
     ensures list { steps.new.events ≡ steps.old.events }
     ensures bound { steps.new.count ≤ steps.old.count + node_count (views nodes.now) }
 {
@@ -194,7 +179,9 @@ pub fn indented_code(
     }))
 }
 
-/// The node of a code span: line endings become spaces, and one space on each side goes.
+/// The node of a code span. Its value is the text of the nodes made in it, read by one step for each:
+/// line endings become spaces, and one space goes off each end, where both have one and not all is
+/// spaces; in a table `\|` is `|`. It errs only where memory runs out.
 #[tactic(auto, unfolding(markdown_nodes::specs::View::view))]
 pub fn inline_code(
     alloc: Global,
@@ -203,7 +190,7 @@ pub fn inline_code(
     position: Position,
     in_table: bool,
 ) -> Result<Node, AllocError>
-    ensures node { IfOk result (λ node. view node ≡ placed (tree.inline_code (raw (spaces (plain_text (views nodes.now))) in_table)) nothing position) }
+    ensures node { IfOk result (IsNode (tree.inline_code (inline_text nodes.now in_table)) nothing position) }
     ensures list { steps.new.events ≡ steps.old.events }
     ensures bound { steps.new.count ≤ steps.old.count + node_count (views nodes.now) }
 {

@@ -3,9 +3,9 @@
 //! The original: `on_enter_definition`, `on_exit_definition_id`,
 //! `on_exit_definition_destination_string`, `on_exit_definition_title_string`.
 
-ghost use Rattle.std.specs.Prelude.{◌≡◌, ◌≤◌, ◌+◌, None, OnOk};
+ghost use Rattle.std.specs.Prelude.{◌≡◌, ◌≤◌, ◌+◌, None, string_bytes};
 ghost use Rattle.markdown_blocks.specs.Definitions.{definition, definition_label};
-ghost use Rattle.markdown_builder.specs.PartsSoFar.{GainsText, IsFresh, ReadsText, misfit_in, placed};
+ghost use Rattle.markdown_builder.specs.PartsSoFar.{GainsWords, IsFresh, ReadsText, misfit_in, placed};
 ghost use Rattle.markdown_events.specs.declared.role.ItemKind.TheVariants as item_kinds;
 ghost use Rattle.markdown_events.specs.declared.role.Part.TheVariants as parts;
 ghost use Rattle.markdown_grammar.specs.Buffers.{node_count};
@@ -13,7 +13,6 @@ ghost use Rattle.markdown_grammar.specs.Grammar as models;
 ghost use Rattle.markdown_nodes.specs.Tree.{nothing};
 ghost use Rattle.markdown_nodes.specs.View.{view, views};
 
-use markdown_builder::buffer::values_of;
 use markdown_builder::label::{Identified, identify, named};
 use markdown_builder::misfits::at_most_one;
 use markdown_builder::slice::text_of;
@@ -23,9 +22,9 @@ use markdown_nodes::mdast::{Definition, Node};
 use markdown_nodes::role::{Content, ItemKind, Part};
 use markdown_nodes::steps::Steps;
 use markdown_nodes::unist::Position;
-use std::alloc::{AllocError, Global};
+use std::alloc::Global;
 
-/// What has stood in an open definition: its label, its destination and its title.
+/// What has stood in a definition: its label, its destination and its title.
 ///
 /// In `[a]: b "c"` they are `a`, `b` and `c`.
 #[derive(Drop)]
@@ -36,7 +35,7 @@ pub struct DefinitionParts {
 }
 
 impl DefinitionParts {
-    /// Before its parts.
+    /// A definition at its enter, as at the `[` of `[a]: b "c"`.
     pub fn new() -> DefinitionParts
         ensures { IsFresh (definition result) models.definition }
     {
@@ -48,7 +47,8 @@ impl DefinitionParts {
     }
 
     /// The rule that is violated if this item may not stand here: a definition takes one label, one
-    /// destination and one title, in any order, and line endings.
+    /// destination and one title, in any order, and line endings. A part that has stood is
+    /// `ErrorKind::Repeated`, any other item `ErrorKind::Misplaced`.
     pub fn misfit(&self, what: ItemKind) -> Option<ErrorKind>
         ensures { result ≡ misfit_in (definition self.now) what }
     {
@@ -63,8 +63,8 @@ impl DefinitionParts {
         }
     }
 
-    /// Takes its label. One that is no text of the document is refused as
-    /// `ErrorKind::InvalidSlice`.
+    /// Takes the label between two points, with the nodes made in it, by one step for each: `a` in
+    /// `[a]: b "c"`. One that is no text of the document is refused as `ErrorKind::InvalidSlice`.
     pub fn take_label(
         &mut self,
         alloc: Global,
@@ -75,7 +75,8 @@ impl DefinitionParts {
         end: Point,
     ) -> Result<(), Stop>
         requires { misfit_in (definition self.old) (item_kinds.Part parts.DefinitionLabelString) ≡ None }
-        ensures taken { ReadsText bytes.now parts.DefinitionLabelString (views nodes.now) start end (definition self.old) (definition self.new) result }
+        ensures taken { ReadsText bytes.now parts.DefinitionLabelString (views nodes.now) start end
+            (definition self.old) (definition self.new) result }
         ensures list { steps.new.events ≡ steps.old.events }
         ensures bound { steps.new.count ≤ steps.old.count + node_count (views nodes.now) }
     {
@@ -84,39 +85,24 @@ impl DefinitionParts {
         Ok(())
     }
 
-    /// Takes its destination.
-    pub fn take_destination(
-        &mut self,
-        alloc: Global,
-        steps: &mut Steps<'_>,
-        nodes: &[Node],
-    ) -> Result<(), AllocError>
+    /// Takes the destination: `b` in `[a]: b "c"`.
+    pub fn take_destination(&mut self, destination: String)
         requires { misfit_in (definition self.old) (item_kinds.Part parts.DefinitionDestinationString) ≡ None }
-        ensures taken { OnOk result (GainsText parts.DefinitionDestinationString (views nodes.now) (definition self.old) (definition self.new)) }
-        ensures list { steps.new.events ≡ steps.old.events }
-        ensures bound { steps.new.count ≤ steps.old.count + node_count (views nodes.now) }
+        ensures { GainsWords parts.DefinitionDestinationString (string_bytes destination) (definition self.old) (definition self.new) }
     {
-        self.destination = Some(values_of(alloc, steps, nodes)?);
-        Ok(())
+        self.destination = Some(destination);
     }
 
-    /// Takes its title.
-    pub fn take_title(
-        &mut self,
-        alloc: Global,
-        steps: &mut Steps<'_>,
-        nodes: &[Node],
-    ) -> Result<(), AllocError>
+    /// Takes the title: `c` in `[a]: b "c"`.
+    pub fn take_title(&mut self, title: String)
         requires { misfit_in (definition self.old) (item_kinds.Part parts.DefinitionTitleString) ≡ None }
-        ensures taken { OnOk result (GainsText parts.DefinitionTitleString (views nodes.now) (definition self.old) (definition self.new)) }
-        ensures list { steps.new.events ≡ steps.old.events }
-        ensures bound { steps.new.count ≤ steps.old.count + node_count (views nodes.now) }
+        ensures { GainsWords parts.DefinitionTitleString (string_bytes title) (definition self.old) (definition self.new) }
     {
-        self.title = Some(values_of(alloc, steps, nodes)?);
-        Ok(())
+        self.title = Some(title);
     }
 
-    /// Its node. Without a label the identifier is empty, and without a destination the address is.
+    /// The node of a definition. Without a label its identifier is empty, and without a destination its
+    /// URL.
     #[tactic(auto, unfolding(markdown_nodes::specs::View::view))]
     pub fn node(self, alloc: Global, position: Position) -> Node
         ensures { view result ≡ placed (definition_label self) nothing position }

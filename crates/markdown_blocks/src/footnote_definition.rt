@@ -23,7 +23,7 @@ use markdown_nodes::steps::Steps;
 use markdown_nodes::unist::Position;
 use std::alloc::Global;
 
-/// What has stood in an open footnote definition: its label.
+/// What has stood in a footnote definition: its label.
 ///
 /// In `[^a]: b` it is `a`.
 #[derive(Drop)]
@@ -32,7 +32,7 @@ pub struct FootnoteDefinitionParts {
 }
 
 impl FootnoteDefinitionParts {
-    /// Before its label.
+    /// A footnote definition at its enter, as at the `[` of `[^a]: b`.
     pub fn new() -> FootnoteDefinitionParts
         ensures { IsFresh (footnote_definition result) models.footnote_definition }
     {
@@ -40,7 +40,8 @@ impl FootnoteDefinitionParts {
     }
 
     /// The rule that is violated if this item may not stand here: a footnote definition takes one
-    /// label, and content.
+    /// label, and content. A second label is `ErrorKind::Repeated`, any other part
+    /// `ErrorKind::Misplaced`.
     pub fn misfit(&self, what: ItemKind) -> Option<ErrorKind>
         ensures { result ≡ misfit_in (footnote_definition self.now) what }
     {
@@ -53,8 +54,8 @@ impl FootnoteDefinitionParts {
         }
     }
 
-    /// Takes its label. One that is no text of the document is refused as
-    /// `ErrorKind::InvalidSlice`.
+    /// Takes the label between two points, with the nodes made in it, by one step for each: `a` in
+    /// `[^a]: b`. One that is no text of the document is refused as `ErrorKind::InvalidSlice`.
     pub fn take_label(
         &mut self,
         alloc: Global,
@@ -65,7 +66,8 @@ impl FootnoteDefinitionParts {
         end: Point,
     ) -> Result<(), Stop>
         requires { misfit_in (footnote_definition self.old) (item_kinds.Part parts.FootnoteDefinitionLabelString) ≡ None }
-        ensures taken { ReadsText bytes.now parts.FootnoteDefinitionLabelString (views nodes.now) start end (footnote_definition self.old) (footnote_definition self.new) result }
+        ensures taken { ReadsText bytes.now parts.FootnoteDefinitionLabelString (views nodes.now) start end
+            (footnote_definition self.old) (footnote_definition self.new) result }
         ensures list { steps.new.events ≡ steps.old.events }
         ensures bound { steps.new.count ≤ steps.old.count + node_count (views nodes.now) }
     {
@@ -74,7 +76,7 @@ impl FootnoteDefinitionParts {
         Ok(())
     }
 
-    /// Its node. Without a label the identifier is empty.
+    /// The node of a footnote definition. Without a label its identifier is empty.
     pub fn node(self, alloc: Global, children: Vec<Node>, position: Position) -> Node
         ensures { view result ≡ placed (footnote_label self) (views children.items) position }
     {
@@ -83,14 +85,15 @@ impl FootnoteDefinitionParts {
     }
 }
 
-/// The node of a footnote definition.
+/// The node of a footnote definition with this identifier and this label.
 fn footnote(
     children: Vec<Node>,
     position: Position,
     identifier: String,
     label: Option<String>,
 ) -> Node
-    ensures { view result ≡ placed (tree.footnote_definition (string_bytes identifier) (option_map string_bytes label)) (views children.items) position }
+    ensures { view result
+        ≡ placed (tree.footnote_definition (string_bytes identifier) (option_map string_bytes label)) (views children.items) position }
 {
     Node::FootnoteDefinition(FootnoteDefinition {
         children,

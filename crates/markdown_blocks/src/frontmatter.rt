@@ -1,14 +1,14 @@
-//! Frontmatter (micromark's extension for YAML and TOML at the start of a document).
+//! Frontmatter: YAML or TOML at the start of a document (micromark-extension-frontmatter).
 //!
 //! The original: `on_enter_frontmatter`, `on_exit_frontmatter`.
 
-ghost use Rattle.std.specs.Prelude.{◌≡◌, ◌≤◌, ◌+◌, IfOk, true};
-ghost use Rattle.markdown_builder.specs.PartsSoFar.{placed};
-ghost use Rattle.markdown_events.specs.Texts.{trim};
+ghost use Rattle.std.specs.Prelude.{◌≡◌, ◌≤◌, ◌+◌, IfOk};
+ghost use Rattle.markdown_blocks.specs.RawTexts.{fenced_text};
+ghost use Rattle.markdown_builder.specs.PartsSoFar.{IsNode};
 ghost use Rattle.markdown_grammar.specs.Buffers.{node_count};
 ghost use Rattle.markdown_grammar.specs.Nodes.{frontmatter};
-ghost use Rattle.markdown_nodes.specs.Tree.{nothing, plain_text};
-ghost use Rattle.markdown_nodes.specs.View.{view, views};
+ghost use Rattle.markdown_nodes.specs.Tree.{nothing};
+ghost use Rattle.markdown_nodes.specs.View.{views};
 
 use markdown_builder::buffer::values_of;
 use markdown_builder::texts::block_value;
@@ -17,8 +17,9 @@ use markdown_nodes::steps::Steps;
 use markdown_nodes::unist::Position;
 use std::alloc::{AllocError, Global};
 
-/// The node of frontmatter: TOML where its fence is of plus signs, else YAML. Its value is without
-/// the line endings beside the fences.
+/// The node of frontmatter: a Toml, as between fences of plus signs, or a Yaml. Its value is the text
+/// of the nodes made in it, without the line endings beside the fences, and is read by one step for
+/// each node. It errs only where memory runs out.
 #[tactic(auto, unfolding(markdown_nodes::specs::View::view))]
 pub fn frontmatter(
     alloc: Global,
@@ -27,7 +28,7 @@ pub fn frontmatter(
     position: Position,
     is_toml: bool,
 ) -> Result<Node, AllocError>
-    ensures node { IfOk result (λ node. view node ≡ placed (frontmatter is_toml (trim (plain_text (views nodes.now)) true true)) nothing position) }
+    ensures node { IfOk result (IsNode (frontmatter is_toml (fenced_text nodes.now)) nothing position) }
     ensures list { steps.new.events ≡ steps.old.events }
     ensures bound { steps.new.count ≤ steps.old.count + node_count (views nodes.now) }
 {

@@ -3,18 +3,16 @@
 //! The original: `on_enter_heading`, `on_exit_heading_atx_sequence`,
 //! `on_exit_heading_setext_underline_sequence`, `on_exit_heading_setext_text`.
 
-ghost use Rattle.std.specs.Prelude.{◌≡◌, IfSome, None, Some, is_some, option_map};
-ghost use Rattle.markdown_blocks.specs.Headings.{atx, setext};
-ghost use Rattle.markdown_builder.specs.PartsSoFar.{GainsText, IsFresh, Makes, Reads, misfit_in, placed};
+ghost use Rattle.std.specs.Prelude.{◌≡◌, IfSome, None, Some, is_some};
+ghost use Rattle.markdown_blocks.specs.Headings.{atx, heading_label, setext};
+ghost use Rattle.markdown_builder.specs.PartsSoFar.{GainsText, IsFresh, IsNode, Makes, Reads, misfit_in};
 ghost use Rattle.markdown_events.specs.declared.role.ItemKind.TheVariants as item_kinds;
 ghost use Rattle.markdown_events.specs.declared.role.Part.TheVariants as parts;
 ghost use Rattle.markdown_grammar.specs.Document.{is_depth};
 ghost use Rattle.markdown_grammar.specs.Grammar as models;
 ghost use Rattle.markdown_grammar.specs.declared.error_kind.ErrorKind.TheVariants.{HeadingDepth};
-ghost use Rattle.markdown_nodes.specs.Tree as tree;
 ghost use Rattle.markdown_nodes.specs.Tree.{Trees};
-ghost use Rattle.markdown_nodes.specs.View.{view, views};
-ghost use Rattle.markdown_steps.specs.Summaries.{count, count_of};
+ghost use Rattle.markdown_nodes.specs.View.{views};
 
 use markdown_builder::misfits::at_most_one;
 use markdown_builder::slice::{byte_at, length_between};
@@ -24,7 +22,7 @@ use markdown_nodes::mdast::{Heading, Node};
 use markdown_nodes::role::{Content, ItemKind, Part};
 use markdown_nodes::unist::Position;
 
-/// What has stood in an open ATX heading: the depth that its first sequence of number signs gives.
+/// What has stood in an ATX heading: the depth that its first sequence of number signs gives.
 ///
 /// In `## a` it is 2.
 #[derive(Clone, Copy)]
@@ -33,7 +31,7 @@ pub struct AtxParts {
 }
 
 impl AtxParts {
-    /// Before the first sequence.
+    /// An ATX heading at its enter, as at the `#` of `# a`.
     pub fn new() -> AtxParts
         ensures { IsFresh (atx result) models.heading_atx }
     {
@@ -41,7 +39,7 @@ impl AtxParts {
     }
 
     /// The rule that is violated if this item may not stand here: an ATX heading takes content and
-    /// sequences.
+    /// sequences of number signs. Any other part is `ErrorKind::Misplaced`.
     pub fn misfit(&self, what: ItemKind) -> Option<ErrorKind>
         ensures { result ≡ misfit_in (atx self.now) what }
     {
@@ -51,8 +49,8 @@ impl AtxParts {
         }
     }
 
-    /// Takes a sequence of number signs: the first gives the depth, one byte for each step, and one
-    /// after the text gives nothing. A first sequence that lies outside the document is refused as
+    /// Takes a sequence of number signs: the length of the first one is the depth, and one after the
+    /// text, as in `# a #`, gives nothing. A first sequence that lies outside the document is refused as
     /// `ErrorKind::InvalidSlice`, and one that is not 1 to 6 bytes long as
     /// `ErrorKind::HeadingDepth`.
     pub fn take_sequence(&mut self, bytes: &[u8], start: Point, end: Point) -> Result<(), Stop>
@@ -71,18 +69,19 @@ impl AtxParts {
         Ok(())
     }
 
-    /// Its node. Where no sequence has stood it is refused as `ErrorKind::HeadingDepth`.
+    /// The node of an ATX heading. Where no sequence has stood the heading is refused as
+    /// `ErrorKind::HeadingDepth`.
     pub fn node(self, children: Vec<Node>, position: Position) -> Result<Node, Stop>
-        ensures { Makes result (is_some self.depth) HeadingDepth (λ node. view node ≡ placed (tree.heading (count_of (option_map count self.depth))) (views children.items) position) }
+        ensures { Makes result (is_some self.depth) HeadingDepth (IsNode (heading_label self.depth) (views children.items) position) }
     {
         heading(children, position, self.depth)
     }
 }
 
-/// What has stood in an open setext heading: the depth that its underline gives, and whether its text
-/// has stood.
+/// What has stood in a setext heading: the depth that its underline gives, and whether its text has
+/// stood.
 ///
-/// Over `===` the depth is 1, and over `---` it is 2.
+/// With the underline `===` the depth is 1, and with `---` it is 2.
 #[derive(Clone, Copy)]
 pub struct SetextParts {
     pub depth: Option<u8>,
@@ -90,7 +89,7 @@ pub struct SetextParts {
 }
 
 impl SetextParts {
-    /// Before its text.
+    /// A setext heading at its enter.
     pub fn new() -> SetextParts
         ensures { IsFresh (setext result) models.heading_setext }
     {
@@ -100,8 +99,9 @@ impl SetextParts {
         }
     }
 
-    /// The rule that is violated if this item may not stand here: a setext heading takes one text and
-    /// one underline, content before the text alone, and line endings.
+    /// The rule that is violated if this item may not stand here: a setext heading takes one text, one
+    /// underline, line endings, and other content before its text. A second text or underline is
+    /// `ErrorKind::Repeated`, any other item `ErrorKind::Misplaced`.
     pub fn misfit(&self, what: ItemKind) -> Option<ErrorKind>
         ensures { result ≡ misfit_in (setext self.now) what }
     {
@@ -116,7 +116,7 @@ impl SetextParts {
         }
     }
 
-    /// Takes the underline: of hyphens the depth is two, else one. One that begins outside the
+    /// Takes the underline: with hyphens the depth is 2, else 1. One that begins outside the
     /// document is refused as `ErrorKind::InvalidSlice`.
     pub fn take_underline(&mut self, bytes: &[u8], start: Point, end: Point) -> Result<(), Stop>
         requires { misfit_in (setext self.old) (item_kinds.Part parts.HeadingSetextUnderlineSequence) ≡ None }
@@ -129,7 +129,7 @@ impl SetextParts {
         Ok(())
     }
 
-    /// Takes the text, whose nodes are the heading's.
+    /// Takes the text. The nodes made in it are those of the heading.
     pub fn take_text(&mut self)
         requires { misfit_in (setext self.old) (item_kinds.Part parts.HeadingSetextText) ≡ None }
         ensures { (ts : Trees) → GainsText parts.HeadingSetextText ts (setext self.old) (setext self.new) }
@@ -137,9 +137,10 @@ impl SetextParts {
         self.has_text = true;
     }
 
-    /// Its node. Where no underline has stood it is refused as `ErrorKind::HeadingDepth`.
+    /// The node of a setext heading. Where no underline has stood the heading is refused as
+    /// `ErrorKind::HeadingDepth`.
     pub fn node(self, children: Vec<Node>, position: Position) -> Result<Node, Stop>
-        ensures { Makes result (is_some self.depth) HeadingDepth (λ node. view node ≡ placed (tree.heading (count_of (option_map count self.depth))) (views children.items) position) }
+        ensures { Makes result (is_some self.depth) HeadingDepth (IsNode (heading_label self.depth) (views children.items) position) }
     {
         heading(children, position, self.depth)
     }
@@ -159,7 +160,7 @@ fn depth_of(length: usize) -> Option<u8>
 /// The node of a heading, which has to have a depth.
 #[tactic(auto, using(crate::proofs::Headings::heading_made))]
 fn heading(children: Vec<Node>, position: Position, depth: Option<u8>) -> Result<Node, Stop>
-    ensures { Makes result (is_some depth) HeadingDepth (λ node. view node ≡ placed (tree.heading (count_of (option_map count depth))) (views children.items) position) }
+    ensures { Makes result (is_some depth) HeadingDepth (IsNode (heading_label depth) (views children.items) position) }
 {
     match depth {
         Some(depth) => Ok(Node::Heading(Heading {

@@ -3,11 +3,11 @@
 //! The original: `on_enter_html`, `on_exit_html`.
 
 ghost use Rattle.std.specs.Prelude.{◌≡◌, ◌≤◌, ◌+◌, IfOk};
-ghost use Rattle.markdown_builder.specs.PartsSoFar.{placed};
+ghost use Rattle.markdown_builder.specs.PartsSoFar.{IsNode};
 ghost use Rattle.markdown_grammar.specs.Buffers.{node_count};
 ghost use Rattle.markdown_nodes.specs.Tree as tree;
 ghost use Rattle.markdown_nodes.specs.Tree.{nothing, plain_text};
-ghost use Rattle.markdown_nodes.specs.View.{view, views};
+ghost use Rattle.markdown_nodes.specs.View.{views};
 
 use markdown_builder::buffer::values_of;
 use markdown_nodes::mdast::{Html, Node};
@@ -15,7 +15,8 @@ use markdown_nodes::steps::Steps;
 use markdown_nodes::unist::Position;
 use std::alloc::{AllocError, Global};
 
-/// The node of HTML, whose value is the text as it stands in the document.
+/// The node of HTML. Its value is the text of the nodes made in it, read by one step for each. It errs
+/// only where memory runs out.
 #[tactic(auto, unfolding(markdown_nodes::specs::View::view))]
 pub fn html(
     alloc: Global,
@@ -23,7 +24,7 @@ pub fn html(
     nodes: &[Node],
     position: Position,
 ) -> Result<Node, AllocError>
-    ensures node { IfOk result (λ node. view node ≡ placed (tree.html (plain_text (views nodes.now))) nothing position) }
+    ensures node { IfOk result (IsNode (tree.html (plain_text (views nodes.now))) nothing position) }
     ensures list { steps.new.events ≡ steps.old.events }
     ensures bound { steps.new.count ≤ steps.old.count + node_count (views nodes.now) }
 {

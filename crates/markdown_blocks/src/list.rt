@@ -5,19 +5,15 @@
 //! `on_exit_list_item_value`, `on_exit_gfm_task_list_item_value`.
 
 ghost use Rattle.std.specs.Prelude.{◌≡◌, ◌≤◌, ◌+◌, None, Some, false, is_some, true};
+ghost use Rattle.markdown_blocks.specs.Lists.{GainsNumberedItem, GainsParagraph};
 ghost use Rattle.markdown_blocks.specs.Lists.{list_item, marked_paragraph, numbered_item, ordered_list, part_of_mark, task_paragraph};
-ghost use Rattle.markdown_builder.specs.PartsSoFar.{Gains, GainsSign, IsFresh, Makes, Reads, misfit_in, placed, summary_in};
-ghost use Rattle.markdown_events.specs.declared.event.Point.{Point};
-ghost use Rattle.markdown_events.specs.declared.role.Content.TheVariants as contents;
+ghost use Rattle.markdown_builder.specs.PartsSoFar.{GainsSign, IsFresh, IsNode, Makes, Reads, misfit_in, placed};
 ghost use Rattle.markdown_events.specs.declared.role.ItemKind.TheVariants as item_kinds;
 ghost use Rattle.markdown_events.specs.declared.role.Part.TheVariants as parts;
-ghost use Rattle.markdown_grammar.specs.Attributes.{Place};
-ghost use Rattle.markdown_grammar.specs.Document.{Source};
 ghost use Rattle.markdown_grammar.specs.Grammar as models;
 ghost use Rattle.markdown_grammar.specs.Tasks.{task_if};
 ghost use Rattle.markdown_grammar.specs.declared.error_kind.ErrorKind.TheVariants.{MissingListValue};
 ghost use Rattle.markdown_nodes.specs.Tree as tree;
-ghost use Rattle.markdown_nodes.specs.Tree.{Trees};
 ghost use Rattle.markdown_nodes.specs.View.{view, views};
 
 use crate::number::item_number;
@@ -31,7 +27,7 @@ use markdown_nodes::role::{ItemKind, Part};
 use markdown_nodes::steps::Steps;
 use markdown_nodes::unist::Position;
 
-/// What has stood in an open ordered list: the number of its first item that has one.
+/// What has stood in an ordered list: the number of its first item that has one.
 ///
 /// In a list that begins with `7. a` it is 7.
 #[derive(Clone, Copy)]
@@ -39,7 +35,7 @@ pub struct OrderedListParts {
     pub start: Option<u32>,
 }
 
-/// What has stood in an open item of an unordered list: its check mark.
+/// What has stood in an item of an unordered list: its check mark.
 ///
 /// In `* [x] a` it is true.
 #[derive(Clone, Copy)]
@@ -47,7 +43,7 @@ pub struct ListItemParts {
     pub mark: Option<bool>,
 }
 
-/// What has stood in an open item of an ordered list: its number and its check mark.
+/// What has stood in an item of an ordered list: its number and its check mark.
 ///
 /// In `7. [ ] a` they are 7 and false.
 #[derive(Clone, Copy)]
@@ -56,30 +52,32 @@ pub struct NumberedItemParts {
     pub mark: Option<bool>,
 }
 
-/// What has stood in an open paragraph of an item that has no check mark yet: the mark in it.
+/// What has stood in a paragraph of an item that has no check mark yet: the mark in this paragraph.
 #[derive(Clone, Copy)]
 pub struct TaskParagraphParts {
     pub mark: Option<bool>,
 }
 
 impl OrderedListParts {
-    /// Before the first item.
+    /// An ordered list at its enter.
     pub fn new() -> OrderedListParts
         ensures { IsFresh (ordered_list result) models.list_ordered }
     {
         OrderedListParts { start: None }
     }
 
-    /// Takes an item, whose number is the list's if the list has none yet.
+    /// Takes an item. Its number is the start number of the list, if the list has none yet.
     pub fn take_item(&mut self, item: &NumberedItemParts)
-        ensures { (s : Source) (p : Place) (a b : Point) (ts : Trees) → Gains s p (item_kinds.Content contents.ListItem) a b (summary_in (numbered_item item.now) ts) (ordered_list self.old) (ordered_list self.new) }
+        ensures { GainsNumberedItem item.now (ordered_list self.old) (ordered_list self.new) }
     {
         self.start = self.start.or(item.value);
     }
 
-    /// Its node. Where no item has a number it is refused as `ErrorKind::MissingListValue`.
+    /// The node of an ordered list. Where no item has a number the list is refused as
+    /// `ErrorKind::MissingListValue`.
     pub fn node(self, children: Vec<Node>, position: Position, spread: bool) -> Result<Node, Stop>
-        ensures { Makes result (is_some self.start) MissingListValue (λ node. view node ≡ placed (tree.list true self.start spread) (views children.items) position) }
+        ensures { Makes result (is_some self.start) MissingListValue
+            (IsNode (tree.list true self.start spread) (views children.items) position) }
     {
         if self.start.is_none() {
             return Err(Stop::Refused(ErrorKind::MissingListValue));
@@ -89,39 +87,24 @@ impl OrderedListParts {
 }
 
 impl ListItemParts {
-    /// Before the first item in it.
+    /// An item of an unordered list at its enter.
     pub fn new() -> ListItemParts
         ensures { IsFresh (list_item result) models.list_item }
     {
         ListItemParts { mark: None }
     }
 
-    /// Takes a paragraph, whose mark is the item's.
+    /// Takes a paragraph. The mark in it is the mark of the item.
     pub fn take_paragraph(&mut self, paragraph: &TaskParagraphParts)
         requires { self.old.mark ≡ None }
-        ensures { (s : Source) (p : Place) (a b : Point) (ts : Trees) → Gains s p (item_kinds.Content contents.Paragraph) a b (summary_in (task_paragraph paragraph.now) ts) (list_item self.old) (list_item self.new) }
+        ensures { GainsParagraph paragraph.now (list_item self.old) (list_item self.new) }
     {
         self.mark = paragraph.mark;
-    }
-
-    /// Its node. After a check mark its first paragraph loses the blank after the mark.
-    pub fn node(
-        self,
-        steps: &mut Steps<'_>,
-        children: Vec<Node>,
-        position: Position,
-        spread: bool,
-    ) -> Node
-        ensures node { view result ≡ placed (tree.list_item spread self.mark) (task_if self.mark (views children.items)) position }
-        ensures list { steps.new.events ≡ steps.old.events }
-        ensures bound { steps.new.count ≤ steps.old.count + 1 }
-    {
-        item(steps, children, position, spread, self.mark)
     }
 }
 
 impl NumberedItemParts {
-    /// Before the first item in it.
+    /// An item of an ordered list at its enter.
     pub fn new() -> NumberedItemParts
         ensures { IsFresh (numbered_item result) models.numbered_item }
     {
@@ -132,7 +115,8 @@ impl NumberedItemParts {
     }
 
     /// The rule that is violated if this item may not stand here: an item of an ordered list takes one
-    /// number, and content.
+    /// number, and content. A second number is `ErrorKind::Repeated`, any other part
+    /// `ErrorKind::Misplaced`.
     pub fn misfit(&self, what: ItemKind) -> Option<ErrorKind>
         ensures { result ≡ misfit_in (numbered_item self.now) what }
     {
@@ -143,8 +127,8 @@ impl NumberedItemParts {
         }
     }
 
-    /// Takes its number. A value that is no text of the document is refused as
-    /// `ErrorKind::InvalidSlice`, and one that is no number up to 4294967295 as
+    /// Takes the number between two points: `7` in `7. a`. One that is no text of the document is
+    /// refused as `ErrorKind::InvalidSlice`, and one that is no number up to 4294967295 as
     /// `ErrorKind::InvalidListValue`.
     pub fn take_value(&mut self, bytes: &[u8], start: Point, end: Point) -> Result<(), Stop>
         requires { misfit_in (numbered_item self.old) (item_kinds.Part parts.ListItemValue) ≡ None }
@@ -158,32 +142,17 @@ impl NumberedItemParts {
         Ok(())
     }
 
-    /// Takes a paragraph, whose mark is the item's.
+    /// Takes a paragraph. The mark in it is the mark of the item.
     pub fn take_paragraph(&mut self, paragraph: &TaskParagraphParts)
         requires { self.old.mark ≡ None }
-        ensures { (s : Source) (p : Place) (a b : Point) (ts : Trees) → Gains s p (item_kinds.Content contents.Paragraph) a b (summary_in (task_paragraph paragraph.now) ts) (numbered_item self.old) (numbered_item self.new) }
+        ensures { GainsParagraph paragraph.now (numbered_item self.old) (numbered_item self.new) }
     {
         self.mark = paragraph.mark;
-    }
-
-    /// Its node. After a check mark its first paragraph loses the blank after the mark.
-    pub fn node(
-        self,
-        steps: &mut Steps<'_>,
-        children: Vec<Node>,
-        position: Position,
-        spread: bool,
-    ) -> Node
-        ensures node { view result ≡ placed (tree.list_item spread self.mark) (task_if self.mark (views children.items)) position }
-        ensures list { steps.new.events ≡ steps.old.events }
-        ensures bound { steps.new.count ≤ steps.old.count + 1 }
-    {
-        item(steps, children, position, spread, self.mark)
     }
 }
 
 impl TaskParagraphParts {
-    /// Before its first item.
+    /// Such a paragraph at its enter.
     pub fn new() -> TaskParagraphParts
         ensures { IsFresh (task_paragraph result) models.task_paragraph }
     {
@@ -191,7 +160,8 @@ impl TaskParagraphParts {
     }
 
     /// The rule that is violated if this item may not stand here: a paragraph of such an item takes
-    /// one check mark, and content.
+    /// one check mark, and content. A second mark is `ErrorKind::Repeated`, any other part
+    /// `ErrorKind::Misplaced`.
     pub fn misfit(&self, what: ItemKind) -> Option<ErrorKind>
         ensures { result ≡ misfit_in (task_paragraph self.now) what }
     {
@@ -213,8 +183,9 @@ impl TaskParagraphParts {
     }
 }
 
-/// The rule that is violated if this item may not stand in a paragraph of an item that has its mark
-/// from an earlier paragraph.
+/// The rule that is violated if this item may not stand in a paragraph of an item that has a check mark
+/// from an earlier paragraph: it takes content. A mark is `ErrorKind::Repeated`, any other part
+/// `ErrorKind::Misplaced`.
 pub fn misfit_in_marked_paragraph(what: ItemKind) -> Option<ErrorKind>
     ensures { result ≡ misfit_in marked_paragraph what }
 {
@@ -234,7 +205,7 @@ pub fn unordered_list(children: Vec<Node>, position: Position, spread: bool) -> 
     list(children, position, false, None, spread)
 }
 
-/// The node of a list, of which an ordered one has a start number.
+/// The node of a list. An ordered one has a start number.
 fn list(
     children: Vec<Node>,
     position: Position,
@@ -253,9 +224,9 @@ fn list(
     })
 }
 
-/// The node of an item. A mark is cut off the front of its first paragraph, which takes one step,
-/// from the paragraph to its first child.
-fn item(
+/// The node of an item, of an ordered list or not. After a check mark its first paragraph loses the
+/// blank after the mark, which takes one step, from the paragraph to its first child.
+pub fn list_item(
     steps: &mut Steps<'_>,
     children: Vec<Node>,
     position: Position,
@@ -274,7 +245,7 @@ fn item(
     unmarked_item(children, position, spread, mark)
 }
 
-/// The node of an item whose children are as they are to stand.
+/// The node of an item with these children.
 fn unmarked_item(
     children: Vec<Node>,
     position: Position,

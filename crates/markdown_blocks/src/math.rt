@@ -3,21 +3,18 @@
 //! The original: `on_enter_math_flow`, `on_exit_raw_flow_fence_meta`, `on_exit_raw_flow_fence`,
 //! `on_exit_raw_flow`, `on_enter_math_text`, `on_exit_raw_text`.
 
-ghost use Rattle.std.specs.Prelude.{◌≡◌, ◌≤◌, ◌+◌, IfOk, None, OnOk, Some, is_some, true};
+ghost use Rattle.std.specs.Prelude.{◌≡◌, ◌≤◌, ◌+◌, IfOk, None, Some, is_some, string_bytes};
 ghost use Rattle.markdown_blocks.specs.Fences.{math_fence, math_flow, math_label};
-ghost use Rattle.markdown_builder.specs.PartsSoFar.{Gains, GainsText, IsFresh, Makes, misfit_in, placed, summary_in};
-ghost use Rattle.markdown_events.specs.Texts.{raw, spaces, trim};
-ghost use Rattle.markdown_events.specs.declared.event.Point.{Point};
+ghost use Rattle.markdown_blocks.specs.RawTexts.{fenced_text, inline_text};
+ghost use Rattle.markdown_builder.specs.PartsSoFar.{GainsItem, GainsWords, IsFresh, IsNode, Makes, misfit_in};
 ghost use Rattle.markdown_events.specs.declared.role.ItemKind.TheVariants as item_kinds;
 ghost use Rattle.markdown_events.specs.declared.role.Part.TheVariants as parts;
-ghost use Rattle.markdown_grammar.specs.Attributes.{Place};
 ghost use Rattle.markdown_grammar.specs.Buffers.{node_count};
-ghost use Rattle.markdown_grammar.specs.Document.{Source};
 ghost use Rattle.markdown_grammar.specs.Grammar as models;
 ghost use Rattle.markdown_grammar.specs.declared.error_kind.ErrorKind.TheVariants.{MissingFence};
 ghost use Rattle.markdown_nodes.specs.Tree as tree;
-ghost use Rattle.markdown_nodes.specs.Tree.{Trees, nothing, plain_text};
-ghost use Rattle.markdown_nodes.specs.View.{view, views};
+ghost use Rattle.markdown_nodes.specs.Tree.{nothing};
+ghost use Rattle.markdown_nodes.specs.View.{views};
 
 use markdown_builder::buffer::values_of;
 use markdown_builder::misfits::at_most_one;
@@ -29,27 +26,29 @@ use markdown_nodes::steps::Steps;
 use markdown_nodes::unist::Position;
 use std::alloc::{AllocError, Global};
 
-/// What has stood in an open first fence: what comes after it.
+/// What has stood in the first fence of a block of math: what is written after it, which is `meta` of
+/// the node.
 #[derive(Drop)]
 pub struct MathFenceParts {
     pub meta: Option<String>,
 }
 
-/// What has stood in an open block of math: its first fence.
+/// What has stood in a block of math: its first fence.
 #[derive(Drop)]
 pub struct MathFlowParts {
     pub fence: Option<MathFenceParts>,
 }
 
 impl MathFenceParts {
-    /// Before its parts.
+    /// A first fence at its enter.
     pub fn new() -> MathFenceParts
         ensures { IsFresh (math_fence result) models.math_fence }
     {
         MathFenceParts { meta: None }
     }
 
-    /// The rule that is violated if this item may not stand here: a fence takes one text after it.
+    /// The rule that is violated if this item may not stand here: a fence takes one text after it. A
+    /// second one is `ErrorKind::Repeated`, any other item `ErrorKind::Misplaced`.
     pub fn misfit(&self, what: ItemKind) -> Option<ErrorKind>
         ensures { result ≡ misfit_in (math_fence self.now) what }
     {
@@ -59,25 +58,17 @@ impl MathFenceParts {
         }
     }
 
-    /// Takes what comes after the fence.
-    pub fn take_meta(
-        &mut self,
-        alloc: Global,
-        steps: &mut Steps<'_>,
-        nodes: &[Node],
-    ) -> Result<(), AllocError>
+    /// Takes what is written after the fence.
+    pub fn take_meta(&mut self, meta: String)
         requires { misfit_in (math_fence self.old) (item_kinds.Part parts.MathFlowFenceMeta) ≡ None }
-        ensures taken { OnOk result (GainsText parts.MathFlowFenceMeta (views nodes.now) (math_fence self.old) (math_fence self.new)) }
-        ensures list { steps.new.events ≡ steps.old.events }
-        ensures bound { steps.new.count ≤ steps.old.count + node_count (views nodes.now) }
+        ensures { GainsWords parts.MathFlowFenceMeta (string_bytes meta) (math_fence self.old) (math_fence self.new) }
     {
-        self.meta = Some(values_of(alloc, steps, nodes)?);
-        Ok(())
+        self.meta = Some(meta);
     }
 }
 
 impl MathFlowParts {
-    /// Before its first fence.
+    /// A block of math at its enter, before its first fence.
     pub fn new() -> MathFlowParts
         ensures { IsFresh (math_flow result) models.math_flow }
     {
@@ -85,7 +76,7 @@ impl MathFlowParts {
     }
 
     /// The rule that is violated if this item may not stand here: a block of math takes fences and line
-    /// endings, and other content after its first fence.
+    /// endings, and other content after its first fence. Any other item is `ErrorKind::Misplaced`.
     pub fn misfit(&self, what: ItemKind) -> Option<ErrorKind>
         ensures { result ≡ misfit_in (math_flow self.now) what }
     {
@@ -99,13 +90,14 @@ impl MathFlowParts {
     /// Takes the first fence.
     pub fn take_fence(&mut self, fence: MathFenceParts)
         requires { self.old.fence ≡ None }
-        ensures { (s : Source) (p : Place) (a b : Point) (ts : Trees) → Gains s p (item_kinds.Part parts.MathFlowFence) a b (summary_in (math_fence fence) ts) (math_flow self.old) (math_flow self.new) }
+        ensures { GainsItem (item_kinds.Part parts.MathFlowFence) (math_fence fence) (math_flow self.old) (math_flow self.new) }
     {
         self.fence = Some(fence);
     }
 
-    /// Its node, whose value is without the line endings beside the fences. Where no fence has stood it
-    /// is refused as `ErrorKind::MissingFence`.
+    /// The node of a block of math. Its value is the text of the nodes made in it, without the line
+    /// endings beside the fences, and is read by one step for each node. Where no fence has stood the
+    /// block is refused as `ErrorKind::MissingFence`.
     pub fn node(
         self,
         alloc: Global,
@@ -113,7 +105,8 @@ impl MathFlowParts {
         nodes: &[Node],
         position: Position,
     ) -> Result<Node, Stop>
-        ensures node { Makes result (is_some self.fence) MissingFence (λ node. view node ≡ placed (math_label self.fence (trim (plain_text (views nodes.now)) true true)) nothing position) }
+        ensures node { Makes result (is_some self.fence) MissingFence
+            (IsNode (math_label self.fence (fenced_text nodes.now)) nothing position) }
         ensures list { steps.new.events ≡ steps.old.events }
         ensures bound { steps.new.count ≤ steps.old.count + node_count (views nodes.now) }
     {
@@ -133,7 +126,7 @@ fn block_math(
     position: Position,
     fence: MathFenceParts,
 ) -> Result<Node, AllocError>
-    ensures node { IfOk result (λ node. view node ≡ placed (math_label (Some fence) (trim (plain_text (views nodes.now)) true true)) nothing position) }
+    ensures node { IfOk result (IsNode (math_label (Some fence) (fenced_text nodes.now)) nothing position) }
     ensures list { steps.new.events ≡ steps.old.events }
     ensures bound { steps.new.count ≤ steps.old.count + node_count (views nodes.now) }
 {
@@ -146,7 +139,9 @@ fn block_math(
     }))
 }
 
-/// The node of inline math: line endings become spaces, and one space on each side goes.
+/// The node of inline math. Its value is the text of the nodes made in it, read by one step for each:
+/// line endings become spaces, and one space goes off each end, where both have one and not all is
+/// spaces; in a table `\|` is `|`. It errs only where memory runs out.
 #[tactic(auto, unfolding(markdown_nodes::specs::View::view))]
 pub fn inline_math(
     alloc: Global,
@@ -155,7 +150,7 @@ pub fn inline_math(
     position: Position,
     in_table: bool,
 ) -> Result<Node, AllocError>
-    ensures node { IfOk result (λ node. view node ≡ placed (tree.inline_math (raw (spaces (plain_text (views nodes.now))) in_table)) nothing position) }
+    ensures node { IfOk result (IsNode (tree.inline_math (inline_text nodes.now in_table)) nothing position) }
     ensures list { steps.new.events ≡ steps.old.events }
     ensures bound { steps.new.count ≤ steps.old.count + node_count (views nodes.now) }
 {

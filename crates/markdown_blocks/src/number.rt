@@ -3,8 +3,7 @@
 ghost use Rattle.std.specs.Prelude.{◌≡◌, Some, IfSome, is_some};
 ghost use Rattle.markdown_grammar.specs.Document.{is_item_number, number};
 
-/// The number that the value of a list item writes: the number of an ordered list is that of its
-/// first item (CommonMark), and mdast keeps it in 32 bits.
+/// The number that is written in a list item, which has to fit 32 bits, as `start` of a List does.
 ///
 /// `item_number("007")` is 7. There is none where the text is empty, where it has a character that
 /// is no digit, and where the number is greater than 4294967295.

@@ -17,7 +17,7 @@ use markdown_nodes::mdast::{
 use markdown_nodes::role::Content;
 use markdown_nodes::unist::Position;
 
-/// Whether a span gives a node that has children, and nothing else.
+/// Whether a span gives a node that has children and no other fields.
 pub fn is_parent(content: Content) -> bool
     ensures { result ≡ is_parent content }
 {
@@ -33,7 +33,7 @@ pub fn is_parent(content: Content) -> bool
     )
 }
 
-/// The node of a span that gives one with children, and nothing else.
+/// The node of a span that gives one with children and no other fields.
 pub fn parent(content: Content, children: Vec<Node>, position: Position) -> Node
     requires { is_parent content ≡ true }
     ensures { view result ≡ placed (parent_label content) (views children.items) position }

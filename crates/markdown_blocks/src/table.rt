@@ -19,19 +19,19 @@ use markdown_nodes::unist::Position;
 use std::alloc::{AllocError, Global};
 use std::mem;
 
-/// How far the delimiter rows of the table are.
+/// Where the first delimiter row of the open table is.
 #[derive(Clone, Copy)]
 pub enum Rows {
-    /// There was none.
+    /// It has not begun.
     Before,
-    /// The first is open.
+    /// It is open.
     Inside,
-    /// The first has ended.
+    /// It has ended.
     After,
 }
 
-/// The entries of the first delimiter row of the open table. Tables do not stand in tables, so that
-/// there is one of these for all.
+/// How the columns of the open table are aligned: one entry for each cell of its first delimiter row.
+/// Tables do not stand in tables, so that there is one of these for all tables of a document.
 #[derive(Drop)]
 pub struct Columns {
     pub rows: Rows,
@@ -39,7 +39,7 @@ pub struct Columns {
 }
 
 impl Columns {
-    /// Outside tables, and at the enter of one.
+    /// The columns at the enter of a table, and outside tables: none.
     pub fn new(alloc: Global) -> Columns
         ensures { columns_of result ≡ no_columns }
     {
@@ -49,7 +49,8 @@ impl Columns {
         }
     }
 
-    /// A span of the role begins. A table has no entries of another.
+    /// Takes the enter of a span of this role, in a table or not. At the enter of a table there are no
+    /// entries, and at that of the table's first delimiter row the row is open.
     pub fn enter(&mut self, alloc: Global, in_table: bool, role: Role)
         ensures { columns_of self.new ≡ columns_entered in_table role (columns_of self.old) }
     {
@@ -64,7 +65,8 @@ impl Columns {
         }
     }
 
-    /// A transparent span ends, with what the spans in it said.
+    /// Takes the exit of a transparent span, with what the spans in it said: a cell of the open row
+    /// gives an entry. It errs only where memory runs out.
     pub fn exit(&mut self, kind: TransparentKind, inner: Marks) -> Result<(), AllocError>
         ensures { OnOk result (columns_of self.new ≡ columns_left (roles.Transparent kind) (marks_of inner) (columns_of self.old)) }
     {
@@ -79,7 +81,7 @@ impl Columns {
         Ok(())
     }
 
-    /// The entries, at the end of the table. Then there are none.
+    /// Takes the entries out, at the exit of the table.
     pub fn take(&mut self, alloc: Global) -> Vec<AlignKind>
         ensures entries { result.items ≡ self.old.kinds.items }
         ensures columns { columns_of self.new ≡ no_columns }
@@ -89,7 +91,7 @@ impl Columns {
     }
 }
 
-/// The node of a table.
+/// The node of a table, with how its columns are aligned.
 pub fn table(children: Vec<Node>, position: Position, align: Vec<AlignKind>) -> Node
     ensures { view result ≡ placed (tree.table align.items) (views children.items) position }
 {

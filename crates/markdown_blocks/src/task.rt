@@ -1,4 +1,4 @@
-//! The first text of an item with a mark.
+//! What a check mark takes off the text after it.
 
 ghost use Rattle.std.specs.Prelude.{◌≡◌, ◌<◌, IfNone, MatchOption, drop, length, option_map, slice_index, string_bytes};
 ghost use Rattle.std.specs.Vec.{vec_len};
@@ -11,9 +11,11 @@ use markdown_builder::texts::remove_byte;
 use markdown_nodes::mdast::{Node, Paragraph, Text};
 use markdown_nodes::unist::{Point, Position};
 
-/// Takes the blank after a mark off the nodes of its item: where the first node is a paragraph
-/// that begins with a text, that text loses one tab, space or line ending (GFM, task list items),
-/// and goes if it was no more, and the paragraph starts where the text then does.
+/// Takes the blank after a check mark off the nodes of its item: where the first node is a paragraph
+/// that begins with a text, that text loses one tab, space or line ending (GFM, task list items).
+/// The paragraph starts where the text then does, and the text goes where nothing is left of it.
+///
+/// The paragraph of `[x] a` begins with the text ` a`, which becomes `a`.
 pub fn trim(nodes: &mut Vec<Node>)
     ensures { views nodes.new.items ≡ task (views nodes.old.items) }
 {
@@ -33,7 +35,7 @@ fn trim_paragraph(paragraph: &mut Paragraph)
     }
 }
 
-/// Takes the blank off the first of these nodes, if it is a text, and says where they start then.
+/// Takes the blank off the first of these nodes, if it is a text, and returns where they start then.
 fn trim_first(nodes: &mut Vec<Node>) -> Option<Point>
     ensures cut { option_map (λ start. (views nodes.new.items, start)) result ≡ first_cut (views nodes.old.items) }
     ensures kept { IfNone result (views nodes.new.items ≡ views nodes.old.items) }
@@ -57,9 +59,10 @@ fn remove_node(nodes: &mut Vec<Node>)
     nodes.remove(0);
 }
 
-/// Takes the blank off a text with a position, and says where it starts then.
+/// Takes the blank off a text with a position, and returns where it starts then.
 fn trim_text(text: &mut Text) -> Option<Point>
-    ensures cut { option_map (λ start. (string_bytes text.new.value, start)) result ≡ text_cut (string_bytes text.old.value) text.old.position }
+    ensures cut { option_map (λ start. (string_bytes text.new.value, start)) result
+        ≡ text_cut (string_bytes text.old.value) text.old.position }
     ensures place { MatchOption result (text.new ≡ text.old) (λ start. text.new.position ≡ from_point start text.old.position) }
 {
     let position = text.position?;
@@ -71,8 +74,8 @@ fn trim_text(text: &mut Text) -> Option<Point>
     Some(start)
 }
 
-/// Takes one tab, space or line ending off the beginning of a text, a CRLF as one, and says where the
-/// rest of a text that starts here begins.
+/// Takes one tab, space or line ending off the beginning of a text that starts at this point, a CRLF
+/// as one, and returns where the rest starts.
 fn trim_front(value: &mut String, start: Point) -> Point
     ensures { (string_bytes value.new, result) ≡ after_blank (string_bytes value.old) start }
 {

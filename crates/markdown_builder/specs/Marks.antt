@@ -25,4 +25,10 @@ first_of firsts.Other = Some false
 
 -- what the children so far say
 abbrev pub marks_of : OpenMarks → Marks
-marks_of m = record { near = sibling_in m.near; far = sibling_in m.far; item_blank = m.item_blank; list_blank = m.list_blank; marked_first = first_of m.first }
+marks_of m = record {
+  near = sibling_in m.near;
+  far = sibling_in m.far;
+  item_blank = m.item_blank;
+  list_blank = m.list_blank;
+  marked_first = first_of m.first;
+}

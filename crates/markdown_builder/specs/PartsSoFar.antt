@@ -1,5 +1,7 @@
 -- What has stood so far in an open span of any construct, as the steps say it: what a construct's own record of its parts comes to.
 use Rattle.std.specs.Prelude.{◌≡◌, ◌∷◌, Bool, Err, List, None, Ok, Option, Result, Some, [], cond, false, is_some, true, ℕ}
+use Rattle.std.specs.Prelude.{String, option_map, string_bytes}
+use Rattle.std.specs.declared.alloc.Global.{Global}
 use Rattle.std.specs.Option.{option_or}
 use Rattle.markdown_events.specs.declared.event.Point.{Point}
 use Rattle.markdown_events.specs.declared.role.ItemKind.{ItemKind}
@@ -7,7 +9,9 @@ use Rattle.markdown_events.specs.declared.role.ItemKind.TheVariants as item_kind
 use Rattle.markdown_events.specs.declared.role.Part.{Part}
 use Rattle.markdown_events.specs.declared.role.Part.TheVariants as parts
 use Rattle.markdown_events.specs.declared.unist.Position.{Position}
-use Rattle.markdown_nodes.specs.Tree.{Label as TreeLabel, Tree, Trees, nothing}
+use Rattle.markdown_nodes.specs.Tree.{Label as TreeLabel, Tree, Trees, nothing, plain_text}
+use Rattle.markdown_nodes.specs.View.{view}
+use Rattle.markdown_nodes.specs.declared.mdast.Node.{Node}
 use Rattle.markdown_grammar.specs.Attributes.{Place, mark_given, value_given}
 use Rattle.markdown_grammar.specs.Document.{Source, source}
 use Rattle.markdown_grammar.specs.Grammar.{ContentModel, model_after, rules}
@@ -18,19 +22,39 @@ use Rattle.markdown_grammar.specs.declared.error_kind.ErrorKind.{ErrorKind}
 use Rattle.markdown_grammar.specs.declared.error_kind.Stop.{Stop}
 use Rattle.markdown_grammar.specs.declared.error_kind.Stop.TheVariants as stops
 use Rattle.markdown_steps.specs.Compiler.{label_with, nothing_yet, part_with, rule_checks}
-use Rattle.markdown_steps.specs.Summaries.{PartSummary, Path, Summary, into, itself, path_to, stood}
+use Rattle.markdown_steps.specs.Summaries.{PartSummary, Path, Summary, into, itself, path_to, stood, words}
 
--- the content model with which a span began, the one that it has now, the last marker, the parts that stood, the nodes of its label, its check mark and its number
+-- what has stood so far in a span
 pub record PartsSoFar : Type 0 where
+  -- the content model with which it began, and the one that it has now
   pub initial_model : ContentModel
   pub current_model : ContentModel
+  -- the last marker, and the parts
   pub marker : Option ℕ
   pub part : Path → Option PartSummary
+  -- the nodes of its label
   pub label : Trees
+  -- its check mark and its number
   pub mark : Option Bool
   pub value : Option ℕ
 
 -- ---- Words for the parts of a construct
+
+-- a span with this content model, of which these parts are kept, and nothing else
+abbrev pub with_parts : ContentModel → (Path → Option PartSummary) → PartsSoFar
+with_parts model part = record {
+  initial_model = model;
+  current_model = model;
+  marker = None;
+  part = part;
+  label = nothing;
+  mark = None;
+  value = None;
+}
+
+-- a span with this content model, of which nothing is kept
+abbrev pub without_parts : ContentModel → PartsSoFar
+without_parts model = with_parts model (λ way. None)
 
 -- one content model before, and another after
 abbrev pub after_if : {A : Type 0} → ContentModel → ContentModel → Option A → ContentModel
@@ -47,13 +71,21 @@ abbrev pub ending : Option PartSummary → Path → Option PartSummary
 ending kept itself = kept
 ending kept (into p way) = None
 
+-- such a part, of which a text is kept
+abbrev pub ending_text : Option (String Global) → Path → Option PartSummary
+ending_text text way = ending (option_map words (option_map string_bytes text)) way
+
 -- a place by its parts
 abbrev pub place_with : Bool → Bool → Option ℕ → Place
 place_with line_endings in_table marker = record { line_endings = line_endings; in_table = in_table; marker = marker }
 
--- a node with a place
+-- a node with a position
 abbrev pub placed : TreeLabel → Trees → Position → Tree
 placed label children position = record { label = label; children = children; position = Some position }
+
+-- a node of the program is such a node
+abbrev pub IsNode : TreeLabel → Trees → Position → Node → Type 0
+IsNode label children position made = view made ≡ placed label children position
 
 -- ---- What is refused
 
@@ -111,18 +143,36 @@ pub record Gains (s : Source) (p : Place) (what : ItemKind) (a b : Point) (i : S
 abbrev pub GainsSign : Part → PartsSoFar → PartsSoFar → Type 0
 GainsSign q old new = (s : Source) (p : Place) (a b : Point) → Gains s p (item_kinds.Part q) a b nothing_yet old new
 
+-- an item in which this has stood is kept, whatever its nodes are
+abbrev pub GainsItem : ItemKind → PartsSoFar → PartsSoFar → PartsSoFar → Type 0
+GainsItem what inner old new = (s : Source) (p : Place) (a b : Point) (ts : Trees) → Gains s p what a b (summary_in inner ts) old new
+
+-- nothing but nodes
+abbrev pub nodes_alone : Trees → Summary
+nodes_alone ts = record nothing_yet { nodes = ts }
+
 -- a part with these nodes is kept, whatever its slice is
 abbrev pub GainsText : Part → Trees → PartsSoFar → PartsSoFar → Type 0
-GainsText q ts old new = (s : Source) (p : Place) (a b : Point) → Gains s p (item_kinds.Part q) a b (record nothing_yet { nodes = ts }) old new
+GainsText q ts old new = (s : Source) (p : Place) (a b : Point) → Gains s p (item_kinds.Part q) a b (nodes_alone ts) old new
 
--- a part with these nodes, whose value is read: it is kept, or refused where it cannot be read
-abbrev pub ReadsText : {X : Type 0} → List ℕ → Part → Trees → Point → Point → PartsSoFar → PartsSoFar → Result X Stop → Type 0
+-- a part with this text is kept, whatever its nodes are
+abbrev pub GainsWords : Part → List ℕ → PartsSoFar → PartsSoFar → Type 0
+GainsWords q text old new = (ts : Trees) → text ≡ plain_text ts → GainsText q ts old new
+
+-- a part with this in it, whose value is read: it is kept, or refused where it cannot be read
+abbrev pub ReadsPart : {X : Type 0} → Source → Place → Part → Summary → Point → Point
+    → PartsSoFar → PartsSoFar → Result X Stop → Type 0
+ReadsPart s p q i a b old new result =
+    Makes result (is_read s old.current_model p false (item_kinds.Part q) a b) (value_error s (item_kinds.Part q) a b)
+    (λ _. Gains s p (item_kinds.Part q) a b i old new)
+
+-- the same of a part with these nodes, whatever the decoder says
+abbrev pub ReadsText : {X : Type 0} → List ℕ → Part → Trees → Point → Point
+    → PartsSoFar → PartsSoFar → Result X Stop → Type 0
 ReadsText bytes q ts a b old new result =
-    (text : List ℕ → ℕ → Option (List ℕ)) (p : Place) → Makes result (is_read (source bytes text) old.current_model p false (item_kinds.Part q) a b) (value_error (source bytes text) (item_kinds.Part q) a b)
-    (λ _. Gains (source bytes text) p (item_kinds.Part q) a b (record nothing_yet { nodes = ts }) old new)
+    (text : List ℕ → ℕ → Option (List ℕ)) (p : Place) → ReadsPart (source bytes text) p q (nodes_alone ts) a b old new result
 
 -- the same of a part in which nothing stands
 abbrev pub Reads : {X : Type 0} → List ℕ → Part → Point → Point → PartsSoFar → PartsSoFar → Result X Stop → Type 0
 Reads bytes q a b old new result =
-    (text : List ℕ → ℕ → Option (List ℕ)) (p : Place) → Makes result (is_read (source bytes text) old.current_model p false (item_kinds.Part q) a b) (value_error (source bytes text) (item_kinds.Part q) a b)
-    (λ _. Gains (source bytes text) p (item_kinds.Part q) a b nothing_yet old new)
+    (text : List ℕ → ℕ → Option (List ℕ)) (p : Place) → ReadsPart (source bytes text) p q nothing_yet a b old new result

@@ -1,4 +1,5 @@
-//! The text of a buffer: what the nodes that were made in a span read as.
+//! The text of a buffer, a span whose nodes are collected for a text: that of a title, of a label or
+//! of a block of code.
 
 ghost use Rattle.std.specs.Prelude.{◌≡◌, ◌≤◌, ◌+◌, ◌++◌, OnOk, IfOk, string_bytes};
 ghost use Rattle.markdown_nodes.specs.Access;
@@ -11,17 +12,20 @@ use markdown_nodes::mdast::Node;
 use markdown_nodes::steps::Steps;
 use std::alloc::{AllocError, Global};
 
-/// What of a node is text.
+/// What of a node is read.
 #[derive(Clone, Copy)]
 enum Form {
     /// The values of the literals.
     Values,
-    /// These, and the alternative texts of pictures.
+    /// These, and the alternative texts of images.
     Label,
 }
 
-/// The values of the literals in nodes, in tree order, by one step for each node: what raw content,
-/// a title or a destination reads as.
+/// The text of nodes: the values of the literals among them and in them, in the order of the tree.
+/// Titles, destinations and blocks of code are read so. It takes one step for each node, and errs
+/// only where memory runs out.
+///
+/// An emphasis with the text `a` in it, and the text `b` after it, read as `ab`.
 pub fn values_of(alloc: Global, steps: &mut Steps<'_>, nodes: &[Node]) -> Result<String, AllocError>
     ensures text { IfOk result (λ text. string_bytes text ≡ plain_text (views nodes.now)) }
     ensures list { steps.new.events ≡ steps.old.events }
@@ -32,8 +36,9 @@ pub fn values_of(alloc: Global, steps: &mut Steps<'_>, nodes: &[Node]) -> Result
     text_of(alloc, steps, Form::Values, nodes)
 }
 
-/// The same with the alternative texts of the pictures among them: what the label of a link or an
-/// image reads as.
+/// The same with the alternative texts of images: the labels of links and images are read so.
+///
+/// The text `a`, and after it an image with the alternative text `b`, read as `ab`.
 pub fn label_of(alloc: Global, steps: &mut Steps<'_>, nodes: &[Node]) -> Result<String, AllocError>
     ensures text { IfOk result (λ text. string_bytes text ≡ plain_label (views nodes.now)) }
     ensures list { steps.new.events ≡ steps.old.events }
@@ -44,7 +49,7 @@ pub fn label_of(alloc: Global, steps: &mut Steps<'_>, nodes: &[Node]) -> Result<
     text_of(alloc, steps, Form::Label, nodes)
 }
 
-/// What nodes read as.
+/// The text of nodes.
 fn text_of(
     alloc: Global,
     steps: &mut Steps<'_>,
@@ -61,7 +66,7 @@ fn text_of(
     Ok(text)
 }
 
-/// Puts what nodes read as after a text. After an error an unknown part of it stands there.
+/// Adds the text of nodes to a text. After an error an unknown part of it stands there.
 fn add_text(
     alloc: Global,
     steps: &mut Steps<'_>,
@@ -95,8 +100,8 @@ fn add_text(
     }
 }
 
-/// What a node reads as itself: the value of a literal, in a label the alternative text of a
-/// picture, and no characters else.
+/// The text of one node, without that of the nodes in it: the value of a literal, in a label the
+/// alternative text of an image, and for all others the empty text.
 fn own_text(form: Form, node: &Node) -> &str
     ensures { result.now ≡ own_text form (Access.label_of node.now) }
 {

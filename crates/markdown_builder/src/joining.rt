@@ -1,4 +1,4 @@
-//! Nodes at the end of a list: a text that meets a text becomes one with it.
+//! Nodes that are added to a list: a text that comes after a text becomes one with it.
 
 ghost use Rattle.std.specs.Prelude.{◌≡◌, false, OnOk, IfOk};
 ghost use Rattle.markdown_nodes.specs.Tree.{from_to, join, only};
@@ -20,7 +20,7 @@ fn first_place(nodes: &mut Vec<Node>) -> Result<(), AllocError>
     Ok(())
 }
 
-/// Puts a node that is no text after the others.
+/// Adds a node that is no text. It errs only where memory runs out, as the others of this file do.
 #[tactic(auto, using(crate::proofs::Views::views_put))]
 pub fn put(nodes: &mut Vec<Node>, node: Node) -> Result<(), AllocError>
     requires { is_text (view node).label ≡ false }
@@ -31,8 +31,10 @@ pub fn put(nodes: &mut Vec<Node>, node: Node) -> Result<(), AllocError>
     Ok(())
 }
 
-/// Puts a part of a text after the others: it goes on with a text that stands there, since the
-/// data, references and line endings of one run of characters are one text in mdast.
+/// Adds a part of a text: it goes on with a text that is the last node, since the data, references
+/// and line endings of one run of characters are one text in mdast.
+///
+/// After the text `a`, the part `b` makes `ab` of it, which ends where the part does.
 pub fn put_text(
     alloc: Global,
     nodes: &mut Vec<Node>,
@@ -52,7 +54,7 @@ pub fn put_text(
     Ok(())
 }
 
-/// A new text.
+/// The node of a text.
 #[tactic(auto, unfolding(markdown_nodes::specs::View::view))]
 pub fn new_text(alloc: Global, value: &str, position: Position) -> Result<Node, AllocError>
     ensures { IfOk result (λ made. only (view made) ≡ one_text value.now position) }
@@ -63,7 +65,7 @@ pub fn new_text(alloc: Global, value: &str, position: Position) -> Result<Node, 
     }))
 }
 
-/// Puts a part of a text after another: the position then ends where the part does.
+/// Adds a part to a text: the position then ends where the part does.
 fn go_on(text: &mut Text, part: &str, position: Position) -> Result<(), AllocError>
     ensures { OnOk result (text_node text.new ≡ join (text_node text.old) (one_text part.now position)) }
 {
@@ -74,8 +76,8 @@ fn go_on(text: &mut Text, part: &str, position: Position) -> Result<(), AllocErr
     Ok(())
 }
 
-/// Puts nodes after others: a text that begins them goes on with one that ends the others. After
-/// no nodes they are taken as they are.
+/// Adds nodes to others: a text that is the first of them goes on with one that is the last of the
+/// others. Where there are no others they are taken as they are.
 #[tactic(auto, using(crate::proofs::Joins::none_appended))]
 pub fn append(nodes: &mut Vec<Node>, others: Vec<Node>) -> Result<(), AllocError>
     ensures { OnOk result (views nodes.new.items ≡ join (views nodes.old.items) (views others.items)) }
@@ -93,7 +95,7 @@ pub fn append(nodes: &mut Vec<Node>, others: Vec<Node>) -> Result<(), AllocError
     Ok(())
 }
 
-/// Puts any node after the others: a text goes on with one that stands there.
+/// Adds any node: a text goes on with one that is the last node.
 fn put_first(nodes: &mut Vec<Node>, node: Node) -> Result<(), AllocError>
     ensures { OnOk result (views nodes.new.items ≡ join (views nodes.old.items) (only (view node))) }
 {

@@ -14,15 +14,18 @@ use markdown_nodes::steps::Steps;
 use markdown_nodes::text::normalize_identifier;
 use std::alloc::{AllocError, Global};
 
-/// The text of a label, and the identifier by which it is matched: its slice of the document,
-/// normalized.
+/// A label as mdast has it: its text, and the identifier by which it is matched, which is its slice
+/// of the document, normalized.
+///
+/// Of `[A  b]: c` the label is `A  b`, and the identifier `a b`.
 #[derive(Drop)]
 pub struct Identified {
     pub identifier: String,
     pub label: String,
 }
 
-/// What a label says: the identifier of its slice, and its text.
+/// A label by its slice of the document and the nodes made in it, by one step for each node. It errs
+/// only where memory runs out.
 pub fn identify(
     alloc: Global,
     steps: &mut Steps<'_>,
@@ -40,7 +43,7 @@ pub fn identify(
     })
 }
 
-/// The identifier and the label of a definition, where it has one.
+/// The identifier and the label of a definition. Where it has no label, the identifier is empty.
 pub fn named(alloc: Global, label: Option<Identified>) -> (String, Option<String>)
     ensures identifier { string_bytes result.0 ≡ identifier_of (identified_kept label) }
     ensures label { option_map string_bytes result.1 ≡ words_of (identified_kept label) }

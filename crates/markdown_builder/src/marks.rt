@@ -89,6 +89,7 @@ impl Marks {
         }
     }
 
+    /// The same of a block quote.
     fn block_quote(self) -> Sibling
         ensures { sibling_in result ≡ sibling_of (roles.Significant (item_kinds.Content contents.BlockQuote)) (marks_of self) }
     {
@@ -98,6 +99,7 @@ impl Marks {
         }
     }
 
+    /// The same of an item.
     fn list_item(self) -> Sibling
         ensures { sibling_in result ≡ sibling_of (roles.Significant (item_kinds.Content contents.ListItem)) (marks_of self) }
     {
@@ -123,8 +125,8 @@ impl Marks {
         }
     }
 
-    /// The same after a blank line. It makes a list loose, but after an item without content at its
-    /// end, and an item, but after its prefix.
+    /// The same after a blank line. It makes a list loose, but not after an item that ends without
+    /// content, and it makes an item loose, but not after the item's prefix (CommonMark, lists).
     fn with_blank_line(self) -> Marks
         ensures { marks_of result ≡ marks_with (marks_of self) (roles.Transparent transparents.BlankLineEnding) no_marks }
     {
@@ -139,7 +141,8 @@ impl Marks {
         }
     }
 
-    /// How a delimiter cell value with these children aligns its column.
+    /// How a cell of the delimiter row with these children aligns its column: `:-:` to the center, `:-`
+    /// to the left, `-:` to the right, and `-` not at all (GFM, tables).
     pub fn align_kind(self) -> AlignKind
         ensures { result ≡ kind_by (marks_of self) }
     {

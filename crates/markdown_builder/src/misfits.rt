@@ -1,4 +1,4 @@
-//! The rule that is violated where a part may not stand.
+//! The rule that is violated where an item may not stand.
 
 ghost use Rattle.std.specs.Prelude.{◌≡◌, not};
 ghost use Rattle.markdown_builder.specs.PartsSoFar.{error_if};

@@ -1,4 +1,4 @@
-//! What a span says in the document: its text, and its position.
+//! What stands between two points of the document, and the position from one to the other.
 
 ghost use Rattle.std.specs.Prelude.{◌≡◌, ◌^◌, ◌<◌, IfErr, Some, SomeIff, IfSome, is_some, option_copied};
 ghost use Rattle.std.specs.Result.{result_ok};
@@ -11,7 +11,8 @@ use markdown_grammar::error_kind::{ErrorKind, Stop};
 use markdown_nodes::event::Point;
 use markdown_nodes::unist::Position;
 
-/// Where a slice begins or ends: after a virtual space, the byte after its tab.
+/// The offset in bytes at which a slice begins or ends. Of a point in the virtual spaces of a tab it
+/// is the byte after that tab.
 fn edge_of(point: Point) -> Option<usize>
     ensures { SomeIff result (edge point < 2 ^ 64) (edge point) }
 {
@@ -22,7 +23,8 @@ fn edge_of(point: Point) -> Option<usize>
     }
 }
 
-/// The text of a span, without which the list is refused.
+/// The text of a span. It is refused as `ErrorKind::InvalidSlice` where its ends are not in order or
+/// lie outside the document, and where what is between them is no UTF-8.
 pub fn text_of<'a>(bytes: &'a [u8], start: Point, end: Point) -> Result<&'a str, Stop>
     ensures text { option_copied (result_ok result) ≡ slice bytes.now start end }
     ensures refused { IfErr result (λ stop. stop ≡ Refused InvalidSlice) }
@@ -30,7 +32,8 @@ pub fn text_of<'a>(bytes: &'a [u8], start: Point, end: Point) -> Result<&'a str,
     slice_of(bytes, start, end).ok_or(Stop::Refused(ErrorKind::InvalidSlice))
 }
 
-/// The text of a span, if its ends are in order and in the document, and what is between is UTF-8.
+/// The text of a span, if its ends are in order and in the document, and what is between them is
+/// UTF-8.
 #[tactic(auto, unfolding(markdown_events::specs::Slices::slice))]
 fn slice_of<'a>(bytes: &'a [u8], start: Point, end: Point) -> Option<&'a str>
     ensures { option_copied result ≡ slice bytes.now start end }
@@ -56,9 +59,9 @@ pub fn length_between(bytes: &[u8], start: Point, end: Point) -> Option<usize>
     Some(end - start)
 }
 
-/// The byte at the index of a point, virtual spaces or not, if it is in the document: the first of
-/// a fence of frontmatter says which language follows, and the first under a setext heading its
-/// depth.
+/// The byte at the offset of a point, whatever its virtual spaces, if it is in the document: the
+/// first byte of frontmatter says which language follows, and the first of the underline of a setext
+/// heading says the depth.
 pub fn byte_at(bytes: &[u8], point: Point) -> Option<u8>
     ensures { result ≡ byte_at bytes.now point }
 {

@@ -1,4 +1,4 @@
-//! The texts of nodes that come from a buffer or a slice, and not as they stand there.
+//! What is done to a text before it is the value or the address of a node.
 
 ghost use Rattle.std.specs.Prelude.{◌≡◌, ◌<◌, ◌++◌, ◌&&◌, IfOk, drop, length, slice_index, string_bytes, true};
 ghost use Rattle.std.specs.List.{list_all};
@@ -8,9 +8,11 @@ ghost use Rattle.markdown_builder.specs.ValueTexts.{is_kept, is_unpadded};
 use markdown_nodes::text::{line_endings_to_spaces, raw_text, trim_eol};
 use std::alloc::{AllocError, Global};
 
-/// The value of a block, without one line ending at its end, and without one at its start where
-/// that is asked: fenced code, math and frontmatter lose the line endings beside their fences so,
-/// and indented code the last one alone. It takes no memory.
+/// The value of a block: the text without one line ending at its end, and without one at its start
+/// where that is asked. So fenced code, math and frontmatter lose the line endings beside their
+/// fences, and indented code its last one alone. It takes no memory.
+///
+/// A CR and an LF after it are one line ending. With `at_start`, `\na\n\n` gives `a\n`.
 pub fn block_value(mut text: String, at_start: bool) -> String
     ensures { string_bytes result ≡ trim (string_bytes text) at_start true }
 {
@@ -43,7 +45,7 @@ fn trim_end(text: &mut String)
     text.truncate(length);
 }
 
-/// Takes the first byte off a text, which is a character.
+/// Takes the first character off a text, where it is an ASCII character.
 pub fn remove_byte(value: &mut String)
     requires some { 0 < length (string_bytes value.old) }
     requires ascii { slice_index (string_bytes value.old) 0 < 128 }
@@ -52,8 +54,9 @@ pub fn remove_byte(value: &mut String)
     value.remove(0);
 }
 
-/// The value of inline code or math, in a table or not: each line ending is a space, and then a
-/// space goes off each end (CommonMark, code spans). A text that stays as it is is not copied.
+/// The value of inline code or math: each line ending becomes a space, and then one space goes off
+/// each end, where both have one and not all is spaces (CommonMark, code spans). In a table `\|` is
+/// `|` (GFM, tables). A text that stays as it is is not copied. It errs only where memory runs out.
 pub fn inline_value(alloc: Global, text: String, in_table: bool) -> Result<String, AllocError>
     ensures { IfOk result (λ value. string_bytes value ≡ raw (spaces (string_bytes text)) in_table) }
 {
@@ -82,8 +85,8 @@ fn is_kept_whole(text: &[u8]) -> bool
         .all(|byte| !matches!(*byte, b'\n' | b'\r' | b'\\'))
 }
 
-/// The address of a link that is written without its scheme: `mailto:` before an email address,
-/// `http://` before one that begins with `www.` (GFM, autolinks).
+/// An address with its scheme before it: `mailto:` before an email address, `http://` before one
+/// that begins with `www.` (GFM, autolinks). It errs only where memory runs out.
 pub fn address(alloc: Global, scheme: &str, value: &str) -> Result<String, AllocError>
     ensures { IfOk result (λ url. string_bytes url ≡ scheme.now ++ value.now) }
 {

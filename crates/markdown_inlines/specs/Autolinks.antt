@@ -1,12 +1,22 @@
 -- What has stood so far in an autolink.
-use Rattle.std.specs.Prelude.{Bool, None, Option, Some, false, true}
+use Rattle.std.specs.Prelude.{◌≡◌, Bool, List, None, Option, Some, false, true, ℕ}
+use Rattle.markdown_events.specs.declared.event.Point.{Point}
 use Rattle.markdown_events.specs.declared.role.Content.{Content}
 use Rattle.markdown_events.specs.declared.role.Content.TheVariants as contents
+use Rattle.markdown_events.specs.declared.role.ItemKind.TheVariants as item_kinds
 use Rattle.markdown_events.specs.declared.role.Part.TheVariants as parts
-use Rattle.markdown_nodes.specs.Tree.{nothing}
+use Rattle.markdown_nodes.specs.Tree.{Trees, only}
+use Rattle.markdown_nodes.specs.View.{view}
+use Rattle.markdown_nodes.specs.declared.mdast.Node.{Node}
+use Rattle.markdown_grammar.specs.Attributes.{Place}
+use Rattle.markdown_grammar.specs.Document.{Source, source, text_read}
 use Rattle.markdown_grammar.specs.Grammar as Models
-use Rattle.markdown_steps.specs.Summaries.{PartSummary, Path, address, into}
-use Rattle.markdown_builder.specs.PartsSoFar.{PartsSoFar, ending}
+use Rattle.markdown_grammar.specs.Nodes.{linked}
+use Rattle.markdown_steps.specs.ChildFacts.{ChildFacts}
+use Rattle.markdown_steps.specs.Summaries.{PartSummary, Path, Summary, address, into}
+use Rattle.markdown_steps.specs.SummaryNodes
+use Rattle.markdown_steps.specs.SummaryNodes.{node_of}
+use Rattle.markdown_builder.specs.PartsSoFar.{PartsSoFar, ending, with_parts}
 use Rattle.markdown_inlines.specs.declared.autolink.Address.{Address}
 use Rattle.markdown_inlines.specs.declared.autolink.AutolinkParts.{AutolinkParts}
 use Rattle.markdown_inlines.specs.declared.autolink.AutolinkParts.TheVariants as autolinks
@@ -33,7 +43,11 @@ in_autolink x way = None
 
 -- an autolink, of which its parts are kept
 abbrev pub autolink : AutolinkParts → PartsSoFar
-autolink x = record { initial_model = Models.autolink; current_model = Models.autolink; marker = None; part = in_autolink x; label = nothing; mark = None; value = None }
+autolink x = with_parts Models.autolink (in_autolink x)
+
+-- the nodes that it gives between two points
+abbrev pub autolink_nodes : AutolinkParts → Point → Point → Trees
+autolink_nodes x start end = SummaryNodes.autolink (email_kept x) (protocol_kept x) start end
 
 -- an address that stands in the text as it is
 abbrev pub is_literal : Content → Bool
@@ -41,3 +55,15 @@ is_literal contents.AutolinkLiteralEmail = true
 is_literal contents.AutolinkLiteralWww = true
 is_literal contents.AutolinkLiteralWhole = true
 is_literal _ = false
+
+-- what such an address gives is a link to it after this scheme, wherever it stands
+abbrev pub IsSchemeOf : Content → List ℕ → Type 0
+IsSchemeOf content scheme =
+    (s : Source) (p : Place) (a b : Point) (children : ChildFacts) (i : Summary)
+    → node_of s p (item_kinds.Content content) a b children i ≡ linked scheme (text_read s a b) a b a b
+
+-- a node is what such an address gives between two points, whatever is known of where it stands
+abbrev pub IsLiteral : List ℕ → Content → Point → Point → Node → Type 0
+IsLiteral bytes content start end made =
+    (text : List ℕ → ℕ → Option (List ℕ)) (p : Place) (children : ChildFacts) (i : Summary)
+    → only (view made) ≡ node_of (source bytes text) p (item_kinds.Content content) start end children i

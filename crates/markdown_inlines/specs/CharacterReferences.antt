@@ -1,19 +1,15 @@
 -- What has stood so far in a character reference.
 use Rattle.std.specs.Prelude.{Bool, None, Option, Result, Some, false, option_map, string_bytes, true, ℕ, ◌||◌}
 use Rattle.markdown_events.specs.declared.event.Point.{Point}
-use Rattle.markdown_events.specs.declared.role.ItemKind.TheVariants as item_kinds
 use Rattle.markdown_events.specs.declared.role.Part.{Part}
 use Rattle.markdown_events.specs.declared.role.Part.TheVariants as parts
-use Rattle.markdown_nodes.specs.Tree.{nothing}
 use Rattle.markdown_grammar.specs.Attributes.{Place}
 use Rattle.markdown_grammar.specs.Document.{Source}
 use Rattle.markdown_grammar.specs.Grammar as Models
-use Rattle.markdown_grammar.specs.Refusals.{value_error}
-use Rattle.markdown_grammar.specs.Values.{is_read}
 use Rattle.markdown_grammar.specs.declared.error_kind.Stop.{Stop}
 use Rattle.markdown_steps.specs.Compiler.{nothing_yet}
 use Rattle.markdown_steps.specs.Summaries.{PartSummary, Path, into, words}
-use Rattle.markdown_builder.specs.PartsSoFar.{Gains, Makes, PartsSoFar, ending, place_with, stood_if}
+use Rattle.markdown_builder.specs.PartsSoFar.{PartsSoFar, ReadsPart, ending, place_with, stood_if, with_parts}
 use Rattle.markdown_inlines.specs.declared.character_reference.CharacterReferenceParts.{CharacterReferenceParts}
 use Rattle.markdown_inlines.specs.declared.character_reference.Marker.{Marker}
 use Rattle.markdown_inlines.specs.declared.character_reference.Marker.TheVariants as markers
@@ -63,29 +59,31 @@ marked (Some x) marker = record {
 
 -- ---- The reference
 
+-- what is kept of a marker
+abbrev pub marker_kept : Marker → CharacterReferenceParts → Option PartSummary
+marker_kept marker x = stood_if (has_marker marker x.markers)
+
+-- the text that its value stands for
+abbrev pub value_kept : CharacterReferenceParts → Option PartSummary
+value_kept x = option_map words (option_map string_bytes x.text)
+
 -- the parts of a character reference
 abbrev pub in_character_reference : CharacterReferenceParts → Path → Option PartSummary
-in_character_reference x (into parts.CharacterReferenceMarker way) = ending (stood_if (has_marker markers.Named x.markers)) way
-in_character_reference x (into parts.CharacterReferenceMarkerNumeric way) = ending (stood_if (has_marker markers.Decimal x.markers)) way
-in_character_reference x (into parts.CharacterReferenceMarkerHexadecimal way) = ending (stood_if (has_marker markers.Hexadecimal x.markers)) way
-in_character_reference x (into parts.CharacterReferenceValue way) = ending (option_map words (option_map string_bytes x.text)) way
+in_character_reference x (into parts.CharacterReferenceMarker way) = ending (marker_kept markers.Named x) way
+in_character_reference x (into parts.CharacterReferenceMarkerNumeric way) = ending (marker_kept markers.Decimal x) way
+in_character_reference x (into parts.CharacterReferenceMarkerHexadecimal way) = ending (marker_kept markers.Hexadecimal x) way
+in_character_reference x (into parts.CharacterReferenceValue way) = ending (value_kept x) way
 in_character_reference x way = None
 
 -- a character reference, of which its parts and its last marker are kept
 abbrev pub character_reference : CharacterReferenceParts → PartsSoFar
-character_reference x = record {
-  initial_model = Models.character_reference;
-  current_model = Models.character_reference;
+character_reference x = record (with_parts Models.character_reference (in_character_reference x)) {
   marker = option_map (λ (m : Markers). byte_of m.last) x.markers;
-  part = in_character_reference x;
-  label = nothing;
-  mark = None;
-  value = None;
 }
 
 -- its value is read after the last marker: it is kept, or refused where it stands for no text
-abbrev pub ReadsValue : {X : Type 0} → Source → Point → Point → PartsSoFar → PartsSoFar → Result X Stop → Type 0
+abbrev pub ReadsValue : {X : Type 0} → Source → Point → Point
+    → CharacterReferenceParts → CharacterReferenceParts → Result X Stop → Type 0
 ReadsValue s a b old new result =
-    (line_endings in_table : Bool) → let p : Place = place_with line_endings in_table old.marker in
-    Makes result (is_read s old.current_model p false (item_kinds.Part parts.CharacterReferenceValue) a b) (value_error s (item_kinds.Part parts.CharacterReferenceValue) a b)
-    (λ _. Gains s p (item_kinds.Part parts.CharacterReferenceValue) a b nothing_yet old new)
+    (line_endings in_table : Bool) → let p : Place = place_with line_endings in_table (character_reference old).marker in
+    ReadsPart s p parts.CharacterReferenceValue nothing_yet a b (character_reference old) (character_reference new) result

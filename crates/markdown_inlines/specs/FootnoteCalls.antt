@@ -1,9 +1,11 @@
 -- What has stood so far in a footnote call.
-use Rattle.std.specs.Prelude.{None, Option}
+use Rattle.std.specs.Prelude.{None, Option, Some}
 use Rattle.markdown_events.specs.declared.role.Part.TheVariants as parts
 use Rattle.markdown_grammar.specs.Grammar as Models
-use Rattle.markdown_steps.specs.Summaries.{PartSummary, Path, into}
-use Rattle.markdown_builder.specs.PartsSoFar.{PartsSoFar, ending}
+use Rattle.markdown_nodes.specs.Tree as tree
+use Rattle.markdown_nodes.specs.Tree.{Label as TreeLabel}
+use Rattle.markdown_steps.specs.Summaries.{PartSummary, Path, identifier_of, into, text_of}
+use Rattle.markdown_builder.specs.PartsSoFar.{PartsSoFar, ending, with_parts}
 use Rattle.markdown_inlines.specs.Labels.{label_kept, label_nodes}
 use Rattle.markdown_inlines.specs.declared.footnote_call.FootnoteCallParts.{FootnoteCallParts}
 
@@ -14,4 +16,8 @@ in_footnote_call x way = None
 
 -- a footnote call, of which its part and the nodes of its label are kept
 abbrev pub footnote_call : FootnoteCallParts → PartsSoFar
-footnote_call x = record { initial_model = Models.footnote_call; current_model = Models.footnote_call; marker = None; part = in_footnote_call x; label = label_nodes x.label; mark = None; value = None }
+footnote_call x = record (with_parts Models.footnote_call (in_footnote_call x)) { label = label_nodes x.label }
+
+-- the label of its node, which refers to what its label names
+abbrev pub call_label : FootnoteCallParts → TreeLabel
+call_label x = tree.footnote_reference (identifier_of (label_kept x.label)) (Some (text_of (label_kept x.label)))

@@ -1,3 +1,4 @@
+pub mod Texts
 pub mod Labels
 pub mod Autolinks
 pub mod CharacterReferences

@@ -1,12 +1,18 @@
 -- What has stood so far in a link or an image, and in the resource or the reference of one.
-use Rattle.std.specs.Prelude.{None, Option, Some, option_map, string_bytes}
+use Rattle.std.specs.Prelude.{List, None, Option, Some, [], option_map, string_bytes, unwrap_or, ℕ}
 use Rattle.markdown_events.specs.declared.role.Part.TheVariants as parts
-use Rattle.markdown_nodes.specs.Tree.{nothing}
+use Rattle.markdown_nodes.specs.Tree as tree
+use Rattle.markdown_nodes.specs.Tree.{Label as TreeLabel, nothing}
+use Rattle.markdown_nodes.specs.declared.mdast.ReferenceKind.{ReferenceKind}
 use Rattle.markdown_grammar.specs.Grammar as Models
-use Rattle.markdown_steps.specs.Summaries.{PartSummary, Path, into, itself, stood, words}
+use Rattle.markdown_grammar.specs.Nodes.{image_label, link_label}
+use Rattle.markdown_steps.specs.Summaries.{PartSummary, Path, identifier_of, into, itself, stood, text_of}
+use Rattle.markdown_steps.specs.SummaryNodes.{media_of}
 use Rattle.markdown_builder.specs.Labels.{identified_kept}
-use Rattle.markdown_builder.specs.PartsSoFar.{PartsSoFar, ending}
+use Rattle.markdown_builder.specs.PartsSoFar.{PartsSoFar, ending, ending_text, summary_in, with_parts}
 use Rattle.markdown_inlines.specs.Labels.{label_kept, label_nodes}
+use Rattle.markdown_builder.specs.declared.label.Identified.{Identified}
+use Rattle.markdown_inlines.specs.declared.label.Label.{Label}
 use Rattle.markdown_inlines.specs.declared.media.MediaParts.{MediaParts}
 use Rattle.markdown_inlines.specs.declared.media.ReferenceParts.{ReferenceParts}
 use Rattle.markdown_inlines.specs.declared.media.ResourceParts.{ResourceParts}
@@ -15,13 +21,13 @@ use Rattle.markdown_inlines.specs.declared.media.Target.TheVariants as targets
 
 -- the parts of a resource
 abbrev pub in_resource : ResourceParts → Path → Option PartSummary
-in_resource x (into parts.ResourceDestinationString way) = ending (option_map words (option_map string_bytes x.destination)) way
-in_resource x (into parts.ResourceTitleString way) = ending (option_map words (option_map string_bytes x.title)) way
+in_resource x (into parts.ResourceDestinationString way) = ending_text x.destination way
+in_resource x (into parts.ResourceTitleString way) = ending_text x.title way
 in_resource x way = None
 
 -- a resource, of which its parts are kept
 abbrev pub resource : ResourceParts → PartsSoFar
-resource x = record { initial_model = Models.resource; current_model = Models.resource; marker = None; part = in_resource x; label = nothing; mark = None; value = None }
+resource x = with_parts Models.resource (in_resource x)
 
 -- the part of a reference
 abbrev pub in_reference : ReferenceParts → Path → Option PartSummary
@@ -30,7 +36,7 @@ in_reference x way = None
 
 -- a reference, of which its part is kept
 abbrev pub reference : ReferenceParts → PartsSoFar
-reference x = record { initial_model = Models.reference; current_model = Models.reference; marker = None; part = in_reference x; label = nothing; mark = None; value = None }
+reference x = with_parts Models.reference (in_reference x)
 
 -- a resource where it leads, and its parts
 abbrev pub resource_of : Target → Path → Option PartSummary
@@ -53,4 +59,34 @@ in_media x way = None
 
 -- a link or an image, of which its parts and the nodes of its label are kept
 abbrev pub media : MediaParts → PartsSoFar
-media x = record { initial_model = Models.media; current_model = Models.media; marker = None; part = in_media x; label = label_nodes x.label; mark = None; value = None }
+media x = record (with_parts Models.media (in_media x)) { label = label_nodes x.label }
+
+-- ---- The labels of their nodes
+
+-- that of a link
+abbrev pub link_of : MediaParts → TreeLabel
+link_of x = link_label (media_of (summary_in (media x) nothing))
+
+-- that of a link to what its label names
+abbrev pub link_by_label : ReferenceKind → Option Label → TreeLabel
+link_by_label kind label = tree.link_reference kind (identifier_of (label_kept label)) (Some (text_of (label_kept label)))
+
+-- that of a link to what this names
+abbrev pub link_by_name : ReferenceKind → Identified → TreeLabel
+link_by_name kind x = tree.link_reference kind (string_bytes x.identifier) (Some (string_bytes x.label))
+
+-- that of an image
+abbrev pub image_of : MediaParts → TreeLabel
+image_of x = image_label (text_of (label_kept x.label)) (media_of (summary_in (media x) nothing))
+
+-- that of an image at the address of a resource
+abbrev pub image_by_resource : List ℕ → ResourceParts → TreeLabel
+image_by_resource alt x = tree.image alt (unwrap_or (option_map string_bytes x.destination) []) (option_map string_bytes x.title)
+
+-- that of an image of what its label names
+abbrev pub image_by_label : List ℕ → ReferenceKind → Option Label → TreeLabel
+image_by_label alt kind label = tree.image_reference alt kind (identifier_of (label_kept label)) (Some alt)
+
+-- that of an image of what this names
+abbrev pub image_by_name : List ℕ → ReferenceKind → Identified → TreeLabel
+image_by_name alt kind x = tree.image_reference alt kind (string_bytes x.identifier) (Some (string_bytes x.label))

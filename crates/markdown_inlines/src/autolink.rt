@@ -4,25 +4,17 @@
 //! The original's `on_enter_autolink`, `on_exit_autolink_email`, `on_exit_autolink_protocol`,
 //! `on_enter_gfm_autolink_literal` and `on_exit_gfm_autolink_literal`.
 
-ghost use Rattle.std.specs.Prelude.{◌≡◌, ◌++◌, IfOk, List, None, Option, is_some, true, ℕ};
+ghost use Rattle.std.specs.Prelude.{◌≡◌, ◌++◌, IfOk, None, is_some, true};
 ghost use Rattle.markdown_events.specs.Slices.{slice};
-ghost use Rattle.markdown_events.specs.declared.event.Point.{Point};
 ghost use Rattle.markdown_events.specs.declared.role.ItemKind.TheVariants as item_kinds;
 ghost use Rattle.markdown_events.specs.declared.role.Part.TheVariants as parts;
 ghost use Rattle.markdown_nodes.specs.Tree as tree;
 ghost use Rattle.markdown_nodes.specs.Tree.{nothing, only};
 ghost use Rattle.markdown_nodes.specs.View.{view};
-ghost use Rattle.markdown_grammar.specs.Attributes.{Place};
-ghost use Rattle.markdown_grammar.specs.Document.{Source, source, text_read};
 ghost use Rattle.markdown_grammar.specs.Grammar as Models;
-ghost use Rattle.markdown_grammar.specs.Nodes.{linked};
 ghost use Rattle.markdown_grammar.specs.declared.error_kind.ErrorKind.TheVariants.{InvalidSlice};
-ghost use Rattle.markdown_steps.specs.ChildFacts.{ChildFacts};
-ghost use Rattle.markdown_steps.specs.Summaries.{Summary, path_to};
-ghost use Rattle.markdown_steps.specs.SummaryNodes;
-ghost use Rattle.markdown_steps.specs.SummaryNodes.{node_of};
-ghost use Rattle.markdown_builder.specs.PartsSoFar.{IsFresh, Makes, Reads, misfit_in, placed};
-ghost use Rattle.markdown_inlines.specs.Autolinks.{autolink, is_literal};
+ghost use Rattle.markdown_builder.specs.PartsSoFar.{IsFresh, IsNode, Makes, Reads, misfit_in, placed};
+ghost use Rattle.markdown_inlines.specs.Autolinks.{IsLiteral, IsSchemeOf, autolink, autolink_nodes, is_literal};
 
 use crate::link::link_to;
 use markdown_builder::joining::new_text;
@@ -105,7 +97,7 @@ impl<'a> AutolinkParts<'a> {
     ///
     /// For `<a@b.c>` it is a link to `mailto:a@b.c`, with the text `a@b.c` in it.
     pub fn node(self, alloc: Global, start: Point, end: Point) -> Result<Node, AllocError>
-        ensures { IfOk result (λ node. only (view node) ≡ SummaryNodes.autolink ((autolink self.entry).part (path_to parts.AutolinkEmail)) ((autolink self.entry).part (path_to parts.AutolinkProtocol)) start end) }
+        ensures { IfOk result (λ node. only (view node) ≡ autolink_nodes self.entry start end) }
     {
         let position = position_of(start, end);
         match self {
@@ -136,7 +128,7 @@ pub fn literal(
     end: Point,
 ) -> Result<Node, Stop>
     requires { is_literal content ≡ true }
-    ensures { Makes result (is_some (slice bytes.now start end)) InvalidSlice (λ node. (text : List ℕ → ℕ → Option (List ℕ)) (p : Place) (children : ChildFacts) (i : Summary) → only (view node) ≡ node_of (source bytes.now text) p (item_kinds.Content content) start end children i) }
+    ensures { Makes result (is_some (slice bytes.now start end)) InvalidSlice (IsLiteral bytes.now content start end) }
 {
     let value = text_of(bytes, start, end)?;
     let position = position_of(start, end);
@@ -146,7 +138,7 @@ pub fn literal(
 /// The scheme that an address leaves out where it stands in the text as it is (GFM, autolinks).
 fn scheme_of(content: Content) -> &'static str
     requires { is_literal content ≡ true }
-    ensures { (s : Source) (p : Place) (a b : Point) (children : ChildFacts) (i : Summary) → node_of s p (item_kinds.Content content) a b children i ≡ linked result.now (text_read s a b) a b a b }
+    ensures { IsSchemeOf content result.now }
 {
     match content {
         Content::AutolinkLiteralEmail => "mailto:",
@@ -164,7 +156,7 @@ fn linked(
     position: Position,
     place: Position,
 ) -> Result<Node, AllocError>
-    ensures { IfOk result (λ node. view node ≡ placed (tree.link (scheme.now ++ value.now) None) (only (placed (tree.text value.now) nothing place)) position) }
+    ensures { IfOk result (IsNode (tree.link (scheme.now ++ value.now) None) (only (placed (tree.text value.now) nothing place)) position) }
 {
     let mut children = Vec::new(alloc);
     children.push(new_text(alloc, value, place)?)?;

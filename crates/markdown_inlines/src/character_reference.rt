@@ -10,9 +10,9 @@ ghost use Rattle.markdown_events.specs.declared.role.Part.TheVariants as parts;
 ghost use Rattle.markdown_grammar.specs.Document.{source};
 ghost use Rattle.markdown_grammar.specs.Grammar as Models;
 ghost use Rattle.markdown_grammar.specs.declared.error_kind.ErrorKind.TheVariants.{IncompleteReference};
-ghost use Rattle.markdown_steps.specs.Summaries.{path_to, text_of as text_in};
+ghost use Rattle.markdown_steps.specs.Summaries.{text_of as text_in};
 ghost use Rattle.markdown_builder.specs.PartsSoFar.{GainsSign, IsFresh, Makes, misfit_in};
-ghost use Rattle.markdown_inlines.specs.CharacterReferences.{ReadsValue, byte_of, character_reference, marked, part_of_marker};
+ghost use Rattle.markdown_inlines.specs.CharacterReferences.{ReadsValue, byte_of, character_reference, marked, part_of_marker, value_kept};
 
 use crate::references::References;
 use markdown_builder::misfits::only;
@@ -36,8 +36,10 @@ pub enum Marker {
 /// The markers that have stood in a character reference: the last, and whether each has stood
 /// before it.
 ///
-/// The last alone says how the value is read. Which have stood before it decides nothing: they are
-/// kept since contracts name the parts that have stood.
+/// The last alone says how the value is read. Which have stood before it decides nothing here: they
+/// are kept since the contracts say of each part whether it has stood, and the last marker does not
+/// say it of the others. Of `&#x26;` it is `x`, and `&` and `#` have stood before it; a list of
+/// events may have an `x` alone.
 #[derive(Clone, Copy)]
 pub struct Markers {
     pub last: Marker,
@@ -115,7 +117,7 @@ impl CharacterReferenceParts {
         end: Point,
     ) -> Result<(), Stop>
         requires { misfit_in (character_reference self.old) (item_kinds.Part parts.CharacterReferenceValue) ≡ None }
-        ensures { ReadsValue (source bytes.now (R.text references.now)) start end (character_reference self.old) (character_reference self.new) result }
+        ensures { ReadsValue (source bytes.now (R.text references.now)) start end self.old self.new result }
     {
         // `misfit` has refused a value without a marker before it.
         let Some(markers) = self.markers else {
@@ -134,7 +136,7 @@ impl CharacterReferenceParts {
     ///
     /// For `&amp;` it is `&`, with a decoder that knows HTML's references.
     pub fn text(self) -> Result<String, Stop>
-        ensures { Makes result (is_some ((character_reference self).part (path_to parts.CharacterReferenceValue))) IncompleteReference (λ text. string_bytes text ≡ text_in ((character_reference self).part (path_to parts.CharacterReferenceValue))) }
+        ensures { Makes result (is_some (value_kept self)) IncompleteReference (λ text. string_bytes text ≡ text_in (value_kept self)) }
     {
         self.text
             .ok_or(Stop::Refused(ErrorKind::IncompleteReference))

@@ -5,14 +5,12 @@
 ghost use Rattle.std.specs.Prelude.{◌≡◌, ◌≤◌, ◌+◌, IfOk, None, Some};
 ghost use Rattle.markdown_events.specs.declared.role.ItemKind.TheVariants as item_kinds;
 ghost use Rattle.markdown_events.specs.declared.role.Part.TheVariants as parts;
-ghost use Rattle.markdown_nodes.specs.Tree as tree;
 ghost use Rattle.markdown_nodes.specs.Tree.{nothing};
-ghost use Rattle.markdown_nodes.specs.View.{view, views};
 ghost use Rattle.markdown_grammar.specs.Buffers.{node_count};
 ghost use Rattle.markdown_grammar.specs.Grammar as Models;
-ghost use Rattle.markdown_steps.specs.Summaries.{identifier_of, path_to, text_of};
-ghost use Rattle.markdown_builder.specs.PartsSoFar.{IsFresh, ReadsText, misfit_in, placed};
-ghost use Rattle.markdown_inlines.specs.FootnoteCalls.{footnote_call};
+ghost use Rattle.markdown_builder.specs.PartsSoFar.{IsFresh, IsNode, misfit_in};
+ghost use Rattle.markdown_inlines.specs.Labels.{ReadsLabel};
+ghost use Rattle.markdown_inlines.specs.FootnoteCalls.{call_label, footnote_call};
 
 use crate::label::{Label, identified};
 use markdown_builder::label::Identified;
@@ -64,7 +62,7 @@ impl<'a> FootnoteCallParts<'a> {
         end: Point,
     ) -> Result<(), Stop>
         requires { misfit_in (footnote_call self.old) (item_kinds.Part parts.LabelText) ≡ None }
-        ensures { ReadsText bytes.now parts.LabelText (views nodes.items) start end (footnote_call self.old) (footnote_call self.new) result }
+        ensures { ReadsLabel bytes.now nodes start end (footnote_call self.old) (footnote_call self.new) result }
     {
         self.label = Some(Label::read(bytes, nodes, start, end)?);
         Ok(())
@@ -81,7 +79,7 @@ impl<'a> FootnoteCallParts<'a> {
         steps: &mut Steps<'_>,
         position: Position,
     ) -> Result<Node, AllocError>
-        ensures node { IfOk result (λ node. view node ≡ placed (tree.footnote_reference (identifier_of ((footnote_call self.entry).part (path_to parts.LabelText))) (Some (text_of ((footnote_call self.entry).part (path_to parts.LabelText))))) nothing position) }
+        ensures node { IfOk result (IsNode (call_label self.entry) nothing position) }
         ensures list { steps.new.events ≡ steps.old.events }
         ensures bound { steps.new.count ≤ steps.old.count + node_count (footnote_call self.entry).label }
     {

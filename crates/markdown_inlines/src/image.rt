@@ -2,18 +2,12 @@
 //!
 //! The original's `on_exit_media`, for an image.
 
-ghost use Rattle.std.specs.Prelude.{◌≡◌, ◌≤◌, ◌+◌, [], IfOk, Some, option_map, string_bytes, unwrap_or};
-ghost use Rattle.markdown_events.specs.declared.role.Part.TheVariants as parts;
-ghost use Rattle.markdown_nodes.specs.Tree as tree;
+ghost use Rattle.std.specs.Prelude.{◌≡◌, ◌≤◌, ◌+◌, IfOk, string_bytes};
 ghost use Rattle.markdown_nodes.specs.Tree.{nothing};
 ghost use Rattle.markdown_nodes.specs.View.{view};
 ghost use Rattle.markdown_grammar.specs.Buffers.{node_count};
-ghost use Rattle.markdown_grammar.specs.Nodes.{image_label};
-ghost use Rattle.markdown_steps.specs.Summaries.{identifier_of, path_to, text_of};
-ghost use Rattle.markdown_steps.specs.SummaryNodes.{media_of};
-ghost use Rattle.markdown_builder.specs.PartsSoFar.{placed, summary_in};
-ghost use Rattle.markdown_inlines.specs.Labels.{label_kept};
-ghost use Rattle.markdown_inlines.specs.Media.{media};
+ghost use Rattle.markdown_builder.specs.PartsSoFar.{IsNode, placed};
+ghost use Rattle.markdown_inlines.specs.Media.{image_by_label, image_by_name, image_by_resource, image_of, media};
 
 use crate::label::{Label, identified_by, label_text};
 use crate::media::{MediaParts, ReferenceParts, ResourceParts, Target};
@@ -24,8 +18,8 @@ use markdown_nodes::unist::Position;
 use std::alloc::{AllocError, Global};
 
 impl MediaParts<'_> {
-    /// The node of an image. With a resource it is there, and without one it refers to what its
-    /// reference names, or else its label. The text of its label is its alternative text.
+    /// The node of an image. With a resource it has the address of that, and without one it refers to
+    /// what its reference names, or else its label. The text of its label is its alternative text.
     ///
     /// For `![a](b)` it is an Image at `b` with the alternative text `a`, and for `![a]` an
     /// ImageReference to `a` with that text. The label is read by one step for each node in it.
@@ -35,7 +29,7 @@ impl MediaParts<'_> {
         steps: &mut Steps<'_>,
         position: Position,
     ) -> Result<Node, AllocError>
-        ensures node { IfOk result (λ node. view node ≡ placed (image_label (text_of ((media self.entry).part (path_to parts.LabelText))) (media_of (summary_in (media self.entry) nothing))) nothing position) }
+        ensures node { IfOk result (IsNode (image_of self.entry) nothing position) }
         ensures list { steps.new.events ≡ steps.old.events }
         ensures bound { steps.new.count ≤ steps.old.count + node_count (media self.entry).label }
     {
@@ -52,7 +46,7 @@ impl MediaParts<'_> {
     }
 }
 
-/// An image at what its label names, whose text is the alternative text.
+/// An image by reference to what its label names. The text of the label is the alternative text.
 fn image_by_label(
     alloc: Global,
     alt: String,
@@ -60,7 +54,7 @@ fn image_by_label(
     reference_kind: ReferenceKind,
     label: &Option<Label<'_>>,
 ) -> Result<Node, AllocError>
-    ensures { IfOk result (λ node. view node ≡ placed (tree.image_reference (string_bytes alt) reference_kind (identifier_of (label_kept label.now)) (Some (string_bytes alt))) nothing position) }
+    ensures { IfOk result (IsNode (image_by_label (string_bytes alt) reference_kind label.now) nothing position) }
 {
     let named = identified_by(alloc, label, alt.as_str())?;
     Ok(image_reference(alt, position, reference_kind, named))
@@ -69,7 +63,7 @@ fn image_by_label(
 /// An image at an address.
 #[tactic(auto, unfolding(markdown_nodes::specs::View::view))]
 fn image_at(alloc: Global, alt: String, position: Position, resource: ResourceParts) -> Node
-    ensures { view result ≡ placed (tree.image (string_bytes alt) (unwrap_or (option_map string_bytes resource.destination) []) (option_map string_bytes resource.title)) nothing position }
+    ensures { view result ≡ placed (image_by_resource (string_bytes alt) resource) nothing position }
 {
     let ResourceParts { destination, title } = resource;
     Node::Image(Image {
@@ -80,7 +74,7 @@ fn image_at(alloc: Global, alt: String, position: Position, resource: ResourcePa
     })
 }
 
-/// An image at what is named by an identifier and a label.
+/// An image by reference to what is named so.
 #[tactic(auto, unfolding(markdown_nodes::specs::View::view))]
 fn image_reference(
     alt: String,
@@ -88,7 +82,7 @@ fn image_reference(
     reference_kind: ReferenceKind,
     named: Identified,
 ) -> Node
-    ensures { view result ≡ placed (tree.image_reference (string_bytes alt) reference_kind (string_bytes named.identifier) (Some (string_bytes named.label))) nothing position }
+    ensures { view result ≡ placed (image_by_name (string_bytes alt) reference_kind named) nothing position }
 {
     let Identified { identifier, label } = named;
     Node::ImageReference(ImageReference {

@@ -3,7 +3,7 @@
 //!
 //! The original's `on_exit_label_text`, and of `on_exit_media` what is made of the label.
 
-ghost use Rattle.std.specs.Prelude.{◌≡◌, ◌≤◌, ◌+◌, [], IfOk, is_some, string_bytes, unwrap_or};
+ghost use Rattle.std.specs.Prelude.{◌≡◌, ◌≤◌, ◌+◌, IfOk, is_some, string_bytes};
 ghost use Rattle.markdown_events.specs.Slices.{slice};
 ghost use Rattle.markdown_nodes.specs.View.{views};
 ghost use Rattle.markdown_grammar.specs.Buffers.{node_count};
@@ -11,7 +11,7 @@ ghost use Rattle.markdown_grammar.specs.declared.error_kind.ErrorKind.TheVariant
 ghost use Rattle.markdown_steps.specs.Summaries.{identifier_of, text_of as text_in};
 ghost use Rattle.markdown_builder.specs.PartsSoFar.{Makes};
 ghost use Rattle.markdown_inlines.specs.Labels;
-ghost use Rattle.markdown_inlines.specs.Labels.{label_kept};
+ghost use Rattle.markdown_inlines.specs.Labels.{IsLabelOf, label_kept};
 
 use markdown_builder::buffer::label_of;
 use markdown_builder::label::Identified;
@@ -44,14 +44,14 @@ impl<'a> Label<'a> {
         start: Point,
         end: Point,
     ) -> Result<Label<'a>, Stop>
-        ensures { Makes result (is_some (slice bytes.now start end)) InvalidSlice (λ label. (label.slice.now ≡ unwrap_or (slice bytes.now start end) []) × (views label.nodes.items ≡ views nodes.items)) }
+        ensures { Makes result (is_some (slice bytes.now start end)) InvalidSlice (IsLabelOf bytes.now start end nodes) }
     {
         let slice = text_of(bytes, start, end)?;
         Ok(Label { slice, nodes })
     }
 }
 
-/// The identifier by which a label is matched, which is empty where there is no label.
+/// The identifier by which a label is matched. Where there is no label it is empty.
 pub(crate) fn label_identifier(
     alloc: Global,
     label: &Option<Label<'_>>,
@@ -64,7 +64,7 @@ pub(crate) fn label_identifier(
     }
 }
 
-/// The text of a label, by one step for each node in it.
+/// The text of a label, by one step for each node in it. Where there is no label it is empty.
 pub(crate) fn label_text(
     alloc: Global,
     steps: &mut Steps<'_>,
@@ -112,7 +112,7 @@ pub(crate) fn identified_by(
     })
 }
 
-/// The nodes of a label, which are none where there is no label.
+/// The nodes of a label. Where there is no label there are none.
 pub(crate) fn label_nodes(alloc: Global, label: Option<Label<'_>>) -> Vec<Node>
     ensures { views result.items ≡ Labels.label_nodes label.entry }
 {

@@ -2,18 +2,13 @@
 //!
 //! The original's `on_exit_media`, for a link.
 
-ghost use Rattle.std.specs.Prelude.{◌≡◌, ◌≤◌, ◌+◌, IfOk, Some, option_map, string_bytes};
+ghost use Rattle.std.specs.Prelude.{◌≡◌, ◌≤◌, ◌+◌, IfOk, option_map, string_bytes};
 ghost use Rattle.markdown_nodes.specs.Tree as tree;
-ghost use Rattle.markdown_nodes.specs.Tree.{nothing};
 ghost use Rattle.markdown_nodes.specs.View.{view, views};
 ghost use Rattle.markdown_grammar.specs.Buffers.{node_count};
-ghost use Rattle.markdown_grammar.specs.Nodes.{link_label};
-ghost use Rattle.markdown_steps.specs.Summaries.{identifier_of, text_of};
-ghost use Rattle.markdown_steps.specs.SummaryNodes.{media_of};
-ghost use Rattle.markdown_builder.specs.PartsSoFar.{placed, summary_in};
+ghost use Rattle.markdown_builder.specs.PartsSoFar.{IsNode, placed};
 ghost use Rattle.markdown_inlines.specs.Labels;
-ghost use Rattle.markdown_inlines.specs.Labels.{label_kept};
-ghost use Rattle.markdown_inlines.specs.Media.{media};
+ghost use Rattle.markdown_inlines.specs.Media.{link_by_label, link_by_name, link_of, media};
 
 use crate::label::{Label, identified, label_nodes};
 use crate::media::{MediaParts, ReferenceParts, ResourceParts, Target};
@@ -35,7 +30,7 @@ impl MediaParts<'_> {
         steps: &mut Steps<'_>,
         position: Position,
     ) -> Result<Node, AllocError>
-        ensures node { IfOk result (λ node. view node ≡ placed (link_label (media_of (summary_in (media self.entry) nothing))) (media self.entry).label position) }
+        ensures node { IfOk result (IsNode (link_of self.entry) (media self.entry).label position) }
         ensures list { steps.new.events ≡ steps.old.events }
         ensures bound { steps.new.count ≤ steps.old.count + node_count (media self.entry).label }
     {
@@ -59,7 +54,7 @@ impl MediaParts<'_> {
     }
 }
 
-/// A link to what its label names.
+/// A link by reference to what its label names.
 fn link_by_label(
     alloc: Global,
     steps: &mut Steps<'_>,
@@ -67,7 +62,7 @@ fn link_by_label(
     position: Position,
     reference_kind: ReferenceKind,
 ) -> Result<Node, AllocError>
-    ensures node { IfOk result (λ node. view node ≡ placed (tree.link_reference reference_kind (identifier_of (label_kept label.entry)) (Some (text_of (label_kept label.entry)))) (Labels.label_nodes label.entry) position) }
+    ensures node { IfOk result (IsNode (link_by_label reference_kind label.entry) (Labels.label_nodes label.entry) position) }
     ensures list { steps.new.events ≡ steps.old.events }
     ensures bound { steps.new.count ≤ steps.old.count + node_count (Labels.label_nodes label.entry) }
 {
@@ -93,14 +88,14 @@ pub(crate) fn link_to(
     })
 }
 
-/// A link to what is named by an identifier and a label.
+/// A link by reference to what is named so.
 fn link_reference(
     children: Vec<Node>,
     position: Position,
     reference_kind: ReferenceKind,
     named: Identified,
 ) -> Node
-    ensures { view result ≡ placed (tree.link_reference reference_kind (string_bytes named.identifier) (Some (string_bytes named.label))) (views children.items) position }
+    ensures { view result ≡ placed (link_by_name reference_kind named) (views children.items) position }
 {
     let Identified { identifier, label } = named;
     Node::LinkReference(LinkReference {

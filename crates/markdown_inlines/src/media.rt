@@ -5,22 +5,18 @@
 //! `on_exit_resource_destination_string`, `on_exit_resource_title_string`, `on_enter_reference` and
 //! `on_exit_reference_string`.
 
-ghost use Rattle.std.specs.Prelude.{◌≡◌, ◌≤◌, ◌+◌, None, OnOk};
-ghost use Rattle.markdown_events.specs.declared.event.Point.{Point};
+ghost use Rattle.std.specs.Prelude.{◌≡◌, ◌≤◌, ◌+◌, None, string_bytes};
 ghost use Rattle.markdown_events.specs.declared.role.ItemKind.TheVariants as item_kinds;
 ghost use Rattle.markdown_events.specs.declared.role.Part.TheVariants as parts;
-ghost use Rattle.markdown_nodes.specs.Tree.{Trees};
 ghost use Rattle.markdown_nodes.specs.View.{views};
-ghost use Rattle.markdown_grammar.specs.Attributes.{Place};
 ghost use Rattle.markdown_grammar.specs.Buffers.{node_count};
-ghost use Rattle.markdown_grammar.specs.Document.{Source};
 ghost use Rattle.markdown_grammar.specs.Grammar as Models;
-ghost use Rattle.markdown_builder.specs.PartsSoFar.{Gains, GainsText, IsFresh, ReadsText, misfit_in, summary_in};
+ghost use Rattle.markdown_builder.specs.PartsSoFar.{GainsItem, GainsWords, IsFresh, ReadsText, misfit_in};
+ghost use Rattle.markdown_inlines.specs.Labels.{ReadsLabel};
 ghost use Rattle.markdown_inlines.specs.Media;
 ghost use Rattle.markdown_inlines.specs.Media.{media, reference, resource};
 
 use crate::label::Label;
-use markdown_builder::buffer::values_of;
 use markdown_builder::label::{Identified, identify};
 use markdown_builder::misfits::at_most_one;
 use markdown_builder::slice::text_of;
@@ -29,7 +25,7 @@ use markdown_nodes::event::Point;
 use markdown_nodes::mdast::Node;
 use markdown_nodes::role::{Content, ItemKind, Part};
 use markdown_nodes::steps::Steps;
-use std::alloc::{AllocError, Global};
+use std::alloc::Global;
 
 /// What has stood in a resource.
 ///
@@ -93,38 +89,20 @@ impl ResourceParts {
         }
     }
 
-    /// Takes the destination, which is the text of its nodes: `b` in `[a](b "c")`. Each node takes
-    /// one step.
-    pub fn take_destination(
-        &mut self,
-        alloc: Global,
-        steps: &mut Steps<'_>,
-        nodes: &[Node],
-    ) -> Result<(), AllocError>
+    /// Takes the destination: `b` in `[a](b "c")`.
+    pub fn take_destination(&mut self, destination: String)
         requires { misfit_in (resource self.old) (item_kinds.Part parts.ResourceDestinationString) ≡ None }
-        ensures taken { OnOk result (GainsText parts.ResourceDestinationString (views nodes.now) (resource self.old) (resource self.new)) }
-        ensures list { steps.new.events ≡ steps.old.events }
-        ensures bound { steps.new.count ≤ steps.old.count + node_count (views nodes.now) }
+        ensures { GainsWords parts.ResourceDestinationString (string_bytes destination) (resource self.old) (resource self.new) }
     {
-        self.destination = Some(values_of(alloc, steps, nodes)?);
-        Ok(())
+        self.destination = Some(destination);
     }
 
-    /// Takes the title, which is the text of its nodes: `c` in `[a](b "c")`. Each node takes one
-    /// step.
-    pub fn take_title(
-        &mut self,
-        alloc: Global,
-        steps: &mut Steps<'_>,
-        nodes: &[Node],
-    ) -> Result<(), AllocError>
+    /// Takes the title: `c` in `[a](b "c")`.
+    pub fn take_title(&mut self, title: String)
         requires { misfit_in (resource self.old) (item_kinds.Part parts.ResourceTitleString) ≡ None }
-        ensures taken { OnOk result (GainsText parts.ResourceTitleString (views nodes.now) (resource self.old) (resource self.new)) }
-        ensures list { steps.new.events ≡ steps.old.events }
-        ensures bound { steps.new.count ≤ steps.old.count + node_count (views nodes.now) }
+        ensures { GainsWords parts.ResourceTitleString (string_bytes title) (resource self.old) (resource self.new) }
     {
-        self.title = Some(values_of(alloc, steps, nodes)?);
-        Ok(())
+        self.title = Some(title);
     }
 }
 
@@ -161,7 +139,8 @@ impl ReferenceParts {
         end: Point,
     ) -> Result<(), Stop>
         requires { misfit_in (reference self.old) (item_kinds.Part parts.ReferenceString) ≡ None }
-        ensures taken { ReadsText bytes.now parts.ReferenceString (views nodes.now) start end (reference self.old) (reference self.new) result }
+        ensures taken { ReadsText bytes.now parts.ReferenceString (views nodes.now) start end
+            (reference self.old) (reference self.new) result }
         ensures list { steps.new.events ≡ steps.old.events }
         ensures bound { steps.new.count ≤ steps.old.count + node_count (views nodes.now) }
     {
@@ -211,7 +190,7 @@ impl<'a> MediaParts<'a> {
         end: Point,
     ) -> Result<(), Stop>
         requires { misfit_in (media self.old) (item_kinds.Part parts.LabelText) ≡ None }
-        ensures { ReadsText bytes.now parts.LabelText (views nodes.items) start end (media self.old) (media self.new) result }
+        ensures { ReadsLabel bytes.now nodes start end (media self.old) (media self.new) result }
     {
         self.label = Some(Label::read(bytes, nodes, start, end)?);
         Ok(())
@@ -220,7 +199,7 @@ impl<'a> MediaParts<'a> {
     /// Takes the resource that has ended in it: `(b)` in `[a](b)`.
     pub fn take_resource(&mut self, resource: ResourceParts)
         requires { misfit_in (media self.old) (item_kinds.Part parts.Resource) ≡ None }
-        ensures { (s : Source) (p : Place) (a b : Point) (ts : Trees) → Gains s p (item_kinds.Part parts.Resource) a b (summary_in (Media.resource resource) ts) (media self.old) (media self.new) }
+        ensures { GainsItem (item_kinds.Part parts.Resource) (Media.resource resource) (media self.old) (media self.new) }
     {
         self.target = Target::Resource(resource);
     }
@@ -228,7 +207,7 @@ impl<'a> MediaParts<'a> {
     /// Takes the reference that has ended in it: `[b]` in `[a][b]`.
     pub fn take_reference(&mut self, reference: ReferenceParts)
         requires { misfit_in (media self.old) (item_kinds.Part parts.Reference) ≡ None }
-        ensures { (s : Source) (p : Place) (a b : Point) (ts : Trees) → Gains s p (item_kinds.Part parts.Reference) a b (summary_in (Media.reference reference) ts) (media self.old) (media self.new) }
+        ensures { GainsItem (item_kinds.Part parts.Reference) (Media.reference reference) (media self.old) (media self.new) }
     {
         self.target = Target::Reference(reference);
     }

@@ -7,11 +7,11 @@ use std::alloc::{AllocError, Global};
 /// What the values of character references stand for (CommonMark, entity and numeric character
 /// references): a decoder, which the caller hands in. That it is handed in is ours.
 ///
+/// What it means is `text`: a text, or none, for each value and marker. An implementation is proved
+/// to answer so wherever memory does not run out.
+///
 /// For a decoder that knows `&lt;` alone, `text` is `<` for the value `lt` after `&`, and nothing
 /// for all others.
-///
-/// Its meaning is `text`: a text or none for each value and marker. An implementation is lawful
-/// when each answer that is no want of memory is that meaning, and it is proved to be.
 pub trait References {
     /// The text that a value and a marker stand for, if they stand for one.
     ghost text: { Self → List ℕ → ℕ → Option (List ℕ) };

@@ -3,14 +3,14 @@
 //! The original's `on_enter_data`, `on_exit_data`, `on_enter_hard_break`, `on_exit_hard_break`, and
 //! what `on_exit_line_ending` does after a break.
 
-ghost use Rattle.std.specs.Prelude.{◌≡◌, [], is_some, unwrap_or};
-ghost use Rattle.markdown_events.specs.Slices.{between, slice, to_unist};
+ghost use Rattle.std.specs.Prelude.{◌≡◌, is_some};
+ghost use Rattle.markdown_events.specs.Slices.{slice, to_unist};
 ghost use Rattle.markdown_nodes.specs.Tree as tree;
 ghost use Rattle.markdown_nodes.specs.Tree.{join, nothing};
 ghost use Rattle.markdown_nodes.specs.View.{view, views};
 ghost use Rattle.markdown_grammar.specs.declared.error_kind.ErrorKind.TheVariants.{InvalidSlice};
-ghost use Rattle.markdown_steps.specs.TextNodes.{one_text};
 ghost use Rattle.markdown_builder.specs.PartsSoFar.{Makes, placed};
+ghost use Rattle.markdown_inlines.specs.Texts.{text_between};
 
 use markdown_builder::joining::put_text;
 use markdown_builder::slice::{position_of, text_of};
@@ -32,7 +32,8 @@ pub fn put_slice(
     start: Point,
     end: Point,
 ) -> Result<(), Stop>
-    ensures { Makes result (is_some (slice bytes.now start end)) InvalidSlice (λ _. views nodes.new.items ≡ join (views nodes.old.items) (one_text (unwrap_or (slice bytes.now start end) []) (between start end))) }
+    ensures { Makes result (is_some (slice bytes.now start end)) InvalidSlice
+        (λ _. views nodes.new.items ≡ join (views nodes.old.items) (text_between bytes.now start end)) }
 {
     let value = text_of(bytes, start, end)?;
     put_text(alloc, nodes, value, position_of(start, end))?;
