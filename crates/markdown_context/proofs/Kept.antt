@@ -1,11 +1,9 @@
 -- What a container keeps, by what its construct says of itself.
-use Rattle.std.proofs.Common.{◌≡◌, ◌≢◌, Option, None, Some, Result, refl, sym, subst, true, false}
-use Rattle.std.specs.declared.alloc.AllocError.{AllocError}
-use Rattle.std.specs.Prelude.{OnOk}
+use Rattle.std.proofs.Common.{◌≡◌, ◌≢◌, List, Option, None, Some, Result, refl, sym, subst, true, false, ℕ}
 use Rattle.markdown_blocks.specs.declared.code.CodeFenceParts.{CodeFenceParts}
 use Rattle.markdown_blocks.specs.declared.math.MathFenceParts.{MathFenceParts}
 use Rattle.markdown_builder.specs.PartsSoFar.{after_if}
-use Rattle.markdown_context.specs.Containers.{Keeps, KeepsPart, current_model_of, is_part_model, is_text_part, part_of, summary_with}
+use Rattle.markdown_context.specs.Containers.{Keeps, KeepsPart, KeepsWords, current_model_of, is_part_model, is_text_part, part_of, summary_with}
 use Rattle.markdown_context.specs.declared.container.Container.{Container}
 use Rattle.markdown_context.specs.declared.container.Container.TheVariants as containers
 use Rattle.markdown_events.specs.declared.event.Point.{Point}
@@ -34,15 +32,13 @@ part_kept s i a b q r old h new k x y is-old is-part is-new is-result kept =
     (subst (λ (z : Container). KeepsPart s r a b i h z x) (sym is-new)
     (subst (λ (z : Result (Unit {0}) Stop). KeepsPart s r a b i h k z) (sym is-result) kept)))
 
--- the same of a part of which nothing but its nodes is kept
-pub text_kept : (ts : Trees) (q r : Part) (old h new k : Container) (x y : Result (Unit {0}) AllocError)
-    → old ≡ h → q ≡ r → new ≡ k → x ≡ y → OnOk y ((s : Source) (p : Place) (a b : Point) → Keeps s p (part r) a b (summary_with containers.AnyContent ts) h k)
-    → OnOk x ((s : Source) (p : Place) (a b : Point) → Keeps s p (part q) a b (summary_with containers.AnyContent ts) old new)
-text_kept ts q r old h new k x y is-old is-part is-new is-result kept =
-    subst (λ (z : Part). OnOk x ((s : Source) (p : Place) (a b : Point) → Keeps s p (part z) a b (summary_with containers.AnyContent ts) old new)) (sym is-part)
-    (subst (λ (z : Container). OnOk x ((s : Source) (p : Place) (a b : Point) → Keeps s p (part r) a b (summary_with containers.AnyContent ts) z new)) (sym is-old)
-    (subst (λ (z : Container). OnOk x ((s : Source) (p : Place) (a b : Point) → Keeps s p (part r) a b (summary_with containers.AnyContent ts) h z)) (sym is-new)
-    (subst (λ (z : Result (Unit {0}) AllocError). OnOk z ((s : Source) (p : Place) (a b : Point) → Keeps s p (part r) a b (summary_with containers.AnyContent ts) h k)) (sym is-result) kept)))
+-- the same of a part of which nothing but its text is kept
+pub words_kept : (text : List ℕ) (q r : Part) (old h new k : Container)
+    → old ≡ h → q ≡ r → new ≡ k → KeepsWords r text h k → KeepsWords q text old new
+words_kept text q r old h new k is-old is-part is-new kept =
+    subst (λ (z : Part). KeepsWords z text old new) (sym is-part)
+    (subst (λ (z : Container). KeepsWords r text z new) (sym is-old)
+    (subst (λ (z : Container). KeepsWords r text h z) (sym is-new) kept))
 
 -- the same of a part with parts of its own
 pub parts_kept : (s : Source) (p : Place) (a b : Point) (ts : Trees) (q r : Part) (inner j old h new k : Container)

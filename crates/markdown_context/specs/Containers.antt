@@ -1,10 +1,10 @@
 -- What an open span is to the items in it: what has stood in it so far, by its construct.
-use Rattle.std.specs.Prelude.{None, Option, Result, false, true, Bool, ℕ}
+use Rattle.std.specs.Prelude.{List, None, Option, Result, false, true, Bool, ℕ}
 use Rattle.markdown_blocks.specs.Definitions.{definition, footnote_definition}
 use Rattle.markdown_blocks.specs.Fences.{code_fence, code_fenced, math_fence, math_flow}
 use Rattle.markdown_blocks.specs.Headings.{atx, setext}
 use Rattle.markdown_blocks.specs.Lists.{list_item, marked_paragraph, numbered_item, ordered_list, task_paragraph}
-use Rattle.markdown_builder.specs.PartsSoFar.{Gains, IsFresh as IsFreshIn, Makes, PartsSoFar, misfit_in, place_with, summary_in}
+use Rattle.markdown_builder.specs.PartsSoFar.{Gains, GainsWords, IsFresh as IsFreshIn, Makes, PartsSoFar, misfit_in, place_with, summary_in}
 use Rattle.markdown_context.specs.declared.container.Container.{Container}
 use Rattle.markdown_context.specs.declared.container.Container.TheVariants as containers
 use Rattle.markdown_events.specs.declared.event.Point.{Point}
@@ -105,6 +105,10 @@ abbrev pub KeepsPart : {X : Type 0} → Source → Part → Point → Point → 
 KeepsPart s q a b i old new result =
     (line_endings in_table : Bool) → let p : Place = place_with line_endings in_table (marker_of old) in
     Makes result (is_read s (current_model_of old) p false (item_kinds.Part q) a b) (value_error s (item_kinds.Part q) a b) (λ _. Keeps s p (item_kinds.Part q) a b i old new)
+
+-- a part with this text is kept, whatever its nodes are
+abbrev pub KeepsWords : Part → List ℕ → Container → Container → Type 0
+KeepsWords q text old new = GainsWords q text (parts_of old) (parts_of new)
 
 -- ---- Content models by what has them
 

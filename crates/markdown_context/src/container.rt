@@ -1,7 +1,7 @@
 //! What an open span is to the items in it: one arm for each construct.
 
-ghost use Rattle.std.specs.Prelude.{◌≡◌, ◌≢◌, ◌≤◌, ◌+◌, List, None, OnOk, Option, false, true, ℕ};
-ghost use Rattle.markdown_context.specs.Containers.{IsFresh, Keeps, KeepsPart, current_model_of, initial_model_of, is_label_string, is_model_of, is_part_model, is_text_part, misfit_of, summary_with};
+ghost use Rattle.std.specs.Prelude.{◌≡◌, ◌≢◌, ◌≤◌, ◌+◌, List, None, Option, false, string_bytes, true, ℕ};
+ghost use Rattle.markdown_context.specs.Containers.{IsFresh, Keeps, KeepsPart, KeepsWords, current_model_of, initial_model_of, is_label_string, is_model_of, is_part_model, is_text_part, misfit_of, summary_with};
 ghost use Rattle.markdown_context.specs.declared.container.Container.TheVariants as containers;
 ghost use Rattle.markdown_events.specs.declared.event.Point.{Point};
 ghost use Rattle.markdown_events.specs.declared.role.Content.TheVariants as contents;
@@ -26,6 +26,7 @@ use markdown_blocks::list::{
     misfit_in_marked_paragraph,
 };
 use markdown_blocks::math::{MathFenceParts, MathFlowParts};
+use markdown_builder::buffer::values_of;
 use markdown_grammar::error_kind::{ErrorKind, Stop};
 use markdown_inlines::autolink::AutolinkParts;
 use markdown_inlines::character_reference::{CharacterReferenceParts, Marker};
@@ -36,7 +37,7 @@ use markdown_nodes::event::Point;
 use markdown_nodes::mdast::Node;
 use markdown_nodes::role::{Content, ItemKind, Part};
 use markdown_nodes::steps::Steps;
-use std::alloc::{AllocError, Global};
+use std::alloc::Global;
 
 /// What an open significant span is to the items in it, with the parts that have stood in it. Each
 /// content model of the grammar but that of the leaves is one of these.
@@ -319,7 +320,11 @@ impl<'a> Container<'a> {
             | Part::FootnoteDefinitionLabelString => {
                 self.take_identified(alloc, steps, bytes, part, &nodes, start, end)
             }
-            _ => Ok(self.take_value(alloc, steps, part, &nodes)?),
+            _ => {
+                let text = values_of(alloc, steps, &nodes)?;
+                self.take_value(part, text);
+                Ok(())
+            }
         }
     }
 
@@ -372,42 +377,24 @@ impl<'a> Container<'a> {
         }
     }
 
-    /// Takes a part of which nothing but its text is read.
-    fn take_value(
-        &mut self,
-        alloc: Global,
-        steps: &mut Steps<'_>,
-        part: Part,
-        nodes: &[Node],
-    ) -> Result<(), AllocError>
+    /// Takes the text of a part of which nothing else is read.
+    fn take_value(&mut self, part: Part, text: String)
         requires such { is_text_part part ≡ true }
         requires fits { misfit_of self.old (item_kinds.Part part) ≡ None }
-        ensures taken { OnOk result ((s : Source) (p : Place) (a b : Point) → Keeps s p (item_kinds.Part part) a b (summary_with containers.AnyContent (views nodes.now)) self.old self.new) }
-        ensures list { steps.new.events ≡ steps.old.events }
-        ensures bound { steps.new.count ≤ steps.old.count + node_count (views nodes.now) }
+        ensures { KeepsWords part (string_bytes text) self.old self.new }
     {
         match (self, part) {
             (Container::Definition(parts), Part::DefinitionDestinationString) => {
-                parts.take_destination(alloc, steps, nodes)
+                parts.take_destination(text);
             }
-            (Container::Definition(parts), Part::DefinitionTitleString) => {
-                parts.take_title(alloc, steps, nodes)
-            }
+            (Container::Definition(parts), Part::DefinitionTitleString) => parts.take_title(text),
             (Container::Resource(parts), Part::ResourceDestinationString) => {
-                parts.take_destination(alloc, steps, nodes)
+                parts.take_destination(text);
             }
-            (Container::Resource(parts), Part::ResourceTitleString) => {
-                parts.take_title(alloc, steps, nodes)
-            }
-            (Container::CodeFence(parts), Part::CodeFencedFenceInfo) => {
-                parts.take_info(alloc, steps, nodes)
-            }
-            (Container::CodeFence(parts), Part::CodeFencedFenceMeta) => {
-                parts.take_meta(alloc, steps, nodes)
-            }
-            (Container::MathFence(parts), Part::MathFlowFenceMeta) => {
-                parts.take_meta(alloc, steps, nodes)
-            }
+            (Container::Resource(parts), Part::ResourceTitleString) => parts.take_title(text),
+            (Container::CodeFence(parts), Part::CodeFencedFenceInfo) => parts.take_info(text),
+            (Container::CodeFence(parts), Part::CodeFencedFenceMeta) => parts.take_meta(text),
+            (Container::MathFence(parts), Part::MathFlowFenceMeta) => parts.take_meta(text),
             _ => unreachable!(),
         }
     }

@@ -33,7 +33,7 @@ use crate::container::Container;
 use markdown_blocks::code::{indented_code, inline_code};
 use markdown_blocks::frontmatter::frontmatter;
 use markdown_blocks::html::html;
-use markdown_blocks::list::unordered_list;
+use markdown_blocks::list::{ListItemParts, NumberedItemParts, list_item, unordered_list};
 use markdown_blocks::math::inline_math;
 use markdown_blocks::parent::parent;
 use markdown_blocks::table::{Columns, table};
@@ -429,11 +429,11 @@ impl<'a> OpenContainer<'a> {
                 Ok(parent(Content::Paragraph, nodes, position))
             }
             Container::ListOrdered(parts) => parts.node(nodes, position, ending.marks.list_blank),
-            Container::ListItem(parts) => {
-                Ok(parts.node(steps, nodes, position, ending.marks.item_blank))
+            Container::ListItem(ListItemParts { mark }) => {
+                Ok(list_item(steps, nodes, position, ending.marks.item_blank, mark))
             }
-            Container::NumberedItem(parts) => {
-                Ok(parts.node(steps, nodes, position, ending.marks.item_blank))
+            Container::NumberedItem(NumberedItemParts { mark, .. }) => {
+                Ok(list_item(steps, nodes, position, ending.marks.item_blank, mark))
             }
             Container::FootnoteDefinition(parts) => Ok(parts.node(alloc, nodes, position)),
             Container::HeadingAtx(parts) => parts.node(nodes, position),
