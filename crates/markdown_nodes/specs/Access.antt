@@ -6,7 +6,8 @@ use Rattle.markdown_nodes.specs.declared.mdast.Node.TheOpen.{Node-F}
 use Rattle.markdown_nodes.specs.declared.mdast.Node.TheVariants as nodes
 use Rattle.markdown_nodes.specs.declared.mdast.Node.TheViews.{out-Node}
 use Rattle.markdown_events.specs.declared.unist.Position.{Position}
-use Rattle.markdown_nodes.specs.Tree.{Label, Tree, root, paragraph, blockquote, emphasis, strong, delete, table_row, table_cell, thematic_break, «break», text, html, inline_code, inline_math, yaml, toml, heading, list, list_item, table, code, math, link, image, link_reference, image_reference, footnote_reference, footnote_definition, definition}
+use Rattle.markdown_nodes.specs.Tree.{Label, Tree, root, paragraph, blockquote, emphasis, strong, delete, table_row, table_cell, thematic_break, «break», text, html, inline_code, inline_math, yaml, toml, heading, table}
+use Rattle.markdown_nodes.specs.Labels.{code_label, definition_label, footnote_definition_label, footnote_reference_label, image_label, image_reference_label, link_label, link_reference_label, list_item_label, list_label, math_label}
 use Rattle.markdown_nodes.specs.View.{views}
 
 -- the children of a parent
@@ -124,8 +125,8 @@ abbrev pub label_of : Node → Label
 label_of it = elim (out-Node it) [
   | Node-F.Root node ↦ root
   | Node-F.Blockquote node ↦ blockquote
-  | Node-F.FootnoteDefinition node ↦ footnote_definition (string_bytes node.identifier) (option_map string_bytes node.label)
-  | Node-F.List node ↦ list node.ordered node.start node.spread
+  | Node-F.FootnoteDefinition node ↦ footnote_definition_label node
+  | Node-F.List node ↦ list_label node
   | Node-F.Toml node ↦ toml (string_bytes node.value)
   | Node-F.Yaml node ↦ yaml (string_bytes node.value)
   | Node-F.Break node ↦ «break»
@@ -133,23 +134,23 @@ label_of it = elim (out-Node it) [
   | Node-F.InlineMath node ↦ inline_math (string_bytes node.value)
   | Node-F.Delete node ↦ delete
   | Node-F.Emphasis node ↦ emphasis
-  | Node-F.FootnoteReference node ↦ footnote_reference (string_bytes node.identifier) (option_map string_bytes node.label)
+  | Node-F.FootnoteReference node ↦ footnote_reference_label node
   | Node-F.Html node ↦ html (string_bytes node.value)
-  | Node-F.Image node ↦ image (string_bytes node.alt) (string_bytes node.url) (option_map string_bytes node.title)
-  | Node-F.ImageReference node ↦ image_reference (string_bytes node.alt) node.reference_kind (string_bytes node.identifier) (option_map string_bytes node.label)
-  | Node-F.Link node ↦ link (string_bytes node.url) (option_map string_bytes node.title)
-  | Node-F.LinkReference node ↦ link_reference node.reference_kind (string_bytes node.identifier) (option_map string_bytes node.label)
+  | Node-F.Image node ↦ image_label node
+  | Node-F.ImageReference node ↦ image_reference_label node
+  | Node-F.Link node ↦ link_label node
+  | Node-F.LinkReference node ↦ link_reference_label node
   | Node-F.Strong node ↦ strong
   | Node-F.Text node ↦ text (string_bytes node.value)
-  | Node-F.Code node ↦ code (string_bytes node.value) (option_map string_bytes node.lang) (option_map string_bytes node.meta)
-  | Node-F.Math node ↦ math (string_bytes node.value) (option_map string_bytes node.meta)
+  | Node-F.Code node ↦ code_label node
+  | Node-F.Math node ↦ math_label node
   | Node-F.Heading node ↦ heading node.depth
   | Node-F.Table node ↦ table node.align.items
   | Node-F.ThematicBreak node ↦ thematic_break
   | Node-F.TableRow node ↦ table_row
   | Node-F.TableCell node ↦ table_cell
-  | Node-F.ListItem node ↦ list_item node.spread node.checked
-  | Node-F.Definition node ↦ definition (string_bytes node.url) (option_map string_bytes node.title) (string_bytes node.identifier) (option_map string_bytes node.label)
+  | Node-F.ListItem node ↦ list_item_label node
+  | Node-F.Definition node ↦ definition_label node
   | Node-F.Paragraph node ↦ paragraph
 ]
 

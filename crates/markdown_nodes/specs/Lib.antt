@@ -1,5 +1,6 @@
 pub mod Tree
 pub mod View
+pub mod Labels
 pub mod Access
 pub mod Lends
 pub mod Freeing

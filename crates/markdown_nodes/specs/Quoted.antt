@@ -1,7 +1,13 @@
 -- A text between quotes, as Debug writes it. Beyond ASCII a character stands as it is or as its Unicode escape, and std does not say which: `escapes` are those that stand as their escape.
 use Rattle.std.specs.Prelude.{ℕ, Bool, List, ◌++◌, codes, encode_utf8, chars, flat_map, if◌then◌else◌, false}
+use Rattle.std.specs.BTreeSet.{BTreeSet, contains}
 use Rattle.std.specs.Char.{is_ascii}
 use Rattle.std.specs.Fmt.{debug_escape, digits}
+use Rattle.std.specs.Ordering.{nat_cmp}
+
+-- whether a character is one of a set
+abbrev pub members : BTreeSet ℕ → ℕ → Bool
+members set = contains nat_cmp set
 
 -- the code of a character in hexadecimal, as \u{7f}
 abbrev pub unicode_escape : ℕ → List ℕ

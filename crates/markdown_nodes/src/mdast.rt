@@ -3,9 +3,9 @@
 //! A `Node` is one of 29 kinds. Fifteen are parents, which have children; eight are literals, which
 //! have a value; six are neither. Each has a position in the document, or none where it was generated.
 
-ghost use Rattle.std.specs.Prelude.{◌≡◌, ◌<◌, [], IfOk, IsFalse, IsTrue, length, option_map, string_bytes};
+ghost use Rattle.std.specs.Prelude.{◌≡◌, [], IfOk, IsFalse, IsTrue, option_map, string_bytes};
 ghost use Rattle.markdown_nodes.specs.Access.{children_of, nodes_in, position_of, with_position};
-ghost use Rattle.markdown_nodes.specs.Freeing.{WithoutLast};
+ghost use Rattle.markdown_nodes.specs.Freeing.{Exchanged, WithoutLast};
 ghost use Rattle.markdown_nodes.specs.Tree.{only, plain_text};
 ghost use Rattle.markdown_nodes.specs.View.{view};
 
@@ -374,7 +374,7 @@ impl Node {
 
     /// Exchanges the children for the nodes of a level, where there are children.
     fn swap_children(&mut self, level: &mut Vec<Node>) -> bool
-        ensures some { IsTrue result → (0 < length (nodes_in self.old)) × (level.new.items ≡ nodes_in self.old) × (nodes_in self.new ≡ level.old.items) }
+        ensures some { IsTrue result → Exchanged self.old level.old.items self.new level.new.items }
         ensures none { IsFalse result → (nodes_in self.old ≡ []) × (self.new ≡ self.old) × (level.new ≡ level.old) }
     {
         let Some(children) = self.children_mut() else {

@@ -1,21 +1,21 @@
 //! The comparison of nodes: equal are those of one kind with equal fields, positions included.
 
-ghost use Rattle.std.specs.Prelude.{◌≡◌, ◌↔◌, IsTrue, option_map, string_bytes};
+ghost use Rattle.std.specs.Prelude.{◌≡◌, ◌↔◌, IsTrue};
 ghost use Rattle.std.specs.Cmp.{on_equiv, partial_equiv_from_equiv};
 ghost use Rattle.markdown_nodes.specs.Access.{label_of, position_of};
 ghost use Rattle.markdown_nodes.specs.Equality.{same_tree};
-ghost use Rattle.markdown_nodes.specs.Tree.{
-  code,
-  definition,
-  footnote_definition,
-  footnote_reference,
-  image,
-  image_reference,
-  link,
-  link_reference,
-  list,
-  list_item,
-  math,
+ghost use Rattle.markdown_nodes.specs.Labels.{
+  code_label,
+  definition_label,
+  footnote_definition_label,
+  footnote_reference_label,
+  image_label,
+  image_reference_label,
+  link_label,
+  link_reference_label,
+  list_item_label,
+  list_label,
+  math_label,
 };
 ghost use Rattle.markdown_nodes.specs.View.{view, views};
 ghost use Rattle.markdown_nodes.specs.EqualityLaws.{tree_equivalence};
@@ -68,35 +68,35 @@ fn same_align(xs: &[AlignKind], ys: &[AlignKind]) -> bool
 
 /// Whether two definitions of footnotes have the same fields but for children and position.
 fn same_footnote_definition(x: &FootnoteDefinition, y: &FootnoteDefinition) -> bool
-    ensures { IsTrue result ↔ (footnote_definition (string_bytes x.now.identifier) (option_map string_bytes x.now.label) ≡ footnote_definition (string_bytes y.now.identifier) (option_map string_bytes y.now.label)) }
+    ensures { IsTrue result ↔ (footnote_definition_label x.now ≡ footnote_definition_label y.now) }
 {
     x.identifier == y.identifier && x.label == y.label
 }
 
 /// Whether two lists have the same fields but for children and position.
 fn same_list(x: &List, y: &List) -> bool
-    ensures { IsTrue result ↔ (list x.now.ordered x.now.start x.now.spread ≡ list y.now.ordered y.now.start y.now.spread) }
+    ensures { IsTrue result ↔ (list_label x.now ≡ list_label y.now) }
 {
     x.ordered == y.ordered && x.start == y.start && x.spread == y.spread
 }
 
 /// Whether two references to footnotes have the same fields but for position.
 fn same_footnote_reference(x: &FootnoteReference, y: &FootnoteReference) -> bool
-    ensures { IsTrue result ↔ (footnote_reference (string_bytes x.now.identifier) (option_map string_bytes x.now.label) ≡ footnote_reference (string_bytes y.now.identifier) (option_map string_bytes y.now.label)) }
+    ensures { IsTrue result ↔ (footnote_reference_label x.now ≡ footnote_reference_label y.now) }
 {
     x.identifier == y.identifier && x.label == y.label
 }
 
 /// Whether two images have the same fields but for position.
 fn same_image(x: &Image, y: &Image) -> bool
-    ensures { IsTrue result ↔ (image (string_bytes x.now.alt) (string_bytes x.now.url) (option_map string_bytes x.now.title) ≡ image (string_bytes y.now.alt) (string_bytes y.now.url) (option_map string_bytes y.now.title)) }
+    ensures { IsTrue result ↔ (image_label x.now ≡ image_label y.now) }
 {
     x.alt == y.alt && x.url == y.url && x.title == y.title
 }
 
 /// Whether two references to images have the same fields but for position.
 fn same_image_reference(x: &ImageReference, y: &ImageReference) -> bool
-    ensures { IsTrue result ↔ (image_reference (string_bytes x.now.alt) x.now.reference_kind (string_bytes x.now.identifier) (option_map string_bytes x.now.label) ≡ image_reference (string_bytes y.now.alt) y.now.reference_kind (string_bytes y.now.identifier) (option_map string_bytes y.now.label)) }
+    ensures { IsTrue result ↔ (image_reference_label x.now ≡ image_reference_label y.now) }
 {
     x.alt == y.alt
         && x.reference_kind == y.reference_kind
@@ -106,42 +106,42 @@ fn same_image_reference(x: &ImageReference, y: &ImageReference) -> bool
 
 /// Whether two links have the same fields but for children and position.
 fn same_link(x: &Link, y: &Link) -> bool
-    ensures { IsTrue result ↔ (link (string_bytes x.now.url) (option_map string_bytes x.now.title) ≡ link (string_bytes y.now.url) (option_map string_bytes y.now.title)) }
+    ensures { IsTrue result ↔ (link_label x.now ≡ link_label y.now) }
 {
     x.url == y.url && x.title == y.title
 }
 
 /// Whether two references to links have the same fields but for children and position.
 fn same_link_reference(x: &LinkReference, y: &LinkReference) -> bool
-    ensures { IsTrue result ↔ (link_reference x.now.reference_kind (string_bytes x.now.identifier) (option_map string_bytes x.now.label) ≡ link_reference y.now.reference_kind (string_bytes y.now.identifier) (option_map string_bytes y.now.label)) }
+    ensures { IsTrue result ↔ (link_reference_label x.now ≡ link_reference_label y.now) }
 {
     x.reference_kind == y.reference_kind && x.identifier == y.identifier && x.label == y.label
 }
 
 /// Whether two blocks of code have the same fields but for position.
 fn same_code(x: &Code, y: &Code) -> bool
-    ensures { IsTrue result ↔ (code (string_bytes x.now.value) (option_map string_bytes x.now.lang) (option_map string_bytes x.now.meta) ≡ code (string_bytes y.now.value) (option_map string_bytes y.now.lang) (option_map string_bytes y.now.meta)) }
+    ensures { IsTrue result ↔ (code_label x.now ≡ code_label y.now) }
 {
     x.value == y.value && x.lang == y.lang && x.meta == y.meta
 }
 
 /// Whether two blocks of mathematics have the same fields but for position.
 fn same_math(x: &Math, y: &Math) -> bool
-    ensures { IsTrue result ↔ (math (string_bytes x.now.value) (option_map string_bytes x.now.meta) ≡ math (string_bytes y.now.value) (option_map string_bytes y.now.meta)) }
+    ensures { IsTrue result ↔ (math_label x.now ≡ math_label y.now) }
 {
     x.value == y.value && x.meta == y.meta
 }
 
 /// Whether two items have the same fields but for children and position.
 fn same_list_item(x: &ListItem, y: &ListItem) -> bool
-    ensures { IsTrue result ↔ (list_item x.now.spread x.now.checked ≡ list_item y.now.spread y.now.checked) }
+    ensures { IsTrue result ↔ (list_item_label x.now ≡ list_item_label y.now) }
 {
     x.spread == y.spread && x.checked == y.checked
 }
 
 /// Whether two definitions have the same fields but for position.
 fn same_definition(x: &Definition, y: &Definition) -> bool
-    ensures { IsTrue result ↔ (definition (string_bytes x.now.url) (option_map string_bytes x.now.title) (string_bytes x.now.identifier) (option_map string_bytes x.now.label) ≡ definition (string_bytes y.now.url) (option_map string_bytes y.now.title) (string_bytes y.now.identifier) (option_map string_bytes y.now.label)) }
+    ensures { IsTrue result ↔ (definition_label x.now ≡ definition_label y.now) }
 {
     x.url == y.url && x.title == y.title && x.identifier == y.identifier && x.label == y.label
 }

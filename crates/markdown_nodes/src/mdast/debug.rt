@@ -1,24 +1,27 @@
 //! The text that `{:?}` writes of a node: that of a derived Debug, with no call for each level.
 
-ghost use Rattle.std.specs.BTreeSet.{contains};
 ghost use Rattle.std.specs.Fmt.{WritesOnOk, decimal};
-ghost use Rattle.std.specs.Ordering.{nat_cmp};
-ghost use Rattle.std.specs.Prelude.{◌≡◌, ◌⊎◌, ◌++◌, ℕ, Bool, [], Some, IsNone, codes, if◌then◌else◌, option_map, string_bytes, true};
-ghost use Rattle.markdown_events.specs.Alignments.{alignment_name};
+ghost use Rattle.std.specs.Prelude.{◌≡◌, ◌⊎◌, ◌++◌, ℕ, Bool, [], Some, IsNone, codes, if◌then◌else◌, option_map, string_bytes};
 ghost use Rattle.markdown_events.specs.Places.{position_text};
 ghost use Rattle.markdown_nodes.specs.Access.{label_of, nodes_in, position_of};
-ghost use Rattle.markdown_nodes.specs.Quoted.{quoted};
+ghost use Rattle.markdown_nodes.specs.Labels.{code_label, definition_label, image_label, image_reference_label};
+ghost use Rattle.markdown_nodes.specs.Quoted.{members, quoted};
 ghost use Rattle.markdown_nodes.specs.Shown.{
+  align_field,
+  association_of,
   bool_text,
   closing,
   content_end,
   fields,
-  items_text,
-  association,
+  item_fields,
+  list_fields,
+  literal_value,
+  maybe,
   opening,
   option_text,
-  reference,
-  resource,
+  position_alone,
+  reference_of,
+  resource_of,
   shown,
 };
 ghost use Rattle.markdown_nodes.specs.Tree.{«break», thematic_break};
@@ -26,7 +29,9 @@ ghost use Rattle.markdown_nodes.specs.View.{view};
 
 use crate::mdast::escapes::escapes_of;
 use crate::mdast::quoted::write_quoted;
-use crate::mdast::{AlignKind, List, ListItem, Node, ReferenceKind};
+use crate::mdast::{
+    AlignKind, Code, Definition, Image, ImageReference, List, ListItem, Node, ReferenceKind,
+};
 use std::alloc::Global;
 use std::collections::BTreeSet;
 use std::fmt;
@@ -40,7 +45,7 @@ pub struct Escaped<'a> {
 }
 
 impl fmt::Debug for Escaped<'_> {
-    ghost debug_output = { λ whole. Some (shown (contains nat_cmp whole.escapes.now) (view whole.node.now)) };
+    ghost debug_output = { λ whole. Some (shown (members whole.escapes.now) (view whole.node.now)) };
 
     fn fmt<W: fmt::Write>(&self, f: &mut fmt::Formatter<W>) -> fmt::Result {
         write_tree(self.node, self.escapes, f, self.alloc)
@@ -107,7 +112,7 @@ fn allocator(node: &Node) -> Option<Global>
 
 /// Writes a break or a thematic break, which have a position alone.
 fn write_break<W: fmt::Write>(node: &Node, f: &mut fmt::Formatter<W>) -> fmt::Result
-    ensures { WritesOnOk W.write_str_gives f.old result (opening (label_of node.now) ++ option_text position_text (position_of node.now) ++ codes " }") f.new }
+    ensures { WritesOnOk W.write_str_gives f.old result (position_alone (label_of node.now) (position_of node.now)) f.new }
 {
     begin(node, false, f)?;
     write_position(node, f)?;
@@ -121,7 +126,7 @@ pub fn write_tree<W: fmt::Write>(
     f: &mut fmt::Formatter<W>,
     alloc: Global,
 ) -> fmt::Result
-    ensures { WritesOnOk W.write_str_gives f.old result (shown (contains nat_cmp escapes.now) (view node.now)) f.new }
+    ensures { WritesOnOk W.write_str_gives f.old result (shown (members escapes.now) (view node.now)) f.new }
 {
     let mut frames: Vec<Frame> = Vec::new(alloc);
     begin(node, false, f)?;
@@ -165,7 +170,7 @@ fn close<W: fmt::Write>(
     escapes: &BTreeSet<char>,
     f: &mut fmt::Formatter<W>,
 ) -> fmt::Result
-    ensures { WritesOnOk W.write_str_gives f.old result (closing (contains nat_cmp escapes.now) (label_of node.now) (position_of node.now)) f.new }
+    ensures { WritesOnOk W.write_str_gives f.old result (closing (members escapes.now) (label_of node.now) (position_of node.now)) f.new }
 {
     write_content_end(node, escapes, f)?;
     write_position(node, f)?;
@@ -216,7 +221,7 @@ fn write_content_end<W: fmt::Write>(
     escapes: &BTreeSet<char>,
     f: &mut fmt::Formatter<W>,
 ) -> fmt::Result
-    ensures { WritesOnOk W.write_str_gives f.old result (content_end (contains nat_cmp escapes.now) (label_of node.now)) f.new }
+    ensures { WritesOnOk W.write_str_gives f.old result (content_end (members escapes.now) (label_of node.now)) f.new }
 {
     match node {
         Node::Text(node) => write_value(&node.value, escapes, f),
@@ -243,7 +248,7 @@ fn write_value<W: fmt::Write>(
     escapes: &BTreeSet<char>,
     f: &mut fmt::Formatter<W>,
 ) -> fmt::Result
-    ensures { WritesOnOk W.write_str_gives f.old result (quoted (contains nat_cmp escapes.now) (string_bytes value.now) ++ codes ", position: ") f.new }
+    ensures { WritesOnOk W.write_str_gives f.old result (literal_value (members escapes.now) (string_bytes value.now)) f.new }
 {
     write_quoted(value.as_str(), escapes, f)?;
     f.write_str(", position: ")
@@ -265,26 +270,17 @@ fn write_fields<W: fmt::Write>(
     escapes: &BTreeSet<char>,
     f: &mut fmt::Formatter<W>,
 ) -> fmt::Result
-    ensures { WritesOnOk W.write_str_gives f.old result (fields (contains nat_cmp escapes.now) (label_of node.now)) f.new }
+    ensures { WritesOnOk W.write_str_gives f.old result (fields (members escapes.now) (label_of node.now)) f.new }
 {
     match node {
-        Node::Heading(node) => {
-            let depth = node.depth;
-            write!(f, ", depth: {depth}")
-        }
+        Node::Heading(node) => write_depth(node.depth, f),
         Node::List(node) => write_list_fields(node, f),
         Node::ListItem(node) => write_item_fields(node, f),
         Node::Table(node) => write_align(&node.align, f),
-        Node::Code(node) => {
-            write_option(", lang: ", &node.lang, escapes, f)?;
-            write_option(", meta: ", &node.meta, escapes, f)
-        }
+        Node::Code(node) => write_code_fields(node, escapes, f),
         Node::Math(node) => write_option(", meta: ", &node.meta, escapes, f),
         Node::Link(node) => write_resource(&node.url, &node.title, escapes, f),
-        Node::Image(node) => {
-            write_text(", alt: ", &node.alt, escapes, f)?;
-            write_resource(&node.url, &node.title, escapes, f)
-        }
+        Node::Image(node) => write_image_fields(node, escapes, f),
         Node::LinkReference(node) => {
             write_reference(
                 node.reference_kind,
@@ -294,28 +290,77 @@ fn write_fields<W: fmt::Write>(
                 f,
             )
         }
-        Node::ImageReference(node) => {
-            write_text(", alt: ", &node.alt, escapes, f)?;
-            write_reference(
-                node.reference_kind,
-                &node.identifier,
-                &node.label,
-                escapes,
-                f,
-            )
-        }
+        Node::ImageReference(node) => write_image_reference_fields(node, escapes, f),
         Node::FootnoteReference(node) => {
             write_association(&node.identifier, &node.label, escapes, f)
         }
         Node::FootnoteDefinition(node) => {
             write_association(&node.identifier, &node.label, escapes, f)
         }
-        Node::Definition(node) => {
-            write_resource(&node.url, &node.title, escapes, f)?;
-            write_association(&node.identifier, &node.label, escapes, f)
-        }
+        Node::Definition(node) => write_definition_fields(node, escapes, f),
         _ => Ok(()),
     }
+}
+
+/// Writes the depth of a heading.
+fn write_depth<W: fmt::Write>(depth: u8, f: &mut fmt::Formatter<W>) -> fmt::Result
+    ensures { WritesOnOk W.write_str_gives f.old result (codes ", depth: " ++ decimal depth) f.new }
+{
+    write!(f, ", depth: {depth}")
+}
+
+/// Writes the fields of a block of code.
+fn write_code_fields<W: fmt::Write>(
+    node: &Code,
+    escapes: &BTreeSet<char>,
+    f: &mut fmt::Formatter<W>,
+) -> fmt::Result
+    ensures { WritesOnOk W.write_str_gives f.old result (fields (members escapes.now) (code_label node.now)) f.new }
+{
+    write_option(", lang: ", &node.lang, escapes, f)?;
+    write_option(", meta: ", &node.meta, escapes, f)
+}
+
+/// Writes the fields of an image.
+fn write_image_fields<W: fmt::Write>(
+    node: &Image,
+    escapes: &BTreeSet<char>,
+    f: &mut fmt::Formatter<W>,
+) -> fmt::Result
+    ensures { WritesOnOk W.write_str_gives f.old result (fields (members escapes.now) (image_label node.now)) f.new }
+{
+    write_text(", alt: ", &node.alt, escapes, f)?;
+    write_resource(&node.url, &node.title, escapes, f)
+}
+
+/// Writes the fields of a reference to an image.
+fn write_image_reference_fields<W: fmt::Write>(
+    node: &ImageReference,
+    escapes: &BTreeSet<char>,
+    f: &mut fmt::Formatter<W>,
+) -> fmt::Result
+    ensures { WritesOnOk W.write_str_gives f.old result (fields (members escapes.now) (image_reference_label node.now)) f.new }
+{
+    write_text(", alt: ", &node.alt, escapes, f)?;
+    write_reference(
+        node.reference_kind,
+        &node.identifier,
+        &node.label,
+        escapes,
+        f,
+    )
+}
+
+/// Writes the fields of a definition.
+fn write_definition_fields<W: fmt::Write>(
+    node: &Definition,
+    escapes: &BTreeSet<char>,
+    f: &mut fmt::Formatter<W>,
+) -> fmt::Result
+    ensures { WritesOnOk W.write_str_gives f.old result (fields (members escapes.now) (definition_label node.now)) f.new }
+{
+    write_resource(&node.url, &node.title, escapes, f)?;
+    write_association(&node.identifier, &node.label, escapes, f)
 }
 
 /// Writes a field that is a text. Its name stands between a comma and a colon.
@@ -325,7 +370,7 @@ fn write_text<W: fmt::Write>(
     escapes: &BTreeSet<char>,
     f: &mut fmt::Formatter<W>,
 ) -> fmt::Result
-    ensures { WritesOnOk W.write_str_gives f.old result (name.now ++ quoted (contains nat_cmp escapes.now) (string_bytes text.now)) f.new }
+    ensures { WritesOnOk W.write_str_gives f.old result (name.now ++ quoted (members escapes.now) (string_bytes text.now)) f.new }
 {
     f.write_str(name)?;
     write_quoted(text.as_str(), escapes, f)
@@ -338,7 +383,7 @@ fn write_option<W: fmt::Write>(
     escapes: &BTreeSet<char>,
     f: &mut fmt::Formatter<W>,
 ) -> fmt::Result
-    ensures { WritesOnOk W.write_str_gives f.old result (name.now ++ option_text (quoted (contains nat_cmp escapes.now)) (option_map string_bytes text.now)) f.new }
+    ensures { WritesOnOk W.write_str_gives f.old result (name.now ++ maybe (members escapes.now) (option_map string_bytes text.now)) f.new }
 {
     f.write_str(name)?;
     match text {
@@ -358,7 +403,7 @@ fn write_resource<W: fmt::Write>(
     escapes: &BTreeSet<char>,
     f: &mut fmt::Formatter<W>,
 ) -> fmt::Result
-    ensures { WritesOnOk W.write_str_gives f.old result (resource (contains nat_cmp escapes.now) (string_bytes url.now) (option_map string_bytes title.now)) f.new }
+    ensures { WritesOnOk W.write_str_gives f.old result (resource_of (members escapes.now) url.now title.now) f.new }
 {
     write_text(", url: ", url, escapes, f)?;
     write_option(", title: ", title, escapes, f)
@@ -371,7 +416,7 @@ fn write_association<W: fmt::Write>(
     escapes: &BTreeSet<char>,
     f: &mut fmt::Formatter<W>,
 ) -> fmt::Result
-    ensures { WritesOnOk W.write_str_gives f.old result (association (contains nat_cmp escapes.now) (string_bytes identifier.now) (option_map string_bytes label.now)) f.new }
+    ensures { WritesOnOk W.write_str_gives f.old result (association_of (members escapes.now) identifier.now label.now) f.new }
 {
     write_text(", identifier: ", identifier, escapes, f)?;
     write_option(", label: ", label, escapes, f)
@@ -385,7 +430,7 @@ fn write_reference<W: fmt::Write>(
     escapes: &BTreeSet<char>,
     f: &mut fmt::Formatter<W>,
 ) -> fmt::Result
-    ensures { WritesOnOk W.write_str_gives f.old result (reference (contains nat_cmp escapes.now) kind (string_bytes identifier.now) (option_map string_bytes label.now)) f.new }
+    ensures { WritesOnOk W.write_str_gives f.old result (reference_of (members escapes.now) kind identifier.now label.now) f.new }
 {
     write!(f, ", reference_kind: {kind:?}")?;
     write_association(identifier, label, escapes, f)
@@ -393,7 +438,7 @@ fn write_reference<W: fmt::Write>(
 
 /// Writes the fields of a list.
 fn write_list_fields<W: fmt::Write>(node: &List, f: &mut fmt::Formatter<W>) -> fmt::Result
-    ensures { WritesOnOk W.write_str_gives f.old result (codes ", ordered: " ++ bool_text node.now.ordered ++ codes ", start: " ++ option_text decimal node.now.start ++ codes ", spread: " ++ bool_text node.now.spread) f.new }
+    ensures { WritesOnOk W.write_str_gives f.old result (list_fields node.now.ordered node.now.start node.now.spread) f.new }
 {
     write_flag(", ordered: ", node.ordered, f)?;
     write_start(node.start, f)?;
@@ -420,7 +465,7 @@ fn write_flag<W: fmt::Write>(name: &str, flag: bool, f: &mut fmt::Formatter<W>) 
 
 /// Writes the fields of a list item.
 fn write_item_fields<W: fmt::Write>(node: &ListItem, f: &mut fmt::Formatter<W>) -> fmt::Result
-    ensures { WritesOnOk W.write_str_gives f.old result (codes ", spread: " ++ bool_text node.now.spread ++ codes ", checked: " ++ option_text bool_text node.now.checked) f.new }
+    ensures { WritesOnOk W.write_str_gives f.old result (item_fields node.now.spread node.now.checked) f.new }
 {
     let spread = node.spread;
     match node.checked {
@@ -431,7 +476,7 @@ fn write_item_fields<W: fmt::Write>(node: &ListItem, f: &mut fmt::Formatter<W>) 
 
 /// Writes how the columns of a table are aligned.
 fn write_align<W: fmt::Write>(align: &Vec<AlignKind>, f: &mut fmt::Formatter<W>) -> fmt::Result
-    ensures { WritesOnOk W.write_str_gives f.old result (codes ", align: [" ++ items_text alignment_name [] align.now.items ++ codes "]") f.new }
+    ensures { WritesOnOk W.write_str_gives f.old result (align_field align.now.items) f.new }
 {
     write!(f, ", align: {align:?}")
 }

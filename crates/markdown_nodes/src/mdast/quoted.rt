@@ -1,10 +1,8 @@
 //! Texts between quotes, as Debug writes them.
 
-ghost use Rattle.std.specs.BTreeSet.{contains};
 ghost use Rattle.std.specs.Fmt.{WritesOnOk};
-ghost use Rattle.std.specs.Ordering.{nat_cmp};
 ghost use Rattle.std.specs.Prelude.{◌≡◌, ◌<◌, ◌≤◌, ◌||◌, ◌==◌, IfOk, Some, nat_lt, string_bytes};
-ghost use Rattle.markdown_nodes.specs.Quoted.{escaped, quoted};
+ghost use Rattle.markdown_nodes.specs.Quoted.{escaped, members, quoted};
 
 use std::alloc::{AllocError, Global};
 use std::collections::BTreeSet;
@@ -18,7 +16,7 @@ struct EscapedText<'a> {
 }
 
 impl fmt::Debug for EscapedText<'_> {
-    ghost debug_output = { λ whole. Some (quoted (contains nat_cmp whole.escapes.now) whole.text.now) };
+    ghost debug_output = { λ whole. Some (quoted (members whole.escapes.now) whole.text.now) };
 
     fn fmt<W: fmt::Write>(&self, f: &mut fmt::Formatter<W>) -> fmt::Result {
         write_quoted(self.text, self.escapes, f)
@@ -33,7 +31,7 @@ impl fmt::Debug for EscapedText<'_> {
 ///
 /// A line feed is written as a backslash and an `n`, so the text stands on one line.
 pub fn quote(text: &str, escapes: &BTreeSet<char>, alloc: Global) -> Result<String, AllocError>
-    ensures { IfOk result (λ line. string_bytes line ≡ quoted (contains nat_cmp escapes.now) text.now) }
+    ensures { IfOk result (λ line. string_bytes line ≡ quoted (members escapes.now) text.now) }
 {
     let whole = EscapedText { text, escapes };
     format!(in alloc; "{whole:?}")
@@ -46,7 +44,7 @@ pub fn write_quoted<W: fmt::Write>(
     escapes: &BTreeSet<char>,
     f: &mut fmt::Formatter<W>,
 ) -> fmt::Result
-    ensures { WritesOnOk W.write_str_gives f.old result (quoted (contains nat_cmp escapes.now) text.now) f.new }
+    ensures { WritesOnOk W.write_str_gives f.old result (quoted (members escapes.now) text.now) f.new }
 {
     if text.is_ascii() {
         return write!(f, "{text:?}");
@@ -64,7 +62,7 @@ fn write_escaped<W: fmt::Write>(
     escapes: &BTreeSet<char>,
     f: &mut fmt::Formatter<W>,
 ) -> fmt::Result
-    ensures { WritesOnOk W.write_str_gives f.old result (escaped (contains nat_cmp escapes.now) c) f.new }
+    ensures { WritesOnOk W.write_str_gives f.old result (escaped (members escapes.now) c) f.new }
 {
     match c {
         '"' => f.write_str("\\\""),
@@ -86,7 +84,7 @@ fn write_escaped<W: fmt::Write>(
 /// Whether a character that has no escape of two characters is written as its Unicode escape.
 fn is_unicode_escaped(c: char, escapes: &BTreeSet<char>) -> bool
     ensures ascii { c < 128 → result ≡ (nat_lt c 32 || c == 127) }
-    ensures other { 128 ≤ c → result ≡ contains nat_cmp escapes.now c }
+    ensures other { 128 ≤ c → result ≡ members escapes.now c }
 {
     if c.is_ascii() {
         return c < ' ' || c == '\x7f';
