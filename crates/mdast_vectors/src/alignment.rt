@@ -1,5 +1,6 @@
 //! How the columns of a table are aligned.
 
+use crate::expect::holds;
 use crate::outline::spelled;
 use markdown_nodes::event::{Event, Name, span_begins};
 use markdown_nodes::infer::gfm_table_align;
@@ -59,7 +60,10 @@ fn aligned(
 ) -> Result<(), Fail> {
     let events = spelled(alloc, outline)?;
     let kinds = table_align(alloc, events.as_slice(), 0)?;
-    assert!(rt; matches!(&kinds, Some(kinds) if kinds.as_slice() == want));
+    holds(
+        rt,
+        matches!(&kinds, Some(kinds) if kinds.as_slice() == want),
+    );
     Ok(())
 }
 

@@ -1,6 +1,7 @@
 //! What is found in trees that no list of events gives. A reference to a link or an image is answered
 //! by a definition, one to a footnote by a footnote definition. The cases of `forms.txt` have more.
 
+use crate::expect::{holds, same};
 use markdown_nodes::mdast;
 use markdown_nodes::mdast::{Node, ReferenceKind};
 use mdast_check::outline::headings;
@@ -87,14 +88,14 @@ fn definition(alloc: Global, identifier: &str) -> Result<Node, AllocError> {
 /// The open references of a tree are printed so.
 fn opens(rt: &impl Abort, alloc: Global, tree: &Node, want: &str) -> Result<(), Fail> {
     let found = open_references(alloc, tree)?;
-    assert_eq!(rt; format!(in alloc; "{found:?}")?.as_str(), want);
+    same(rt, format!(in alloc; "{found:?}")?.as_str(), want);
     Ok(())
 }
 
 /// The headings of a tree are printed so.
 fn lists(rt: &impl Abort, alloc: Global, tree: &Node, want: &str) -> Result<(), Fail> {
     let found = headings(alloc, tree)?;
-    assert_eq!(rt; format!(in alloc; "{found:?}")?.as_str(), want);
+    same(rt, format!(in alloc; "{found:?}")?.as_str(), want);
     Ok(())
 }
 
@@ -142,16 +143,13 @@ fn a_hundred_identifiers(rt: HostRuntime) -> Result<(), Fail> {
     }
     let tree = root(nodes);
     let found = open_references(alloc, &tree)?;
-    assert_eq!(rt; found.len(), 66);
+    same(&rt, found.len(), 66);
     let mut numbers = found.iter();
     for number in 0..100 {
         if number % 3 != 0 {
             let open = numbers.next();
             let want = format!(in alloc; "{number}")?;
-            assert!(rt;
-                matches!(open, Some(open) if open.identifier == want),
-                "{number}"
-            );
+            holds(&rt, matches!(open, Some(open) if open.identifier == want));
         }
     }
     Ok(())

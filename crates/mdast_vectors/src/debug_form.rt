@@ -1,5 +1,6 @@
 //! Nodes are printed in the form that std's Debug derives.
 
+use crate::expect::same;
 use markdown_nodes::mdast::{Break, Emphasis, Node, Paragraph, Text};
 use std::alloc::{AllocError, Global};
 use std::process::Abort;
@@ -42,9 +43,9 @@ fn quoted(rt: &impl Abort, alloc: Global, first: u32, end: u32, count: usize) ->
         let line = format!(in alloc;
             "Paragraph {{ children: [Text {{ value: {value:?}, position: None }}], position: None }}"
         )?;
-        assert_eq!(rt; format!(in alloc; "{tree:?}")?.as_str(), line.as_str());
+        same(rt, format!(in alloc; "{tree:?}")?.as_str(), line.as_str());
     }
-    assert_eq!(rt; found, count);
+    same(rt, found, count);
     Ok(())
 }
 
@@ -89,10 +90,10 @@ fn siblings_stand_after_commas(rt: HostRuntime) -> Result<(), Fail> {
     let paragraph = paragraph(alloc)?;
     let line =
         "Paragraph { children: [Text { value: \"a\", position: None }, Emphasis { children: [Break { position: None }, Text { value: \"b\", position: None }], position: None }, Text { value: \"c\", position: None }], position: None }";
-    assert_eq!(rt; format!(in alloc; "{paragraph:?}")?.as_str(), line);
+    same(&rt, format!(in alloc; "{paragraph:?}")?.as_str(), line);
     let tree = Node::Paragraph(paragraph);
-    assert_eq!(rt; format!(in alloc; "{tree:?}")?.as_str(), line);
-    assert_eq!(rt; tree.to_debug_string(alloc)?.as_str(), line);
+    same(&rt, format!(in alloc; "{tree:?}")?.as_str(), line);
+    same(&rt, tree.to_debug_string(alloc)?.as_str(), line);
     Ok(())
 }
 
@@ -102,9 +103,9 @@ fn each_node_stands_on_one_line_of_the_pretty_form(rt: HostRuntime) -> Result<()
     let paragraph = paragraph(alloc)?;
     let lines =
         "Paragraph {\n    children: [\n        Text { value: \"a\", position: None },\n        Emphasis { children: [Break { position: None }, Text { value: \"b\", position: None }], position: None },\n        Text { value: \"c\", position: None },\n    ],\n    position: None,\n}";
-    assert_eq!(rt; format!(in alloc; "{paragraph:#?}")?.as_str(), lines);
+    same(&rt, format!(in alloc; "{paragraph:#?}")?.as_str(), lines);
     let tree = Node::Paragraph(paragraph);
     let line = format!(in alloc; "{tree:?}")?;
-    assert_eq!(rt; format!(in alloc; "{tree:#?}")?.as_str(), line.as_str());
+    same(&rt, format!(in alloc; "{tree:#?}")?.as_str(), line.as_str());
     Ok(())
 }

@@ -1,5 +1,6 @@
 //! Trees that are deep.
 
+use crate::expect::{holds, same};
 use crate::ordered;
 use crate::outline::{compiled, spelled, spelled_to};
 use markdown_nodes::event::{Event, Name};
@@ -48,7 +49,7 @@ fn a_blank_line_in_the_innermost_of_nested_lists(rt: HostRuntime) -> Result<(), 
         assert_eq!(rt; found, Some(level == 400), "at {level}");
         node = node.and_then(first_child);
     }
-    assert!(rt; matches!(node, Some(Node::Paragraph(_))));
+    holds(&rt, matches!(node, Some(Node::Paragraph(_))));
     Ok(())
 }
 
@@ -127,14 +128,14 @@ fn expect(
 ) -> Result<(), Fail> {
     let events = tower(alloc, outer, level, inner)?;
     let tree = compiled(alloc, b"a", events.as_slice())?;
-    assert_eq!(rt; tree.to_string(alloc)?.as_str(), text);
-    assert!(rt; ordered(&tree));
+    same(rt, tree.to_string(alloc)?.as_str(), text);
+    holds(rt, ordered(&tree));
     let copy = tree.clone(alloc)?;
-    assert!(rt; copy == tree);
-    assert!(rt; copy != compiled(alloc, b"b", events.as_slice())?);
+    holds(rt, copy == tree);
+    holds(rt, copy != compiled(alloc, b"b", events.as_slice())?);
     let line = line(alloc, outer, level, inner)?;
-    assert!(rt; format!(in alloc; "{copy:?}")? == line);
-    assert!(rt; copy.to_debug_string(alloc)? == line);
+    holds(rt, format!(in alloc; "{copy:?}")? == line);
+    holds(rt, copy.to_debug_string(alloc)? == line);
     Ok(())
 }
 

@@ -1,6 +1,7 @@
 //! What trees are as JSON that no list of events gives. The cases of `forms.txt` and of the lists of the
 //! original have each kind of node.
 
+use crate::expect::{holds, same};
 use markdown_json::to_json;
 use markdown_nodes::mdast;
 use markdown_nodes::mdast::Node;
@@ -22,9 +23,10 @@ fn nodes_without_positions(rt: HostRuntime) -> Result<(), Fail> {
         children: vec![in alloc; text(alloc, "a")?, text(alloc, "")?]?,
         position: None,
     });
-    assert_eq!(rt;
+    same(
+        &rt,
         to_json(alloc, &tree)?.as_str(),
-        r#"{"type":"root","children":[{"type":"text","value":"a"},{"type":"text","value":""}]}"#
+        r#"{"type":"root","children":[{"type":"text","value":"a"},{"type":"text","value":""}]}"#,
     );
     Ok(())
 }
@@ -46,6 +48,6 @@ fn a_hundred_thousand_levels(rt: HostRuntime) -> Result<(), Fail> {
     let mut want = "{\"type\":\"blockquote\",\"children\":[".repeat(alloc, LEVELS)?;
     want.push_str("{\"type\":\"text\",\"value\":\"a\"}")?;
     want.push_str("]}".repeat(alloc, LEVELS)?.as_str())?;
-    assert!(rt; line == want);
+    holds(&rt, line == want);
     Ok(())
 }

@@ -20,6 +20,8 @@ mod debug_form;
 #[cfg(test)]
 mod depths;
 #[cfg(test)]
+mod expect;
+#[cfg(test)]
 mod json;
 #[cfg(test)]
 mod lines;

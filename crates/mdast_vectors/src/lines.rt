@@ -2,6 +2,7 @@
 
 ghost use Rattle.std.specs.Prelude.{◌<◌};
 
+use crate::expect::{holds, same};
 use markdown_nodes::event::{Event, Kind, Name, Point};
 use markdown_tree::to_mdast::References;
 use mdast_lines::check::run_check;
@@ -85,8 +86,8 @@ impl Write for Closed {
 fn expect<R: Abort + AllocGlobal, I: Read>(rt: &R, input: &mut I, line: &str, status: u8) {
     let mut output = Vec::new(rt.alloc());
     let found = run(rt.alloc(), b"Hi", input, &mut output);
-    assert_eq!(rt; str::from_utf8(&output), Ok(line));
-    assert_eq!(rt; found, status);
+    same(rt, str::from_utf8(&output), Ok(line));
+    same(rt, found, status);
 }
 
 #[test]
@@ -102,8 +103,8 @@ fn expect_json<R: Abort + AllocGlobal>(rt: &R, events: &[u8], line: &str, status
     let mut input = events;
     let mut output = Vec::new(rt.alloc());
     let found = run_json(rt.alloc(), b"Hi", &mut input, &mut output);
-    assert_eq!(rt; str::from_utf8(&output), Ok(line));
-    assert_eq!(rt; found, status);
+    same(rt, str::from_utf8(&output), Ok(line));
+    same(rt, found, status);
 }
 
 #[test]
@@ -123,10 +124,10 @@ fn prints_json(rt: HostRuntime) {
 #[test]
 fn takes_one_argument(rt: HostRuntime) -> Result<(), Fail> {
     let doc = own(rt.alloc(), Some("hi.md"))?;
-    assert_eq!(rt; only(doc, None).as_deref(), Some("hi.md"));
+    same(&rt, only(doc, None).as_deref(), Some("hi.md"));
     let doc = own(rt.alloc(), Some("hi.md"))?;
-    assert!(rt; only(doc, own(rt.alloc(), Some("hi.md"))?).is_none());
-    assert!(rt; only(None, None).is_none());
+    holds(&rt, only(doc, own(rt.alloc(), Some("hi.md"))?).is_none());
+    holds(&rt, only(None, None).is_none());
     Ok(())
 }
 
@@ -140,8 +141,8 @@ fn expect_check<R: Abort + AllocGlobal>(rt: &R, doc: &[u8], events: &[u8], text:
     let mut input = events;
     let mut output = Vec::new(rt.alloc());
     let found = run_check(rt.alloc(), doc, &mut input, &mut output);
-    assert_eq!(rt; str::from_utf8(&output), Ok(text));
-    assert_eq!(rt; found, status);
+    same(rt, str::from_utf8(&output), Ok(text));
+    same(rt, found, status);
 }
 
 #[test]
@@ -197,7 +198,7 @@ fn expect_request<R: Abort + AllocGlobal>(
         own(rt.alloc(), second)?,
         own(rt.alloc(), third)?,
     );
-    assert_eq!(rt; format!(in rt.alloc(); "{found:?}")?.as_str(), request);
+    same(rt, format!(in rt.alloc(); "{found:?}")?.as_str(), request);
     Ok(())
 }
 
@@ -224,13 +225,15 @@ fn tells_what_the_arguments_ask_for(rt: HostRuntime) -> Result<(), Fail> {
 
 #[test]
 fn says_why_there_is_no_document(rt: HostRuntime) {
-    assert_eq!(rt;
+    same(
+        &rt,
         DocumentError::Usage.line(Program::Show),
-        "usage: mdast_show [--check] DOC\n"
+        "usage: mdast_show [--check] DOC\n",
     );
-    assert_eq!(rt;
+    same(
+        &rt,
         DocumentError::Unreadable.line(Program::Json),
-        "mdast_json: cannot read the document\n"
+        "mdast_json: cannot read the document\n",
     );
 }
 
@@ -275,19 +278,19 @@ fn numbers_a_line_that_cannot_be_read(rt: HostRuntime) -> Result<(), Fail> {
 #[test]
 fn reads_virtual_spaces(rt: HostRuntime) -> Result<(), Fail> {
     let read = events(rt.alloc(), b"+Data 1:1:0:0\n\n-Data 1:3:2:7\n+Link 2:03:4")?;
-    assert_eq!(rt; read.len(), 3);
+    same(&rt, read.len(), 3);
     for (event, kind, name, vs) in [
         (read[0], Kind::Enter, Name::Data, 0),
         (read[1], Kind::Exit, Name::Data, 7),
         (read[2], Kind::Enter, Name::Link, 0),
     ] {
-        assert!(rt; event.kind == kind);
-        assert!(rt; event.name == name);
-        assert_eq!(rt; event.point.vs, vs);
+        holds(&rt, event.kind == kind);
+        holds(&rt, event.name == name);
+        same(&rt, event.point.vs, vs);
     }
-    assert_eq!(rt; read[2].point.line, 2);
-    assert_eq!(rt; read[2].point.column, 3);
-    assert_eq!(rt; read[2].point.index, 4);
+    same(&rt, read[2].point.line, 2);
+    same(&rt, read[2].point.column, 3);
+    same(&rt, read[2].point.index, 4);
     Ok(())
 }
 
@@ -344,7 +347,7 @@ fn reads_points_that_are_said_again(rt: HostRuntime) -> Result<(), Fail> {
         })?;
     }
     let read = events(rt.alloc(), text.as_bytes())?;
-    assert_eq!(rt; read.as_slice(), wanted.as_slice());
+    same(&rt, read.as_slice(), wanted.as_slice());
     Ok(())
 }
 
@@ -368,7 +371,7 @@ fn reads_up_to_its_bound(rt: HostRuntime) {
 #[test]
 fn fails_where_nothing_can_be_written(rt: HostRuntime) {
     let mut input = HI;
-    assert_eq!(rt; run(rt.alloc(), b"Hi", &mut input, &mut Closed), 2);
+    same(&rt, run(rt.alloc(), b"Hi", &mut input, &mut Closed), 2);
 }
 
 #[test]
@@ -386,7 +389,7 @@ fn decodes_names_and_numbers(rt: HostRuntime) -> Result<(), Fail> {
         ("10FFFF", b'x', "\u{10FFFF}"),
     ] {
         let found = Decoder.decode(rt.alloc(), value, marker)?;
-        assert_eq!(rt; found.as_deref(), Some(text));
+        same(&rt, found.as_deref(), Some(text));
     }
     Ok(())
 }
@@ -401,7 +404,7 @@ fn decodes_what_is_no_character_as_a_replacement(rt: HostRuntime) -> Result<(), 
         ("110000", b'x'),
     ] {
         let found = Decoder.decode(rt.alloc(), value, marker)?;
-        assert_eq!(rt; found.as_deref(), Some("\u{FFFD}"));
+        same(&rt, found.as_deref(), Some("\u{FFFD}"));
     }
     Ok(())
 }
@@ -423,7 +426,7 @@ fn decodes_nothing_else(rt: HostRuntime) -> Result<(), Fail> {
         ("65", b';'),
     ] {
         let found = Decoder.decode(rt.alloc(), value, marker)?;
-        assert_eq!(rt; found.as_deref(), None);
+        same(&rt, found.as_deref(), None);
     }
     Ok(())
 }

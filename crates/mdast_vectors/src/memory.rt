@@ -1,5 +1,6 @@
 //! What `compile` asks of memory.
 
+use crate::expect::{holds, same};
 use crate::ordered;
 use crate::outline::{compiled, spelled, spelled_to};
 use markdown_nodes::event::{Event, Name};
@@ -36,7 +37,7 @@ fn a_decoder_without_memory(rt: HostRuntime) -> Result<(), Fail> {
     ];
     let events = spelled(rt.alloc(), &outline)?;
     let answer = compile(rt.alloc(), events.as_slice(), b"", &Exhausted);
-    assert!(rt; matches!(&answer, Err(Fault::Memory(_))));
+    holds(&rt, matches!(&answer, Err(Fault::Memory(_))));
     Ok(())
 }
 
@@ -44,7 +45,10 @@ fn a_decoder_without_memory(rt: HostRuntime) -> Result<(), Fail> {
 #[test]
 fn no_events_ask_for_no_memory(rt: HostRuntime) {
     let answer = compiled(rt.alloc(), b"", &[]);
-    assert!(rt; matches!(&answer, Ok(Node::Root(root)) if root.children.is_empty()));
+    holds(
+        &rt,
+        matches!(&answer, Ok(Node::Root(root)) if root.children.is_empty()),
+    );
 }
 
 /// The events of block quotes in one another, each to this byte, with three paragraphs before the
@@ -73,12 +77,16 @@ fn a_wide_and_deep_tree(rt: HostRuntime) -> Result<(), Fail> {
     let events = wide_and_deep(alloc, 20, 1)?;
     let tree = compiled(alloc, b"a", events.as_slice())?;
     let copy = tree.clone(alloc)?;
-    assert!(rt; copy == tree);
-    assert_eq!(rt;
+    holds(&rt, copy == tree);
+    same(
+        &rt,
         copy.to_string(alloc)?.as_str(),
-        "a".repeat(alloc, 80)?.as_str()
+        "a".repeat(alloc, 80)?.as_str(),
     );
-    assert!(rt; format!(in alloc; "{copy:?}")? == tree.to_debug_string(alloc)?);
+    holds(
+        &rt,
+        format!(in alloc; "{copy:?}")? == tree.to_debug_string(alloc)?,
+    );
     Ok(())
 }
 
@@ -97,10 +105,10 @@ fn a_wide_and_deep_tree_is_ordered(rt: HostRuntime) -> Result<(), Fail> {
     let alloc = rt.alloc();
     let events = wide_and_deep(alloc, 20, 0)?;
     let mut tree = compiled(alloc, b"", events.as_slice())?;
-    assert!(rt; ordered(&tree));
+    holds(&rt, ordered(&tree));
     if let Some(node) = innermost(&mut tree) {
         node.position_set(None);
     }
-    assert!(rt; !ordered(&tree));
+    holds(&rt, !ordered(&tree));
     Ok(())
 }

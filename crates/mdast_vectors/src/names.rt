@@ -1,5 +1,6 @@
 //! Rows of names and of points.
 
+use crate::expect::{holds, same};
 use markdown_nodes::event::{Name, Point};
 use markdown_nodes::unist;
 use std::test::Fail;
@@ -15,20 +16,20 @@ fn names_are_written_as_they_are_called(rt: HostRuntime) {
             "GfmTaskListItemValueChecked",
         ),
     ] {
-        assert_eq!(rt; name.text(), text);
-        assert!(rt; Name::find(text) == Some(name));
-        assert!(rt; Name::find_bytes(text.as_bytes()) == Some(name));
-        assert!(rt; name.is(name));
+        same(&rt, name.text(), text);
+        holds(&rt, Name::find(text) == Some(name));
+        holds(&rt, Name::find_bytes(text.as_bytes()) == Some(name));
+        holds(&rt, name.is(name));
     }
 }
 
 #[test]
 fn other_words_are_no_names(rt: HostRuntime) {
     for text in ["Nope", "data", "Data ", ""] {
-        assert!(rt; Name::find(text).is_none());
+        holds(&rt, Name::find(text).is_none());
     }
-    assert!(rt; Name::find_bytes(b"D\xFFta").is_none());
-    assert!(rt; !Name::HtmlFlow.is(Name::HtmlText));
+    holds(&rt, Name::find_bytes(b"D\xFFta").is_none());
+    holds(&rt, !Name::HtmlFlow.is(Name::HtmlText));
 }
 
 #[test]
@@ -42,9 +43,9 @@ fn roles_say_what_well_formedness_asks(rt: HostRuntime) {
         (Name::Paragraph, false, false, false),
     ] {
         let role = name.role();
-        assert_eq!(rt; role.is_sealed(), nothing);
-        assert_eq!(rt; role.is_delimiter_row(), row);
-        assert_eq!(rt; role.is_delimiter_cell_value(), value);
+        same(&rt, role.is_sealed(), nothing);
+        same(&rt, role.is_delimiter_row(), row);
+        same(&rt, role.is_delimiter_cell_value(), value);
     }
 }
 
@@ -56,13 +57,18 @@ fn points_lose_their_virtual_spaces(rt: HostRuntime) -> Result<(), Fail> {
         index: 2,
         vs: 1,
     };
-    assert!(rt; point.to_unist() == unist::Point::new(1, 3, 2));
+    holds(&rt, point.to_unist() == unist::Point::new(1, 3, 2));
     let place = point.to_unist();
-    assert_eq!(rt; format!(in rt.alloc(); "{place:?}")?.as_str(), "1:3 (2)");
+    same(
+        &rt,
+        format!(in rt.alloc(); "{place:?}")?.as_str(),
+        "1:3 (2)",
+    );
     let position = unist::Position::new(1, 1, 0, 1, 3, 2);
-    assert_eq!(rt;
+    same(
+        &rt,
         format!(in rt.alloc(); "{position:?}")?.as_str(),
-        "1:1-1:3 (0-2)"
+        "1:1-1:3 (0-2)",
     );
     Ok(())
 }

@@ -1,6 +1,7 @@
 //! What the calls on nodes give, and how nodes without a position are printed. The cases of
 //! `mdast_replay` have trees of each kind of node.
 
+use crate::expect::{holds, holds_in, same, same_in};
 use markdown_nodes::mdast;
 use markdown_nodes::mdast::{
     AlignKind, Blockquote, Break, Emphasis, Html, Image, InlineCode, Node, Paragraph,
@@ -18,9 +19,9 @@ fn own(alloc: Global, text: &str) -> Result<String, AllocError> {
 /// A node's copy equals it, and is printed so, by Debug and as a text.
 fn printed(rt: &impl Abort, alloc: Global, node: &Node, want: &str) -> Result<(), Fail> {
     let copy = node.clone(alloc)?;
-    assert!(rt; copy == *node, "{want}");
-    assert_eq!(rt; format!(in alloc; "{copy:?}")?.as_str(), want);
-    assert_eq!(rt; copy.to_debug_string(alloc)?.as_str(), want);
+    holds_in(rt, copy == *node, want);
+    same(rt, format!(in alloc; "{copy:?}")?.as_str(), want);
+    same(rt, copy.to_debug_string(alloc)?.as_str(), want);
     Ok(())
 }
 
@@ -34,9 +35,9 @@ fn carried(
     prefix: &str,
     back: &str,
 ) -> Result<(), Fail> {
-    assert!(rt; node.position().is_none(), "{prefix}");
-    assert!(rt; node.position_mut().is_none(), "{prefix}");
-    assert_eq!(rt; node.to_string(alloc)?.as_str(), text, "{prefix}");
+    holds_in(rt, node.position().is_none(), prefix);
+    holds_in(rt, node.position_mut().is_none(), prefix);
+    same_in(rt, node.to_string(alloc)?.as_str(), text, prefix);
     let nowhere = format!(in alloc; "{prefix}position: None{back}")?;
     printed(rt, alloc, node, nowhere.as_str())?;
     node.position_set(Some(Position::new(1, 1, 0, 1, 2, 1)));
@@ -53,9 +54,9 @@ fn parent(
     back: &str,
 ) -> Result<(), Fail> {
     let count = node.children().map(|children| children.len());
-    assert_eq!(rt; count, Some(0), "{prefix}");
+    same_in(rt, count, Some(0), prefix);
     let count = node.children_mut().map(|children| children.len());
-    assert_eq!(rt; count, Some(0), "{prefix}");
+    same_in(rt, count, Some(0), prefix);
     carried(rt, alloc, &mut node, "", prefix, back)
 }
 
@@ -77,8 +78,8 @@ fn literal(
     prefix: &str,
     back: &str,
 ) -> Result<(), Fail> {
-    assert!(rt; node.children().is_none(), "{prefix}");
-    assert!(rt; node.children_mut().is_none(), "{prefix}");
+    holds_in(rt, node.children().is_none(), prefix);
+    holds_in(rt, node.children_mut().is_none(), prefix);
     carried(rt, alloc, &mut node, "a", prefix, back)
 }
 
@@ -100,8 +101,8 @@ fn void(
     prefix: &str,
     back: &str,
 ) -> Result<(), Fail> {
-    assert!(rt; node.children().is_none(), "{prefix}");
-    assert!(rt; node.children_mut().is_none(), "{prefix}");
+    holds_in(rt, node.children().is_none(), prefix);
+    holds_in(rt, node.children_mut().is_none(), prefix);
     carried(rt, alloc, &mut node, "", prefix, back)
 }
 
@@ -168,13 +169,13 @@ fn text_of_a_paragraph(rt: HostRuntime) -> Result<(), Fail> {
     let alloc = rt.alloc();
     let position = Some(Position::new(1, 1, 0, 1, 2, 1));
     let mut node = words(alloc, position)?;
-    assert_eq!(rt; node.to_string(alloc)?.as_str(), "ac<d>");
+    same(&rt, node.to_string(alloc)?.as_str(), "ac<d>");
     let more = text(alloc, "e")?;
     if let Some(children) = node.children_mut() {
         children.push(more)?;
     }
-    assert_eq!(rt; node.to_string(alloc)?.as_str(), "ac<d>e");
-    assert_eq!(rt; node.position().copied(), position);
+    same(&rt, node.to_string(alloc)?.as_str(), "ac<d>e");
+    same(&rt, node.position().copied(), position);
     Ok(())
 }
 
@@ -203,8 +204,8 @@ fn positions_count(rt: HostRuntime) -> Result<(), Fail> {
     let alloc = rt.alloc();
     let node = words(alloc, None)?;
     let elsewhere = Some(Position::new(1, 1, 0, 1, 2, 1));
-    assert!(rt; are_words(alloc, &node, None)?);
-    assert!(rt; !are_words(alloc, &node, elsewhere)?);
+    holds(&rt, are_words(alloc, &node, None)?);
+    holds(&rt, !are_words(alloc, &node, elsewhere)?);
     Ok(())
 }
 
@@ -227,9 +228,9 @@ fn thousand_block_quotes(rt: HostRuntime) -> Result<(), Fail> {
     let alloc = rt.alloc();
     let node = quoted(alloc, 1000)?;
     let copy = node.clone(alloc)?;
-    assert!(rt; copy == node);
-    assert_eq!(rt; copy.to_string(alloc)?.as_str(), "a");
+    holds(&rt, copy == node);
+    same(&rt, copy.to_string(alloc)?.as_str(), "a");
     // 1,000 times `Blockquote { children: [` and `], position: None }`, and the text within
-    assert_eq!(rt; format!(in alloc; "{copy:?}")?.len(), 43_035);
+    same(&rt, format!(in alloc; "{copy:?}")?.len(), 43_035);
     Ok(())
 }

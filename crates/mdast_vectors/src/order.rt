@@ -2,6 +2,7 @@
 
 ghost use Rattle.std.specs.Prelude.{Some, codes};
 
+use crate::expect::holds;
 use crate::ordered;
 use crate::outline::{compiled, event_at};
 use markdown_nodes::event::{Event, Kind, Name};
@@ -101,8 +102,8 @@ fn the_first_paragraph_of_a_checked_item_starts_after_its_end(rt: HostRuntime) -
         event_at(Kind::Exit, Name::ListUnordered, 5),
     ];
     let tree = compile(alloc, &events, b"* [x]", &Spaces)?;
-    assert!(rt; tree == checked_item(alloc, between(6, 5))?);
-    assert!(rt; ordered(&tree));
+    holds(&rt, tree == checked_item(alloc, between(6, 5))?);
+    holds(&rt, ordered(&tree));
     Ok(())
 }
 
@@ -110,8 +111,8 @@ fn the_first_paragraph_of_a_checked_item_starts_after_its_end(rt: HostRuntime) -
 #[test]
 fn only_the_first_paragraph_of_a_checked_item_may_do_so(rt: HostRuntime) -> Result<(), Fail> {
     let alloc = rt.alloc();
-    assert!(rt; !ordered(&paragraphs(alloc, &[between(6, 5)])?));
-    assert!(rt; !ordered(&checked_item(alloc, between(6, 6))?));
+    holds(&rt, !ordered(&paragraphs(alloc, &[between(6, 5)])?));
+    holds(&rt, !ordered(&checked_item(alloc, between(6, 6))?));
     Ok(())
 }
 
@@ -130,26 +131,26 @@ fn paragraphs_in_falling_order(rt: HostRuntime) -> Result<(), Fail> {
         event_at(Kind::Exit, Name::Paragraph, 1),
     ];
     let tree = compiled(alloc, b"ab", &events)?;
-    assert!(rt; tree.position() == between(1, 1).as_ref());
-    assert!(rt; !ordered(&tree));
+    holds(&rt, tree.position() == between(1, 1).as_ref());
+    holds(&rt, !ordered(&tree));
     Ok(())
 }
 
 #[test]
 fn a_node_without_a_position(rt: HostRuntime) -> Result<(), Fail> {
     let alloc = rt.alloc();
-    assert!(rt; ordered(&paragraph(alloc, between(0, 1))));
-    assert!(rt; !ordered(&paragraph(alloc, None)));
-    assert!(rt; !ordered(&paragraphs(alloc, &[between(0, 1), None])?));
+    holds(&rt, ordered(&paragraph(alloc, between(0, 1))));
+    holds(&rt, !ordered(&paragraph(alloc, None)));
+    holds(&rt, !ordered(&paragraphs(alloc, &[between(0, 1), None])?));
     Ok(())
 }
 
 #[test]
 fn a_node_that_leaves_its_parent(rt: HostRuntime) -> Result<(), Fail> {
     let alloc = rt.alloc();
-    assert!(rt; ordered(&paragraphs(alloc, &[between(0, 5)])?));
-    assert!(rt; !ordered(&paragraphs(alloc, &[between(0, 6)])?));
-    assert!(rt; !ordered(&paragraphs(alloc, &[between(4, 3)])?));
+    holds(&rt, ordered(&paragraphs(alloc, &[between(0, 5)])?));
+    holds(&rt, !ordered(&paragraphs(alloc, &[between(0, 6)])?));
+    holds(&rt, !ordered(&paragraphs(alloc, &[between(4, 3)])?));
     Ok(())
 }
 
@@ -158,8 +159,8 @@ fn a_node_that_leaves_its_parent(rt: HostRuntime) -> Result<(), Fail> {
 fn siblings_out_of_order(rt: HostRuntime) -> Result<(), Fail> {
     let alloc = rt.alloc();
     let in_order = [between(0, 2), between(2, 3), between(3, 4)];
-    assert!(rt; ordered(&paragraphs(alloc, &in_order)?));
+    holds(&rt, ordered(&paragraphs(alloc, &in_order)?));
     let out_of_order = [between(0, 2), between(2, 3), between(1, 4)];
-    assert!(rt; !ordered(&paragraphs(alloc, &out_of_order)?));
+    holds(&rt, !ordered(&paragraphs(alloc, &out_of_order)?));
     Ok(())
 }

@@ -1,5 +1,6 @@
 //! A span of each name in a span of each name.
 
+use crate::expect::same;
 use crate::outline::{compiled, event_at};
 use markdown_nodes::event::{Kind, Name};
 use markdown_nodes::message::Fault;
@@ -58,7 +59,7 @@ fn names(alloc: Global) -> Result<Vec<Name>, Fail> {
 fn each_name_in_each_name_gives_a_tree_or_a_message(rt: HostRuntime) -> Result<(), Fail> {
     let alloc = rt.alloc();
     let names = names(alloc)?;
-    assert_eq!(rt; names.len(), 141);
+    same(&rt, names.len(), 141);
     for outer in &names {
         for inner in &names {
             let events = [

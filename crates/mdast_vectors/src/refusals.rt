@@ -1,5 +1,6 @@
 //! What each refusal says. The texts are those of the table in `docs/REFUSALS.md`.
 
+use crate::expect::holds;
 use markdown_grammar::error_kind::{ErrorKind, Stop};
 use markdown_nodes::event::Point;
 use markdown_nodes::message::{Fault, Place};
@@ -71,6 +72,18 @@ const REFUSALS: [(ErrorKind, &str, &str); 12] = [
     ),
 ];
 
+/// Whether a fault is a refusal at the event on line 3, of this rule and for this reason.
+fn is_refusal(fault: &Fault, rule_id: &str, reason: &str) -> bool {
+    let Fault::Message(message) = fault else {
+        return false;
+    };
+    let place = Some(Place::Point(unist::Point::new(3, 5, 17)));
+    message.rule_id == rule_id
+        && message.reason == reason
+        && message.source == "markdown-rs"
+        && message.place == place
+}
+
 #[test]
 fn each_refusal_names_its_rule_and_its_event(rt: HostRuntime) {
     let point = Point {
@@ -81,15 +94,7 @@ fn each_refusal_names_its_rule_and_its_event(rt: HostRuntime) {
     };
     for (error_kind, rule_id, reason) in REFUSALS {
         let fault = Stop::Refused(error_kind).at(point);
-        assert!(rt;
-            matches!(
-            &fault,
-            Fault::Message(message) if message.rule_id == rule_id
-                && message.reason == reason
-                && message.source == "markdown-rs"
-                && message.place == Some(Place::Point(unist::Point::new(3, 5, 17)))
-        )
-        );
+        holds(&rt, is_refusal(&fault, rule_id, reason));
     }
 }
 
@@ -102,5 +107,5 @@ fn want_of_memory_names_no_event(rt: HostRuntime) {
         vs: 0,
     };
     let fault = Stop::Memory(AllocError).at(point);
-    assert!(rt; matches!(&fault, Fault::Memory(_)));
+    holds(&rt, matches!(&fault, Fault::Memory(_)));
 }

@@ -1,5 +1,6 @@
 //! What a run over tables of cases says of those that are not as they must be.
 
+use crate::expect::same;
 use mdast_cases::run::{Input, run, status};
 use std::process::Abort;
 use std::test::Fail;
@@ -39,8 +40,8 @@ fn expect<R: Abort + AllocGlobal>(
     let mut output = Vec::new(alloc);
     let verdict = run(alloc, inputs.as_slice(), &mut output);
     let status = status(alloc, verdict, &mut output);
-    assert_eq!(rt; str::from_utf8(output.as_slice()), Ok(said));
-    assert_eq!(rt; status, ended);
+    same(rt, str::from_utf8(output.as_slice()), Ok(said));
+    same(rt, status, ended);
     Ok(())
 }
 

@@ -2,6 +2,7 @@
 
 use crate::alignment::{TABLES, table_align};
 use crate::depths::first_child;
+use crate::expect::{holds, same};
 use crate::outline::{compiled, enter, exit, spelled};
 use crate::spread::{LISTS, item_spread, list_spread};
 use markdown_nodes::event::{Event, Name};
@@ -74,10 +75,10 @@ fn lists_and_items_show_what_is_said_of_events(rt: HostRuntime) -> Result<(), Fa
         let events = placed(rt.alloc(), outline)?;
         let list = list_spread(rt.alloc(), events.as_slice(), BEGIN, false)?;
         let items = said_items(rt.alloc(), events.as_slice())?;
-        assert!(rt; list.is_some() && !items.is_empty());
+        holds(&rt, list.is_some() && !items.is_empty());
         let tree = compiled(rt.alloc(), b"", events.as_slice())?;
-        assert_eq!(rt; shown_list(&tree), list);
-        assert!(rt; shown_items(rt.alloc(), &tree)? == items);
+        same(&rt, shown_list(&tree), list);
+        holds(&rt, shown_items(rt.alloc(), &tree)? == items);
     }
     Ok(())
 }
@@ -87,9 +88,9 @@ fn tables_show_what_is_said_of_events(rt: HostRuntime) -> Result<(), Fail> {
     for outline in TABLES {
         let events = placed(rt.alloc(), outline)?;
         let kinds = table_align(rt.alloc(), events.as_slice(), BEGIN)?;
-        assert!(rt; kinds.is_some());
+        holds(&rt, kinds.is_some());
         let tree = compiled(rt.alloc(), b"", events.as_slice())?;
-        assert!(rt; shown_table(&tree) == kinds.as_deref());
+        holds(&rt, shown_table(&tree) == kinds.as_deref());
     }
     Ok(())
 }

@@ -1,5 +1,6 @@
 //! Where the span that begins at an event ends.
 
+use crate::expect::same;
 use crate::outline::{enter, exit, spelled};
 use markdown_nodes::around::Around;
 use markdown_nodes::event::{Event, Name, span_begins};
@@ -72,6 +73,6 @@ fn delimiter_rows_and_cell_values_do_not_nest(rt: HostRuntime) {
         (in_row.inside(Name::SpaceOrTab.role()), value, false),
     ];
     for (around, role, want) in cases {
-        assert_eq!(rt; around.allows(role), want);
+        same(&rt, around.allows(role), want);
     }
 }

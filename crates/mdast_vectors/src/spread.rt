@@ -1,5 +1,6 @@
 //! Whether lists and their items are loose.
 
+use crate::expect::same;
 use crate::outline::spelled;
 use markdown_nodes::event::{Event, Name, span_begins};
 use markdown_nodes::infer::{list_item_loose, list_loose};
@@ -108,7 +109,7 @@ fn blank_lines_between_items(rt: HostRuntime) -> Result<(), Fail> {
     ] {
         let events = spelled(rt.alloc(), outline)?;
         let spread = list_spread(rt.alloc(), events.as_slice(), 0, false)?;
-        assert_eq!(rt; spread, Some(want));
+        same(&rt, spread, Some(want));
     }
     Ok(())
 }
@@ -118,7 +119,7 @@ fn blank_lines_within_an_item(rt: HostRuntime) -> Result<(), Fail> {
     let events = spelled(rt.alloc(), &WITHIN)?;
     for (include_items, want) in [(false, false), (true, true)] {
         let spread = list_spread(rt.alloc(), events.as_slice(), 0, include_items)?;
-        assert_eq!(rt; spread, Some(want));
+        same(&rt, spread, Some(want));
     }
     Ok(())
 }
@@ -132,7 +133,11 @@ fn blank_lines_of_an_item(rt: HostRuntime) -> Result<(), Fail> {
         (&TEXT_ITEM, true),
     ] {
         let events = spelled(rt.alloc(), outline)?;
-        assert_eq!(rt; item_spread(rt.alloc(), events.as_slice(), 1)?, Some(want));
+        same(
+            &rt,
+            item_spread(rt.alloc(), events.as_slice(), 1)?,
+            Some(want),
+        );
     }
     Ok(())
 }

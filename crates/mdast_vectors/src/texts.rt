@@ -1,5 +1,6 @@
 //! What the calls on texts give.
 
+use crate::expect::same;
 use markdown_nodes::text::{line_endings_to_spaces, normalize_identifier, raw_text, trim_eol};
 use std::test::Fail;
 
@@ -10,7 +11,7 @@ fn one_line_ending_goes(rt: HostRuntime) {
         ("\r\n", true, true, ""),
         ("\na\n", false, true, "\na"),
     ] {
-        assert_eq!(rt; trim_eol(value, at_start, at_end), want);
+        same(&rt, trim_eol(value, at_start, at_end), want);
     }
 }
 
@@ -23,7 +24,7 @@ fn padding_goes_once(rt: HostRuntime) -> Result<(), Fail> {
         ("  ", "  "),
         ("  a ", " a"),
     ] {
-        assert_eq!(rt; raw_text(rt.alloc(), value, false)?.as_str(), want);
+        same(&rt, raw_text(rt.alloc(), value, false)?.as_str(), want);
     }
     Ok(())
 }
@@ -31,7 +32,7 @@ fn padding_goes_once(rt: HostRuntime) -> Result<(), Fail> {
 #[test]
 fn pipes_are_escaped_in_tables(rt: HostRuntime) -> Result<(), Fail> {
     for (value, want) in [("a\\|b", "a|b"), ("a\\\\|b", "a\\|b"), (" \\| ", "|")] {
-        assert_eq!(rt; raw_text(rt.alloc(), value, true)?.as_str(), want);
+        same(&rt, raw_text(rt.alloc(), value, true)?.as_str(), want);
     }
     Ok(())
 }
@@ -39,7 +40,11 @@ fn pipes_are_escaped_in_tables(rt: HostRuntime) -> Result<(), Fail> {
 #[test]
 fn line_endings_become_spaces(rt: HostRuntime) -> Result<(), Fail> {
     for (value, want) in [("a\r\n\rb", "a  b"), ("\r\n", " "), ("", "")] {
-        assert_eq!(rt; line_endings_to_spaces(rt.alloc(), value)?.as_str(), want);
+        same(
+            &rt,
+            line_endings_to_spaces(rt.alloc(), value)?.as_str(),
+            want,
+        );
     }
     Ok(())
 }
@@ -54,9 +59,10 @@ fn inline_code_is_one_line(rt: HostRuntime) -> Result<(), Fail> {
         ("\r\n", " "),
     ] {
         let spaced = line_endings_to_spaces(rt.alloc(), value)?;
-        assert_eq!(rt;
+        same(
+            &rt,
             raw_text(rt.alloc(), spaced.as_str(), false)?.as_str(),
-            want
+            want,
         );
     }
     Ok(())
@@ -65,7 +71,7 @@ fn inline_code_is_one_line(rt: HostRuntime) -> Result<(), Fail> {
 #[test]
 fn identifiers_are_normal(rt: HostRuntime) -> Result<(), Fail> {
     for (value, want) in [("\na\t\tB\r", "a b"), (" \n", ""), ("ẞ", "ss"), ("ß", "ss")] {
-        assert_eq!(rt; normalize_identifier(rt.alloc(), value)?.as_str(), want);
+        same(&rt, normalize_identifier(rt.alloc(), value)?.as_str(), want);
     }
     Ok(())
 }

@@ -1,5 +1,6 @@
 //! All that is said of a list that is no forest's. The cases of `forms.txt` have more.
 
+use crate::expect::same;
 use crate::outline::{compiled, event_at};
 use markdown_nodes::event::{Event, Kind, Name};
 use markdown_nodes::mdast::Node;
@@ -26,7 +27,7 @@ fn unbalanced(rt: &impl Abort, alloc: Global, events: &[Event], point: Point) ->
         rule_id: "events-unbalanced",
         source: "markdown-rs",
     };
-    assert_eq!(rt; said(compiled(alloc, b"ab", events))?, Some(want));
+    same(rt, said(compiled(alloc, b"ab", events))?, Some(want));
     Ok(())
 }
 
