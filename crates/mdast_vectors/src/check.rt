@@ -1,7 +1,7 @@
 //! What is found in trees that no list of events gives. A reference to a link or an image is answered
 //! by a definition, one to a footnote by a footnote definition. The cases of `forms.txt` have more.
 
-use crate::expect::{holds, same};
+use crate::expect::{holds_in, same};
 use markdown_nodes::mdast;
 use markdown_nodes::mdast::{Node, ReferenceKind};
 use mdast_check::outline::headings;
@@ -149,7 +149,8 @@ fn a_hundred_identifiers(rt: HostRuntime) -> Result<(), Fail> {
         if number % 3 != 0 {
             let open = numbers.next();
             let want = format!(in alloc; "{number}")?;
-            holds(&rt, matches!(open, Some(open) if open.identifier == want));
+            let is_next = matches!(open, Some(open) if open.identifier == want);
+            holds_in(&rt, is_next, &want);
         }
     }
     Ok(())

@@ -180,6 +180,16 @@ fn text_of_a_paragraph(rt: HostRuntime) -> Result<(), Fail> {
 }
 
 #[test]
+fn child_nodes_of_a_paragraph_and_of_a_text(rt: HostRuntime) -> Result<(), Fail> {
+    let alloc = rt.alloc();
+    let paragraph = words(alloc, None)?;
+    let leaf = text(alloc, "a")?;
+    same(&rt, paragraph.child_nodes().len(), 5);
+    same(&rt, leaf.child_nodes().len(), 0);
+    Ok(())
+}
+
+#[test]
 fn column_of_a_table(rt: HostRuntime) -> Result<(), Fail> {
     let alloc = rt.alloc();
     let mut node = Node::Table(Table {
