@@ -1,5 +1,5 @@
 -- What an open span is to the items in it: what has stood in it so far, by its construct.
-use Rattle.std.specs.Prelude.{List, None, Option, Result, false, true, Bool, ℕ}
+use Rattle.std.specs.Prelude.{◌≢◌, List, None, Option, Result, false, true, Bool, ℕ}
 use Rattle.markdown_blocks.specs.Definitions.{definition, footnote_definition}
 use Rattle.markdown_blocks.specs.Fences.{code_fence, code_fenced, math_fence, math_flow}
 use Rattle.markdown_blocks.specs.Headings.{atx, setext}
@@ -15,7 +15,7 @@ use Rattle.markdown_events.specs.declared.role.ItemKind.TheVariants as item_kind
 use Rattle.markdown_events.specs.declared.role.Part.{Part}
 use Rattle.markdown_events.specs.declared.role.Part.TheVariants as parts
 use Rattle.markdown_grammar.specs.Attributes.{Place}
-use Rattle.markdown_grammar.specs.Document.{Source}
+use Rattle.markdown_grammar.specs.Document.{Source, source}
 use Rattle.markdown_grammar.specs.Grammar as models
 use Rattle.markdown_grammar.specs.Grammar.{ContentModel}
 use Rattle.markdown_grammar.specs.Refusals.{value_error}
@@ -96,15 +96,28 @@ IsFresh h begun = IsFreshIn (parts_of h) begun
 abbrev pub summary_with : Container → Trees → Summary
 summary_with h ts = summary_in (parts_of h) ts
 
+-- what a container keeps in which any content may stand, with these nodes
+abbrev pub summary_of_nodes : Trees → Summary
+summary_of_nodes ts = summary_with containers.AnyContent ts
+
 -- after one more item the container keeps this
 abbrev pub Keeps : Source → Place → ItemKind → Point → Point → Summary → Container → Container → Type 0
 Keeps s p what a b i old new = Gains s p what a b i (parts_of old) (parts_of new)
+
+-- the same wherever the item stands, and whatever nodes are in it
+abbrev pub KeepsAnywhere : ItemKind → Container → Container → Container → Type 0
+KeepsAnywhere what inner old new = (s : Source) (p : Place) (a b : Point) (ts : Trees) → Keeps s p what a b (summary_with inner ts) old new
 
 -- a part with these items in it is read and kept, or refused where it cannot be read
 abbrev pub KeepsPart : {X : Type 0} → Source → Part → Point → Point → Summary → Container → Container → Result X Stop → Type 0
 KeepsPart s q a b i old new result =
     (line_endings in_table : Bool) → let p : Place = place_with line_endings in_table (marker_of old) in
     Makes result (is_read s (current_model_of old) p false (item_kinds.Part q) a b) (value_error s (item_kinds.Part q) a b) (λ _. Keeps s p (item_kinds.Part q) a b i old new)
+
+-- the same of a part with these nodes in it, whatever the decoder knows
+abbrev pub KeepsNodes : {X : Type 0} → List ℕ → Part → Point → Point → Trees → Container → Container → Result X Stop → Type 0
+KeepsNodes bytes q a b ts old new result =
+    (text : List ℕ → ℕ → Option (List ℕ)) → KeepsPart (source bytes text) q a b (summary_of_nodes ts) old new result
 
 -- a part with this text is kept, whatever its nodes are
 abbrev pub KeepsWords : Part → List ℕ → Container → Container → Type 0
@@ -165,6 +178,10 @@ is_part_model parts.CodeFencedFenceMeta models.any_content = true
 is_part_model parts.MathFlowFenceMeta models.any_content = true
 is_part_model parts.HeadingSetextText models.any_content = true
 is_part_model _ _ = false
+
+-- a part that is a leaf in no content model
+abbrev pub IsNoLeaf : Part → Type 0
+IsNoLeaf q = (m : ContentModel) → models.part_model m q ≢ models.leaf
 
 -- a part that is a text, and nothing else is looked at in it
 abbrev pub is_text_part : Part → Bool

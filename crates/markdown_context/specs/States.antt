@@ -1,13 +1,17 @@
 -- What the program's values are to the steps of a compilation.
 use Rattle.std.specs.Prelude.{◌≡◌, ◌||◌, is_some, not, ℕ, Bool, true, false, Option, Some, None, Result, Ok, Err, List, [], ◌∷◌, ◌++◌, cond, reverse}
 use Rattle.markdown_events.specs.Names.{role_of}
+use Rattle.markdown_events.specs.declared.role.Content.{Content}
 use Rattle.markdown_events.specs.declared.role.ItemKind.{ItemKind}
+use Rattle.markdown_events.specs.declared.role.ItemKind.TheVariants as item_kinds
 use Rattle.markdown_events.specs.declared.role.Role.{Role}
 use Rattle.markdown_events.specs.declared.role.Role.TheVariants.{Transparent as transparent, Significant as significant}
 use Rattle.markdown_events.specs.declared.message.Fault.{Fault}
 use Rattle.markdown_events.specs.declared.message.Fault.TheVariants as faults
 use Rattle.markdown_grammar.specs.Refusals.{Says}
 use Rattle.markdown_steps.specs.Visits.{visits_by_owner}
+use Rattle.markdown_context.specs.declared.container.Container.{Container}
+use Rattle.markdown_context.specs.declared.container.Container.TheVariants as containers
 use Rattle.markdown_context.specs.declared.context.Context.{Context}
 use Rattle.markdown_context.specs.declared.context.Frame.{Frame}
 use Rattle.markdown_nodes.specs.View.{views}
@@ -30,6 +34,7 @@ use Rattle.markdown_grammar.specs.Document.{Source}
 use Rattle.markdown_events.specs.declared.event.Name.{Name}
 use Rattle.markdown_events.specs.Around.{under}
 use Rattle.markdown_blocks.specs.Columns.{columns_of}
+use Rattle.markdown_blocks.specs.Parents.{is_parent}
 use Rattle.markdown_steps.specs.Columns.{columns_entered, columns_left, child_facts}
 use Rattle.markdown_grammar.specs.Items.{is_line_ending}
 use Rattle.markdown_steps.specs.Siblings.{no_marks}
@@ -137,6 +142,14 @@ state_of c = record {
   top = top_of c;
 }
 
+-- the context that a function leaves is the expected state, unless memory ran out
+abbrev pub Reaches : {X : Type 0} → Context → Point → Result X Stop → Result State ErrorAt → Type 0
+Reaches new point result expected = Gives (λ _. state_of new) point result expected
+
+-- its innermost container is the expected one, unless memory ran out
+abbrev pub ReachesTop : {X : Type 0} → Context → Point → Result X Stop → Result ContainerState ErrorAt → Type 0
+ReachesTop new point result expected = Gives (λ _. top_of new) point result expected
+
 -- a leaf begins: nothing of the program's changes
 pub record OpenedLeaf (s : Source) (what : ItemKind) (point : Point) (old new : Context) : Type 0 where
   pub taken : first_failing (enter_checks s (top_of old) what point) ≡ None
@@ -196,6 +209,14 @@ Ends role c = EndsAs c.is_leaf role c
 -- what the innermost span belongs to, and what is made of that at its end
 abbrev pub left_to : Source → Role → Frame → Point → Context → Result ContainerState ErrorAt
 left_to s role f end c = leave_to s f.start end (child_facts (marks_of c.marks) (columns_of c.columns)) (top_of c) (outer_of role f.in_table (leaf_container c) (reverse c.open_containers.items))
+
+-- the same of a significant span
+abbrev pub item_left : Source → ItemKind → Frame → Point → Context → Result ContainerState ErrorAt
+item_left s what f end c = left_to s (significant what) f end c
+
+-- a span of which nothing but nodes is kept is no parent
+abbrev pub IsNoParent : ItemKind → Container → Type 0
+IsNoParent what own = (content : Content) → what ≡ item_kinds.Content content → own ≡ containers.AnyContent → is_parent content ≡ false
 
 -- how many nodes are walked over there
 abbrev pub left_visits : Role → Frame → Context → ℕ

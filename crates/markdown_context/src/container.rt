@@ -1,22 +1,36 @@
 //! What an open span is to the items in it: one arm for each construct.
 
-ghost use Rattle.std.specs.Prelude.{◌≡◌, ◌≢◌, ◌≤◌, ◌+◌, List, None, Option, false, string_bytes, true, ℕ};
-ghost use Rattle.markdown_context.specs.Containers.{IsFresh, Keeps, KeepsPart, KeepsWords, current_model_of, initial_model_of, is_label_string, is_model_of, is_part_model, is_text_part, misfit_of, summary_with};
+ghost use Rattle.std.specs.Prelude.{◌≡◌, ◌≢◌, ◌≤◌, ◌+◌, None, Option, false, string_bytes, true};
+ghost use Rattle.markdown_context.specs.Containers.{
+  IsFresh,
+  IsNoLeaf,
+  KeepsAnywhere,
+  KeepsNodes,
+  KeepsPart,
+  KeepsWords,
+  current_model_of,
+  initial_model_of,
+  is_label_string,
+  is_model_of,
+  is_part_model,
+  is_text_part,
+  misfit_of,
+  summary_of_nodes,
+};
 ghost use Rattle.markdown_context.specs.declared.container.Container.TheVariants as containers;
 ghost use Rattle.markdown_events.specs.declared.event.Point.{Point};
 ghost use Rattle.markdown_events.specs.declared.role.Content.TheVariants as contents;
 ghost use Rattle.markdown_events.specs.declared.role.ItemKind.TheVariants as item_kinds;
 ghost use Rattle.markdown_events.specs.declared.role.Part.TheVariants as parts;
-ghost use Rattle.markdown_grammar.specs.Attributes.{Place};
 ghost use Rattle.markdown_grammar.specs.Buffers.{node_count};
-ghost use Rattle.markdown_grammar.specs.Document.{Source, source};
+ghost use Rattle.markdown_grammar.specs.Document.{source};
 ghost use Rattle.markdown_grammar.specs.Grammar as Models;
 ghost use Rattle.markdown_grammar.specs.Grammar.{ContentModel};
-ghost use Rattle.markdown_nodes.specs.Tree.{Trees};
 ghost use Rattle.markdown_nodes.specs.View.{views};
 ghost use Rattle.markdown_steps.specs.Compiler.{nothing_yet};
 ghost use Rattle.markdown_steps.specs.Visits.{visits_at_end};
 
+use character_references::references::References;
 use markdown_blocks::code::{CodeFenceParts, CodeFencedParts};
 use markdown_blocks::definition::DefinitionParts;
 use markdown_blocks::footnote_definition::FootnoteDefinitionParts;
@@ -32,7 +46,6 @@ use markdown_inlines::autolink::AutolinkParts;
 use markdown_inlines::character_reference::{CharacterReferenceParts, Marker};
 use markdown_inlines::footnote_call::FootnoteCallParts;
 use markdown_inlines::media::{MediaParts, ReferenceParts, ResourceParts};
-use markdown_inlines::references::References;
 use markdown_nodes::event::Point;
 use markdown_nodes::mdast::Node;
 use markdown_nodes::role::{Content, ItemKind, Part};
@@ -309,9 +322,9 @@ impl<'a> Container<'a> {
         requires such { is_part_model part Models.any_content ≡ true }
         requires heading { part ≢ parts.HeadingSetextText }
         requires fits { misfit_of self.old (item_kinds.Part part) ≡ None }
-        ensures taken { (text : List ℕ → ℕ → Option (List ℕ)) → KeepsPart (source bytes.now text) part start end (summary_with containers.AnyContent (views nodes.items)) self.old self.new result }
+        ensures taken { KeepsNodes bytes.now part start end (views nodes.items) self.old self.new result }
         ensures list { steps.new.events ≡ steps.old.events }
-        ensures bound { steps.new.count ≤ steps.old.count + visits_at_end (item_kinds.Part part) (summary_with containers.AnyContent (views nodes.items)) }
+        ensures bound { steps.new.count ≤ steps.old.count + visits_at_end (item_kinds.Part part) (summary_of_nodes (views nodes.items)) }
     {
         match part {
             Part::LabelText => self.take_label(bytes, nodes, start, end),
@@ -337,7 +350,7 @@ impl<'a> Container<'a> {
         end: Point,
     ) -> Result<(), Stop>
         requires { misfit_of self.old (item_kinds.Part parts.LabelText) ≡ None }
-        ensures { (text : List ℕ → ℕ → Option (List ℕ)) → KeepsPart (source bytes.now text) parts.LabelText start end (summary_with containers.AnyContent (views nodes.items)) self.old self.new result }
+        ensures { KeepsNodes bytes.now parts.LabelText start end (views nodes.items) self.old self.new result }
     {
         match self {
             Container::Media(parts) => parts.take_label(bytes, nodes, start, end),
@@ -359,7 +372,7 @@ impl<'a> Container<'a> {
     ) -> Result<(), Stop>
         requires such { is_label_string part ≡ true }
         requires fits { misfit_of self.old (item_kinds.Part part) ≡ None }
-        ensures taken { (text : List ℕ → ℕ → Option (List ℕ)) → KeepsPart (source bytes.now text) part start end (summary_with containers.AnyContent (views nodes.now)) self.old self.new result }
+        ensures taken { KeepsNodes bytes.now part start end (views nodes.now) self.old self.new result }
         ensures list { steps.new.events ≡ steps.old.events }
         ensures bound { steps.new.count ≤ steps.old.count + node_count (views nodes.now) }
     {
@@ -404,7 +417,7 @@ impl<'a> Container<'a> {
     /// Takes the text of a heading over its underline.
     pub fn take_heading_text(&mut self)
         requires { misfit_of self.old (item_kinds.Part parts.HeadingSetextText) ≡ None }
-        ensures { (s : Source) (p : Place) (a b : Point) (ts : Trees) → Keeps s p (item_kinds.Part parts.HeadingSetextText) a b (summary_with containers.AnyContent ts) self.old self.new }
+        ensures { KeepsAnywhere (item_kinds.Part parts.HeadingSetextText) containers.AnyContent self.old self.new }
     {
         match self {
             Container::HeadingSetext(parts) => parts.take_text(),
@@ -419,7 +432,7 @@ impl<'a> Container<'a> {
         requires inner { inner ≢ containers.AnyContent }
         requires such { is_part_model part (initial_model_of inner) ≡ true }
         requires fits { misfit_of self.old (item_kinds.Part part) ≡ None }
-        ensures { (s : Source) (p : Place) (a b : Point) (ts : Trees) → Keeps s p (item_kinds.Part part) a b (summary_with inner.entry ts) self.old self.new }
+        ensures { KeepsAnywhere (item_kinds.Part part) inner.entry self.old self.new }
     {
         match (self, inner, part) {
             (Container::Media(parts), Container::Resource(resource), Part::Resource) => {
@@ -444,7 +457,7 @@ impl<'a> Container<'a> {
     pub fn take_content(&mut self, content: Content, inner: &Container<'_>)
         requires initial_model { initial_model_of inner.now ≡ Models.content_model (current_model_of self.old) content }
         requires such { is_model_of content (initial_model_of inner.now) ≡ true }
-        ensures { (s : Source) (p : Place) (a b : Point) (ts : Trees) → Keeps s p (item_kinds.Content content) a b (summary_with inner.now ts) self.old self.new }
+        ensures { KeepsAnywhere (item_kinds.Content content) inner.now self.old self.new }
     {
         match content {
             Content::Paragraph => self.take_paragraph(inner),
@@ -457,7 +470,7 @@ impl<'a> Container<'a> {
     fn take_paragraph(&mut self, inner: &Container<'_>)
         requires initial_model { initial_model_of inner.now ≡ Models.content_model (current_model_of self.old) contents.Paragraph }
         requires such { is_model_of contents.Paragraph (initial_model_of inner.now) ≡ true }
-        ensures { (s : Source) (p : Place) (a b : Point) (ts : Trees) → Keeps s p (item_kinds.Content contents.Paragraph) a b (summary_with inner.now ts) self.old self.new }
+        ensures { KeepsAnywhere (item_kinds.Content contents.Paragraph) inner.now self.old self.new }
     {
         match inner {
             Container::TaskParagraph(paragraph) => match self {
@@ -474,7 +487,7 @@ impl<'a> Container<'a> {
     fn take_item(&mut self, inner: &Container<'_>)
         requires initial_model { initial_model_of inner.now ≡ Models.content_model (current_model_of self.old) contents.ListItem }
         requires such { is_model_of contents.ListItem (initial_model_of inner.now) ≡ true }
-        ensures { (s : Source) (p : Place) (a b : Point) (ts : Trees) → Keeps s p (item_kinds.Content contents.ListItem) a b (summary_with inner.now ts) self.old self.new }
+        ensures { KeepsAnywhere (item_kinds.Content contents.ListItem) inner.now self.old self.new }
     {
         match inner {
             Container::NumberedItem(item) => match self {
@@ -507,7 +520,7 @@ fn is_leaf(content: Content) -> bool
 /// Whether a part is a leaf. Of a fence its container says that.
 fn is_leaf_part(part: Part) -> bool
     ensures leaf { result ≡ true → (h : ContentModel) → Models.part_model h part ≡ Models.leaf }
-    ensures container { result ≡ false → part ≢ parts.CodeFencedFence → part ≢ parts.MathFlowFence → (h : ContentModel) → Models.part_model h part ≢ Models.leaf }
+    ensures container { result ≡ false → part ≢ parts.CodeFencedFence → part ≢ parts.MathFlowFence → IsNoLeaf part }
 {
     matches!(
         part,

@@ -1,6 +1,6 @@
 //! The open spans of a list of events, and what each event does to them.
 
-ghost use Rattle.std.specs.Prelude.{◌≡◌, ◌≤◌, ◌+◌, ◌||◌, [], None, Ok, OnOk, false, is_some, not, true};
+ghost use Rattle.std.specs.Prelude.{◌≡◌, ◌≤◌, ◌+◌, ◌||◌, None, Ok, OnOk, [], false, is_some, not, true};
 ghost use Rattle.markdown_events.specs.Names.{role_of};
 ghost use Rattle.markdown_events.specs.declared.role.ItemKind.TheVariants as item_kinds;
 ghost use Rattle.markdown_events.specs.declared.role.Role.TheVariants as roles;
@@ -11,18 +11,33 @@ ghost use Rattle.markdown_builder.specs.PartsSoFar.{first_failing};
 ghost use Rattle.markdown_context.specs.declared.container.Container.TheVariants as containers;
 ghost use Rattle.markdown_grammar.specs.Items as Kinds;
 ghost use Rattle.markdown_grammar.specs.Document.{Source, source};
-ghost use Rattle.markdown_context.specs.States.{Begun, Closed, Ends, Gives, ContainerEnds, LeafEnds, Opened, left_to, left_visits, state_of, top_of};
+ghost use Rattle.markdown_context.specs.States.{
+  Begun,
+  Closed,
+  ContainerEnds,
+  Ends,
+  IsNoParent,
+  LeafEnds,
+  Opened,
+  Reaches,
+  ReachesTop,
+  item_left,
+  left_to,
+  left_visits,
+  state_of,
+  top_of,
+};
 ghost use Rattle.markdown_steps.specs.Visits.{exit_visits, step_visits};
 ghost use Rattle.markdown_steps.specs.Well.{Well, is_transparent};
 
 use crate::container::Container;
 use crate::open_container::{Ending, OpenContainer, has_line_endings};
+use character_references::references::References;
 use markdown_blocks::parent::is_parent;
 use markdown_blocks::table::Columns;
 use markdown_builder::marks::Marks;
 use markdown_builder::slice::byte_at;
 use markdown_grammar::error_kind::{ErrorKind, Stop};
-use markdown_inlines::references::References;
 use markdown_nodes::around::Around;
 use markdown_nodes::event::{Event, Kind, Name, Point};
 use markdown_nodes::role::{Content, ItemKind, Role};
@@ -174,7 +189,8 @@ impl<'a> Context<'a> {
         event: Event,
     ) -> Result<(), Stop>
         requires { Well (source bytes.now (R.text references.now)) (state_of self.old) }
-        ensures gives { Gives (λ _. state_of self.new) event.point result (Compiler.step (source bytes.now (R.text references.now)) event (state_of self.old)) }
+        ensures gives { Reaches self.new event.point result
+            (Compiler.step (source bytes.now (R.text references.now)) event (state_of self.old)) }
         ensures list { steps.new.events ≡ steps.old.events }
         ensures bound { steps.new.count ≤ steps.old.count + step_visits event (state_of self.old) + 1 }
     {
@@ -201,7 +217,7 @@ impl<'a> Context<'a> {
 
     /// Opens a span.
     fn enter(&mut self, alloc: Global, bytes: &[u8], name: Name, point: Point) -> Result<(), Stop>
-        ensures { (s : Source) → s.bytes ≡ bytes.now → Gives (λ _. state_of self.new) point result (enter_step s name point (state_of self.old)) }
+        ensures { (s : Source) → s.bytes ≡ bytes.now → Reaches self.new point result (enter_step s name point (state_of self.old)) }
     {
         let role = name.role();
         if !self.around.allows(role) {
@@ -223,7 +239,7 @@ impl<'a> Context<'a> {
     ) -> Result<(), Stop>
         requires role { role ≡ role_of name }
         requires transparent { is_transparent role ≡ true }
-        ensures { Gives (λ _. state_of self.new) point result (Ok (Compiler.push name point (state_of self.old) None (state_of self.old).top)) }
+        ensures { Reaches self.new point result (Ok (Compiler.push name point (state_of self.old) None (state_of self.old).top)) }
     {
         self.begin(alloc, name, role, point, self.is_leaf, self.in_table)?;
         Ok(())
@@ -239,7 +255,8 @@ impl<'a> Context<'a> {
         point: Point,
     ) -> Result<(), Stop>
         requires { role_of name ≡ roles.Significant what }
-        ensures { (s : Source) → s.bytes ≡ bytes.now → Gives (λ _. state_of self.new) point result (enter_as s (roles.Significant what) name point (state_of self.old)) }
+        ensures { (s : Source) → s.bytes ≡ bytes.now → Reaches self.new point result
+            (enter_as s (roles.Significant what) name point (state_of self.old)) }
     {
         let is_leaf = self.open(alloc, bytes, what, point)?;
         let in_table = self.is_in_table(what);
@@ -293,7 +310,8 @@ impl<'a> Context<'a> {
         point: Point,
     ) -> Result<(), Stop>
         requires { Well (source bytes.now (R.text references.now)) (state_of self.old) }
-        ensures gives { Gives (λ _. state_of self.new) point result (exit_step (source bytes.now (R.text references.now)) name point (state_of self.old)) }
+        ensures gives { Reaches self.new point result
+            (exit_step (source bytes.now (R.text references.now)) name point (state_of self.old)) }
         ensures list { steps.new.events ≡ steps.old.events }
         ensures bound { steps.new.count ≤ steps.old.count + exit_visits name (state_of self.old).frames (top_of self.old).inner + 1 }
     {
@@ -322,7 +340,7 @@ impl<'a> Context<'a> {
         end: Point,
     ) -> Result<(), Stop>
         requires { Ends role self.old }
-        ensures gives { Gives (λ _. top_of self.new) end result (left_to (source bytes.now (R.text references.now)) role frame end self.old) }
+        ensures gives { ReachesTop self.new end result (left_to (source bytes.now (R.text references.now)) role frame end self.old) }
         ensures closed { OnOk result (Closed role self.old self.new) }
         ensures list { steps.new.events ≡ steps.old.events }
         ensures bound { steps.new.count ≤ steps.old.count + left_visits role frame self.old + 1 }
@@ -348,7 +366,7 @@ impl<'a> Context<'a> {
     ) -> Result<(), Stop>
         requires open { self.old.is_leaf ≡ true }
         requires ends { LeafEnds what self.old }
-        ensures gives { Gives (λ _. top_of self.new) end result (left_to (source bytes.now (R.text references.now)) (roles.Significant what) frame end self.old) }
+        ensures gives { ReachesTop self.new end result (item_left (source bytes.now (R.text references.now)) what frame end self.old) }
         ensures closed { OnOk result (Closed (roles.Significant what) self.old self.new) }
     {
         let ending = Ending {
@@ -375,7 +393,7 @@ impl<'a> Context<'a> {
     ) -> Result<(), Stop>
         requires open { self.old.is_leaf ≡ false }
         requires ends { ContainerEnds what self.old }
-        ensures gives { (s : Source) → s.bytes ≡ bytes.now → Gives (λ _. top_of self.new) end result (left_to s (roles.Significant what) frame end self.old) }
+        ensures gives { (s : Source) → s.bytes ≡ bytes.now → ReachesTop self.new end result (item_left s what frame end self.old) }
         ensures closed { OnOk result (Closed (roles.Significant what) self.old self.new) }
         ensures list { steps.new.events ≡ steps.old.events }
         ensures bound { steps.new.count ≤ steps.old.count + left_visits (roles.Significant what) frame self.old + 1 }
@@ -399,7 +417,7 @@ impl<'a> Context<'a> {
         requires settled { is_some self.old.pending ≡ false }
         requires such { is_parent content ≡ true }
         requires container { self.old.top.container ≡ containers.AnyContent }
-        ensures gives { OnOk result ((s : Source) → left_to s (roles.Significant (item_kinds.Content content)) frame end self.old ≡ Ok (top_of self.new)) }
+        ensures gives { OnOk result ((s : Source) → item_left s (item_kinds.Content content) frame end self.old ≡ Ok (top_of self.new)) }
         ensures closed { OnOk result (Closed (roles.Significant (item_kinds.Content content)) self.old self.new) }
     {
         let Some(outer) = self.open_containers.pop() else {
@@ -423,8 +441,8 @@ impl<'a> Context<'a> {
         requires open { self.old.is_leaf ≡ false }
         requires ends { ContainerEnds what self.old }
         requires settled { is_some self.old.pending ≡ false }
-        requires no_parent { (content : Content) → what ≡ item_kinds.Content content → self.old.top.container ≡ containers.AnyContent → is_parent content ≡ false }
-        ensures gives { (s : Source) → s.bytes ≡ bytes.now → Gives (λ _. top_of self.new) end result (left_to s (roles.Significant what) frame end self.old) }
+        requires no_parent { IsNoParent what self.old.top.container }
+        ensures gives { (s : Source) → s.bytes ≡ bytes.now → ReachesTop self.new end result (item_left s what frame end self.old) }
         ensures closed { OnOk result (Closed (roles.Significant what) self.old self.new) }
         ensures list { steps.new.events ≡ steps.old.events }
         ensures bound { steps.new.count ≤ steps.old.count + left_visits (roles.Significant what) frame self.old + 1 }

@@ -1,35 +1,47 @@
 //! An open span with the nodes made in it: what it takes at the exit of each span in it.
 
-ghost use Rattle.std.specs.Prelude.{◌≡◌, ◌≢◌, ◌≤◌, ◌+◌, ◌||◌, Bool, IfOk, List, None, Ok, OnOk, Option, Some, false, is_some, not, true, ℕ};
-ghost use Rattle.markdown_blocks.specs.Columns.{columns_of};
+ghost use Rattle.std.specs.Prelude.{◌≡◌, ◌≢◌, ◌≤◌, ◌+◌, ◌||◌, IfOk, None, Ok, OnOk, Option, Some, false, is_some, not, true};
 ghost use Rattle.markdown_blocks.specs.Parents.{is_parent};
-ghost use Rattle.markdown_builder.specs.Marks.{marks_of};
-ghost use Rattle.markdown_builder.specs.PartsSoFar.{Makes};
-ghost use Rattle.markdown_context.specs.Containers.{current_model_of, initial_model_of, is_model_of, is_part_model, misfit_of, summary_with};
-ghost use Rattle.markdown_context.specs.States.{container_state_of, summary_of_container};
-ghost use Rattle.markdown_context.specs.Takings.{IsNodeOf, Takes, TakesContainer, TakesLeaf, TakesText};
+ghost use Rattle.markdown_context.specs.Containers.{
+  current_model_of,
+  initial_model_of,
+  is_model_of,
+  is_part_model,
+  misfit_of,
+  summary_of_nodes,
+};
+ghost use Rattle.markdown_context.specs.States.{summary_of_container};
+ghost use Rattle.markdown_context.specs.Takings.{
+  IsNodeOf,
+  LeavesColumns,
+  MakesOf,
+  Takes,
+  TakesAnyLeaf,
+  TakesContent,
+  TakesKept,
+  TakesLeaf,
+  TakesNodes,
+  TakesParent,
+  TakesPart,
+  TakesText,
+  content_visits,
+  value_text,
+};
 ghost use Rattle.markdown_context.specs.declared.container.Container.TheVariants as containers;
-ghost use Rattle.markdown_events.specs.Slices.{between};
 ghost use Rattle.markdown_events.specs.declared.role.Content.TheVariants as contents;
 ghost use Rattle.markdown_events.specs.declared.role.ItemKind.TheVariants as item_kinds;
 ghost use Rattle.markdown_events.specs.declared.role.Part.TheVariants as parts;
-ghost use Rattle.markdown_events.specs.declared.role.Role.TheVariants as roles;
 ghost use Rattle.markdown_grammar.specs.Attributes.{line_ending_is_text, line_ending_is_text_after};
 ghost use Rattle.markdown_grammar.specs.Document.{Source, source};
 ghost use Rattle.markdown_grammar.specs.Grammar as Models;
 ghost use Rattle.markdown_grammar.specs.Items.{is_line_ending};
-ghost use Rattle.markdown_grammar.specs.Refusals.{missing_error};
 ghost use Rattle.markdown_inlines.specs.Autolinks.{is_literal};
-ghost use Rattle.markdown_nodes.specs.Tree.{Trees, join};
+ghost use Rattle.markdown_nodes.specs.Tree.{join};
 ghost use Rattle.markdown_nodes.specs.View.{views};
-ghost use Rattle.markdown_steps.specs.ChildFacts.{ChildFacts};
-ghost use Rattle.markdown_steps.specs.Columns.{child_facts, columns_left};
-ghost use Rattle.markdown_steps.specs.Compiler.{all_stood, leave};
-ghost use Rattle.markdown_steps.specs.Summaries.{path_to, text_of};
-ghost use Rattle.markdown_steps.specs.TextNodes.{one_text};
 ghost use Rattle.markdown_steps.specs.Visits.{visits_at_end};
 
 use crate::container::Container;
+use character_references::references::References;
 use markdown_blocks::code::{indented_code, inline_code};
 use markdown_blocks::frontmatter::frontmatter;
 use markdown_blocks::html::html;
@@ -43,7 +55,6 @@ use markdown_builder::marks::Marks;
 use markdown_builder::slice::{byte_at, position_of};
 use markdown_grammar::error_kind::Stop;
 use markdown_inlines::autolink::literal;
-use markdown_inlines::references::References;
 use markdown_inlines::text::{hard_break, put_slice};
 use markdown_nodes::event::Point;
 use markdown_nodes::mdast::Node;
@@ -151,7 +162,7 @@ impl<'a> OpenContainer<'a> {
     ) -> Result<(), Stop>
         requires leaf { Models.content_model (current_model_of self.old.container) content ≡ Models.leaf }
         requires waits { (not (is_some pending.old) || is_line_ending (item_kinds.Content content)) ≡ true }
-        ensures { (text : List ℕ → ℕ → Option (List ℕ)) → TakesLeaf (source bytes.now text) (item_kinds.Content content) ending pending.old self.old pending.new self.new result }
+        ensures { TakesAnyLeaf bytes.now (item_kinds.Content content) ending pending.old self.old pending.new self.new result }
     {
         match content {
             Content::Data => self.take_data(alloc, bytes, ending),
@@ -190,7 +201,7 @@ impl<'a> OpenContainer<'a> {
 
     /// Takes a run of characters: a text.
     fn take_data(&mut self, alloc: Global, bytes: &[u8], ending: Ending) -> Result<(), Stop>
-        ensures { (text : List ℕ → ℕ → Option (List ℕ)) → TakesLeaf (source bytes.now text) (item_kinds.Content contents.Data) ending None self.old None self.new result }
+        ensures { TakesAnyLeaf bytes.now (item_kinds.Content contents.Data) ending None self.old None self.new result }
     {
         put_slice(alloc, &mut self.nodes, bytes, ending.start, ending.end)
     }
@@ -204,7 +215,7 @@ impl<'a> OpenContainer<'a> {
         ending: Ending,
     ) -> Result<(), Stop>
         requires { is_literal content ≡ true }
-        ensures { (text : List ℕ → ℕ → Option (List ℕ)) → TakesLeaf (source bytes.now text) (item_kinds.Content content) ending None self.old None self.new result }
+        ensures { TakesAnyLeaf bytes.now (item_kinds.Content content) ending None self.old None self.new result }
     {
         let node = literal(alloc, bytes, content, ending.start, ending.end)?;
         put(&mut self.nodes, node)?;
@@ -229,7 +240,7 @@ impl<'a> OpenContainer<'a> {
         bytes: &[u8],
         ending: Ending,
     ) -> Result<(), Stop>
-        ensures { (text : List ℕ → ℕ → Option (List ℕ)) → TakesLeaf (source bytes.now text) (item_kinds.Content contents.LineEnding) ending pending.old self.old pending.new self.new result }
+        ensures { TakesAnyLeaf bytes.now (item_kinds.Content contents.LineEnding) ending pending.old self.old pending.new self.new result }
     {
         if let Some(position) = pending.take() {
             put(&mut self.nodes, hard_break(position, ending.end))?;
@@ -256,7 +267,7 @@ impl<'a> OpenContainer<'a> {
         requires initial_model { initial_model_of own.container ≡ Models.part_model (current_model_of self.old.container) part }
         requires such { is_part_model part (initial_model_of own.container) ≡ true }
         requires fits { misfit_of self.old.container (item_kinds.Part part) ≡ None }
-        ensures left { (children : ChildFacts) → TakesContainer bytes.now (item_kinds.Part part) own.entry ending children self.old self.new result }
+        ensures left { TakesPart bytes.now part own.entry ending self.old self.new result }
         ensures list { steps.new.events ≡ steps.old.events }
         ensures bound { steps.new.count ≤ steps.old.count + visits_at_end (item_kinds.Part part) (summary_of_container own.entry) }
     {
@@ -279,7 +290,7 @@ impl<'a> OpenContainer<'a> {
     /// endings are no text.
     fn take_heading_text(&mut self, nodes: Vec<Node>) -> Result<(), AllocError>
         requires { misfit_of self.old.container (item_kinds.Part parts.HeadingSetextText) ≡ None }
-        ensures { OnOk result (Takes (item_kinds.Part parts.HeadingSetextText) Models.any_content (summary_with containers.AnyContent (views nodes.items)) self.old self.new) }
+        ensures { OnOk result (TakesNodes (item_kinds.Part parts.HeadingSetextText) (views nodes.items) self.old self.new) }
     {
         self.container.take_heading_text();
         append(&mut self.nodes, nodes)?;
@@ -303,7 +314,7 @@ impl<'a> OpenContainer<'a> {
         requires fits { misfit_of self.old.container (item_kinds.Part part) ≡ None }
         ensures left { TakesText bytes.now part (views nodes.items) ending self.old self.new result }
         ensures list { steps.new.events ≡ steps.old.events }
-        ensures bound { steps.new.count ≤ steps.old.count + visits_at_end (item_kinds.Part part) (summary_with containers.AnyContent (views nodes.items)) }
+        ensures bound { steps.new.count ≤ steps.old.count + visits_at_end (item_kinds.Part part) (summary_of_nodes (views nodes.items)) }
     {
         self.container
             .take_text(alloc, steps, bytes, part, nodes, ending.start, ending.end)
@@ -315,7 +326,7 @@ impl<'a> OpenContainer<'a> {
         requires inner { inner ≢ containers.AnyContent }
         requires such { is_part_model part (initial_model_of inner) ≡ true }
         requires fits { misfit_of self.old.container (item_kinds.Part part) ≡ None }
-        ensures { (ts : Trees) → Takes (item_kinds.Part part) (initial_model_of inner.entry) (summary_with inner.entry ts) self.old self.new }
+        ensures { TakesKept part inner.entry self.old self.new }
     {
         self.container.take_part(part, inner);
         self.line_endings = has_line_endings_after(part, self.line_endings);
@@ -332,7 +343,7 @@ impl OpenContainer<'_> {
         end: Point,
     ) -> Result<(), AllocError>
         requires { is_parent content ≡ true }
-        ensures { OnOk result ((s : Source) (in_table inner_table line_endings : Bool) (children : ChildFacts) → leave s (item_kinds.Content content) start end children (container_state_of inner_table None (record { container = containers.AnyContent; line_endings = line_endings; nodes = nodes })) (container_state_of in_table None self.old) ≡ Ok (container_state_of in_table None self.new)) }
+        ensures { OnOk result (TakesParent content start end nodes self.old self.new) }
     {
         let node = parent(content, nodes, position_of(start, end));
         put(&mut self.nodes, node)?;
@@ -355,10 +366,10 @@ impl<'a> OpenContainer<'a> {
         requires initial_model { initial_model_of own.container ≡ Models.content_model (current_model_of self.old.container) content }
         requires such { is_model_of content (initial_model_of own.container) ≡ true }
         requires no_parent { own.container ≡ containers.AnyContent → is_parent content ≡ false }
-        ensures left { TakesContainer bytes.now (item_kinds.Content content) own.entry ending (child_facts (marks_of ending.marks) (columns_of columns.old)) self.old self.new result }
-        ensures columns { OnOk result (columns_of columns.new ≡ columns_left (roles.Significant (item_kinds.Content content)) (marks_of ending.marks) (columns_of columns.old)) }
+        ensures left { TakesContent bytes.now content own.entry ending columns.old self.old self.new result }
+        ensures columns { OnOk result (LeavesColumns content ending.marks columns.old columns.new) }
         ensures list { steps.new.events ≡ steps.old.events }
-        ensures bound { steps.new.count ≤ steps.old.count + visits_at_end (item_kinds.Content content) (summary_of_container own.entry) + 1 }
+        ensures bound { steps.new.count ≤ steps.old.count + content_visits content own.entry + 1 }
     {
         self.container.take_content(content, &own.container);
         match content {
@@ -381,7 +392,8 @@ impl<'a> OpenContainer<'a> {
         requires { is_model_of contents.CharacterReference (initial_model_of own.container) ≡ true }
         ensures container { self.new.container ≡ self.old.container }
         ensures line_endings { self.new.line_endings ≡ self.old.line_endings }
-        ensures text { Makes result (all_stood (initial_model_of own.entry.container) (summary_of_container own.entry)) (missing_error (initial_model_of own.entry.container)) (λ _. views self.new.nodes.items ≡ join (views self.old.nodes.items) (one_text (text_of ((summary_of_container own.entry).part (path_to parts.CharacterReferenceValue))) (between ending.start ending.end))) }
+        ensures text { MakesOf own.entry result
+            (λ _. views self.new.nodes.items ≡ join (views self.old.nodes.items) (value_text own.entry ending)) }
     {
         let OpenContainer { container, .. } = own;
         match container {
@@ -410,10 +422,10 @@ impl<'a> OpenContainer<'a> {
         requires such { is_model_of content (initial_model_of self.container) ≡ true }
         requires other { content ≢ contents.CharacterReference }
         requires no_parent { self.container ≡ containers.AnyContent → is_parent content ≡ false }
-        ensures node { Makes result (all_stood (initial_model_of self.entry.container) (summary_of_container self.entry)) (missing_error (initial_model_of self.entry.container)) (IsNodeOf bytes.now content ending columns.old (summary_of_container self.entry)) }
-        ensures columns { OnOk result (columns_of columns.new ≡ columns_left (roles.Significant (item_kinds.Content content)) (marks_of ending.marks) (columns_of columns.old)) }
+        ensures node { MakesOf self.entry result (IsNodeOf bytes.now content ending columns.old (summary_of_container self.entry)) }
+        ensures columns { OnOk result (LeavesColumns content ending.marks columns.old columns.new) }
         ensures list { steps.new.events ≡ steps.old.events }
-        ensures bound { steps.new.count ≤ steps.old.count + visits_at_end (item_kinds.Content content) (summary_of_container self.entry) + 1 }
+        ensures bound { steps.new.count ≤ steps.old.count + content_visits content self.entry + 1 }
     {
         let OpenContainer {
             container,
@@ -469,10 +481,10 @@ fn any_content_node(
 ) -> Result<Node, AllocError>
     requires such { is_model_of content Models.any_content ≡ true }
     requires no_parent { is_parent content ≡ false }
-    ensures node { IfOk result (IsNodeOf bytes.now content ending columns.old (summary_with containers.AnyContent (views nodes.items))) }
-    ensures columns { OnOk result (columns_of columns.new ≡ columns_left (roles.Significant (item_kinds.Content content)) (marks_of ending.marks) (columns_of columns.old)) }
+    ensures node { IfOk result (IsNodeOf bytes.now content ending columns.old (summary_of_nodes (views nodes.items))) }
+    ensures columns { OnOk result (LeavesColumns content ending.marks columns.old columns.new) }
     ensures list { steps.new.events ≡ steps.old.events }
-    ensures bound { steps.new.count ≤ steps.old.count + visits_at_end (item_kinds.Content content) (summary_with containers.AnyContent (views nodes.items)) }
+    ensures bound { steps.new.count ≤ steps.old.count + visits_at_end (item_kinds.Content content) (summary_of_nodes (views nodes.items)) }
 {
     let position = position_of(ending.start, ending.end);
     match content {

@@ -8,7 +8,19 @@ ghost use Rattle.std.specs.Prelude.{◌≡◌, IsOk, IfOk, false, []};
 ghost use Rattle.markdown_events.specs.declared.event.Name.TheVariants as names;
 ghost use Rattle.markdown_events.specs.Forest.{Forest};
 ghost use Rattle.markdown_events.specs.Spread.{loose_item, loose, align, align_kind_of};
-ghost use Rattle.markdown_events.specs.Walks.{no_child, child_exited, item_walk, no_ends, counts_blank, list_entered, list_exited, list_walk, first_after, cells_walk, table_walk};
+ghost use Rattle.markdown_events.specs.Walks.{
+  no_child,
+  child_exited,
+  item_walk,
+  no_ends,
+  counts_blank,
+  list_entered,
+  list_exited,
+  list_walk,
+  first_after,
+  cells_walk,
+  table_walk,
+};
 ghost use Rattle.markdown_events.specs.Begins.{Begins, BeginsWith, IsItemAt, IsListAt, IsTableAt};
 
 use crate::event::{Event, Kind, Name};

@@ -4,7 +4,19 @@ ghost use Rattle.std.specs.Prelude.{◌≡◌, ◌<◌, ◌++◌, IfOk, string_b
 ghost use Rattle.std.specs.Option.{option_copied};
 ghost use Rattle.std.specs.List.{list_all};
 ghost use Rattle.caseless.specs.Caseless.{default_case_fold};
-ghost use Rattle.markdown_events.specs.Texts.{trim, without_first_line_ending, without_last_line_ending, without_escapes, is_space, without_padding, raw, spaces, is_blank, collapsed, fold};
+ghost use Rattle.markdown_events.specs.Texts.{
+  trim,
+  without_first_line_ending,
+  without_last_line_ending,
+  without_escapes,
+  is_space,
+  without_padding,
+  raw,
+  spaces,
+  is_blank,
+  collapsed,
+  fold,
+};
 ghost use Rattle.markdown_events.specs.TextWalks.{after_first, before_last, blanks_after, collapsed_part, spaced_part};
 
 use std::alloc::{AllocError, Global};

@@ -14,7 +14,7 @@ ghost use Rattle.markdown_steps.specs.Summaries.{text_of as text_in};
 ghost use Rattle.markdown_builder.specs.PartsSoFar.{GainsSign, IsFresh, Makes, misfit_in};
 ghost use Rattle.markdown_inlines.specs.CharacterReferences.{ReadsValue, byte_of, character_reference, marked, part_of_marker, value_kept};
 
-use crate::references::References;
+use character_references::references::References;
 use markdown_builder::misfits::only;
 use markdown_builder::slice::text_of;
 use markdown_grammar::error_kind::{ErrorKind, Stop};

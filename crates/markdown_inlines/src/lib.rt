@@ -12,5 +12,4 @@ mod image;
 pub mod label;
 mod link;
 pub mod media;
-pub mod references;
 pub mod text;

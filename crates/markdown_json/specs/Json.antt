@@ -1,6 +1,7 @@
 -- A tree as JSON, with the names and the fields that mdast gives to nodes. The order of the fields is ours: to JSON it makes no difference.
-use Rattle.std.specs.Prelude.{ℕ, List, [], ◌∷◌, ◌++◌, Option, Some, None, codes}
+use Rattle.std.specs.Prelude.{ℕ, Bool, List, [], ◌∷◌, ◌++◌, Option, Some, None, String, codes, if◌then◌else◌, option_map, string_bytes}
 use Rattle.std.specs.Fmt.{decimal}
+use Rattle.std.specs.declared.alloc.Global.{Global}
 use Rattle.markdown_events.specs.declared.infer.AlignKind.{AlignKind}
 use Rattle.markdown_events.specs.declared.infer.AlignKind.TheVariants as aligns
 use Rattle.markdown_events.specs.declared.unist.Point.{Point}
@@ -32,6 +33,10 @@ abbrev pub or_null : {X : Type 0} → (X → List ℕ) → Option X → List ℕ
 or_null value_json None = codes "null"
 or_null value_json (Some value) = value_json value
 
+-- a text, or null
+abbrev pub maybe : Option (List ℕ) → List ℕ
+maybe it = or_null string it
+
 -- how a reference is written
 abbrev pub reference_type : ReferenceKind → List ℕ
 reference_type Shortcut = codes "\"shortcut\""
@@ -50,13 +55,21 @@ abbrev pub alignments : List ℕ → List AlignKind → List ℕ
 alignments lead [] = []
 alignments lead (column ∷ columns) = lead ++ alignment column ++ alignments (codes ",") columns
 
+-- the field that says how columns are aligned
+abbrev pub align_field : List AlignKind → List ℕ
+align_field align = field (codes "align") (codes "[" ++ alignments [] align ++ codes "]")
+
+-- a literal that has no other fields than its value
+abbrev pub literal : List ℕ → List ℕ → List ℕ
+literal name value = kind name ++ field (codes "value") (string value)
+
 -- the fields of a resource
 unfoldable pub resource : List ℕ → Option (List ℕ) → List ℕ
-resource url title = field (codes "title") (or_null string title) ++ field (codes "url") (string url)
+resource url title = field (codes "title") (maybe title) ++ field (codes "url") (string url)
 
 -- the fields of an association
 unfoldable pub association : List ℕ → Option (List ℕ) → List ℕ
-association identifier label = field (codes "identifier") (string identifier) ++ field (codes "label") (or_null string label)
+association identifier label = field (codes "identifier") (string identifier) ++ field (codes "label") (maybe label)
 
 -- the fields of a reference
 unfoldable pub reference : ReferenceKind → List ℕ → Option (List ℕ) → List ℕ
@@ -74,18 +87,18 @@ opening table_row = kind (codes "tableRow") ++ children
 opening table_cell = kind (codes "tableCell") ++ children
 opening thematic_break = kind (codes "thematicBreak")
 opening «break» = kind (codes "break")
-opening (text value) = kind (codes "text") ++ field (codes "value") (string value)
-opening (html value) = kind (codes "html") ++ field (codes "value") (string value)
-opening (inline_code value) = kind (codes "inlineCode") ++ field (codes "value") (string value)
-opening (inline_math value) = kind (codes "inlineMath") ++ field (codes "value") (string value)
-opening (yaml value) = kind (codes "yaml") ++ field (codes "value") (string value)
-opening (toml value) = kind (codes "toml") ++ field (codes "value") (string value)
+opening (text value) = literal (codes "text") value
+opening (html value) = literal (codes "html") value
+opening (inline_code value) = literal (codes "inlineCode") value
+opening (inline_math value) = literal (codes "inlineMath") value
+opening (yaml value) = literal (codes "yaml") value
+opening (toml value) = literal (codes "toml") value
 opening (heading depth) = kind (codes "heading") ++ field (codes "depth") (decimal depth) ++ children
 opening (list ordered start spread) = kind (codes "list") ++ field (codes "ordered") (bool_text ordered) ++ field (codes "start") (or_null decimal start) ++ field (codes "spread") (bool_text spread) ++ children
 opening (list_item spread checked) = kind (codes "listItem") ++ field (codes "spread") (bool_text spread) ++ field (codes "checked") (or_null bool_text checked) ++ children
-opening (table align) = kind (codes "table") ++ field (codes "align") (codes "[" ++ alignments [] align ++ codes "]") ++ children
-opening (code value lang meta) = kind (codes "code") ++ field (codes "lang") (or_null string lang) ++ field (codes "meta") (or_null string meta) ++ field (codes "value") (string value)
-opening (math value meta) = kind (codes "math") ++ field (codes "meta") (or_null string meta) ++ field (codes "value") (string value)
+opening (table align) = kind (codes "table") ++ align_field align ++ children
+opening (code value lang meta) = kind (codes "code") ++ field (codes "lang") (maybe lang) ++ field (codes "meta") (maybe meta) ++ field (codes "value") (string value)
+opening (math value meta) = kind (codes "math") ++ field (codes "meta") (maybe meta) ++ field (codes "value") (string value)
 opening (link url title) = kind (codes "link") ++ resource url title ++ children
 opening (image alt url title) = kind (codes "image") ++ resource url title ++ field (codes "alt") (string alt)
 opening (link_reference reference_kind identifier label) = kind (codes "linkReference") ++ reference reference_kind identifier label ++ children
@@ -93,6 +106,10 @@ opening (image_reference alt reference_kind identifier label) = kind (codes "ima
 opening (footnote_reference identifier label) = kind (codes "footnoteReference") ++ association identifier label
 opening (footnote_definition identifier label) = kind (codes "footnoteDefinition") ++ association identifier label ++ children
 opening (definition url title identifier label) = kind (codes "definition") ++ association identifier label ++ resource url title
+
+-- the same, after a comma where it is a later one in its parent
+abbrev pub opening_after : Bool → Label → List ℕ
+opening_after later label = (if later then codes "," else []) ++ opening label
 
 -- the end of the children of a parent
 abbrev pub children_end : Label → List ℕ
@@ -137,3 +154,15 @@ nodes_json lead (node label children position rest) = lead ++ opening label ++ n
 -- one node
 abbrev pub json : Tree → List ℕ
 json tree = opening tree.label ++ nodes_json [] tree.children ++ closing tree.label tree.position
+
+-- the fields of a resource with these texts
+abbrev pub resource_of : String Global → Option (String Global) → List ℕ
+resource_of url title = resource (string_bytes url) (option_map string_bytes title)
+
+-- the fields of an association with these texts
+abbrev pub association_of : String Global → Option (String Global) → List ℕ
+association_of identifier label = association (string_bytes identifier) (option_map string_bytes label)
+
+-- the fields of a reference with these texts
+abbrev pub reference_of : ReferenceKind → String Global → Option (String Global) → List ℕ
+reference_of reference_kind identifier label = reference reference_kind (string_bytes identifier) (option_map string_bytes label)

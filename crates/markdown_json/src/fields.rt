@@ -3,25 +3,41 @@
 ghost use Rattle.std.specs.Fmt.{decimal};
 ghost use Rattle.std.specs.Prelude.{◌≡◌, ◌++◌, [], OnOk, codes, if◌then◌else◌, option_map, string_bytes};
 ghost use Rattle.markdown_nodes.specs.Access.{label_of, position_of};
+ghost use Rattle.markdown_nodes.specs.Labels.{
+  code_label,
+  definition_label,
+  footnote_definition_label,
+  footnote_reference_label,
+  image_label,
+  image_reference_label,
+  link_label,
+  link_reference_label,
+  list_item_label,
+  list_label,
+  math_label,
+};
 ghost use Rattle.markdown_nodes.specs.Shown.{bool_text};
-ghost use Rattle.markdown_nodes.specs.Tree.{code, definition, footnote_definition, footnote_reference, heading, image, image_reference, link, link_reference, list, list_item, math, table};
+ghost use Rattle.markdown_nodes.specs.Tree.{heading, table};
 ghost use Rattle.markdown_json.specs.Json.{
+  align_field,
   alignment,
   alignments,
-  association,
+  association_of,
   children,
   children_end,
   closing,
   field,
   key,
   kind,
+  literal,
+  maybe,
   opening,
   or_null,
   point,
   position_field,
-  reference,
+  reference_of,
   reference_type,
-  resource,
+  resource_of,
   position_value,
 };
 ghost use Rattle.markdown_json.specs.Strings.{string};
@@ -184,7 +200,7 @@ fn push_parent(out: &mut String, name: &str) -> Result<(), AllocError>
 
 /// Puts a literal that has no other fields than its value after what is written.
 fn push_literal(out: &mut String, name: &str, value: &String) -> Result<(), AllocError>
-    ensures { OnOk result (string_bytes out.new ≡ string_bytes out.old ++ (kind name.now ++ field (codes "value") (string (string_bytes value.now)))) }
+    ensures { OnOk result (string_bytes out.new ≡ string_bytes out.old ++ literal name.now (string_bytes value.now)) }
 {
     push_kind(out, name)?;
     push_text(out, "value", value)
@@ -226,7 +242,7 @@ fn push_text(out: &mut String, name: &str, text: &String) -> Result<(), AllocErr
 
 /// Puts a field that is a text or null after what is written.
 fn push_option(out: &mut String, name: &str, text: &Option<String>) -> Result<(), AllocError>
-    ensures { OnOk result (string_bytes out.new ≡ string_bytes out.old ++ field name.now (or_null string (option_map string_bytes text.now))) }
+    ensures { OnOk result (string_bytes out.new ≡ string_bytes out.old ++ field name.now (maybe (option_map string_bytes text.now))) }
 {
     match text {
         Some(text) => push_text(out, name, text),
@@ -237,7 +253,7 @@ fn push_option(out: &mut String, name: &str, text: &Option<String>) -> Result<()
 /// Puts the fields of a resource after what is written.
 #[tactic(auto, unfolding(crate::specs::Json::resource))]
 fn push_resource(out: &mut String, url: &String, title: &Option<String>) -> Result<(), AllocError>
-    ensures { OnOk result (string_bytes out.new ≡ string_bytes out.old ++ resource (string_bytes url.now) (option_map string_bytes title.now)) }
+    ensures { OnOk result (string_bytes out.new ≡ string_bytes out.old ++ resource_of url.now title.now) }
 {
     push_option(out, "title", title)?;
     push_text(out, "url", url)
@@ -250,7 +266,7 @@ fn push_association(
     identifier: &String,
     label: &Option<String>,
 ) -> Result<(), AllocError>
-    ensures { OnOk result (string_bytes out.new ≡ string_bytes out.old ++ association (string_bytes identifier.now) (option_map string_bytes label.now)) }
+    ensures { OnOk result (string_bytes out.new ≡ string_bytes out.old ++ association_of identifier.now label.now) }
 {
     push_text(out, "identifier", identifier)?;
     push_option(out, "label", label)
@@ -264,7 +280,7 @@ fn push_reference(
     identifier: &String,
     label: &Option<String>,
 ) -> Result<(), AllocError>
-    ensures { OnOk result (string_bytes out.new ≡ string_bytes out.old ++ reference kind (string_bytes identifier.now) (option_map string_bytes label.now)) }
+    ensures { OnOk result (string_bytes out.new ≡ string_bytes out.old ++ reference_of kind identifier.now label.now) }
 {
     push_association(out, identifier, label)?;
     push_reference_type(out, kind)
@@ -292,7 +308,7 @@ fn push_heading(out: &mut String, node: &Heading) -> Result<(), AllocError>
 
 /// Puts a list after what is written, up to its children.
 fn push_list(out: &mut String, node: &List) -> Result<(), AllocError>
-    ensures { OnOk result (string_bytes out.new ≡ string_bytes out.old ++ opening (list node.now.ordered node.now.start node.now.spread)) }
+    ensures { OnOk result (string_bytes out.new ≡ string_bytes out.old ++ opening (list_label node.now)) }
 {
     push_kind(out, "list")?;
     push_flag(out, "ordered", node.ordered)?;
@@ -313,7 +329,7 @@ fn push_start(out: &mut String, start: Option<u32>) -> Result<(), AllocError>
 
 /// Puts a list item after what is written, up to its children.
 fn push_list_item(out: &mut String, node: &ListItem) -> Result<(), AllocError>
-    ensures { OnOk result (string_bytes out.new ≡ string_bytes out.old ++ opening (list_item node.now.spread node.now.checked)) }
+    ensures { OnOk result (string_bytes out.new ≡ string_bytes out.old ++ opening (list_item_label node.now)) }
 {
     push_kind(out, "listItem")?;
     push_flag(out, "spread", node.spread)?;
@@ -343,7 +359,7 @@ fn push_table(out: &mut String, node: &Table) -> Result<(), AllocError>
 /// Puts how the columns of a table are aligned after what is written.
 #[tactic(auto, unfolding(crate::specs::Json::field))]
 fn push_align(out: &mut String, align: &[AlignKind]) -> Result<(), AllocError>
-    ensures { OnOk result (string_bytes out.new ≡ string_bytes out.old ++ field (codes "align") (codes "[" ++ alignments [] align.now ++ codes "]")) }
+    ensures { OnOk result (string_bytes out.new ≡ string_bytes out.old ++ align_field align.now) }
 {
     push_key(out, "align")?;
     push(out, "[")?;
@@ -387,7 +403,7 @@ fn alignment(kind: AlignKind) -> &'static str
 
 /// Puts a code block after what is written.
 fn push_code(out: &mut String, node: &Code) -> Result<(), AllocError>
-    ensures { OnOk result (string_bytes out.new ≡ string_bytes out.old ++ opening (code (string_bytes node.now.value) (option_map string_bytes node.now.lang) (option_map string_bytes node.now.meta))) }
+    ensures { OnOk result (string_bytes out.new ≡ string_bytes out.old ++ opening (code_label node.now)) }
 {
     push_kind(out, "code")?;
     push_option(out, "lang", &node.lang)?;
@@ -397,7 +413,7 @@ fn push_code(out: &mut String, node: &Code) -> Result<(), AllocError>
 
 /// Puts a block of math after what is written.
 fn push_math(out: &mut String, node: &Math) -> Result<(), AllocError>
-    ensures { OnOk result (string_bytes out.new ≡ string_bytes out.old ++ opening (math (string_bytes node.now.value) (option_map string_bytes node.now.meta))) }
+    ensures { OnOk result (string_bytes out.new ≡ string_bytes out.old ++ opening (math_label node.now)) }
 {
     push_kind(out, "math")?;
     push_option(out, "meta", &node.meta)?;
@@ -406,7 +422,7 @@ fn push_math(out: &mut String, node: &Math) -> Result<(), AllocError>
 
 /// Puts a link after what is written, up to its children.
 fn push_link(out: &mut String, node: &Link) -> Result<(), AllocError>
-    ensures { OnOk result (string_bytes out.new ≡ string_bytes out.old ++ opening (link (string_bytes node.now.url) (option_map string_bytes node.now.title))) }
+    ensures { OnOk result (string_bytes out.new ≡ string_bytes out.old ++ opening (link_label node.now)) }
 {
     push_kind(out, "link")?;
     push_resource(out, &node.url, &node.title)?;
@@ -415,7 +431,7 @@ fn push_link(out: &mut String, node: &Link) -> Result<(), AllocError>
 
 /// Puts an image after what is written.
 fn push_image(out: &mut String, node: &Image) -> Result<(), AllocError>
-    ensures { OnOk result (string_bytes out.new ≡ string_bytes out.old ++ opening (image (string_bytes node.now.alt) (string_bytes node.now.url) (option_map string_bytes node.now.title))) }
+    ensures { OnOk result (string_bytes out.new ≡ string_bytes out.old ++ opening (image_label node.now)) }
 {
     push_kind(out, "image")?;
     push_resource(out, &node.url, &node.title)?;
@@ -424,7 +440,7 @@ fn push_image(out: &mut String, node: &Image) -> Result<(), AllocError>
 
 /// Puts a link by reference after what is written, up to its children.
 fn push_link_reference(out: &mut String, node: &LinkReference) -> Result<(), AllocError>
-    ensures { OnOk result (string_bytes out.new ≡ string_bytes out.old ++ opening (link_reference node.now.reference_kind (string_bytes node.now.identifier) (option_map string_bytes node.now.label))) }
+    ensures { OnOk result (string_bytes out.new ≡ string_bytes out.old ++ opening (link_reference_label node.now)) }
 {
     push_kind(out, "linkReference")?;
     push_reference(out, node.reference_kind, &node.identifier, &node.label)?;
@@ -433,7 +449,7 @@ fn push_link_reference(out: &mut String, node: &LinkReference) -> Result<(), All
 
 /// Puts an image by reference after what is written.
 fn push_image_reference(out: &mut String, node: &ImageReference) -> Result<(), AllocError>
-    ensures { OnOk result (string_bytes out.new ≡ string_bytes out.old ++ opening (image_reference (string_bytes node.now.alt) node.now.reference_kind (string_bytes node.now.identifier) (option_map string_bytes node.now.label))) }
+    ensures { OnOk result (string_bytes out.new ≡ string_bytes out.old ++ opening (image_reference_label node.now)) }
 {
     push_kind(out, "imageReference")?;
     push_reference(out, node.reference_kind, &node.identifier, &node.label)?;
@@ -442,7 +458,7 @@ fn push_image_reference(out: &mut String, node: &ImageReference) -> Result<(), A
 
 /// Puts a reference to a footnote after what is written.
 fn push_footnote_reference(out: &mut String, node: &FootnoteReference) -> Result<(), AllocError>
-    ensures { OnOk result (string_bytes out.new ≡ string_bytes out.old ++ opening (footnote_reference (string_bytes node.now.identifier) (option_map string_bytes node.now.label))) }
+    ensures { OnOk result (string_bytes out.new ≡ string_bytes out.old ++ opening (footnote_reference_label node.now)) }
 {
     push_kind(out, "footnoteReference")?;
     push_association(out, &node.identifier, &node.label)
@@ -450,7 +466,7 @@ fn push_footnote_reference(out: &mut String, node: &FootnoteReference) -> Result
 
 /// Puts the definition of a footnote after what is written, up to its children.
 fn push_footnote_definition(out: &mut String, node: &FootnoteDefinition) -> Result<(), AllocError>
-    ensures { OnOk result (string_bytes out.new ≡ string_bytes out.old ++ opening (footnote_definition (string_bytes node.now.identifier) (option_map string_bytes node.now.label))) }
+    ensures { OnOk result (string_bytes out.new ≡ string_bytes out.old ++ opening (footnote_definition_label node.now)) }
 {
     push_kind(out, "footnoteDefinition")?;
     push_association(out, &node.identifier, &node.label)?;
@@ -459,7 +475,7 @@ fn push_footnote_definition(out: &mut String, node: &FootnoteDefinition) -> Resu
 
 /// Puts a definition after what is written.
 fn push_definition(out: &mut String, node: &Definition) -> Result<(), AllocError>
-    ensures { OnOk result (string_bytes out.new ≡ string_bytes out.old ++ opening (definition (string_bytes node.now.url) (option_map string_bytes node.now.title) (string_bytes node.now.identifier) (option_map string_bytes node.now.label))) }
+    ensures { OnOk result (string_bytes out.new ≡ string_bytes out.old ++ opening (definition_label node.now)) }
 {
     push_kind(out, "definition")?;
     push_association(out, &node.identifier, &node.label)?;

@@ -1,7 +1,7 @@
 //! A tree as JSON, with no call for each level.
 
-ghost use Rattle.std.specs.Prelude.{◌≡◌, ◌++◌, [], IfOk, OnOk, codes, if◌then◌else◌, string_bytes};
-ghost use Rattle.markdown_json.specs.Json.{json, opening};
+ghost use Rattle.std.specs.Prelude.{◌≡◌, ◌++◌, IfOk, OnOk, string_bytes};
+ghost use Rattle.markdown_json.specs.Json.{json, opening_after};
 ghost use Rattle.markdown_nodes.specs.Access.{label_of};
 ghost use Rattle.markdown_nodes.specs.View.{view};
 
@@ -60,7 +60,7 @@ pub fn to_json(alloc: Global, tree: &Node) -> Result<String, AllocError>
 /// Puts what stands before the children of a node after what is written, after a comma where it is
 /// a later one in its parent.
 fn begin(out: &mut String, node: &Node, later: bool) -> Result<(), AllocError>
-    ensures { OnOk result (string_bytes out.new ≡ string_bytes out.old ++ ((if later then codes "," else []) ++ opening (label_of node.now))) }
+    ensures { OnOk result (string_bytes out.new ≡ string_bytes out.old ++ opening_after later (label_of node.now)) }
 {
     if later {
         push(out, ",")?;

@@ -1,5 +1,5 @@
 -- The parts that every node has, or every parent.
-use Rattle.std.specs.Prelude.{List, [], Option, Some, None, option_map, string_bytes, Vec}
+use Rattle.std.specs.Prelude.{List, [], Option, Some, None, string_bytes, Vec}
 use Rattle.std.specs.declared.alloc.Global.{Global}
 use Rattle.markdown_nodes.specs.declared.mdast.Node.{Node}
 use Rattle.markdown_nodes.specs.declared.mdast.Node.TheOpen.{Node-F}

@@ -1,8 +1,9 @@
 -- What a node lends, and what becomes of it once that is given back.
 use Rattle.std.specs.Prelude.{Option, Some, Vec}
-use Rattle.std.specs.Borrow.{Fml, LendsIf, MutBor}
+use Rattle.std.specs.Borrow.{Fml, Lends, LendsIf, MutBor}
 use Rattle.std.specs.declared.alloc.Global.{Global}
 use Rattle.std.specs.contracts.alloc.Global as global
+use Rattle.std.specs.contracts.option.Option as option
 use Rattle.std.specs.contracts.vec.Vec as vec
 use Rattle.std.specs.contracts.impls.GlobalAllocator.TheImpl.{ghosts}
 use Rattle.markdown_nodes.specs.declared.mdast.Node.{Node}
@@ -18,3 +19,7 @@ LendsChildren node result = LendsIf node_type.the_row (vec.the_row node_type.the
 -- a node with a position ends with what was last written through the result in its place, and any other node as it was
 abbrev pub LendsPosition : MutBor Node → Option (MutBor Position) → Fml
 LendsPosition node result = LendsIf node_type.the_row position_type.the_row node result (λ position. with_position node.now (Some position)) node.now
+
+-- a node ends with what was last written through the result as its position
+abbrev pub LendsSlot : MutBor Node → MutBor (Option Position) → Fml
+LendsSlot node result = Lends node_type.the_row (option.the_row position_type.the_row) node result (with_position node.now)

@@ -119,7 +119,7 @@ impl Node {
     ghost use Rattle.std.specs.Borrow.{sem};
     ghost use Rattle.std.specs.Prelude.{ℕ, Bool, Some};
     ghost use Rattle.markdown_nodes.specs.Shown.{shown};
-    ghost use Rattle.markdown_nodes.specs.Lends.{LendsChildren, LendsPosition};
+    ghost use Rattle.markdown_nodes.specs.Lends.{LendsChildren, LendsPosition, LendsSlot};
 
     /// The children of a parent, in order, and `None` for a node that is no parent.
     ///
@@ -262,37 +262,7 @@ impl Node {
         ensures* writes_back { sem 𝓛 (LendsPosition self.entry result) }
         ensures value { option_map (λ p. p.now) result ≡ position_of self.old }
     {
-        match self {
-            Node::Root(node) => node.position.as_mut(),
-            Node::Blockquote(node) => node.position.as_mut(),
-            Node::FootnoteDefinition(node) => node.position.as_mut(),
-            Node::List(node) => node.position.as_mut(),
-            Node::Toml(node) => node.position.as_mut(),
-            Node::Yaml(node) => node.position.as_mut(),
-            Node::Break(node) => node.position.as_mut(),
-            Node::InlineCode(node) => node.position.as_mut(),
-            Node::InlineMath(node) => node.position.as_mut(),
-            Node::Delete(node) => node.position.as_mut(),
-            Node::Emphasis(node) => node.position.as_mut(),
-            Node::FootnoteReference(node) => node.position.as_mut(),
-            Node::Html(node) => node.position.as_mut(),
-            Node::Image(node) => node.position.as_mut(),
-            Node::ImageReference(node) => node.position.as_mut(),
-            Node::Link(node) => node.position.as_mut(),
-            Node::LinkReference(node) => node.position.as_mut(),
-            Node::Strong(node) => node.position.as_mut(),
-            Node::Text(node) => node.position.as_mut(),
-            Node::Code(node) => node.position.as_mut(),
-            Node::Math(node) => node.position.as_mut(),
-            Node::Heading(node) => node.position.as_mut(),
-            Node::Table(node) => node.position.as_mut(),
-            Node::ThematicBreak(node) => node.position.as_mut(),
-            Node::TableRow(node) => node.position.as_mut(),
-            Node::TableCell(node) => node.position.as_mut(),
-            Node::ListItem(node) => node.position.as_mut(),
-            Node::Definition(node) => node.position.as_mut(),
-            Node::Paragraph(node) => node.position.as_mut(),
-        }
+        self.position_slot().as_mut()
     }
 
     /// Sets the position of the node, and changes nothing else.
@@ -301,36 +271,45 @@ impl Node {
     pub fn position_set(&mut self, position: Option<Position>)
         ensures { self.new ≡ with_position self.old position }
     {
+        *self.position_slot() = position;
+    }
+
+    /// The place of the node's position, to be changed. What is written to it becomes the position.
+    fn position_slot(&mut self) -> &mut Option<Position>
+        ensures* writes_back { sem 𝓛 (LendsSlot self.entry result) }
+        ensures value { result.now ≡ position_of self.old }
+        ensures kept { with_position self.old result.now ≡ self.old }
+    {
         match self {
-            Node::Root(node) => node.position = position,
-            Node::Blockquote(node) => node.position = position,
-            Node::FootnoteDefinition(node) => node.position = position,
-            Node::List(node) => node.position = position,
-            Node::Toml(node) => node.position = position,
-            Node::Yaml(node) => node.position = position,
-            Node::Break(node) => node.position = position,
-            Node::InlineCode(node) => node.position = position,
-            Node::InlineMath(node) => node.position = position,
-            Node::Delete(node) => node.position = position,
-            Node::Emphasis(node) => node.position = position,
-            Node::FootnoteReference(node) => node.position = position,
-            Node::Html(node) => node.position = position,
-            Node::Image(node) => node.position = position,
-            Node::ImageReference(node) => node.position = position,
-            Node::Link(node) => node.position = position,
-            Node::LinkReference(node) => node.position = position,
-            Node::Strong(node) => node.position = position,
-            Node::Text(node) => node.position = position,
-            Node::Code(node) => node.position = position,
-            Node::Math(node) => node.position = position,
-            Node::Heading(node) => node.position = position,
-            Node::Table(node) => node.position = position,
-            Node::ThematicBreak(node) => node.position = position,
-            Node::TableRow(node) => node.position = position,
-            Node::TableCell(node) => node.position = position,
-            Node::ListItem(node) => node.position = position,
-            Node::Definition(node) => node.position = position,
-            Node::Paragraph(node) => node.position = position,
+            Node::Root(node) => &mut node.position,
+            Node::Blockquote(node) => &mut node.position,
+            Node::FootnoteDefinition(node) => &mut node.position,
+            Node::List(node) => &mut node.position,
+            Node::Toml(node) => &mut node.position,
+            Node::Yaml(node) => &mut node.position,
+            Node::Break(node) => &mut node.position,
+            Node::InlineCode(node) => &mut node.position,
+            Node::InlineMath(node) => &mut node.position,
+            Node::Delete(node) => &mut node.position,
+            Node::Emphasis(node) => &mut node.position,
+            Node::FootnoteReference(node) => &mut node.position,
+            Node::Html(node) => &mut node.position,
+            Node::Image(node) => &mut node.position,
+            Node::ImageReference(node) => &mut node.position,
+            Node::Link(node) => &mut node.position,
+            Node::LinkReference(node) => &mut node.position,
+            Node::Strong(node) => &mut node.position,
+            Node::Text(node) => &mut node.position,
+            Node::Code(node) => &mut node.position,
+            Node::Math(node) => &mut node.position,
+            Node::Heading(node) => &mut node.position,
+            Node::Table(node) => &mut node.position,
+            Node::ThematicBreak(node) => &mut node.position,
+            Node::TableRow(node) => &mut node.position,
+            Node::TableCell(node) => &mut node.position,
+            Node::ListItem(node) => &mut node.position,
+            Node::Definition(node) => &mut node.position,
+            Node::Paragraph(node) => &mut node.position,
         }
     }
 

@@ -13,7 +13,16 @@ ghost use Rattle.markdown_events.specs.declared.role.ItemKind.{ItemKind};
 ghost use Rattle.markdown_nodes.specs.Tree.{only};
 ghost use Rattle.markdown_grammar.specs.Accepted.{Accepted, Occurrence, ends_with_break};
 ghost use Rattle.markdown_grammar.specs.Decorated.{nodes_of};
-ghost use Rattle.markdown_steps.specs.Consequences.{Everywhere, HasColumnsOf, HasDepthToSix, HasPosition, HasStartIfOrdered, IsLinkBefore, NoTextAfterText, is_autolink};
+ghost use Rattle.markdown_steps.specs.Consequences.{
+  Everywhere,
+  HasColumnsOf,
+  HasDepthToSix,
+  HasPosition,
+  HasStartIfOrdered,
+  IsLinkBefore,
+  NoTextAfterText,
+  is_autolink,
+};
 ghost use Rattle.markdown_grammar.specs.Grammar.{conforms};
 ghost use Rattle.markdown_grammar.specs.Items.{Items, item, items, kinds};
 ghost use Rattle.markdown_grammar.specs.Meaning.{meaning};
@@ -104,8 +113,10 @@ pub fn tables_have_an_alignment_for_each_column()
 /// It holds of every item of a forest, accepted or not, wherever it stands.
 #[tactic(auto, using(crate::proofs::ConsequencesOfLinks::links))]
 pub fn autolinks_give_links()
-    ensures { (s : Source) (p : Place) (what : ItemKind) (start end : Point) (children : Forest) (inner rest : Items) → is_autolink what ≡ true
-        → IsLinkBefore (nodes_of (decorate s p (item what start end children inner rest))) start end (nodes_of (decorate s (inherited_after what p) rest)) }
+    ensures { (s : Source) (p : Place) (what : ItemKind) (start end : Point) (children : Forest) (inner rest : Items)
+        → is_autolink what ≡ true
+        → IsLinkBefore (nodes_of (decorate s p (item what start end children inner rest))) start end
+        (nodes_of (decorate s (inherited_after what p) rest)) }
 {}
 
 /// A significant span that is refused where it begins has what the refusal's reason says.
@@ -119,7 +130,9 @@ pub fn autolinks_give_links()
 /// A second `LabelText` in a Link is refused by `part-repeated`.
 #[tactic(auto, using(crate::proofs::Sayings::enter_says))]
 pub fn refused_enters_are_as_said()
-    ensures { (s : Source) (spot : Site) (what : ItemKind) (start : Point) (why : ErrorKind) → conforms spot.initial_model (kinds spot.before) ≡ true → IsWrongAtEnter s spot what start why → EnterSays s spot what start why }
+    ensures { (s : Source) (spot : Site) (what : ItemKind) (start : Point) (why : ErrorKind)
+        → conforms spot.initial_model (kinds spot.before) ≡ true
+        → IsWrongAtEnter s spot what start why → EnterSays s spot what start why }
 {}
 
 /// A significant span that is refused where it ends has what the refusal's reason says.
@@ -147,6 +160,7 @@ pub fn refused_exits_are_as_said()
 ///
 /// The document `a\` with a hard break at its end is refused, and so is `a\b` with data after it.
 pub fn unfinished_breaks_are_as_said()
-    ensures event { (s : Source) (f : Forest) (path : List Ancestor) (event : Event) → IsWrong s f path event UnfinishedBreak → FollowsBreak (events_so_far f path) event }
+    ensures event { (s : Source) (f : Forest) (path : List Ancestor) (event : Event)
+        → IsWrong s f path event UnfinishedBreak → FollowsBreak (events_so_far f path) event }
     ensures end { (f : Forest) → ends_with_break (items f) ≡ true → ends_with_break_exit (events_of f) ≡ true }
 {}

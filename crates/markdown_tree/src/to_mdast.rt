@@ -14,11 +14,11 @@ ghost use Rattle.markdown_context.specs.States.{Completes, state_of};
 ghost use Rattle.markdown_events.specs.Steps.{events_in};
 ghost use Rattle.markdown_steps.specs.Visits.{run_visits};
 
+pub use character_references::references::References;
 use markdown_builder::slice::position_of;
 use markdown_context::context::Context;
 use markdown_context::open_container::OpenContainer;
 use markdown_grammar::error_kind::Stop;
-pub use markdown_inlines::references::References;
 use markdown_nodes::event::{Event, Point};
 use markdown_nodes::mdast::{Node, Root};
 use markdown_nodes::message::Fault;
@@ -100,9 +100,12 @@ pub fn compile_counted<R: References>(
     // The list is kept.
     ensures list { steps.new.events ≡ steps.old.events }
     // Each event takes at most four steps, and each node in a buffer one.
-    ensures bound { IfOk result (λ tree. (forest : Forest) → events_of forest ≡ steps.old.events → steps.new.count ≤ steps.old.count + 4 * length steps.old.events + buffered_nodes (source bytes.now (R.text references.now)) forest) }
+    ensures bound { IfOk result (λ tree. (forest : Forest) → events_of forest ≡ steps.old.events
+        → steps.new.count ≤ steps.old.count + 4 * length steps.old.events
+        + buffered_nodes (source bytes.now (R.text references.now)) forest) }
     // Without a tree, each event inside a span with a buffer's name takes at most one more.
-    ensures bound_without { IfErr result (λ fault. steps.new.count ≤ steps.old.count + 4 * length steps.old.events + buffered_events steps.old.events) }
+    ensures bound_without { IfErr result (λ fault.
+        steps.new.count ≤ steps.old.count + 4 * length steps.old.events + buffered_events steps.old.events) }
 {
     compile_list(alloc, steps, bytes, references)
 }
@@ -118,7 +121,8 @@ fn compile_list<R: References>(
     ensures fits { IfOk result (λ tree. (extent_of steps.old.events).end.offset < 2 ^ 64) }
     ensures empty { steps.old.events ≡ [] → IsOk result }
     ensures list { steps.new.events ≡ steps.old.events }
-    ensures bound { steps.new.count ≤ steps.old.count + 4 * length steps.old.events + run_visits (source bytes.now (R.text references.now)) steps.old.events opening }
+    ensures bound { steps.new.count ≤ steps.old.count + 4 * length steps.old.events
+        + run_visits (source bytes.now (R.text references.now)) steps.old.events opening }
 {
     let Taken { context, length } = take_all(alloc, steps, bytes, references)?;
     if let Some(error_kind) = context.unfinished() {
@@ -146,11 +150,13 @@ fn take_all<'a, R: References>(
     bytes: &'a [u8],
     references: &R,
 ) -> Result<Taken<'a>, Fault>
-    ensures gives { Completes (λ taken. state_of taken.context) result (run (source bytes.now (R.text references.now)) steps.old.events opening) }
+    ensures gives { Completes (λ taken. state_of taken.context) result
+        (run (source bytes.now (R.text references.now)) steps.old.events opening) }
     ensures empty { steps.old.events ≡ [] → IsOk result }
     ensures length { IfOk result (λ taken. taken.length ≡ length steps.old.events) }
     ensures list { steps.new.events ≡ steps.old.events }
-    ensures bound { steps.new.count ≤ steps.old.count + 2 * length steps.old.events + run_visits (source bytes.now (R.text references.now)) steps.old.events opening }
+    ensures bound { steps.new.count ≤ steps.old.count + 2 * length steps.old.events
+        + run_visits (source bytes.now (R.text references.now)) steps.old.events opening }
 {
     let mut context = Context::new(alloc);
     let mut index = 0;

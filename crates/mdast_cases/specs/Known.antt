@@ -1,7 +1,7 @@
 -- What the decoders of the cases know.
 use Rattle.std.specs.Prelude.{ℕ, List, Option, Some, None, codes, if◌then◌else◌}
 use Rattle.std.specs.Str.{bytes_eq}
-use Rattle.mdast_lines.specs.Decoder.{decoded}
+use Rattle.character_references.specs.Decoder.{decoded}
 use Rattle.mdast_cases.specs.declared.decoder.CaseDecoder.{CaseDecoder}
 use Rattle.mdast_cases.specs.declared.decoder.CaseDecoder.TheVariants.{Usual, Blank}
 

@@ -1,7 +1,7 @@
 //! What the character references of the cases stand for.
 
 use markdown_tree::to_mdast::References;
-use mdast_lines::decoder::Decoder;
+use character_references::decoder::Decoder;
 use std::alloc::{AllocError, Global};
 
 /// The decoder of a case.

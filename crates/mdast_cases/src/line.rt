@@ -1,6 +1,6 @@
 //! One line of a table.
 
-use mdast_lines::lines::LinesError;
+use event_lines::lines::LinesError;
 use std::alloc::{AllocError, AllocFailed};
 
 /// What a line of a table says.

@@ -26,7 +26,7 @@ use crate::quoted::unescaped;
 use crate::spans::events_of_spans;
 use crate::sums::Checksum;
 use markdown_nodes::event::Event;
-use mdast_lines::lines::events;
+use event_lines::lines::events;
 use std::alloc::{AllocError, AllocFailed, Global};
 
 /// Why a table was not read.

@@ -15,6 +15,10 @@ use Rattle.mdast_check.specs.Titles.{Titled, titles}
 abbrev pub heading_line : (ℕ → Bool) → Titled → List ℕ
 heading_line escapes title = codes "heading " ++ decimal title.depth ++ codes " " ++ quoted escapes title.text ++ codes "\n"
 
+-- the lines of headings, in order
+abbrev pub heading_lines : (ℕ → Bool) → List Titled → List ℕ
+heading_lines escapes found = flat_map (heading_line escapes) found
+
 -- the word for a kind
 abbrev pub kind_text : OpenKind → List ℕ
 kind_text Link = codes "link"
@@ -30,6 +34,10 @@ place_text (Some position) = codes " " ++ position_text position
 abbrev pub open_line : (ℕ → Bool) → Reference → List ℕ
 open_line escapes it = codes "open " ++ kind_text it.kind ++ codes " " ++ quoted escapes it.identifier ++ place_text it.position ++ codes "\n"
 
+-- the lines of open references, in order
+abbrev pub open_lines : (ℕ → Bool) → List Reference → List ℕ
+open_lines escapes found = flat_map (open_line escapes) found
+
 -- the headings of a tree, and then its open references; which characters beyond ASCII stand as their Unicode escape is left open
 abbrev pub IsReport : Tree → List ℕ → Type 0
-IsReport tree text = (escapes : ℕ → Bool) × (text ≡ flat_map (heading_line escapes) (titles tree) ++ flat_map (open_line escapes) (open_in tree))
+IsReport tree text = (escapes : ℕ → Bool) × (text ≡ heading_lines escapes (titles tree) ++ open_lines escapes (open_in tree))

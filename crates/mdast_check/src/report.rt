@@ -1,12 +1,18 @@
 //! What is found in a tree, as lines of text.
 
-ghost use Rattle.std.specs.BTreeSet.{contains};
-ghost use Rattle.std.specs.List.{flat_map};
-ghost use Rattle.std.specs.Ordering.{nat_cmp};
 ghost use Rattle.std.specs.Prelude.{◌≡◌, ◌++◌, ◌↔◌, [], IfOk, IsFalse, OnOk, map, string_bytes};
+ghost use Rattle.markdown_nodes.specs.Quoted.{members};
 ghost use Rattle.markdown_nodes.specs.View.{view};
 ghost use Rattle.mdast_check.specs.References.{open_in, told};
-ghost use Rattle.mdast_check.specs.Report.{IsReport, heading_line, kind_text, open_line, place_text};
+ghost use Rattle.mdast_check.specs.Report.{
+  IsReport,
+  heading_line,
+  heading_lines,
+  kind_text,
+  open_line,
+  open_lines,
+  place_text,
+};
 ghost use Rattle.mdast_check.specs.Titles.{said};
 
 use crate::outline::{Title, headings};
@@ -55,7 +61,7 @@ fn add_titles(
     text: &mut String,
     alloc: Global,
 ) -> Result<(), AllocError>
-    ensures { OnOk result (string_bytes text.new ≡ string_bytes text.old ++ flat_map (heading_line (contains nat_cmp escapes.now)) (map said titles.now)) }
+    ensures { OnOk result (string_bytes text.new ≡ string_bytes text.old ++ heading_lines (members escapes.now) (map said titles.now)) }
 {
     'titles: for title in titles {
         text.push_str(title_line(title, escapes, alloc)?.as_str())?;
@@ -70,7 +76,7 @@ fn add_open(
     text: &mut String,
     alloc: Global,
 ) -> Result<(), AllocError>
-    ensures { OnOk result (string_bytes text.new ≡ string_bytes text.old ++ flat_map (open_line (contains nat_cmp escapes.now)) (map told found.now)) }
+    ensures { OnOk result (string_bytes text.new ≡ string_bytes text.old ++ open_lines (members escapes.now) (map told found.now)) }
 {
     'open: for it in found {
         text.push_str(reference_line(it, escapes, alloc)?.as_str())?;
@@ -80,7 +86,7 @@ fn add_open(
 
 /// The line of a heading.
 fn title_line(title: &Title, escapes: &BTreeSet<char>, alloc: Global) -> Result<String, AllocError>
-    ensures { IfOk result (λ line. string_bytes line ≡ heading_line (contains nat_cmp escapes.now) (said title.now)) }
+    ensures { IfOk result (λ line. string_bytes line ≡ heading_line (members escapes.now) (said title.now)) }
 {
     let depth = title.depth;
     let mut line = format!(in alloc; "heading {depth} ")?;
@@ -91,7 +97,7 @@ fn title_line(title: &Title, escapes: &BTreeSet<char>, alloc: Global) -> Result<
 
 /// The line of an open reference.
 fn reference_line(it: &Open, escapes: &BTreeSet<char>, alloc: Global) -> Result<String, AllocError>
-    ensures { IfOk result (λ line. string_bytes line ≡ open_line (contains nat_cmp escapes.now) (told it.now)) }
+    ensures { IfOk result (λ line. string_bytes line ≡ open_line (members escapes.now) (told it.now)) }
 {
     let kind = kind_word(it.kind);
     let identifier = quote(&it.identifier, escapes, alloc)?;

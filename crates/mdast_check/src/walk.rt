@@ -1,9 +1,9 @@
 //! The nodes of a tree, one after the other.
 
-ghost use Rattle.std.specs.Prelude.{◌≡◌, [], ◌∷◌, IfOk, MatchOption};
+ghost use Rattle.std.specs.Prelude.{◌≡◌, IfOk};
 ghost use Rattle.markdown_nodes.specs.View.{view};
 ghost use Rattle.mdast_check.specs.Walk.{walk};
-ghost use Rattle.mdast_check.specs.Levels.{to_come};
+ghost use Rattle.mdast_check.specs.Levels.{Yields, to_come};
 
 use markdown_nodes::mdast::Node;
 use std::alloc::{AllocError, Global};
@@ -28,7 +28,7 @@ impl<'a> Walk<'a> {
 
     /// The next node, or `None` after the last. After an error the walk is not to be gone on with.
     pub fn next(&mut self) -> Result<Option<&'a Node>, AllocError>
-        ensures { IfOk result (λ next. MatchOption next (to_come self.old.levels.items ≡ []) (λ node. to_come self.old.levels.items ≡ view node.now ∷ to_come self.new.levels.items)) }
+        ensures { IfOk result (Yields self.old.levels.items self.new.levels.items) }
     {
         'levels: while let Some(level) = self.levels.pop() {
             if let Some((first, rest)) = level.split_first() {

@@ -5,10 +5,10 @@
 //! Offsets and columns count bytes.
 #![tactic(auto)]
 
-use mdast_lines::document::{arguments, document};
-use mdast_lines::program::Program;
-use mdast_lines::request::{DocumentError, only};
-use mdast_lines::run::{run_json, say};
+use mdast_programs::document::{arguments, document};
+use mdast_programs::program::Program;
+use mdast_programs::request::{DocumentError, only};
+use mdast_programs::run::{run_json, say};
 use std::io::{self, Write};
 use std::process::ExitCode;
 

@@ -8,7 +8,7 @@
 #![tactic(auto)]
 
 use mdast_cases::run::{Input, RunError, run, status};
-use mdast_lines::input::{ReadError, read_all};
+use mdast_programs::input::{ReadError, read_all};
 use std::alloc::AllocError;
 use std::env;
 use std::fs::File;

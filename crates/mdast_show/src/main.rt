@@ -6,11 +6,11 @@
 //! line for each heading, and then one for each reference that no definition answers.
 #![tactic(auto)]
 
-use mdast_lines::check::run_check;
-use mdast_lines::document::{arguments, document};
-use mdast_lines::program::Program;
-use mdast_lines::request::{DocumentError, Request};
-use mdast_lines::run::{run, say};
+use mdast_programs::check::run_check;
+use mdast_programs::document::{arguments, document};
+use mdast_programs::program::Program;
+use mdast_programs::request::{DocumentError, Request};
+use mdast_programs::run::{run, say};
 use std::io::{self, Write};
 use std::process::ExitCode;
 

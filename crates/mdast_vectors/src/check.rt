@@ -5,7 +5,7 @@ use crate::expect::{holds_in, same};
 use markdown_nodes::mdast;
 use markdown_nodes::mdast::{Node, ReferenceKind};
 use mdast_check::outline::headings;
-use mdast_check::references::open_references;
+use mdast_check::references::{Open, open_references};
 use std::alloc::{AllocError, Global};
 use std::process::Abort;
 use std::test::Fail;
@@ -130,27 +130,44 @@ fn identifiers_in_capitals(rt: HostRuntime) -> Result<(), Fail> {
     )
 }
 
+/// The digits of a number.
+fn digits(alloc: Global, number: u32) -> Result<String, AllocError> {
+    format!(in alloc; "{number}")
+}
+
+/// Links to a hundred identifiers, and definitions of those that are a multiple of three.
+fn hundred(alloc: Global) -> Result<Vec<Node>, AllocError> {
+    let mut nodes = Vec::new(alloc);
+    for number in 0..100 {
+        let identifier = digits(alloc, number)?;
+        nodes.push(link(alloc, identifier.as_str())?)?;
+        if number % 3 == 0 {
+            nodes.push(definition(alloc, identifier.as_str())?)?;
+        }
+    }
+    Ok(nodes)
+}
+
+/// Whether this open reference is to this identifier.
+fn is_to(open: Option<&Open>, identifier: &str) -> bool {
+    match open {
+        Some(open) => open.identifier.as_str() == identifier,
+        None => false,
+    }
+}
+
 /// Which of a hundred identifiers are missing: those that are no multiple of three.
 #[test]
 fn a_hundred_identifiers(rt: HostRuntime) -> Result<(), Fail> {
     let alloc = rt.alloc();
-    let mut nodes = Vec::new(alloc);
-    for number in 0..100 {
-        nodes.push(link(alloc, format!(in alloc; "{number}")?.as_str())?)?;
-        if number % 3 == 0 {
-            nodes.push(definition(alloc, format!(in alloc; "{number}")?.as_str())?)?;
-        }
-    }
-    let tree = root(nodes);
+    let tree = root(hundred(alloc)?);
     let found = open_references(alloc, &tree)?;
     same(&rt, found.len(), 66);
     let mut numbers = found.iter();
     for number in 0..100 {
         if number % 3 != 0 {
-            let open = numbers.next();
-            let want = format!(in alloc; "{number}")?;
-            let is_next = matches!(open, Some(open) if open.identifier == want);
-            holds_in(&rt, is_next, &want);
+            let want = digits(alloc, number)?;
+            holds_in(&rt, is_to(numbers.next(), want.as_str()), want.as_str());
         }
     }
     Ok(())

@@ -132,10 +132,18 @@ fn expect(
     holds(rt, ordered(&tree));
     let copy = tree.clone(alloc)?;
     holds(rt, copy == tree);
+    drop(tree);
     holds(rt, copy != compiled(alloc, b"b", events.as_slice())?);
     let line = line(alloc, outer, level, inner)?;
-    holds(rt, format!(in alloc; "{copy:?}")? == line);
-    holds(rt, copy.to_debug_string(alloc)? == line);
+    printed(rt, alloc, &copy, line.as_str())
+}
+
+/// A tree is printed so, by Debug and as a text. A difference is not shown, for its length.
+fn printed(rt: &impl Abort, alloc: Global, tree: &Node, line: &str) -> Result<(), Fail> {
+    let shown = format!(in alloc; "{tree:?}")?;
+    holds(rt, shown.as_str() == line);
+    let text = tree.to_debug_string(alloc)?;
+    holds(rt, text.as_str() == line);
     Ok(())
 }
 

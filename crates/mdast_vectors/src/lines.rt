@@ -3,14 +3,14 @@
 ghost use Rattle.std.specs.Prelude.{◌<◌};
 
 use crate::expect::{holds, same};
+use character_references::decoder::Decoder;
+use event_lines::lines::events;
 use markdown_nodes::event::{Event, Kind, Name, Point};
 use markdown_tree::to_mdast::References;
-use mdast_lines::check::run_check;
-use mdast_lines::decoder::Decoder;
-use mdast_lines::lines::events;
-use mdast_lines::program::Program;
-use mdast_lines::request::{DocumentError, Request, only};
-use mdast_lines::run::{run, run_json};
+use mdast_programs::check::run_check;
+use mdast_programs::program::Program;
+use mdast_programs::request::{DocumentError, Request, only};
+use mdast_programs::run::{run, run_json};
 use std::alloc::{AllocError, Global};
 use std::io::{self, ErrorKind, Read, Write};
 use std::process::Abort;
@@ -304,6 +304,32 @@ fn point(line: usize, column: usize, index: usize, vs: usize) -> Point {
     }
 }
 
+/// Two events at one point.
+fn events_at(point: Point) -> [Event; 2] {
+    [
+        Event {
+            kind: Kind::Enter,
+            name: Name::Data,
+            point,
+        },
+        Event {
+            kind: Kind::Exit,
+            name: Name::CharacterReferenceMarkerHexadecimal,
+            point,
+        },
+    ]
+}
+
+/// Puts the lines of these events at the end of a text, with this text of their point.
+fn say_twice(text: &mut String, point: &str) -> Result<(), AllocError> {
+    text.push_str("+Data ")?;
+    text.push_str(point)?;
+    text.push_str("\n-CharacterReferenceMarkerHexadecimal ")?;
+    text.push_str(point)?;
+    text.push_str("\n")?;
+    Ok(())
+}
+
 /// A point that is said again is the same, however long its text is, and another one is read.
 #[test]
 fn reads_points_that_are_said_again(rt: HostRuntime) -> Result<(), Fail> {
@@ -330,21 +356,8 @@ fn reads_points_that_are_said_again(rt: HostRuntime) -> Result<(), Fail> {
     let mut text = String::new(rt.alloc());
     let mut wanted = Vec::new(rt.alloc());
     for (said, point) in points {
-        text.push_str("+Data ")?;
-        text.push_str(said)?;
-        text.push_str("\n-CharacterReferenceMarkerHexadecimal ")?;
-        text.push_str(said)?;
-        text.push_str("\n")?;
-        wanted.push(Event {
-            kind: Kind::Enter,
-            name: Name::Data,
-            point,
-        })?;
-        wanted.push(Event {
-            kind: Kind::Exit,
-            name: Name::CharacterReferenceMarkerHexadecimal,
-            point,
-        })?;
+        say_twice(&mut text, said)?;
+        wanted.extend_from_slice(&events_at(point))?;
     }
     let read = events(rt.alloc(), text.as_bytes())?;
     same(&rt, read.as_slice(), wanted.as_slice());

@@ -1,11 +1,11 @@
 //! Events of spans in one line, mostly where it does not matter at which point they stand, and what
 //! is compiled of events.
 
+use character_references::decoder::Decoder;
 use markdown_nodes::event::{Event, Kind, Name, Point};
 use markdown_nodes::mdast::Node;
 use markdown_nodes::message::Fault;
 use markdown_tree::to_mdast::compile;
-use mdast_lines::decoder::Decoder;
 use std::alloc::{AllocError, Global};
 
 /// What `compile` gives for events over a document, with the decoder of the program.

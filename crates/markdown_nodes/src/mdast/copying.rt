@@ -2,6 +2,7 @@
 
 ghost use Rattle.std.specs.Prelude.{◌≡◌, IfOk, option_map, string_bytes};
 ghost use Rattle.markdown_nodes.specs.Access.{nodes_in};
+ghost use Rattle.markdown_nodes.specs.declared.mdast.Node.TheVariants as nodes;
 ghost use Rattle.markdown_nodes.specs.View.{view, views};
 
 use crate::mdast::{
@@ -21,7 +22,7 @@ struct Frame<'a> {
 }
 
 /// A copy of a text that may be there.
-fn copy_text(text: &Option<String>) -> Result<Option<String>, AllocError>
+fn copy_optional(text: &Option<String>) -> Result<Option<String>, AllocError>
     ensures { IfOk result (λ copy. option_map string_bytes copy ≡ option_map string_bytes text.now) }
 {
     match text {
@@ -55,12 +56,7 @@ fn remake(node: &Node, children: Vec<Node>) -> Result<Node, AllocError>
             children,
             position: node.position,
         })),
-        Node::FootnoteDefinition(node) => Ok(Node::FootnoteDefinition(FootnoteDefinition {
-            children,
-            position: node.position,
-            identifier: node.identifier.clone()?,
-            label: copy_text(&node.label)?,
-        })),
+        Node::FootnoteDefinition(node) => copy_footnote_definition(node, children),
         Node::List(node) => Ok(Node::List(List {
             children,
             position: node.position,
@@ -68,25 +64,13 @@ fn remake(node: &Node, children: Vec<Node>) -> Result<Node, AllocError>
             start: node.start,
             spread: node.spread,
         })),
-        Node::Toml(node) => Ok(Node::Toml(Toml {
-            value: node.value.clone()?,
-            position: node.position,
-        })),
-        Node::Yaml(node) => Ok(Node::Yaml(Yaml {
-            value: node.value.clone()?,
-            position: node.position,
-        })),
+        Node::Toml(node) => copy_toml(node),
+        Node::Yaml(node) => copy_yaml(node),
         Node::Break(node) => Ok(Node::Break(Break {
             position: node.position,
         })),
-        Node::InlineCode(node) => Ok(Node::InlineCode(InlineCode {
-            value: node.value.clone()?,
-            position: node.position,
-        })),
-        Node::InlineMath(node) => Ok(Node::InlineMath(InlineMath {
-            value: node.value.clone()?,
-            position: node.position,
-        })),
+        Node::InlineCode(node) => copy_inline_code(node),
+        Node::InlineMath(node) => copy_inline_math(node),
         Node::Delete(node) => Ok(Node::Delete(Delete {
             children,
             position: node.position,
@@ -95,70 +79,25 @@ fn remake(node: &Node, children: Vec<Node>) -> Result<Node, AllocError>
             children,
             position: node.position,
         })),
-        Node::FootnoteReference(node) => Ok(Node::FootnoteReference(FootnoteReference {
-            position: node.position,
-            identifier: node.identifier.clone()?,
-            label: copy_text(&node.label)?,
-        })),
-        Node::Html(node) => Ok(Node::Html(Html {
-            value: node.value.clone()?,
-            position: node.position,
-        })),
-        Node::Image(node) => Ok(Node::Image(Image {
-            position: node.position,
-            alt: node.alt.clone()?,
-            url: node.url.clone()?,
-            title: copy_text(&node.title)?,
-        })),
-        Node::ImageReference(node) => Ok(Node::ImageReference(ImageReference {
-            position: node.position,
-            alt: node.alt.clone()?,
-            reference_kind: node.reference_kind,
-            identifier: node.identifier.clone()?,
-            label: copy_text(&node.label)?,
-        })),
-        Node::Link(node) => Ok(Node::Link(Link {
-            children,
-            position: node.position,
-            url: node.url.clone()?,
-            title: copy_text(&node.title)?,
-        })),
-        Node::LinkReference(node) => Ok(Node::LinkReference(LinkReference {
-            children,
-            position: node.position,
-            reference_kind: node.reference_kind,
-            identifier: node.identifier.clone()?,
-            label: copy_text(&node.label)?,
-        })),
+        Node::FootnoteReference(node) => copy_footnote_reference(node),
+        Node::Html(node) => copy_html(node),
+        Node::Image(node) => copy_image(node),
+        Node::ImageReference(node) => copy_image_reference(node),
+        Node::Link(node) => copy_link(node, children),
+        Node::LinkReference(node) => copy_link_reference(node, children),
         Node::Strong(node) => Ok(Node::Strong(Strong {
             children,
             position: node.position,
         })),
-        Node::Text(node) => Ok(Node::Text(Text {
-            value: node.value.clone()?,
-            position: node.position,
-        })),
-        Node::Code(node) => Ok(Node::Code(Code {
-            value: node.value.clone()?,
-            position: node.position,
-            lang: copy_text(&node.lang)?,
-            meta: copy_text(&node.meta)?,
-        })),
-        Node::Math(node) => Ok(Node::Math(Math {
-            value: node.value.clone()?,
-            position: node.position,
-            meta: copy_text(&node.meta)?,
-        })),
+        Node::Text(node) => copy_text(node),
+        Node::Code(node) => copy_code(node),
+        Node::Math(node) => copy_math(node),
         Node::Heading(node) => Ok(Node::Heading(Heading {
             children,
             position: node.position,
             depth: node.depth,
         })),
-        Node::Table(node) => Ok(Node::Table(Table {
-            children,
-            position: node.position,
-            align: copy_align(&node.align)?,
-        })),
+        Node::Table(node) => copy_table(node, children),
         Node::ThematicBreak(node) => Ok(Node::ThematicBreak(ThematicBreak {
             position: node.position,
         })),
@@ -176,18 +115,211 @@ fn remake(node: &Node, children: Vec<Node>) -> Result<Node, AllocError>
             spread: node.spread,
             checked: node.checked,
         })),
-        Node::Definition(node) => Ok(Node::Definition(Definition {
-            position: node.position,
-            url: node.url.clone()?,
-            title: copy_text(&node.title)?,
-            identifier: node.identifier.clone()?,
-            label: copy_text(&node.label)?,
-        })),
+        Node::Definition(node) => copy_definition(node),
         Node::Paragraph(node) => Ok(Node::Paragraph(Paragraph {
             children,
             position: node.position,
         })),
     }
+}
+
+/// A copy of a FootnoteDefinition with these children.
+fn copy_footnote_definition(
+    node: &FootnoteDefinition,
+    children: Vec<Node>,
+) -> Result<Node, AllocError>
+    ensures { views children.items ≡ views (nodes_in (nodes.FootnoteDefinition node.now))
+        → IfOk result (λ copy. view copy ≡ view (nodes.FootnoteDefinition node.now)) }
+{
+    Ok(Node::FootnoteDefinition(FootnoteDefinition {
+        children,
+        position: node.position,
+        identifier: node.identifier.clone()?,
+        label: copy_optional(&node.label)?,
+    }))
+}
+
+/// A copy of a Toml.
+#[tactic(auto, using(crate::proofs::Views::tree_rules))]
+fn copy_toml(node: &Toml) -> Result<Node, AllocError>
+    ensures { IfOk result (λ copy. view copy ≡ view (nodes.Toml node.now)) }
+{
+    Ok(Node::Toml(Toml {
+        value: node.value.clone()?,
+        position: node.position,
+    }))
+}
+
+/// A copy of a Yaml.
+#[tactic(auto, using(crate::proofs::Views::tree_rules))]
+fn copy_yaml(node: &Yaml) -> Result<Node, AllocError>
+    ensures { IfOk result (λ copy. view copy ≡ view (nodes.Yaml node.now)) }
+{
+    Ok(Node::Yaml(Yaml {
+        value: node.value.clone()?,
+        position: node.position,
+    }))
+}
+
+/// A copy of an InlineCode.
+#[tactic(auto, using(crate::proofs::Views::tree_rules))]
+fn copy_inline_code(node: &InlineCode) -> Result<Node, AllocError>
+    ensures { IfOk result (λ copy. view copy ≡ view (nodes.InlineCode node.now)) }
+{
+    Ok(Node::InlineCode(InlineCode {
+        value: node.value.clone()?,
+        position: node.position,
+    }))
+}
+
+/// A copy of an InlineMath.
+#[tactic(auto, using(crate::proofs::Views::tree_rules))]
+fn copy_inline_math(node: &InlineMath) -> Result<Node, AllocError>
+    ensures { IfOk result (λ copy. view copy ≡ view (nodes.InlineMath node.now)) }
+{
+    Ok(Node::InlineMath(InlineMath {
+        value: node.value.clone()?,
+        position: node.position,
+    }))
+}
+
+/// A copy of a FootnoteReference.
+#[tactic(auto, using(crate::proofs::Views::tree_rules))]
+fn copy_footnote_reference(node: &FootnoteReference) -> Result<Node, AllocError>
+    ensures { IfOk result (λ copy. view copy ≡ view (nodes.FootnoteReference node.now)) }
+{
+    Ok(Node::FootnoteReference(FootnoteReference {
+        position: node.position,
+        identifier: node.identifier.clone()?,
+        label: copy_optional(&node.label)?,
+    }))
+}
+
+/// A copy of a Html.
+#[tactic(auto, using(crate::proofs::Views::tree_rules))]
+fn copy_html(node: &Html) -> Result<Node, AllocError>
+    ensures { IfOk result (λ copy. view copy ≡ view (nodes.Html node.now)) }
+{
+    Ok(Node::Html(Html {
+        value: node.value.clone()?,
+        position: node.position,
+    }))
+}
+
+/// A copy of an Image.
+#[tactic(auto, using(crate::proofs::Views::tree_rules))]
+fn copy_image(node: &Image) -> Result<Node, AllocError>
+    ensures { IfOk result (λ copy. view copy ≡ view (nodes.Image node.now)) }
+{
+    Ok(Node::Image(Image {
+        position: node.position,
+        alt: node.alt.clone()?,
+        url: node.url.clone()?,
+        title: copy_optional(&node.title)?,
+    }))
+}
+
+/// A copy of an ImageReference.
+#[tactic(auto, using(crate::proofs::Views::tree_rules))]
+fn copy_image_reference(node: &ImageReference) -> Result<Node, AllocError>
+    ensures { IfOk result (λ copy. view copy ≡ view (nodes.ImageReference node.now)) }
+{
+    Ok(Node::ImageReference(ImageReference {
+        position: node.position,
+        alt: node.alt.clone()?,
+        reference_kind: node.reference_kind,
+        identifier: node.identifier.clone()?,
+        label: copy_optional(&node.label)?,
+    }))
+}
+
+/// A copy of a Link with these children.
+fn copy_link(node: &Link, children: Vec<Node>) -> Result<Node, AllocError>
+    ensures { views children.items ≡ views (nodes_in (nodes.Link node.now))
+        → IfOk result (λ copy. view copy ≡ view (nodes.Link node.now)) }
+{
+    Ok(Node::Link(Link {
+        children,
+        position: node.position,
+        url: node.url.clone()?,
+        title: copy_optional(&node.title)?,
+    }))
+}
+
+/// A copy of a LinkReference with these children.
+fn copy_link_reference(node: &LinkReference, children: Vec<Node>) -> Result<Node, AllocError>
+    ensures { views children.items ≡ views (nodes_in (nodes.LinkReference node.now))
+        → IfOk result (λ copy. view copy ≡ view (nodes.LinkReference node.now)) }
+{
+    Ok(Node::LinkReference(LinkReference {
+        children,
+        position: node.position,
+        reference_kind: node.reference_kind,
+        identifier: node.identifier.clone()?,
+        label: copy_optional(&node.label)?,
+    }))
+}
+
+/// A copy of a Text.
+#[tactic(auto, using(crate::proofs::Views::tree_rules))]
+fn copy_text(node: &Text) -> Result<Node, AllocError>
+    ensures { IfOk result (λ copy. view copy ≡ view (nodes.Text node.now)) }
+{
+    Ok(Node::Text(Text {
+        value: node.value.clone()?,
+        position: node.position,
+    }))
+}
+
+/// A copy of a Code.
+#[tactic(auto, using(crate::proofs::Views::tree_rules))]
+fn copy_code(node: &Code) -> Result<Node, AllocError>
+    ensures { IfOk result (λ copy. view copy ≡ view (nodes.Code node.now)) }
+{
+    Ok(Node::Code(Code {
+        value: node.value.clone()?,
+        position: node.position,
+        lang: copy_optional(&node.lang)?,
+        meta: copy_optional(&node.meta)?,
+    }))
+}
+
+/// A copy of a Math.
+#[tactic(auto, using(crate::proofs::Views::tree_rules))]
+fn copy_math(node: &Math) -> Result<Node, AllocError>
+    ensures { IfOk result (λ copy. view copy ≡ view (nodes.Math node.now)) }
+{
+    Ok(Node::Math(Math {
+        value: node.value.clone()?,
+        position: node.position,
+        meta: copy_optional(&node.meta)?,
+    }))
+}
+
+/// A copy of a Table with these children.
+fn copy_table(node: &Table, children: Vec<Node>) -> Result<Node, AllocError>
+    ensures { views children.items ≡ views (nodes_in (nodes.Table node.now))
+        → IfOk result (λ copy. view copy ≡ view (nodes.Table node.now)) }
+{
+    Ok(Node::Table(Table {
+        children,
+        position: node.position,
+        align: copy_align(&node.align)?,
+    }))
+}
+
+/// A copy of a Definition.
+#[tactic(auto, using(crate::proofs::Views::tree_rules))]
+fn copy_definition(node: &Definition) -> Result<Node, AllocError>
+    ensures { IfOk result (λ copy. view copy ≡ view (nodes.Definition node.now)) }
+{
+    Ok(Node::Definition(Definition {
+        position: node.position,
+        url: node.url.clone()?,
+        title: copy_optional(&node.title)?,
+        identifier: node.identifier.clone()?,
+        label: copy_optional(&node.label)?,
+    }))
 }
 
 /// A copy of a node with all that is in it.

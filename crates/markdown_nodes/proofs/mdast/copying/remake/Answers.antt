@@ -1,4 +1,4 @@
-use Rattle.markdown_nodes.proofs.Copying.{like-Root, like-Blockquote, like-FootnoteDefinition, like-List, like-Delete, like-Emphasis, like-Link, like-LinkReference, like-Strong, like-Heading, like-Table, like-TableRow, like-TableCell, like-ListItem, like-Paragraph}
+use Rattle.markdown_nodes.proofs.Copying.{like-Root, like-Blockquote, like-List, like-Delete, like-Emphasis, like-Strong, like-Heading, like-TableRow, like-TableCell, like-ListItem, like-Paragraph}
 use Rattle.markdown_nodes.proofs.mdast.copying.remake.Goals as goal
 
 pub returns-in-Root : goal.returns-in-Root
@@ -6,9 +6,6 @@ returns-in-Root c = λ like. like-Root c.args.node.now c.in-Root.node c.args.chi
 
 pub returns-in-Blockquote : goal.returns-in-Blockquote
 returns-in-Blockquote c = λ like. like-Blockquote c.args.node.now c.in-Blockquote.node c.args.children c.in-Blockquote.is like
-
-pub returns-in_ok-copy_text-in-FootnoteDefinition : goal.returns-in_ok-copy_text-in-FootnoteDefinition
-returns-in_ok-copy_text-in-FootnoteDefinition c = λ like. like-FootnoteDefinition c.args.node.now c.in-FootnoteDefinition.node c.args.children c.in_ok-clone-in-FootnoteDefinition.field-0 c.in_ok-copy_text-in-FootnoteDefinition.field-0 c.in-FootnoteDefinition.is like c.in_ok-clone-in-FootnoteDefinition.ensures.cases c.in_ok-copy_text-in-FootnoteDefinition.ensures
 
 pub returns-in-List : goal.returns-in-List
 returns-in-List c = λ like. like-List c.args.node.now c.in-List.node c.args.children c.in-List.is like
@@ -19,20 +16,11 @@ returns-in-Delete c = λ like. like-Delete c.args.node.now c.in-Delete.node c.ar
 pub returns-in-Emphasis : goal.returns-in-Emphasis
 returns-in-Emphasis c = λ like. like-Emphasis c.args.node.now c.in-Emphasis.node c.args.children c.in-Emphasis.is like
 
-pub returns-in_ok-copy_text-in-Link : goal.returns-in_ok-copy_text-in-Link
-returns-in_ok-copy_text-in-Link c = λ like. like-Link c.args.node.now c.in-Link.node c.args.children c.in_ok-clone-in-Link.field-0 c.in_ok-copy_text-in-Link.field-0 c.in-Link.is like c.in_ok-clone-in-Link.ensures.cases c.in_ok-copy_text-in-Link.ensures
-
-pub returns-in_ok-copy_text-in-LinkReference : goal.returns-in_ok-copy_text-in-LinkReference
-returns-in_ok-copy_text-in-LinkReference c = λ like. like-LinkReference c.args.node.now c.in-LinkReference.node c.args.children c.in_ok-clone-in-LinkReference.field-0 c.in_ok-copy_text-in-LinkReference.field-0 c.in-LinkReference.is like c.in_ok-clone-in-LinkReference.ensures.cases c.in_ok-copy_text-in-LinkReference.ensures
-
 pub returns-in-Strong : goal.returns-in-Strong
 returns-in-Strong c = λ like. like-Strong c.args.node.now c.in-Strong.node c.args.children c.in-Strong.is like
 
 pub returns-in-Heading : goal.returns-in-Heading
 returns-in-Heading c = λ like. like-Heading c.args.node.now c.in-Heading.node c.args.children c.in-Heading.is like
-
-pub returns-in_ok-copy_align-in-Table : goal.returns-in_ok-copy_align-in-Table
-returns-in_ok-copy_align-in-Table c = λ like. like-Table c.args.node.now c.in-Table.node c.args.children c.in_ok-copy_align-in-Table.field-0 c.in-Table.is like c.in_ok-copy_align-in-Table.ensures
 
 pub returns-in-TableRow : goal.returns-in-TableRow
 returns-in-TableRow c = λ like. like-TableRow c.args.node.now c.in-TableRow.node c.args.children c.in-TableRow.is like

@@ -1,0 +1,108 @@
+//! What the program knows of character references.
+
+ghost use Rattle.std.specs.Prelude.{◌≡◌, ◌^◌, ◌≤◌, Some, IfOk, string_bytes};
+ghost use Rattle.std.specs.Char.{encode_utf8};
+ghost use Rattle.character_references.specs.Decoder.{
+  decoded,
+  character_of,
+  named_character,
+  numbered_character,
+  number_of,
+  valid_character,
+};
+
+use crate::references::References;
+use std::alloc::{AllocError, Global};
+
+/// The decoder of the program. It knows the names `amp`, `lt`, `gt` and `quot`, and numbers of up to
+/// seven decimal or six hexadecimal digits.
+#[derive(Clone, Copy, PartialEq, Eq, Debug)]
+pub struct Decoder;
+
+impl References for Decoder {
+    ghost text = { λ _ value marker. decoded value marker };
+
+    #[tactic(auto, unfolding(crate::specs::Decoder::decoded))]
+    fn decode(&self, alloc: Global, value: &str, marker: u8) -> Result<Option<String>, AllocError> {
+        match character(value, marker) {
+            Some(character) => {
+                let text = text(alloc, character)?;
+                Ok(Some(text))
+            }
+            None => Ok(None),
+        }
+    }
+}
+
+/// A text of one character.
+fn text(alloc: Global, character: char) -> Result<String, AllocError>
+    ensures { IfOk result (λ text. string_bytes text ≡ encode_utf8 character) }
+{
+    let mut text = String::new(alloc);
+    text.push(character)?;
+    Ok(text)
+}
+
+/// The character of a value: of a name after `&`, of decimal digits after `#`, of hexadecimal ones
+/// after `x`.
+#[tactic(auto, unfolding(crate::specs::Decoder::character_of))]
+fn character(value: &str, marker: u8) -> Option<char>
+    ensures { result ≡ character_of value.now marker }
+{
+    match marker {
+        b'&' => named(value),
+        b'#' => numbered(value, 10, 7),
+        b'x' => numbered(value, 16, 6),
+        _ => None,
+    }
+}
+
+/// The character of a name.
+#[tactic(auto, unfolding(crate::specs::Decoder::named_character))]
+fn named(name: &str) -> Option<char>
+    ensures { result ≡ named_character name.now }
+{
+    match name {
+        "amp" => Some('&'),
+        "lt" => Some('<'),
+        "gt" => Some('>'),
+        "quot" => Some('"'),
+        _ => None,
+    }
+}
+
+/// The character of the number that one to so many digits write.
+#[tactic(auto, unfolding(crate::specs::Decoder::numbered_character))]
+fn numbered(digits: &str, radix: u32, most: usize) -> Option<char>
+    requires from { 2 ≤ radix }
+    requires to { radix ≤ 36 }
+    requires fits { radix ^ most ≤ 2 ^ 32 }
+    ensures { result ≡ numbered_character radix most digits.now }
+{
+    let number = number(digits, radix, most)?;
+    Some(valid(number))
+}
+
+/// The number that one to so many digits write, with no sign before them.
+fn number(digits: &str, radix: u32, most: usize) -> Option<u32>
+    requires from { 2 ≤ radix }
+    requires to { radix ≤ 36 }
+    requires fits { radix ^ most ≤ 2 ^ 32 }
+    ensures { result ≡ number_of radix most digits.now }
+{
+    if digits.len() > most || digits.starts_with('+') {
+        return None;
+    }
+    u32::from_str_radix(digits, radix).ok()
+}
+
+/// The character of a number: U+FFFD for 0, and where no character has the number.
+#[tactic(auto, unfolding(crate::specs::Decoder::valid_character))]
+fn valid(number: u32) -> char
+    ensures { result ≡ valid_character number }
+{
+    match char::from_u32(number) {
+        Some(character) if character != '\0' => character,
+        _ => char::REPLACEMENT_CHARACTER,
+    }
+}

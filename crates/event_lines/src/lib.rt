@@ -1,0 +1,6 @@
+//! Event lines: the events of a tokenizer as a text, a line for each, and the reader of that text.
+#![tactic(auto)]
+
+pub mod lines;
+mod point;
+mod search;

@@ -1,0 +1,2 @@
+mod RunLemmas
+pub mod CheckLemmas

@@ -1,0 +1,33 @@
+-- What a run with status 0 wrote.
+use Rattle.std.proofs.Common.{◌≡◌, ℕ, List, Option, inl, inr, sym, subst, ◌∙◌}
+use Rattle.std.specs.Prelude.{IfSome, IsSomeAnd, ◌⊎◌}
+use Rattle.std.specs.Io.KnownBytes.{Appends}
+use Rattle.markdown_nodes.specs.View.{view}
+use Rattle.markdown_nodes.specs.declared.mdast.Node.{Node}
+use Rattle.markdown_grammar.specs.Correct.{IsMeaning}
+use Rattle.event_lines.specs.Lines.{lines}
+use Rattle.mdast_programs.specs.Run.{IsAnswer, IsLineOf, Prints, json_line, over, status_of}
+use Rattle.mdast_programs.specs.declared.program.Program.{Program}
+use Rattle.mdast_programs.specs.declared.program.Program.TheVariants.{Json}
+use Rattle.mdast_programs.specs.declared.run.Answer.{Answer}
+use Rattle.mdast_programs.specs.declared.run.Answer.TheVariants as answers
+
+-- an answer with status 0 is a tree, whose line is written
+pub tree_written : (program : Program) (a : Answer) (known left old new : Option (List ℕ)) (doc line : List ℕ)
+    → status_of a ≡ 0 → IsAnswer a known left doc → Prints program a line → Appends old new line
+    → (tree : Node) × IfSome known (λ all. IsSomeAnd (lines all) (λ events. IsMeaning tree events (over doc))) × ((line : List ℕ) × IsLineOf program (view tree) line × Appends old new line)
+tree_written program (answers.Tree tree) known left old new doc line zero is prints appends = (tree, is.1, (line, prints, appends))
+tree_written program (answers.Refused message) known left old new doc line zero is prints appends = let z : ⊥ = cc in absurd z
+tree_written program (answers.UnreadLine number) known left old new doc line zero is prints appends = let z : ⊥ = cc in absurd z
+tree_written program answers.UnreadEvents known left old new doc line zero is prints appends = let z : ⊥ = cc in absurd z
+
+-- a status 0 that was written is that of the answer
+pub status_kept : (result status : ℕ) (a : Answer) → status ≡ status_of a → (result ≡ status) ⊎ (result ≡ 2) → result ≡ 0 → status_of a ≡ 0
+status_kept result status a is (inl e) zero = sym is ∙ sym e ∙ zero
+status_kept result status a is (inr e) zero = let two : 2 ≡ 0 = sym e ∙ zero in absurd cc
+
+-- a line that is a tree as JSON is what was written
+pub json_written : (known old new : Option (List ℕ)) (doc : List ℕ)
+    → (tree : Node) × IfSome known (λ all. IsSomeAnd (lines all) (λ events. IsMeaning tree events (over doc))) × ((line : List ℕ) × IsLineOf Json (view tree) line × Appends old new line)
+    → (tree : Node) × IfSome known (λ all. IsSomeAnd (lines all) (λ events. IsMeaning tree events (over doc))) × Appends old new (json_line (view tree))
+json_written known old new doc (tree, is, (line, same, wrote)) = (tree, is, subst (λ (text : List ℕ). Appends old new text) same wrote)

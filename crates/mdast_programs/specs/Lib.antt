@@ -1,0 +1,4 @@
+pub mod Programs
+pub mod Requests
+pub mod Run
+pub mod Check

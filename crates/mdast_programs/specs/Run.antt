@@ -1,0 +1,96 @@
+-- What a run says.
+use Rattle.std.specs.Prelude.{◌≡◌, ℕ, Bool, List, [], ◌++◌, Option, Some, None, IfSome, IsSomeAnd, codes, ⊤}
+use Rattle.std.specs.Fmt.{decimal}
+use Rattle.std.specs.Io.KnownBytes.{IsAtEnd}
+use Rattle.markdown_events.specs.declared.event.Event.{Event}
+use Rattle.markdown_events.specs.declared.message.Message.{Message}
+use Rattle.markdown_events.specs.declared.message.Place.{Place}
+use Rattle.markdown_events.specs.declared.message.Place.TheVariants as places
+use Rattle.markdown_events.specs.declared.unist.Point.{Point}
+use Rattle.markdown_events.specs.Places.{point_text}
+use Rattle.markdown_nodes.specs.declared.mdast.Node.{Node}
+use Rattle.markdown_nodes.specs.Shown.{shown}
+use Rattle.markdown_nodes.specs.Tree.{Tree}
+use Rattle.markdown_nodes.specs.View.{view}
+use Rattle.markdown_grammar.specs.Correct.{IsMeaning, Refuses}
+use Rattle.markdown_grammar.specs.Document.{Source, source}
+use Rattle.mdast_programs.specs.declared.run.Answer.{Answer}
+use Rattle.mdast_programs.specs.declared.run.Answer.TheVariants as answers
+use Rattle.character_references.specs.Decoder.{decoded}
+use Rattle.event_lines.specs.Lines.{lines, IsFirstUnread}
+use Rattle.mdast_programs.specs.Programs.{program_name}
+use Rattle.mdast_programs.specs.declared.program.Program.{Program}
+use Rattle.mdast_programs.specs.declared.program.Program.TheVariants.{Show, Json}
+use Rattle.markdown_json.specs.Json.{json}
+
+-- the document, with what the program's decoder knows
+abbrev pub over : List ℕ → Source
+over doc = source doc decoded
+
+-- what an answer of the compiler says of events
+abbrev pub IsCompiled : Answer → List Event → List ℕ → Type 0
+IsCompiled (answers.Tree tree) events doc = IsMeaning tree events (over doc)
+IsCompiled (answers.Refused message) events doc = Refuses message events (over doc)
+IsCompiled (answers.UnreadLine number) events doc = ⊥
+IsCompiled answers.UnreadEvents events doc = ⊥
+
+-- a tree is the meaning of the list that known bytes stand for
+abbrev pub Means : Option (List ℕ) → List ℕ → Node → Type 0
+Means known doc tree = IfSome known (λ all. IsSomeAnd (lines all) (λ events. IsMeaning tree events (over doc)))
+
+-- what an answer says of an input with these known bytes, of which these are left
+abbrev pub IsAnswer : Answer → Option (List ℕ) → Option (List ℕ) → List ℕ → Type 0
+IsAnswer (answers.Tree tree) known left doc = IsAtEnd left × Means known doc tree
+IsAnswer (answers.Refused message) known left doc = IsAtEnd left × IfSome known (λ all. IsSomeAnd (lines all) (λ events. Refuses message events (over doc)))
+IsAnswer (answers.UnreadLine number) known left doc = IsAtEnd left × IfSome known (IsFirstUnread number)
+IsAnswer answers.UnreadEvents known left doc = ⊤
+
+-- ---- The lines that are written
+
+-- the point of a message: where its span begins, if it has one
+abbrev pub point_of_place : Option Place → Option Point
+point_of_place None = None
+point_of_place (Some (places.Point point)) = Some point
+point_of_place (Some (places.Position position)) = Some position.start
+
+-- `line:column (offset): `
+abbrev pub place_text : Option Point → List ℕ
+place_text None = []
+place_text (Some point) = point_text point ++ codes ": "
+
+-- `line:column (offset): reason (rule_id)`, and a line feed
+abbrev pub message_line : Message → List ℕ
+message_line m = place_text (point_of_place m.place) ++ m.reason.now ++ codes " (" ++ m.rule_id.now ++ codes ")\n"
+
+-- the list that known bytes stand for is refused, and the line of a message that says why is one that `Said` holds of
+abbrev pub IsRefusedWith : Option (List ℕ) → List ℕ → (List ℕ → Type 0) → Type 0
+IsRefusedWith known doc Said =
+    IfSome known (λ all. IsSomeAnd (lines all) (λ events.
+    (message : Message) × Refuses message events (over doc) × Said (message_line message)))
+
+-- a tree as Debug prints it, and a line feed; which characters beyond ASCII stand as their Unicode escape is left open
+abbrev pub IsTreeLine : Tree → List ℕ → Type 0
+IsTreeLine tree text = (escapes : ℕ → Bool) × (text ≡ shown escapes tree ++ codes "\n")
+
+-- a tree as JSON, and a line feed
+abbrev pub json_line : Tree → List ℕ
+json_line tree = json tree ++ codes "\n"
+
+-- the line of a tree, by the program
+abbrev pub IsLineOf : Program → Tree → List ℕ → Type 0
+IsLineOf Show tree text = IsTreeLine tree text
+IsLineOf Json tree text = text ≡ json_line tree
+
+-- the line of an answer
+abbrev pub Prints : Program → Answer → List ℕ → Type 0
+Prints program (answers.Tree tree) text = IsLineOf program (view tree) text
+Prints program (answers.Refused message) text = text ≡ message_line message
+Prints program (answers.UnreadLine number) text = text ≡ program_name program ++ codes ": event line " ++ decimal number ++ codes " cannot be read\n"
+Prints program answers.UnreadEvents text = text ≡ program_name program ++ codes ": cannot read the events\n"
+
+-- the exit status of an answer
+abbrev pub status_of : Answer → ℕ
+status_of (answers.Tree tree) = 0
+status_of (answers.Refused message) = 1
+status_of (answers.UnreadLine number) = 2
+status_of answers.UnreadEvents = 2

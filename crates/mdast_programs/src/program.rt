@@ -1,0 +1,55 @@
+//! The programs that print what a document and its event lines stand for.
+
+ghost use Rattle.std.specs.Prelude.{◌≡◌};
+ghost use Rattle.mdast_programs.specs.Programs.{memory_line, program_name, unreadable_line, usage_line};
+
+/// A program that reads a document and event lines.
+#[derive(Clone, Copy, PartialEq, Eq, Debug)]
+pub enum Program {
+    /// `mdast_show`, which prints the tree as Debug does, or what is found in it.
+    Show,
+    /// `mdast_json`, which prints the tree as JSON.
+    Json,
+}
+
+impl Program {
+    /// The name of the program, with which its messages begin: `mdast_show`.
+    pub fn name(self) -> &'static str
+        ensures { result.now ≡ program_name self }
+    {
+        match self {
+            Program::Show => "mdast_show",
+            Program::Json => "mdast_json",
+        }
+    }
+
+    /// The line for wrong arguments: `usage: mdast_json DOC`.
+    pub fn usage(self) -> &'static str
+        ensures { result.now ≡ usage_line self }
+    {
+        match self {
+            Program::Show => "usage: mdast_show [--check] DOC\n",
+            Program::Json => "usage: mdast_json DOC\n",
+        }
+    }
+
+    /// The line for a document that cannot be read: `mdast_json: cannot read the document`.
+    pub fn unreadable(self) -> &'static str
+        ensures { result.now ≡ unreadable_line self }
+    {
+        match self {
+            Program::Show => "mdast_show: cannot read the document\n",
+            Program::Json => "mdast_json: cannot read the document\n",
+        }
+    }
+
+    /// The line for want of memory, which takes none: `mdast_json: out of memory`.
+    pub fn out_of_memory(self) -> &'static str
+        ensures { result.now ≡ memory_line self }
+    {
+        match self {
+            Program::Show => "mdast_show: out of memory\n",
+            Program::Json => "mdast_json: out of memory\n",
+        }
+    }
+}

@@ -1,0 +1,251 @@
+//! One run of the program.
+
+ghost use Rattle.std.specs.Prelude.{◌≡◌, ◌≢◌, ◌⊎◌, ◌≤◌, List, ℕ, codes, IfOk, IfSome, IsSomeAnd, string_bytes};
+ghost use Rattle.std.specs.Io.KnownBytes.{IsAtEnd, Appends};
+ghost use Rattle.markdown_nodes.specs.declared.mdast.Node.{Node};
+ghost use Rattle.mdast_programs.specs.Run;
+ghost use Rattle.mdast_programs.specs.Programs.{memory_line};
+ghost use Rattle.mdast_programs.specs.Run.{IsAnswer, IsCompiled, IsLineOf, IsRefusedWith, IsTreeLine, Means, Prints, status_of};
+ghost use Rattle.mdast_programs.specs.declared.program.Program.TheVariants as programs;
+ghost use Rattle.mdast_programs.specs.declared.run.Answer.TheVariants as answers;
+ghost use Rattle.markdown_nodes.specs.View.{view};
+
+use crate::input::{ReadError, read_all};
+use crate::program::Program;
+use character_references::decoder::Decoder;
+use event_lines::lines::{LinesError, events};
+use markdown_json::to_json;
+use markdown_nodes::event::Event;
+use markdown_nodes::mdast::Node;
+use markdown_nodes::message::{Fault, Message, Place};
+use markdown_nodes::unist::Point;
+use markdown_tree::to_mdast::compile;
+use std::alloc::{AllocError, Global};
+use std::io::{Read, Write};
+
+/// What a run comes to, if memory does not run out.
+#[derive(Debug, Drop)]
+pub enum Answer {
+    /// The tree that the events stand for.
+    Tree(Node),
+    /// Why the events stand for no tree.
+    Refused(Message),
+    /// This line of the events, counted from 1, cannot be read.
+    UnreadLine(usize),
+    /// The events cannot be read.
+    UnreadEvents,
+}
+
+impl Answer {
+    /// The exit status of the program.
+    pub fn status(&self) -> u8
+        ensures { result ≡ status_of self.now }
+    {
+        match self {
+            Answer::Tree(_) => 0,
+            Answer::Refused(_) => 1,
+            Answer::UnreadLine(_) | Answer::UnreadEvents => 2,
+        }
+    }
+
+    /// What a program prints.
+    pub fn line(&self, program: Program, alloc: Global) -> Result<String, AllocError>
+        ensures { IfOk result (λ line. Prints program self.now (string_bytes line)) }
+    {
+        match self {
+            Answer::Tree(tree) => tree_line(program, alloc, tree),
+            Answer::Refused(message) => message_line(alloc, message),
+            Answer::UnreadLine(number) => unread_line(program, alloc, *number),
+            Answer::UnreadEvents => {
+                let mut line = String::from_str(alloc, program.name())?;
+                line.push_str(": cannot read the events\n")?;
+                Ok(line)
+            }
+        }
+    }
+}
+
+/// Prints the tree that the events in `input` stand for over the bytes of a document, or what is
+/// wrong, and gives the exit status.
+///
+/// The status is 0 for a tree, 1 where the events are refused, 2 where they cannot be read or the
+/// line cannot be written, and 3 where memory ran out.
+pub fn run<I: Read, O: Write>(alloc: Global, doc: &[u8], input: &mut I, output: &mut O) -> u8
+    ensures bound { result ≤ 3 }
+
+    // The events were read to their end.
+    ensures end { result ≤ 1 → IsAtEnd (I.remaining input.new) }
+
+    // They are events with a tree, and what is written is the line of that tree.
+    ensures tree { result ≡ 0 → (tree : Node) × Means (I.remaining input.old) doc.now tree
+        × ((line : List ℕ) × IsTreeLine (view tree) line × Appends (O.contents output.old) (O.contents output.new) line) }
+
+    // They are events without one, and a message of the compiler is written.
+    ensures refused { result ≡ 1 → IsRefusedWith (I.remaining input.old) doc.now (Appends (O.contents output.old) (O.contents output.new)) }
+
+    // The line says that memory ran out, and nothing else is written.
+    ensures memory { result ≡ 3 → Appends (O.contents output.old) (O.contents output.new) (codes "mdast_show: out of memory\n") }
+{
+    run_as(Program::Show, alloc, doc, input, output)
+}
+
+/// Prints the tree that the events in `input` stand for over the bytes of a document, as JSON, or what
+/// is wrong, and gives the exit status.
+///
+/// The line of a tree is that of [`to_json`](markdown_json::to_json). The statuses, and all other
+/// lines, are those of [`run`], under the name of the program `mdast_json`.
+pub fn run_json<I: Read, O: Write>(alloc: Global, doc: &[u8], input: &mut I, output: &mut O) -> u8
+    ensures bound { result ≤ 3 }
+
+    // The events were read to their end.
+    ensures end { result ≤ 1 → IsAtEnd (I.remaining input.new) }
+
+    // They are events with a tree, and what is written is that tree as JSON, and a line feed.
+    ensures tree { result ≡ 0 → (tree : Node) × Means (I.remaining input.old) doc.now tree
+        × Appends (O.contents output.old) (O.contents output.new) (Run.json_line (view tree)) }
+
+    // They are events without one, and a message of the compiler is written.
+    ensures refused { result ≡ 1 → IsRefusedWith (I.remaining input.old) doc.now (Appends (O.contents output.old) (O.contents output.new)) }
+
+    // The line says that memory ran out, and nothing else is written.
+    ensures memory { result ≡ 3 → Appends (O.contents output.old) (O.contents output.new) (codes "mdast_json: out of memory\n") }
+{
+    run_as(Program::Json, alloc, doc, input, output)
+}
+
+/// One run of a program that prints the tree.
+fn run_as<I: Read, O: Write>(
+    program: Program,
+    alloc: Global,
+    doc: &[u8],
+    input: &mut I,
+    output: &mut O,
+) -> u8
+    ensures bound { result ≤ 3 }
+    ensures end { result ≤ 1 → IsAtEnd (I.remaining input.new) }
+    ensures tree { result ≡ 0 → (tree : Node) × Means (I.remaining input.old) doc.now tree
+        × ((line : List ℕ) × IsLineOf program (view tree) line × Appends (O.contents output.old) (O.contents output.new) line) }
+    ensures refused { result ≡ 1 → IsRefusedWith (I.remaining input.old) doc.now (Appends (O.contents output.old) (O.contents output.new)) }
+    ensures memory { result ≡ 3 → Appends (O.contents output.old) (O.contents output.new) (memory_line program) }
+{
+    let Ok(answer) = answer_to(alloc, doc, input) else {
+        return say(output, program.out_of_memory(), 3);
+    };
+    let status = answer.status();
+    let line = answer.line(program, alloc);
+    drop(answer);
+    match line {
+        Ok(line) => say(output, line.as_str(), status),
+        Err(_) => say(output, program.out_of_memory(), 3),
+    }
+}
+
+/// Writes a line, and gives its exit status, or 2 where the line cannot be written.
+pub fn say<O: Write>(output: &mut O, line: &str, status: u8) -> u8
+    ensures status { (result ≡ status) ⊎ (result ≡ 2) }
+    ensures written { result ≢ 2 → Appends (O.contents output.old) (O.contents output.new) line.now }
+{
+    match output.write_all(line.as_bytes()) {
+        Ok(()) => status,
+        Err(_) => 2,
+    }
+}
+
+/// What the events come to.
+pub fn answer_to<I: Read>(alloc: Global, doc: &[u8], input: &mut I) -> Result<Answer, AllocError>
+    ensures { IfOk result (λ answer. IsAnswer answer (I.remaining input.old) (I.remaining input.new) doc.now) }
+{
+    let text = match read_all(alloc, input) {
+        Ok(text) => text,
+        Err(ReadError::Failed) => return Ok(Answer::UnreadEvents),
+        Err(ReadError::Memory(error)) => return Err(error),
+    };
+    let events = match events(alloc, &text) {
+        Ok(events) => events,
+        Err(LinesError::Unread(number)) => return Ok(Answer::UnreadLine(number)),
+        Err(LinesError::Memory(error)) => return Err(error),
+    };
+    compiled(alloc, &events, doc)
+}
+
+/// What the compiler says of the events.
+fn compiled(alloc: Global, events: &[Event], doc: &[u8]) -> Result<Answer, AllocError>
+    ensures { IfOk result (λ answer. IsCompiled answer events.now doc.now) }
+{
+    match compile(alloc, events, doc, &Decoder) {
+        Ok(tree) => Ok(Answer::Tree(tree)),
+        Err(Fault::Message(message)) => Ok(Answer::Refused(message)),
+        Err(Fault::Memory(error)) => Err(error),
+    }
+}
+
+/// The tree as Debug prints it, or as JSON.
+fn tree_line(program: Program, alloc: Global, tree: &Node) -> Result<String, AllocError>
+    ensures { IfOk result (λ line. IsLineOf program (view tree.now) (string_bytes line)) }
+{
+    match program {
+        Program::Show => debug_line(alloc, tree),
+        Program::Json => json_line(alloc, tree),
+    }
+}
+
+/// The tree as Debug prints it.
+fn debug_line(alloc: Global, tree: &Node) -> Result<String, AllocError>
+    ensures { IfOk result (λ line. IsTreeLine (view tree.now) (string_bytes line)) }
+{
+    let mut line = tree.to_debug_string(alloc)?;
+    line.push_str("\n")?;
+    Ok(line)
+}
+
+/// The tree as JSON.
+fn json_line(alloc: Global, tree: &Node) -> Result<String, AllocError>
+    ensures { IfOk result (λ line. string_bytes line ≡ Run.json_line (view tree.now)) }
+{
+    let mut line = to_json(alloc, tree)?;
+    line.push_str("\n")?;
+    Ok(line)
+}
+
+/// `mdast_show: event line 2 cannot be read`
+fn unread_line(program: Program, alloc: Global, number: usize) -> Result<String, AllocError>
+    ensures { IfOk result (λ line. Prints program (answers.UnreadLine number) (string_bytes line)) }
+{
+    let mut line = String::from_str(alloc, program.name())?;
+    line.push_str(": event line ")?;
+    line.push_str(number.to_string(alloc)?.as_str())?;
+    line.push_str(" cannot be read\n")?;
+    Ok(line)
+}
+
+/// `line:column (offset): reason (rule_id)`
+fn message_line(alloc: Global, message: &Message) -> Result<String, AllocError>
+    ensures { IfOk result (λ line. string_bytes line ≡ Run.message_line message.now) }
+{
+    let mut line = place_text(alloc, message.place)?;
+    line.push_str(message.reason)?;
+    line.push_str(" (")?;
+    line.push_str(message.rule_id)?;
+    line.push_str(")\n")?;
+    Ok(line)
+}
+
+/// `line:column (offset): `
+fn place_text(alloc: Global, place: Option<Place>) -> Result<String, AllocError>
+    ensures { IfOk result (λ text. string_bytes text ≡ Run.place_text (Run.point_of_place place)) }
+{
+    match point_of_place(place) {
+        Some(point) => format!(in alloc; "{point:?}: "),
+        None => Ok(String::new(alloc)),
+    }
+}
+
+/// The point of a message, or where its span begins.
+fn point_of_place(place: Option<Place>) -> Option<Point>
+    ensures { result ≡ Run.point_of_place place }
+{
+    match place? {
+        Place::Point(point) => Some(point),
+        Place::Position(position) => Some(position.start),
+    }
+}
