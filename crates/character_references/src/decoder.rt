@@ -1,6 +1,6 @@
-//! What the program knows of character references.
+//! Decoders of character references: that of the programs, and one that knows nothing.
 
-ghost use Rattle.std.specs.Prelude.{◌≡◌, ◌^◌, ◌≤◌, Some, IfOk, string_bytes};
+ghost use Rattle.std.specs.Prelude.{◌≡◌, ◌^◌, ◌≤◌, None, Some, IfOk, string_bytes};
 ghost use Rattle.std.specs.Char.{encode_utf8};
 ghost use Rattle.character_references.specs.Decoder.{
   decoded,
@@ -14,8 +14,10 @@ ghost use Rattle.character_references.specs.Decoder.{
 use crate::references::References;
 use std::alloc::{AllocError, Global};
 
-/// The decoder of the program. It knows the names `amp`, `lt`, `gt` and `quot`, and numbers of up to
-/// seven decimal or six hexadecimal digits.
+/// The decoder of the programs. It knows the names `amp`, `lt`, `gt` and `quot`, and numbers of up to
+/// seven decimal or six hexadecimal digits, as CommonMark reads them.
+///
+/// `Decoder.decode(alloc, "amp", b'&')` gives `&`.
 #[derive(Clone, Copy, PartialEq, Eq, Debug)]
 pub struct Decoder;
 
@@ -31,6 +33,26 @@ impl References for Decoder {
             }
             None => Ok(None),
         }
+    }
+}
+
+/// The decoder that knows nothing. With it a list of events is refused where it has a character
+/// reference with a value, by `reference-unknown`.
+///
+/// `NoReferences.decode(alloc, "amp", b'&')` gives `None`.
+#[derive(Clone, Copy, PartialEq, Eq, Debug)]
+pub struct NoReferences;
+
+impl References for NoReferences {
+    ghost text = { λ _ _ _. None };
+
+    fn decode(
+        &self,
+        _alloc: Global,
+        _value: &str,
+        _marker: u8,
+    ) -> Result<Option<String>, AllocError> {
+        Ok(None)
     }
 }
 

@@ -9,3 +9,4 @@ pub mod Aligns
 pub mod Cuts
 pub mod LineEndings
 pub mod Collapsing
+mod Decimals

@@ -1,8 +1,10 @@
 //! Points and positions in a document, as unist has them.
 
-ghost use Rattle.std.specs.Prelude.{◌≡◌, Some};
+ghost use Rattle.std.specs.Prelude.{◌≡◌, ◌≤◌, Some, drop};
+ghost use Rattle.std.specs.Str.{IsUtf8};
 ghost use Rattle.markdown_events.specs.Places.{point_text, position_text};
 
+use crate::decimal::{Buffer, ROOM, put, put_decimal, put_pair, text};
 use std::fmt;
 
 /// One place in a document (unist, `Point`). Debug prints it as `1:3 (2)`: line, column and offset.
@@ -37,10 +39,9 @@ impl fmt::Debug for Point {
     ghost debug_output = { λ point. Some (point_text point) };
 
     fn fmt<W: fmt::Write>(&self, f: &mut fmt::Formatter<W>) -> fmt::Result {
-        let line = self.line;
-        let column = self.column;
-        let offset = self.offset;
-        write!(f, "{line}:{column} ({offset})")
+        let mut buffer = [0; ROOM];
+        let start = put_point(&mut buffer, *self);
+        f.write_str(text(&buffer, start))
     }
 }
 
@@ -83,13 +84,37 @@ impl fmt::Debug for Position {
     ghost debug_output = { λ position. Some (position_text position) };
 
     fn fmt<W: fmt::Write>(&self, f: &mut fmt::Formatter<W>) -> fmt::Result {
-        let start_line = self.start.line;
-        let start_column = self.start.column;
-        let start_offset = self.start.offset;
-        let end_line = self.end.line;
-        let end_column = self.end.column;
-        let end_offset = self.end.offset;
-        write!(f, "{start_line}:{start_column}-{end_line}:{end_column}")?;
-        write!(f, " ({start_offset}-{end_offset})")
+        let mut buffer = [0; ROOM];
+        let start = put_position(&mut buffer, *self);
+        f.write_str(text(&buffer, start))
     }
+}
+
+/// Puts the text of a point at the end of a buffer, and gives the index of its first byte.
+fn put_point(buffer: &mut Buffer, point: Point) -> usize
+    ensures within { result ≤ 127 }
+    ensures text { drop result buffer.new ≡ point_text point }
+    ensures utf8 { IsUtf8 (drop result buffer.new) }
+{
+    let end = put(buffer, ROOM, b')');
+    let end = put_decimal(buffer, end, point.offset);
+    let end = put(buffer, end, b'(');
+    let end = put(buffer, end, b' ');
+    put_pair(buffer, end, point.line, b':', point.column)
+}
+
+/// Puts the text of a position at the end of a buffer, and gives the index of its first byte.
+fn put_position(buffer: &mut Buffer, position: Position) -> usize
+    ensures within { result ≤ 127 }
+    ensures text { drop result buffer.new ≡ position_text position }
+    ensures utf8 { IsUtf8 (drop result buffer.new) }
+{
+    let Position { start, end: last } = position;
+    let end = put(buffer, ROOM, b')');
+    let end = put_pair(buffer, end, start.offset, b'-', last.offset);
+    let end = put(buffer, end, b'(');
+    let end = put(buffer, end, b' ');
+    let end = put_pair(buffer, end, last.line, b':', last.column);
+    let end = put(buffer, end, b'-');
+    put_pair(buffer, end, start.line, b':', start.column)
 }

@@ -43,6 +43,7 @@ ghost use Rattle.markdown_json.specs.Json.{
 ghost use Rattle.markdown_json.specs.Strings.{string};
 
 use crate::strings::{push, push_string};
+use markdown_nodes::decimal::push_decimal;
 use markdown_nodes::mdast::{
     AlignKind, Code, Definition, FootnoteDefinition, FootnoteReference, Heading, Image,
     ImageReference, Link, LinkReference, List, ListItem, Math, Node, ReferenceKind, Table,
@@ -148,18 +149,10 @@ fn push_point(out: &mut String, place: Point) -> Result<(), AllocError>
     ensures { OnOk result (string_bytes out.new ≡ string_bytes out.old ++ point place) }
 {
     push(out, "{\"line\":")?;
-    push_digits(out, place.line)?;
+    push_decimal(out, place.line)?;
     push_number(out, "column", place.column)?;
     push_number(out, "offset", place.offset)?;
     push(out, "}")
-}
-
-/// Puts a number in decimal digits after what is written.
-fn push_digits(out: &mut String, number: usize) -> Result<(), AllocError>
-    ensures { OnOk result (string_bytes out.new ≡ string_bytes out.old ++ decimal number) }
-{
-    let digits = format!(in *out.allocator(); "{number}")?;
-    push(out, &digits)
 }
 
 /// Puts the kind of a node after what is written.
@@ -212,7 +205,7 @@ fn push_number(out: &mut String, name: &str, number: usize) -> Result<(), AllocE
     ensures { OnOk result (string_bytes out.new ≡ string_bytes out.old ++ field name.now (decimal number)) }
 {
     push_key(out, name)?;
-    push_digits(out, number)
+    push_decimal(out, number)
 }
 
 /// Puts a field with a value that is JSON already after what is written.

@@ -6,4 +6,4 @@
 pub mod laws;
 pub mod mdast;
 
-pub use markdown_events::{around, event, infer, message, role, steps, text, unist};
+pub use markdown_events::{around, decimal, event, infer, message, role, steps, text, unist};

@@ -3,7 +3,7 @@
 ghost use Rattle.std.specs.Prelude.{◌<◌};
 
 use crate::expect::{holds, same};
-use character_references::decoder::Decoder;
+use character_references::decoder::{Decoder, NoReferences};
 use event_lines::lines::events;
 use markdown_nodes::event::{Event, Kind, Name, Point};
 use markdown_tree::to_mdast::References;
@@ -439,6 +439,16 @@ fn decodes_nothing_else(rt: HostRuntime) -> Result<(), Fail> {
         ("65", b';'),
     ] {
         let found = Decoder.decode(rt.alloc(), value, marker)?;
+        same(&rt, found.as_deref(), None);
+    }
+    Ok(())
+}
+
+/// A decoder that knows nothing gives nothing, also for what each other one knows.
+#[test]
+fn decodes_nothing_at_all(rt: HostRuntime) -> Result<(), Fail> {
+    for (value, marker) in [("amp", b'&'), ("65", b'#'), ("41", b'x')] {
+        let found = NoReferences.decode(rt.alloc(), value, marker)?;
         same(&rt, found.as_deref(), None);
     }
     Ok(())

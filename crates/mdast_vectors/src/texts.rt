@@ -1,6 +1,7 @@
 //! What the calls on texts give.
 
 use crate::expect::same;
+use markdown_nodes::decimal::push_decimal;
 use markdown_nodes::text::{line_endings_to_spaces, normalize_identifier, raw_text, trim_eol};
 use std::test::Fail;
 
@@ -72,6 +73,22 @@ fn inline_code_is_one_line(rt: HostRuntime) -> Result<(), Fail> {
 fn identifiers_are_normal(rt: HostRuntime) -> Result<(), Fail> {
     for (value, want) in [("\na\t\tB\r", "a b"), (" \n", ""), ("ẞ", "ss"), ("ß", "ss")] {
         same(&rt, normalize_identifier(rt.alloc(), value)?.as_str(), want);
+    }
+    Ok(())
+}
+
+#[test]
+fn numbers_have_their_digits(rt: HostRuntime) -> Result<(), Fail> {
+    for (number, want) in [
+        (0, "a0"),
+        (9, "a9"),
+        (10, "a10"),
+        (4096, "a4096"),
+        (usize::MAX, "a18446744073709551615"),
+    ] {
+        let mut text = String::from_str(rt.alloc(), "a")?;
+        push_decimal(&mut text, number)?;
+        same(&rt, text.as_str(), want);
     }
     Ok(())
 }
