@@ -1,7 +1,7 @@
 //! What the character references of the cases stand for.
 
-use markdown_tree::to_mdast::References;
 use character_references::decoder::Decoder;
+use markdown_tree::to_mdast::References;
 use std::alloc::{AllocError, Global};
 
 /// The decoder of a case.

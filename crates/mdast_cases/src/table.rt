@@ -25,8 +25,8 @@ use crate::line::{Line, LineError, read_line};
 use crate::quoted::unescaped;
 use crate::spans::events_of_spans;
 use crate::sums::Checksum;
-use markdown_nodes::event::Event;
 use event_lines::lines::events;
+use markdown_nodes::event::Event;
 use std::alloc::{AllocError, AllocFailed, Global};
 
 /// Why a table was not read.
