@@ -1,1 +1,2 @@
 pub mod DecoderLemmas
+pub mod NamedLemmas

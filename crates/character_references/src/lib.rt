@@ -3,4 +3,5 @@
 #![tactic(auto)]
 
 pub mod decoder;
+pub mod named;
 pub mod references;

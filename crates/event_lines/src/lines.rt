@@ -3,14 +3,17 @@
 ghost use Rattle.std.specs.Prelude.{◌≡◌, ◌<◌, length, None, Some, IfOk, IfErr, IfSome, MatchOption, alloc_error};
 ghost use Rattle.event_lines.specs.declared.lines.LinesError.TheVariants.{Memory};
 ghost use Rattle.event_lines.specs.Lines.{before, kind_of, event_of, lines, IsErrorOf};
+ghost use Rattle.event_lines.specs.Errors.{error_text};
 ghost use Rattle.event_lines.specs.Fronts.{EventBegins, HeadBegins, IsSaid};
 
 use crate::point::{SaidPoint, next_point};
 use crate::search::find_space;
 use markdown_events::event::{Event, Kind, Name};
 use std::alloc::{AllocError, AllocFailed, Global};
+use std::error::Error;
+use std::fmt;
 
-/// Why lines were not read.
+/// Why lines were not read. `Display` writes `event line 2 cannot be read`, or `out of memory`.
 #[derive(Debug, Drop)]
 pub enum LinesError {
     /// This line, counted from 1, is no event line, and it is not empty.
@@ -18,6 +21,19 @@ pub enum LinesError {
     /// Memory ran out.
     Memory(AllocError),
 }
+
+impl fmt::Display for LinesError {
+    ghost output = { λ error. Some (error_text error) };
+
+    fn fmt<W: fmt::Write>(&self, f: &mut fmt::Formatter<W>) -> fmt::Result {
+        match self {
+            LinesError::Unread(number) => write!(f, "event line {number} cannot be read"),
+            LinesError::Memory(_) => f.write_str("out of memory"),
+        }
+    }
+}
+
+impl Error for LinesError {}
 
 impl<T: Drop> From<AllocFailed<T>> for LinesError {
     ghost from_gives = { λ _ error. error ≡ Memory alloc_error };

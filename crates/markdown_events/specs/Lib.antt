@@ -1,6 +1,7 @@
 pub mod Names
 pub mod Spelling
 pub mod Places
+pub mod Messages
 pub mod Alignments
 pub mod Slices
 pub mod Forest

@@ -8,8 +8,9 @@
 use mdast_programs::document::{arguments, document};
 use mdast_programs::program::Program;
 use mdast_programs::request::{DocumentError, only};
-use mdast_programs::run::{run_json, say};
+use mdast_programs::run::{run_as, say};
 use std::io::{self, Write};
+use std::mem;
 use std::process::ExitCode;
 
 fn main(rt: HostRuntime) -> ExitCode {
@@ -25,5 +26,15 @@ fn answer<O: Write>(rt: &HostRuntime, output: &mut O) -> Result<u8, DocumentErro
     let [first, second, _] = arguments(rt)?;
     let name = only(first, second).ok_or(DocumentError::Usage)?;
     let doc = document(rt, name.as_str())?;
-    Ok(run_json(rt.alloc(), doc.as_slice(), &mut rt.reader(), output))
+    let outcome = run_as(
+        Program::Json,
+        rt.alloc(),
+        doc.as_slice(),
+        &mut rt.reader(),
+        output,
+    );
+    let status = outcome.status;
+    // The program ends here, and its memory with it: the tree is not given back node by node.
+    mem::forget(outcome);
+    Ok(status)
 }

@@ -1,13 +1,10 @@
 -- What a run says.
-use Rattle.std.specs.Prelude.{◌≡◌, ℕ, Bool, List, [], ◌++◌, Option, Some, None, IfSome, IsSomeAnd, codes, ⊤}
+use Rattle.std.specs.Prelude.{◌≡◌, ℕ, Bool, List, ◌++◌, Option, IfSome, IsSomeAnd, codes, ⊤}
 use Rattle.std.specs.Fmt.{decimal}
 use Rattle.std.specs.Io.KnownBytes.{IsAtEnd}
 use Rattle.markdown_events.specs.declared.event.Event.{Event}
 use Rattle.markdown_events.specs.declared.message.Message.{Message}
-use Rattle.markdown_events.specs.declared.message.Place.{Place}
-use Rattle.markdown_events.specs.declared.message.Place.TheVariants as places
-use Rattle.markdown_events.specs.declared.unist.Point.{Point}
-use Rattle.markdown_events.specs.Places.{point_text}
+use Rattle.markdown_events.specs.Messages.{message_text}
 use Rattle.markdown_nodes.specs.declared.mdast.Node.{Node}
 use Rattle.markdown_nodes.specs.Shown.{shown}
 use Rattle.markdown_nodes.specs.Tree.{Tree}
@@ -47,20 +44,9 @@ IsAnswer answers.UnreadEvents known left doc = ⊤
 
 -- ---- The lines that are written
 
--- the point of a message: where its span begins, if it has one
-abbrev pub point_of_place : Option Place → Option Point
-point_of_place None = None
-point_of_place (Some (places.Point point)) = Some point
-point_of_place (Some (places.Position position)) = Some position.start
-
--- `line:column (offset): `
-abbrev pub place_text : Option Point → List ℕ
-place_text None = []
-place_text (Some point) = point_text point ++ codes ": "
-
 -- `line:column (offset): reason (rule_id)`, and a line feed
 abbrev pub message_line : Message → List ℕ
-message_line m = place_text (point_of_place m.place) ++ m.reason.now ++ codes " (" ++ m.rule_id.now ++ codes ")\n"
+message_line m = message_text m ++ codes "\n"
 
 -- the list that known bytes stand for is refused, and the line of a message that says why is one that `Said` holds of
 abbrev pub IsRefusedWith : Option (List ℕ) → List ℕ → (List ℕ → Type 0) → Type 0

@@ -1,6 +1,6 @@
 //! One run of the program.
 
-ghost use Rattle.std.specs.Prelude.{◌≡◌, ◌≢◌, ◌⊎◌, ◌≤◌, List, ℕ, codes, IfOk, IfSome, IsSomeAnd, string_bytes};
+ghost use Rattle.std.specs.Prelude.{◌≡◌, ◌≢◌, ◌⊎◌, ◌≤◌, List, ℕ, codes, IfOk, IfSome, IsSome, IsSomeAnd, string_bytes};
 ghost use Rattle.std.specs.Io.KnownBytes.{IsAtEnd, Appends};
 ghost use Rattle.markdown_nodes.specs.declared.mdast.Node.{Node};
 ghost use Rattle.mdast_programs.specs.Run;
@@ -17,8 +17,7 @@ use event_lines::lines::{LinesError, events};
 use markdown_json::to_json;
 use markdown_nodes::event::Event;
 use markdown_nodes::mdast::Node;
-use markdown_nodes::message::{Fault, Message, Place};
-use markdown_nodes::unist::Point;
+use markdown_nodes::message::{Fault, Message};
 use markdown_tree::to_mdast::compile;
 use std::alloc::{AllocError, Global};
 use std::io::{Read, Write};
@@ -65,6 +64,15 @@ impl Answer {
     }
 }
 
+/// What a run came to.
+#[derive(Debug, Drop)]
+pub struct Outcome {
+    /// The exit status.
+    pub status: u8,
+    /// The answer, if memory did not run out before there was one.
+    pub answer: Option<Answer>,
+}
+
 /// Prints the tree that the events in `input` stand for over the bytes of a document, or what is
 /// wrong, and gives the exit status.
 ///
@@ -86,7 +94,7 @@ pub fn run<I: Read, O: Write>(alloc: Global, doc: &[u8], input: &mut I, output: 
     // The line says that memory ran out, and nothing else is written.
     ensures memory { result ≡ 3 → Appends (O.contents output.old) (O.contents output.new) (codes "mdast_show: out of memory\n") }
 {
-    run_as(Program::Show, alloc, doc, input, output)
+    run_as(Program::Show, alloc, doc, input, output).status
 }
 
 /// Prints the tree that the events in `input` stand for over the bytes of a document, as JSON, or what
@@ -110,33 +118,53 @@ pub fn run_json<I: Read, O: Write>(alloc: Global, doc: &[u8], input: &mut I, out
     // The line says that memory ran out, and nothing else is written.
     ensures memory { result ≡ 3 → Appends (O.contents output.old) (O.contents output.new) (codes "mdast_json: out of memory\n") }
 {
-    run_as(Program::Json, alloc, doc, input, output)
+    run_as(Program::Json, alloc, doc, input, output).status
 }
 
-/// One run of a program that prints the tree.
-fn run_as<I: Read, O: Write>(
+/// One run of a program that prints the tree: as [`run`] or [`run_json`], and it hands the answer back.
+///
+/// A library lets the outcome go, and the tree is dropped. A program that ends here may forget it.
+pub fn run_as<I: Read, O: Write>(
     program: Program,
     alloc: Global,
     doc: &[u8],
     input: &mut I,
     output: &mut O,
-) -> u8
-    ensures bound { result ≤ 3 }
-    ensures end { result ≤ 1 → IsAtEnd (I.remaining input.new) }
-    ensures tree { result ≡ 0 → (tree : Node) × Means (I.remaining input.old) doc.now tree
+) -> Outcome
+    ensures bound { result.status ≤ 3 }
+    ensures end { result.status ≤ 1 → IsAtEnd (I.remaining input.new) }
+    ensures tree { result.status ≡ 0 → (tree : Node) × Means (I.remaining input.old) doc.now tree
         × ((line : List ℕ) × IsLineOf program (view tree) line × Appends (O.contents output.old) (O.contents output.new) line) }
-    ensures refused { result ≡ 1 → IsRefusedWith (I.remaining input.old) doc.now (Appends (O.contents output.old) (O.contents output.new)) }
-    ensures memory { result ≡ 3 → Appends (O.contents output.old) (O.contents output.new) (memory_line program) }
+    ensures refused { result.status ≡ 1 → IsRefusedWith (I.remaining input.old) doc.now (Appends (O.contents output.old) (O.contents output.new)) }
+    ensures memory { result.status ≡ 3 → Appends (O.contents output.old) (O.contents output.new) (memory_line program) }
+
+    // The answer is one of the events, and there is one where a tree or a refusal was written.
+    ensures answer { IfSome result.answer (λ answer. IsAnswer answer (I.remaining input.old) (I.remaining input.new) doc.now) }
+    ensures answered { result.status ≤ 1 → IsSome result.answer }
 {
     let Ok(answer) = answer_to(alloc, doc, input) else {
-        return say(output, program.out_of_memory(), 3);
+        let status = say(output, program.out_of_memory(), 3);
+        return Outcome {
+            status,
+            answer: None,
+        };
     };
     let status = answer.status();
-    let line = answer.line(program, alloc);
-    drop(answer);
-    match line {
-        Ok(line) => say(output, line.as_str(), status),
-        Err(_) => say(output, program.out_of_memory(), 3),
+    match answer.line(program, alloc) {
+        Ok(line) => {
+            let status = say(output, line.as_str(), status);
+            Outcome {
+                status,
+                answer: Some(answer),
+            }
+        }
+        Err(_) => {
+            let status = say(output, program.out_of_memory(), 3);
+            Outcome {
+                status,
+                answer: Some(answer),
+            }
+        }
     }
 }
 
@@ -222,30 +250,7 @@ fn unread_line(program: Program, alloc: Global, number: usize) -> Result<String,
 fn message_line(alloc: Global, message: &Message) -> Result<String, AllocError>
     ensures { IfOk result (λ line. string_bytes line ≡ Run.message_line message.now) }
 {
-    let mut line = place_text(alloc, message.place)?;
-    line.push_str(message.reason)?;
-    line.push_str(" (")?;
-    line.push_str(message.rule_id)?;
-    line.push_str(")\n")?;
+    let mut line = message.to_string(alloc)?;
+    line.push_str("\n")?;
     Ok(line)
-}
-
-/// `line:column (offset): `
-fn place_text(alloc: Global, place: Option<Place>) -> Result<String, AllocError>
-    ensures { IfOk result (λ text. string_bytes text ≡ Run.place_text (Run.point_of_place place)) }
-{
-    match point_of_place(place) {
-        Some(point) => format!(in alloc; "{point:?}: "),
-        None => Ok(String::new(alloc)),
-    }
-}
-
-/// The point of a message, or where its span begins.
-fn point_of_place(place: Option<Place>) -> Option<Point>
-    ensures { result ≡ Run.point_of_place place }
-{
-    match place? {
-        Place::Point(point) => Some(point),
-        Place::Position(position) => Some(position.start),
-    }
 }

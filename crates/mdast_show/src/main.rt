@@ -10,8 +10,9 @@ use mdast_programs::check::run_check;
 use mdast_programs::document::{arguments, document};
 use mdast_programs::program::Program;
 use mdast_programs::request::{DocumentError, Request};
-use mdast_programs::run::{run, say};
+use mdast_programs::run::{run_as, say};
 use std::io::{self, Write};
+use std::mem;
 use std::process::ExitCode;
 
 fn main(rt: HostRuntime) -> ExitCode {
@@ -27,7 +28,17 @@ fn answer<O: Write>(rt: &HostRuntime, output: &mut O) -> Result<u8, DocumentErro
     match request(rt)? {
         Request::Show(name) => {
             let doc = document(rt, name.as_str())?;
-            Ok(run(rt.alloc(), doc.as_slice(), &mut rt.reader(), output))
+            let outcome = run_as(
+                Program::Show,
+                rt.alloc(),
+                doc.as_slice(),
+                &mut rt.reader(),
+                output,
+            );
+            let status = outcome.status;
+            // The program ends here, and its memory with it: the tree is not given back node by node.
+            mem::forget(outcome);
+            Ok(status)
         }
         Request::Check(name) => {
             let doc = document(rt, name.as_str())?;

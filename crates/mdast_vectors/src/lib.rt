@@ -18,6 +18,8 @@ mod check;
 #[cfg(test)]
 mod debug_form;
 #[cfg(test)]
+mod decoders;
+#[cfg(test)]
 mod depths;
 #[cfg(test)]
 mod expect;

@@ -3,10 +3,8 @@
 ghost use Rattle.std.specs.Prelude.{◌<◌};
 
 use crate::expect::{holds, same};
-use character_references::decoder::{Decoder, NoReferences};
 use event_lines::lines::events;
 use markdown_nodes::event::{Event, Kind, Name, Point};
-use markdown_tree::to_mdast::References;
 use mdast_programs::check::run_check;
 use mdast_programs::program::Program;
 use mdast_programs::request::{DocumentError, Request, only};
@@ -385,71 +383,4 @@ fn reads_up_to_its_bound(rt: HostRuntime) {
 fn fails_where_nothing_can_be_written(rt: HostRuntime) {
     let mut input = HI;
     same(&rt, run(rt.alloc(), b"Hi", &mut input, &mut Closed), 2);
-}
-
-#[test]
-fn decodes_names_and_numbers(rt: HostRuntime) -> Result<(), Fail> {
-    for (value, marker, text) in [
-        ("amp", b'&', "&"),
-        ("lt", b'&', "<"),
-        ("gt", b'&', ">"),
-        ("quot", b'&', "\""),
-        ("65", b'#', "A"),
-        ("0000065", b'#', "A"),
-        ("41", b'x', "A"),
-        ("20ac", b'x', "\u{20AC}"),
-        ("20AC", b'x', "\u{20AC}"),
-        ("10FFFF", b'x', "\u{10FFFF}"),
-    ] {
-        let found = Decoder.decode(rt.alloc(), value, marker)?;
-        same(&rt, found.as_deref(), Some(text));
-    }
-    Ok(())
-}
-
-#[test]
-fn decodes_what_is_no_character_as_a_replacement(rt: HostRuntime) -> Result<(), Fail> {
-    for (value, marker) in [
-        ("0", b'#'),
-        ("9999999", b'#'),
-        ("D800", b'x'),
-        ("DFFF", b'x'),
-        ("110000", b'x'),
-    ] {
-        let found = Decoder.decode(rt.alloc(), value, marker)?;
-        same(&rt, found.as_deref(), Some("\u{FFFD}"));
-    }
-    Ok(())
-}
-
-#[test]
-fn decodes_nothing_else(rt: HostRuntime) -> Result<(), Fail> {
-    for (value, marker) in [
-        ("12345678", b'#'),
-        ("1234567", b'x'),
-        ("copy", b'&'),
-        ("AMP", b'&'),
-        ("", b'&'),
-        ("", b'#'),
-        ("", b'x'),
-        ("4g", b'x'),
-        ("4a", b'#'),
-        ("-1", b'#'),
-        ("+1", b'#'),
-        ("65", b';'),
-    ] {
-        let found = Decoder.decode(rt.alloc(), value, marker)?;
-        same(&rt, found.as_deref(), None);
-    }
-    Ok(())
-}
-
-/// A decoder that knows nothing gives nothing, also for what each other one knows.
-#[test]
-fn decodes_nothing_at_all(rt: HostRuntime) -> Result<(), Fail> {
-    for (value, marker) in [("amp", b'&'), ("65", b'#'), ("41", b'x')] {
-        let found = NoReferences.decode(rt.alloc(), value, marker)?;
-        same(&rt, found.as_deref(), None);
-    }
-    Ok(())
 }

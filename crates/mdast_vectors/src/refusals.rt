@@ -1,11 +1,14 @@
 //! What each refusal says. The texts are those of the table in `docs/REFUSALS.md`.
 
-use crate::expect::holds;
+use crate::expect::{holds, same};
+use event_lines::lines::LinesError;
 use markdown_grammar::error_kind::{ErrorKind, Stop};
 use markdown_nodes::event::Point;
-use markdown_nodes::message::{Fault, Place};
+use markdown_nodes::message::{Fault, Message, Place};
 use markdown_nodes::unist;
 use std::alloc::AllocError;
+use std::fmt::Display;
+use std::process::Abort;
 use std::test::Fail;
 
 /// Each refusal, with its rule and its reason.
@@ -108,4 +111,35 @@ fn want_of_memory_names_no_event(rt: HostRuntime) {
     };
     let fault = Stop::Memory(AllocError).at(point);
     holds(&rt, matches!(&fault, Fault::Memory(_)));
+}
+
+/// Stops where a value is not printed so.
+fn expect_text<T: Display, A: Abort + AllocGlobal>(
+    rt: &A,
+    value: &T,
+    text: &str,
+) -> Result<(), Fail> {
+    let found = value.to_string(rt.alloc())?;
+    same(rt, found.as_str(), text);
+    Ok(())
+}
+
+#[test]
+fn messages_and_faults_are_printed(rt: HostRuntime) -> Result<(), Fail> {
+    let mut message = Message {
+        place: Some(Place::Point(unist::Point::new(3, 5, 17))),
+        reason: "a raw block has no fence",
+        rule_id: "fence-missing",
+        source: "markdown-rs",
+    };
+    let said = "3:5 (17): a raw block has no fence (fence-missing)";
+    expect_text(&rt, &message, said)?;
+    expect_text(&rt, &Fault::Message(message), said)?;
+    expect_text(&rt, &Fault::Memory(AllocError), "out of memory")?;
+    message.place = Some(Place::Position(unist::Position::new(3, 5, 17, 4, 1, 20)));
+    expect_text(&rt, &message, said)?;
+    message.place = None;
+    expect_text(&rt, &message, "a raw block has no fence (fence-missing)")?;
+    expect_text(&rt, &LinesError::Unread(2), "event line 2 cannot be read")?;
+    expect_text(&rt, &LinesError::Memory(AllocError), "out of memory")
 }

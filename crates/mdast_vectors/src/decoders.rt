@@ -1,0 +1,95 @@
+//! What the decoders of character references know. Their texts are those of CommonMark and HTML.
+
+use crate::expect::same;
+use character_references::decoder::{Decoder, NoReferences};
+use character_references::named::NamedReferences;
+use character_references::references::References;
+use std::process::Abort;
+use std::test::Fail;
+
+/// A value with its marker, and its text where there is one.
+type Known = (&'static str, u8, Option<&'static str>);
+
+/// What the decoder of the programs says.
+const KNOWN: [Known; 28] = [
+    ("amp", b'&', Some("&")),
+    ("lt", b'&', Some("<")),
+    ("gt", b'&', Some(">")),
+    ("quot", b'&', Some("\"")),
+    ("65", b'#', Some("A")),
+    ("0000065", b'#', Some("A")),
+    ("41", b'x', Some("A")),
+    ("20ac", b'x', Some("\u{20AC}")),
+    ("20AC", b'x', Some("\u{20AC}")),
+    ("10FFFF", b'x', Some("\u{10FFFF}")),
+    ("0", b'#', Some("\u{FFFD}")),
+    ("9999999", b'#', Some("\u{FFFD}")),
+    ("D800", b'x', Some("\u{FFFD}")),
+    ("DFFF", b'x', Some("\u{FFFD}")),
+    ("110000", b'x', Some("\u{FFFD}")),
+    ("12345678", b'#', None),
+    ("1234567", b'x', None),
+    ("copy", b'&', None),
+    ("AMP", b'&', None),
+    ("", b'&', None),
+    ("", b'#', None),
+    ("", b'x', None),
+    ("4g", b'x', None),
+    ("4a", b'#', None),
+    ("-1", b'#', None),
+    ("+1", b'#', None),
+    ("65", b';', None),
+    ("amp", b'#', None),
+];
+
+/// A table of names, in which one stands twice, one has no text, one line has no `=`, and one text has
+/// one.
+const TABLE: &str =
+    "copy=\u{A9}\nnot a line\ncopy=c\nempty=\nequals==\nNotEqualTilde=\u{2242}\u{338}";
+
+/// What the decoder with that table says.
+const NAMED: [Known; 13] = [
+    ("copy", b'&', Some("\u{A9}")),
+    ("empty", b'&', Some("")),
+    ("equals", b'&', Some("=")),
+    ("NotEqualTilde", b'&', Some("\u{2242}\u{338}")),
+    ("NewLine", b'&', Some("\n")),
+    ("amp", b'&', Some("&")),
+    ("65", b'#', Some("A")),
+    ("41", b'x', Some("A")),
+    ("not a line", b'&', None),
+    ("cop", b'&', None),
+    ("Copy", b'&', None),
+    ("copy", b'#', None),
+    ("", b'&', None),
+];
+
+/// Stops where a decoder says something else than a table.
+fn expect<R: References, A: Abort + AllocGlobal>(
+    rt: &A,
+    decoder: &R,
+    table: &[Known],
+) -> Result<(), Fail> {
+    for (value, marker, text) in table {
+        let found = decoder.decode(rt.alloc(), value, *marker)?;
+        same(rt, found.as_deref(), *text);
+    }
+    Ok(())
+}
+
+#[test]
+fn decodes_names_and_numbers(rt: HostRuntime) -> Result<(), Fail> {
+    expect(&rt, &Decoder, &KNOWN)
+}
+
+#[test]
+fn decodes_the_names_of_a_table(rt: HostRuntime) -> Result<(), Fail> {
+    expect(&rt, &NamedReferences { table: TABLE }, &NAMED)
+}
+
+/// A decoder that knows nothing gives nothing, also for what each other one knows.
+#[test]
+fn decodes_nothing_at_all(rt: HostRuntime) -> Result<(), Fail> {
+    let nothing = [("amp", b'&', None), ("65", b'#', None), ("41", b'x', None)];
+    expect(&rt, &NoReferences, &nothing)
+}
