@@ -1,11 +1,13 @@
 -- What stands for a character between quotes.
-use Rattle.std.proofs.Common.{◌≡◌, ◌≢◌, ℕ, ◌<◌, ◌≤◌, ◌||◌, ◌==◌, nat_lt, Bool, true, List, [], ◌∷◌, ◌++◌, if◌then◌else◌, encode_utf8, refl, sym, ap, ◌∙◌, arith, lt-ltb, le-ltb, ne_eqb, flat_map, IsAscii, Some, suc, zero, ◌⊎◌}
+use Rattle.std.proofs.Common.{◌≡◌, ◌≢◌, ℕ, ◌<◌, ◌≤◌, ◌||◌, ◌==◌, nat_lt, Bool, true, List, [], ◌∷◌, ◌++◌, if◌then◌else◌, encode_utf8, refl, sym, ap, ◌∙◌, arith, lt-ltb, le-ltb, ne_eqb, flat_map, slice_index, IsAscii, Some, suc, zero, ◌⊎◌, codes, false}
 use mathlib.Core.Logic.{⊎_elim}
 use Rattle.std.proofs.lemmas.Str.{encode_ascii, chars-IsAscii}
 use Rattle.std.specs.Fmt.{debug_escape, debug_str}
 use Rattle.std.specs.Char.{is_ascii}
 use Rattle.std.specs.List.{list_all}
-use Rattle.markdown_nodes.specs.Quoted.{escaped, quoted, unicode_escape}
+use Rattle.std.proofs.lemmas.Bool.Decides.{nat_tests}
+use Rattle.std.proofs.lemmas.Bool.{and_parts}
+use Rattle.markdown_nodes.specs.Quoted.{escaped, is_plain, quoted, unicode_escape}
 
 module _ (escapes : ℕ → Bool) where
   pub escaped_ascii : (c : ℕ) → c < 128 → escaped escapes c ≡ debug_escape 34 c
@@ -39,3 +41,19 @@ module _ (escapes : ℕ → Bool) where
 
   pub quoted_ascii : (text : List ℕ) → IsAscii text → debug_str text ≡ Some (quoted escapes text)
   quoted_ascii text ascii = rw (all_ascii text ascii, chars-IsAscii text ascii, all_escaped text ascii) refl
+
+  -- a text of which none has an escape stands as it is
+  plain_IsAscii : (text : List ℕ) → list_all is_plain text ≡ true → (k : ℕ) → slice_index text k < 128
+  plain_IsAscii [] all k = omega arith
+  plain_IsAscii (c ∷ text) all zero = grind (arith, nat_tests)
+  plain_IsAscii (c ∷ text) all (suc k) = plain_IsAscii text (and_parts _ _ all).1 k
+
+  plain_stands : (c : ℕ) → is_plain c ≡ true → escaped escapes c ≡ c ∷ []
+  plain_stands c is = grind (arith, nat_tests, escaped_plain c false, encode_ascii c)
+
+  all_stand : (text : List ℕ) → list_all is_plain text ≡ true → flat_map (escaped escapes) text ≡ text
+  all_stand [] all = refl
+  all_stand (c ∷ text) all = (λ i. plain_stands c (and_parts _ _ all).0 i ++ all_stand text (and_parts _ _ all).1 i)
+
+  pub quoted_plain : (text : List ℕ) → list_all is_plain text ≡ true → codes "\"" ++ text ++ codes "\"" ≡ quoted escapes text
+  quoted_plain text all = rw (chars-IsAscii text (plain_IsAscii text all), all_stand text all) refl

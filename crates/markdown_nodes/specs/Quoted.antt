@@ -1,5 +1,5 @@
 -- A text between quotes, as Debug writes it. Beyond ASCII a character stands as it is or as its Unicode escape, and std does not say which: `escapes` are those that stand as their escape.
-use Rattle.std.specs.Prelude.{ℕ, Bool, List, ◌++◌, codes, encode_utf8, chars, flat_map, if◌then◌else◌, false}
+use Rattle.std.specs.Prelude.{ℕ, Bool, List, ◌++◌, codes, encode_utf8, chars, flat_map, if◌then◌else◌, false, ◌&&◌, ◌==◌, nat_lt, not}
 use Rattle.std.specs.BTreeSet.{BTreeSet, contains}
 use Rattle.std.specs.Char.{is_ascii}
 use Rattle.std.specs.Fmt.{debug_escape, digits}
@@ -20,3 +20,7 @@ escaped escapes c = if is_ascii c then debug_escape 34 c else (if escapes c then
 -- a text
 abbrev pub quoted : (ℕ → Bool) → List ℕ → List ℕ
 quoted escapes text = codes "\"" ++ flat_map (escaped escapes) (chars text) ++ codes "\""
+
+-- whether an ASCII character stands as it is between the quotes
+abbrev pub is_plain : ℕ → Bool
+is_plain c = nat_lt 31 c && nat_lt c 127 && not (c == 34) && not (c == 92)

@@ -29,37 +29,45 @@ pub fn escapes_of(node: &Node, alloc: Global) -> Result<BTreeSet<char>, AllocErr
 
 /// Adds those in the texts of a node alone.
 fn add_node(node: &Node, escapes: &mut BTreeSet<char>) -> Result<(), AllocError> {
-    for text in texts(node) {
-        add_text(text, escapes)?;
+    match node {
+        Node::Toml(node) => add_text(&node.value, escapes),
+        Node::Yaml(node) => add_text(&node.value, escapes),
+        Node::InlineCode(node) => add_text(&node.value, escapes),
+        Node::InlineMath(node) => add_text(&node.value, escapes),
+        Node::Html(node) => add_text(&node.value, escapes),
+        Node::Text(node) => add_text(&node.value, escapes),
+        Node::Code(node) => add_texts(&node.value, &node.lang, &node.meta, escapes),
+        Node::Math(node) => add_texts(&node.value, &node.meta, &None, escapes),
+        Node::Link(node) => add_texts(&node.url, &node.title, &None, escapes),
+        Node::Image(node) => {
+            add_text(&node.alt, escapes)?;
+            add_texts(&node.url, &node.title, &None, escapes)
+        }
+        Node::LinkReference(node) => add_texts(&node.identifier, &node.label, &None, escapes),
+        Node::ImageReference(node) => {
+            add_text(&node.alt, escapes)?;
+            add_texts(&node.identifier, &node.label, &None, escapes)
+        }
+        Node::FootnoteReference(node) => add_texts(&node.identifier, &node.label, &None, escapes),
+        Node::FootnoteDefinition(node) => add_texts(&node.identifier, &node.label, &None, escapes),
+        Node::Definition(node) => {
+            add_text(&node.url, escapes)?;
+            add_texts(&node.identifier, &node.label, &node.title, escapes)
+        }
+        _ => Ok(()),
     }
-    Ok(())
 }
 
-/// The texts of a node alone, and empty ones in place of those that it has not.
-fn texts(node: &Node) -> [&str; 4] {
-    match node {
-        Node::Toml(node) => [&node.value, "", "", ""],
-        Node::Yaml(node) => [&node.value, "", "", ""],
-        Node::InlineCode(node) => [&node.value, "", "", ""],
-        Node::InlineMath(node) => [&node.value, "", "", ""],
-        Node::Html(node) => [&node.value, "", "", ""],
-        Node::Text(node) => [&node.value, "", "", ""],
-        Node::Code(node) => [&node.value, or_empty(&node.lang), or_empty(&node.meta), ""],
-        Node::Math(node) => [&node.value, or_empty(&node.meta), "", ""],
-        Node::Link(node) => [&node.url, or_empty(&node.title), "", ""],
-        Node::Image(node) => [&node.alt, &node.url, or_empty(&node.title), ""],
-        Node::LinkReference(node) => [&node.identifier, or_empty(&node.label), "", ""],
-        Node::ImageReference(node) => [&node.alt, &node.identifier, or_empty(&node.label), ""],
-        Node::FootnoteReference(node) => [&node.identifier, or_empty(&node.label), "", ""],
-        Node::FootnoteDefinition(node) => [&node.identifier, or_empty(&node.label), "", ""],
-        Node::Definition(node) => [
-            &node.url,
-            or_empty(&node.title),
-            &node.identifier,
-            or_empty(&node.label),
-        ],
-        _ => ["", "", "", ""],
-    }
+/// Adds those in a text, and in two that a node may lack.
+fn add_texts(
+    text: &str,
+    first: &Option<String>,
+    second: &Option<String>,
+    escapes: &mut BTreeSet<char>,
+) -> Result<(), AllocError> {
+    add_text(text, escapes)?;
+    add_text(or_empty(first), escapes)?;
+    add_text(or_empty(second), escapes)
 }
 
 /// The text, or an empty one where there is none.

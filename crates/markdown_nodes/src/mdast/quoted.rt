@@ -1,7 +1,9 @@
 //! Texts between quotes, as Debug writes them.
 
 ghost use Rattle.std.specs.Fmt.{WritesOnOk};
-ghost use Rattle.std.specs.Prelude.{◌≡◌, ◌<◌, ◌≤◌, ◌||◌, ◌==◌, IfOk, Some, nat_lt, string_bytes};
+ghost use Rattle.std.specs.Prelude.{◌≡◌, ◌<◌, ◌≤◌, ◌++◌, ◌||◌, ◌==◌, IfOk, Some, codes, nat_lt, string_bytes};
+ghost use Rattle.std.specs.List.{list_all};
+ghost use Rattle.markdown_nodes.specs.Quoted;
 ghost use Rattle.markdown_nodes.specs.Quoted.{escaped, members, quoted};
 
 use std::alloc::{AllocError, Global};
@@ -46,6 +48,9 @@ pub fn write_quoted<W: fmt::Write>(
 ) -> fmt::Result
     ensures { WritesOnOk W.write_str_gives f.old result (quoted (members escapes.now) text.now) f.new }
 {
+    if is_plain(text) {
+        return write_plain(text, f);
+    }
     if text.is_ascii() {
         return write!(f, "{text:?}");
     }
@@ -53,6 +58,24 @@ pub fn write_quoted<W: fmt::Write>(
     for c in text.chars() {
         write_escaped(c, escapes, f)?;
     }
+    f.write_str("\"")
+}
+
+/// Whether a text is ASCII, and none of it has an escape.
+fn is_plain(text: &str) -> bool
+    ensures { result ≡ list_all Quoted.is_plain text.now }
+{
+    text.as_bytes().iter().all(|byte| matches!(*byte, b' '..=b'~')
+        && *byte != b'"'
+        && *byte != b'\\')
+}
+
+/// Writes a text between quotes as it is.
+fn write_plain<W: fmt::Write>(text: &str, f: &mut fmt::Formatter<W>) -> fmt::Result
+    ensures { WritesOnOk W.write_str_gives f.old result (codes "\"" ++ text.now ++ codes "\"") f.new }
+{
+    f.write_str("\"")?;
+    f.write_str(text)?;
     f.write_str("\"")
 }
 

@@ -5,8 +5,11 @@ use Rattle.std.proofs.lemmas.Iterator.{YieldsList-from_chars}
 use Rattle.std.proofs.lemmas.Iterator.Consumers.{YieldsList-end}
 use Rattle.std.proofs.Output.{has_written_append, has_written_of_eq}
 use Rattle.markdown_nodes.specs.Quoted.{escaped}
-use Rattle.markdown_nodes.proofs.Quoting.{quoted_ascii}
+use Rattle.markdown_nodes.proofs.Quoting.{quoted_ascii, quoted_plain}
 use Rattle.markdown_nodes.proofs.mdast.quoted.write_quoted.Goals as goal
+
+pub returns-then-is_plain : goal.returns-then-is_plain
+returns-then-is_plain g c = rw (quoted_plain (contains nat_cmp c.args.escapes.now) c.args.text.now (sym c.is_plain.ensures ∙ c.if-is_plain.true)) at c.write_plain.ensures
 
 pub returns-then-is_ascii : goal.returns-then-is_ascii
 returns-then-is_ascii g c = rw (quoted_ascii (contains nat_cmp c.args.escapes.now) c.args.text.now c.if-is_ascii.ensures.cases) at c.write.ensures.writes

@@ -1,0 +1,54 @@
+-- What an outcome says of a document, event lines and a table of references.
+use Rattle.std.specs.Prelude.{◌≡◌, ℕ, List, [], Some, option_map, IsSomeAnd}
+use Rattle.character_references.specs.Named.{known}
+use Rattle.markdown_events.specs.declared.event.Event.{Event}
+use Rattle.markdown_events.specs.declared.message.Message.{Message}
+use Rattle.markdown_events.specs.declared.unist.Point.{Point}
+use Rattle.markdown_events.specs.Messages.{start_of}
+use Rattle.event_lines.specs.Lines.{lines}
+use Rattle.markdown_nodes.specs.declared.mdast.Node.{Node}
+use Rattle.markdown_nodes.specs.Tree.{only}
+use Rattle.markdown_nodes.specs.View.{view}
+use Rattle.markdown_json.specs.Json.{json}
+use Rattle.markdown_grammar.specs.Correct.{IsMeaning, Refuses}
+use Rattle.markdown_grammar.specs.Document.{Source, source}
+use Rattle.markdown_grammar.specs.Ordered.{IsOrdered, NeverGoesBack}
+use Rattle.mdast_c.specs.declared.Outcome.{Outcome}
+
+-- the document, with what a table knows of character references
+abbrev pub over : List ℕ → List ℕ → Source
+over document table = source document (known table)
+
+-- the text is the tree that events stand for, as JSON; the tree is ordered where their offsets never go back
+pub record IsJsonOf (text : List ℕ) (events : List Event) (s : Source) : Type 0 where
+  pub tree : Node
+  pub is_meaning : IsMeaning tree events s
+  pub is_ordered : NeverGoesBack events → IsOrdered (only (view tree))
+  pub is_json : text ≡ json (view tree)
+
+-- lines say events, and the text is their tree as JSON
+abbrev pub IsTree : Outcome → List ℕ → Source → Type 0
+IsTree outcome said s = IsSomeAnd (lines said) (λ events. IsJsonOf outcome.text.now events s)
+
+-- line, column and offset
+abbrev pub point_of : Outcome → Point
+point_of outcome = record { line = outcome.line; column = outcome.column; offset = outcome.offset }
+
+-- a message refuses events, and the outcome has its rule, its reason and the point where its place begins
+pub record IsRefusalOf (outcome : Outcome) (events : List Event) (s : Source) : Type 0 where
+  pub message : Message
+  pub refuses : Refuses message events s
+  pub rule : outcome.rule.now ≡ message.rule_id.now
+  pub reason : outcome.reason.now ≡ message.reason.now
+  pub point : option_map start_of message.place ≡ Some (point_of outcome)
+
+-- lines say events, and these are refused
+abbrev pub IsRefusal : Outcome → List ℕ → Source → Type 0
+IsRefusal outcome said s = IsSomeAnd (lines said) (λ events. IsRefusalOf outcome events s)
+
+-- nothing is said of a refusal
+pub record IsWithoutRefusal (outcome : Outcome) : Type 0 where
+  pub rule : outcome.rule.now ≡ []
+  pub reason : outcome.reason.now ≡ []
+  pub column : outcome.column ≡ 0
+  pub offset : outcome.offset ≡ 0
