@@ -1,7 +1,7 @@
 """The measured numbers that are kept: those of the last release, and those of the original.
 
-A line of bench/numbers.tsv has a shape, how many events the list has, and the instructions an event of reading, compiling and
-printing; one of bench/original.tsv has those of the original's compiling alone.
+A line of bench/numbers.tsv has a shape, how many events the list has, and the instructions an event of reading, compiling, printing and
+dropping; one of bench/original.tsv has those of the original's compiling with dropping.
 """
 
 import os
@@ -9,7 +9,7 @@ import os
 HERE = os.path.dirname(os.path.abspath(__file__))
 RELEASED = os.path.join(HERE, "numbers.tsv")
 ORIGINAL = os.path.join(HERE, "original.tsv")
-HEAD = "# Instructions an event at the last release of these numbers, which `bench/run --release` writes.\n# shape\tevents\treading\tcompiling\tprinting\n"
+HEAD = "# Instructions an event at the last release of these numbers, which `bench/run --release` writes.\n# shape\tevents\treading\tcompiling\tprinting\tdropping\n"
 
 
 def rows(path):
@@ -21,12 +21,12 @@ def rows(path):
 
 
 def released():
-    """The instructions an event of the three phases, by shape and events."""
+    """The instructions an event of each phase, by shape and events."""
     return {(shape, int(events)): [float(count) for count in counts] for shape, events, *counts in rows(RELEASED)}
 
 
 def original():
-    """The instructions an event of the original's compiling, by shape and events."""
+    """The instructions an event of the original's compiling with dropping, by shape and events."""
     return {(shape, int(events)): float(count) for shape, events, count in rows(ORIGINAL)}
 
 
