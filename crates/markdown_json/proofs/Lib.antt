@@ -1,3 +1,4 @@
 mod Escapes
 mod Fragments
+mod Utf16Counts
 mod WritingLevels

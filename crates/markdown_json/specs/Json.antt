@@ -133,27 +133,32 @@ children_end _ = codes "]"
 unfoldable pub point : Point → List ℕ
 point place = codes "{\"line\":" ++ decimal place.line ++ field (codes "column") (decimal place.column) ++ field (codes "offset") (decimal place.offset) ++ codes "}"
 
--- where a node stands
-unfoldable pub position_value : Position → List ℕ
-position_value position = codes "{\"start\":" ++ point position.start ++ field (codes "end") (point position.end) ++ codes "}"
+-- where a node stands, whose points are counted so
+unfoldable pub position_value : (Point → Point) → Position → List ℕ
+position_value counted position = codes "{\"start\":" ++ point (counted position.start) ++ field (codes "end") (point (counted position.end)) ++ codes "}"
 
 -- the field of a position, which is left out where there is none
-abbrev pub position_field : Option Position → List ℕ
-position_field None = []
-position_field (Some position) = field (codes "position") (position_value position)
+abbrev pub position_field : (Point → Point) → Option Position → List ℕ
+position_field counted None = []
+position_field counted (Some position) = field (codes "position") (position_value counted position)
 
 -- what stands after the children
-abbrev pub closing : Label → Option Position → List ℕ
-closing label position = children_end label ++ position_field position ++ codes "}"
+abbrev pub closing : (Point → Point) → Label → Option Position → List ℕ
+closing counted label position = children_end label ++ position_field counted position ++ codes "}"
 
 -- nodes in order, the first after `lead` and each other one after a comma
-abbrev pub nodes_json : List ℕ → Trees → List ℕ
-nodes_json lead nothing = []
-nodes_json lead (node label children position rest) = lead ++ opening label ++ nodes_json [] children ++ closing label position ++ nodes_json (codes ",") rest
+abbrev pub nodes_json : (Point → Point) → List ℕ → Trees → List ℕ
+nodes_json counted lead nothing = []
+nodes_json counted lead (node label children position rest) =
+    lead ++ opening label ++ nodes_json counted [] children ++ closing counted label position ++ nodes_json counted (codes ",") rest
 
--- one node
+-- one node, whose points are counted so
+abbrev pub json_counted : (Point → Point) → Tree → List ℕ
+json_counted counted tree = opening tree.label ++ nodes_json counted [] tree.children ++ closing counted tree.label tree.position
+
+-- one node, with its points as they are: in bytes
 abbrev pub json : Tree → List ℕ
-json tree = opening tree.label ++ nodes_json [] tree.children ++ closing tree.label tree.position
+json tree = json_counted (λ point. point) tree
 
 -- the fields of a resource with these texts
 abbrev pub resource_of : String Global → Option (String Global) → List ℕ

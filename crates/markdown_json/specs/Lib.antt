@@ -1,3 +1,4 @@
 pub mod Strings
 pub mod Json
 pub mod Unescaped
+pub mod Utf16

@@ -1,5 +1,5 @@
 -- How the text between the quotes of a JSON string is read (RFC 8259, section 7). Half of a surrogate pair is not read: no text here has one.
-use Rattle.std.specs.Prelude.{ℕ, ◌+◌, ◌*◌, ◌-◌, Bool, List, [], ◌∷◌, ◌++◌, Option, Some, None, if◌then◌else◌, ◌==◌, ◌||◌, nat_lt, encode_utf8, option_map}
+use Rattle.std.specs.Prelude.{ℕ, ◌+◌, ◌*◌, ◌-◌, List, [], ◌∷◌, ◌++◌, Option, Some, None, if◌then◌else◌, ◌==◌, ◌||◌, nat_lt, encode_utf8, option_map}
 use Rattle.std.specs.Char.{digit_value}
 use lib.Utf8.{scalar}
 

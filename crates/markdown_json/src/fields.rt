@@ -42,6 +42,7 @@ ghost use Rattle.markdown_json.specs.Json.{
 };
 ghost use Rattle.markdown_json.specs.Strings.{string};
 
+use crate::points::Points;
 use crate::strings::{push, push_string};
 use markdown_nodes::decimal::push_decimal;
 use markdown_nodes::mdast::{
@@ -89,11 +90,11 @@ pub fn push_opening(out: &mut String, node: &Node) -> Result<(), AllocError>
 }
 
 /// Puts what stands after the children of a node after what is written.
-pub fn push_closing(out: &mut String, node: &Node) -> Result<(), AllocError>
-    ensures { OnOk result (string_bytes out.new ≡ string_bytes out.old ++ closing (label_of node.now) (position_of node.now)) }
+pub fn push_closing<P: Points>(out: &mut String, points: &P, node: &Node) -> Result<(), AllocError>
+    ensures { OnOk result (string_bytes out.new ≡ string_bytes out.old ++ closing (P.counted points.now) (label_of node.now) (position_of node.now)) }
 {
     push(out, children_end(node))?;
-    push_position(out, node)?;
+    push_position(out, points, node)?;
     push(out, "}")
 }
 
@@ -121,25 +122,29 @@ fn children_end(node: &Node) -> &'static str
 }
 
 /// Puts the position of a node after what is written, where it has one.
-fn push_position(out: &mut String, node: &Node) -> Result<(), AllocError>
-    ensures { OnOk result (string_bytes out.new ≡ string_bytes out.old ++ position_field (position_of node.now)) }
+fn push_position<P: Points>(out: &mut String, points: &P, node: &Node) -> Result<(), AllocError>
+    ensures { OnOk result (string_bytes out.new ≡ string_bytes out.old ++ position_field (P.counted points.now) (position_of node.now)) }
 {
     match node.position() {
-        Some(position) => push_position_field(out, *position),
+        Some(position) => push_position_field(out, points, *position),
         None => Ok(()),
     }
 }
 
 /// Puts the field of a position after what is written.
 #[tactic(auto, unfolding(crate::specs::Json::field, crate::specs::Json::position_value))]
-fn push_position_field(out: &mut String, position: Position) -> Result<(), AllocError>
-    ensures { OnOk result (string_bytes out.new ≡ string_bytes out.old ++ field (codes "position") (position_value position)) }
+fn push_position_field<P: Points>(
+    out: &mut String,
+    points: &P,
+    position: Position,
+) -> Result<(), AllocError>
+    ensures { OnOk result (string_bytes out.new ≡ string_bytes out.old ++ field (codes "position") (position_value (P.counted points.now) position)) }
 {
     push_key(out, "position")?;
     push(out, "{\"start\":")?;
-    push_point(out, position.start)?;
+    push_point(out, points.counted(position.start))?;
     push_key(out, "end")?;
-    push_point(out, position.end)?;
+    push_point(out, points.counted(position.end))?;
     push(out, "}")
 }
 

@@ -1,12 +1,15 @@
 //! A tree as JSON, with no call for each level.
 
 ghost use Rattle.std.specs.Prelude.{◌≡◌, ◌++◌, IfOk, OnOk, string_bytes};
-ghost use Rattle.markdown_json.specs.Json.{json, opening_after};
+ghost use Rattle.markdown_json.specs.Json.{json, json_counted, opening_after};
+ghost use Rattle.markdown_json.specs.Utf16.{json_utf16};
 ghost use Rattle.markdown_nodes.specs.Access.{label_of};
 ghost use Rattle.markdown_nodes.specs.View.{view};
 
 use crate::fields::{push_closing, push_opening};
+use crate::points::{Bytes, Points};
 use crate::strings::push;
+use crate::utf16::Utf16Points;
 use markdown_nodes::mdast::Node;
 use std::alloc::{AllocError, Global};
 
@@ -32,6 +35,29 @@ struct Frame<'a> {
 pub fn to_json(alloc: Global, tree: &Node) -> Result<String, AllocError>
     ensures { IfOk result (λ text. string_bytes text ≡ json (view tree.now)) }
 {
+    to_json_counted(alloc, &Bytes, tree)
+}
+
+/// A tree as JSON, as [`to_json`] gives it, with its columns and offsets in UTF-16 code units.
+///
+/// So JavaScript counts the characters of its strings: a character counts one, and one beyond U+FFFF
+/// two. `document` has the bytes that the tree was made of. A column counts from 1 and an offset from
+/// 0; what a tab adds to a column stays, and a point after the end of the document has the offset of
+/// the end. Fails where memory runs out, and else never: 24 bytes for each byte of the document.
+///
+/// In the document `é!`, whose first character takes two bytes, a text from `1:3 (2)` on has the start
+/// `{"line":1,"column":2,"offset":1}`.
+pub fn to_json_utf16(alloc: Global, document: &[u8], tree: &Node) -> Result<String, AllocError>
+    ensures { IfOk result (λ text. string_bytes text ≡ json_utf16 document.now (view tree.now)) }
+{
+    let points = Utf16Points::new(alloc, document)?;
+    to_json_counted(alloc, &points, tree)
+}
+
+/// A tree as JSON, with its points counted so.
+fn to_json_counted<P: Points>(alloc: Global, points: &P, tree: &Node) -> Result<String, AllocError>
+    ensures { IfOk result (λ text. string_bytes text ≡ json_counted (P.counted points.now) (view tree.now)) }
+{
     let mut out = String::new(alloc);
     let mut frames: Vec<Frame> = Vec::new(alloc);
     push_opening(&mut out, tree)?;
@@ -46,7 +72,7 @@ pub fn to_json(alloc: Global, tree: &Node) -> Result<String, AllocError>
             level = first.child_nodes();
             later = false;
         } else {
-            push_closing(&mut out, parent)?;
+            push_closing(&mut out, points, parent)?;
             let Some(frame) = frames.pop() else {
                 return Ok(out);
             };

@@ -4,6 +4,8 @@
 mod fields;
 mod json;
 pub mod laws;
+mod points;
 mod strings;
+mod utf16;
 
-pub use json::to_json;
+pub use json::{to_json, to_json_utf16};

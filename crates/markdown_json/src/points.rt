@@ -1,0 +1,32 @@
+//! How the points of a tree are counted where they are written.
+
+ghost use Rattle.std.specs.Prelude.{◌≡◌};
+ghost use Rattle.markdown_events.specs.declared.unist.Point.{Point};
+
+use markdown_nodes::unist::Point;
+
+/// How points are counted: what is written for each point of a tree (ours).
+///
+/// What it means is `counted`. An implementation is proved to give that.
+pub trait Points {
+    /// The point that is written for one of a tree.
+    ghost counted: { Self → Point → Point };
+
+    /// The point that is written for one of a tree.
+    ///
+    /// For [`Bytes`] it is that point itself.
+    fn counted(&self, point: Point) -> Point
+        ensures { result ≡ counted self.now point };
+}
+
+/// Bytes and byte columns, as a tree has them.
+#[derive(Clone, Copy, PartialEq, Eq, Debug)]
+pub struct Bytes;
+
+impl Points for Bytes {
+    ghost counted = { λ _ point. point };
+
+    fn counted(&self, point: Point) -> Point {
+        point
+    }
+}
