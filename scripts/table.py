@@ -10,23 +10,30 @@ ROWS = os.path.join(DATA, "rows.txt")
 ESCAPES = {"n": "\n", "r": "\r", "t": "\t", "\\": "\\", '"': '"'}
 
 
-def sections():
-    """The name of each section, and its rows: what each says, by the word that its line begins with, and its lines."""
+def sections(path=ROWS):
+    """The name of each section of a table, and its rows: what each says, by the word that its line begins with, and its lines.
+
+    Cases with event lines are passed over.
+    """
     found = []
     row = None
-    for line in open(ROWS, encoding="utf-8").read().split("\n"):
+    for line in open(path, encoding="utf-8").read().split("\n"):
         word, _, rest = line.partition(" ")
         if line.startswith("#") or not line:
             continue
         if word == "section":
             found.append((rest, []))
             continue
+        if word == "case":
+            row = None
         if word == "row":
             row = {"name": rest, "lines": []}
             found[-1][1].append(row)
+        elif row is None:
+            continue
         elif line.startswith('"'):
             row["document"] = line
-        elif word in ("columns", "decoder", "ordered"):
+        elif word in ("columns", "decoder", "ordered", "json", "plain", "report"):
             row[word] = rest
         elif word == "=":
             row["tree"] = rest
