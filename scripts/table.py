@@ -1,4 +1,4 @@
-"""Reads the table of rows, crates/mdast_replay/data/rows.txt: its sections, and the spans of a row."""
+"""Reads the table of rows, crates/mdast_replay/data/rows.txt: its sections, the spans of a row, and their event lines."""
 
 import os
 import re
@@ -97,6 +97,19 @@ def spans(row):
         return found
 
     return read()
+
+
+def event_lines(spans):
+    """The lines of the events of spans: each enter, the lines of the spans in it, and its exit."""
+    for name, begin, end, inner in spans:
+        yield event_line("+", name, begin)
+        yield from event_lines(inner)
+        yield event_line("-", name, end)
+
+
+def event_line(sign, name, point):
+    numbers = [number for number in point if number is not None]
+    return f"{sign}{name} " + ":".join(str(number) for number in numbers) + "\n"
 
 
 def write_or_compare(command, path, text, compares):
