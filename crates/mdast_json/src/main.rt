@@ -2,12 +2,12 @@
 //!
 //! `mdast_json DOC < EVENTS` reads the document from the file `DOC`, and event lines from standard
 //! input. It prints one line: the tree as JSON, with the names and fields of mdast, or what is wrong.
-//! Offsets and columns count bytes.
+//! Offsets and columns count bytes, and with `mdast_json --utf16 DOC` the UTF-16 units of JavaScript.
 #![tactic(auto)]
 
 use mdast_programs::document::{arguments, document};
 use mdast_programs::program::Program;
-use mdast_programs::request::{DocumentError, only};
+use mdast_programs::request::{DocumentError, json_request};
 use mdast_programs::run::{run_as, say};
 use std::io::{self, Write};
 use std::mem;
@@ -23,11 +23,11 @@ fn main(rt: HostRuntime) -> ExitCode {
 
 /// Prints the tree, or what is wrong, and gives the exit status.
 fn answer<O: Write>(rt: &HostRuntime, output: &mut O) -> Result<u8, DocumentError> {
-    let [first, second, _] = arguments(rt)?;
-    let name = only(first, second).ok_or(DocumentError::Usage)?;
+    let [first, second, third] = arguments(rt)?;
+    let (program, name) = json_request(first, second, third).ok_or(DocumentError::Usage)?;
     let doc = document(rt, name.as_str())?;
     let outcome = run_as(
-        Program::Json,
+        program,
         rt.alloc(),
         doc.as_slice(),
         &mut rt.reader(),

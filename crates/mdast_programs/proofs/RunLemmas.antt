@@ -14,8 +14,8 @@ use Rattle.mdast_programs.specs.declared.run.Answer.TheVariants as answers
 
 -- an answer with status 0 is a tree, whose line is written
 pub tree_written : (program : Program) (a : Answer) (known left old new : Option (List ℕ)) (doc line : List ℕ)
-    → status_of a ≡ 0 → IsAnswer a known left doc → Prints program a line → Appends old new line
-    → (tree : Node) × IfSome known (λ all. IsSomeAnd (lines all) (λ events. IsMeaning tree events (over doc))) × ((line : List ℕ) × IsLineOf program (view tree) line × Appends old new line)
+    → status_of a ≡ 0 → IsAnswer a known left doc → Prints program doc a line → Appends old new line
+    → (tree : Node) × IfSome known (λ all. IsSomeAnd (lines all) (λ events. IsMeaning tree events (over doc))) × ((line : List ℕ) × IsLineOf program doc (view tree) line × Appends old new line)
 tree_written program (answers.Tree tree) known left old new doc line zero is prints appends = (tree, is.1, (line, prints, appends))
 tree_written program (answers.Refused message) known left old new doc line zero is prints appends = let z : ⊥ = cc in absurd z
 tree_written program (answers.UnreadLine number) known left old new doc line zero is prints appends = let z : ⊥ = cc in absurd z
@@ -28,6 +28,6 @@ status_kept result status a is (inr e) zero = let two : 2 ≡ 0 = sym e ∙ zero
 
 -- a line that is a tree as JSON is what was written
 pub json_written : (known old new : Option (List ℕ)) (doc : List ℕ)
-    → (tree : Node) × IfSome known (λ all. IsSomeAnd (lines all) (λ events. IsMeaning tree events (over doc))) × ((line : List ℕ) × IsLineOf Json (view tree) line × Appends old new line)
+    → (tree : Node) × IfSome known (λ all. IsSomeAnd (lines all) (λ events. IsMeaning tree events (over doc))) × ((line : List ℕ) × IsLineOf Json doc (view tree) line × Appends old new line)
     → (tree : Node) × IfSome known (λ all. IsSomeAnd (lines all) (λ events. IsMeaning tree events (over doc))) × Appends old new (json_line (view tree))
 json_written known old new doc (tree, is, (line, same, wrote)) = (tree, is, subst (λ (text : List ℕ). Appends old new text) same wrote)

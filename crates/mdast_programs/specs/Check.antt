@@ -16,6 +16,6 @@ tree_status (first ∷ rest) = 4
 -- the text and the exit status for an answer: those of a report for a tree, and those of `run` for any other
 abbrev pub IsChecked : Answer → List ℕ → ℕ → Type 0
 IsChecked (answers.Tree tree) text status = IsReport (view tree) text × (status ≡ tree_status (open_in (view tree)))
-IsChecked (answers.Refused message) text status = Prints Show (answers.Refused message) text × (status ≡ 1)
-IsChecked (answers.UnreadLine number) text status = Prints Show (answers.UnreadLine number) text × (status ≡ 2)
-IsChecked answers.UnreadEvents text status = Prints Show answers.UnreadEvents text × (status ≡ 2)
+IsChecked (answers.Refused message) text status = Prints Show [] (answers.Refused message) text × (status ≡ 1)
+IsChecked (answers.UnreadLine number) text status = Prints Show [] (answers.UnreadLine number) text × (status ≡ 2)
+IsChecked answers.UnreadEvents text status = Prints Show [] answers.UnreadEvents text × (status ≡ 2)

@@ -1,24 +1,30 @@
 -- What the arguments of a program ask for, and what it prints where there is no document.
-use Rattle.std.specs.Prelude.{List, None, Option, Some, String, codes, if◌then◌else◌, string_bytes, ℕ}
+use Rattle.std.specs.Prelude.{Bool, List, None, Option, Some, String, codes, false, true, if◌then◌else◌, option_map, string_bytes, ℕ}
 use Rattle.std.specs.Str.{bytes_eq}
 use Rattle.std.specs.declared.alloc.Global.{Global}
 use Rattle.mdast_programs.specs.declared.request.DocumentError.{DocumentError}
 use Rattle.mdast_programs.specs.declared.request.DocumentError.TheVariants.{Unreadable, Usage}
 use Rattle.mdast_programs.specs.Programs.{unreadable_line, usage_line}
 use Rattle.mdast_programs.specs.declared.program.Program.{Program}
+use Rattle.mdast_programs.specs.declared.program.Program.TheVariants.{Json, JsonUtf16}
 use Rattle.mdast_programs.specs.declared.request.Request.{Request}
 use Rattle.mdast_programs.specs.declared.request.Request.TheVariants.{Check, Show}
 
--- one argument names a document to show; of two, the first is `--check`, and the second names a document to check
-abbrev pub requested : Option (String Global) → Option (String Global) → Option (String Global) → Option Request
-requested (Some document) None third = Some (Show document)
-requested (Some option) (Some document) None = if bytes_eq (string_bytes option) (codes "--check") then Some (Check document) else None
-requested _ _ _ = None
+-- one argument names a document; of two, the first is the option, and the second names a document
+abbrev pub named : List ℕ → Option (String Global) → Option (String Global) → Option (String Global) → Option (Bool × String Global)
+named option (Some document) None third = Some (false, document)
+named option (Some word) (Some document) None = if bytes_eq (string_bytes word) option then Some (true, document) else None
+named option _ _ _ = None
 
--- the first argument, where there is no second
-abbrev pub only_argument : Option (String Global) → Option (String Global) → Option (String Global)
-only_argument first None = first
-only_argument first (Some second) = None
+-- what `mdast_show` is asked for
+abbrev pub requested : Option (String Global) → Option (String Global) → Option (String Global) → Option Request
+requested first second third =
+    option_map (λ found. if found.0 then Check found.1 else Show found.1) (named (codes "--check") first second third)
+
+-- what `mdast_json` is asked for
+abbrev pub requested_json : Option (String Global) → Option (String Global) → Option (String Global) → Option (Program × String Global)
+requested_json first second third =
+    option_map (λ found. ((if found.0 then JsonUtf16 else Json), found.1)) (named (codes "--utf16") first second third)
 
 -- the line of a program for want of a document
 abbrev pub error_line : Program → DocumentError → List ℕ

@@ -17,8 +17,9 @@ use Rattle.character_references.specs.Decoder.{decoded}
 use Rattle.event_lines.specs.Lines.{lines, IsFirstUnread}
 use Rattle.mdast_programs.specs.Programs.{program_name}
 use Rattle.mdast_programs.specs.declared.program.Program.{Program}
-use Rattle.mdast_programs.specs.declared.program.Program.TheVariants.{Show, Json}
+use Rattle.mdast_programs.specs.declared.program.Program.TheVariants.{Show, Json, JsonUtf16}
 use Rattle.markdown_json.specs.Json.{json}
+use Rattle.markdown_json.specs.Utf16.{json_utf16}
 
 -- the document, with what the program's decoder knows
 abbrev pub over : List ℕ → Source
@@ -62,17 +63,22 @@ IsTreeLine tree text = (escapes : ℕ → Bool) × (text ≡ shown escapes tree 
 abbrev pub json_line : Tree → List ℕ
 json_line tree = json tree ++ codes "\n"
 
--- the line of a tree, by the program
-abbrev pub IsLineOf : Program → Tree → List ℕ → Type 0
-IsLineOf Show tree text = IsTreeLine tree text
-IsLineOf Json tree text = text ≡ json_line tree
+-- a tree of a document as JSON, with its points in UTF-16 units, and a line feed
+abbrev pub json_utf16_line : List ℕ → Tree → List ℕ
+json_utf16_line doc tree = json_utf16 doc tree ++ codes "\n"
 
--- the line of an answer
-abbrev pub Prints : Program → Answer → List ℕ → Type 0
-Prints program (answers.Tree tree) text = IsLineOf program (view tree) text
-Prints program (answers.Refused message) text = text ≡ message_line message
-Prints program (answers.UnreadLine number) text = text ≡ program_name program ++ codes ": event line " ++ decimal number ++ codes " cannot be read\n"
-Prints program answers.UnreadEvents text = text ≡ program_name program ++ codes ": cannot read the events\n"
+-- the line of a tree of a document, by the program
+abbrev pub IsLineOf : Program → List ℕ → Tree → List ℕ → Type 0
+IsLineOf Show doc tree text = IsTreeLine tree text
+IsLineOf Json doc tree text = text ≡ json_line tree
+IsLineOf JsonUtf16 doc tree text = text ≡ json_utf16_line doc tree
+
+-- the line of an answer over a document
+abbrev pub Prints : Program → List ℕ → Answer → List ℕ → Type 0
+Prints program doc (answers.Tree tree) text = IsLineOf program doc (view tree) text
+Prints program doc (answers.Refused message) text = text ≡ message_line message
+Prints program doc (answers.UnreadLine number) text = text ≡ program_name program ++ codes ": event line " ++ decimal number ++ codes " cannot be read\n"
+Prints program doc answers.UnreadEvents text = text ≡ program_name program ++ codes ": cannot read the events\n"
 
 -- the exit status of an answer
 abbrev pub status_of : Answer → ℕ

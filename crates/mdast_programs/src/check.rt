@@ -70,7 +70,8 @@ fn checked(alloc: Global, answer: &Answer) -> Result<Said, AllocError>
     if let Answer::Tree(tree) = answer {
         return checked_tree(alloc, tree);
     }
-    let text = answer.line(Program::Show, alloc)?;
+    // Without a tree the line says nothing of the document.
+    let text = answer.line(Program::Show, alloc, b"")?;
     let status = answer.status();
     Ok(Said { text, status })
 }

@@ -10,6 +10,8 @@ pub enum Program {
     Show,
     /// `mdast_json`, which prints the tree as JSON.
     Json,
+    /// `mdast_json --utf16`, which prints it with columns and offsets in UTF-16 units.
+    JsonUtf16,
 }
 
 impl Program {
@@ -19,17 +21,17 @@ impl Program {
     {
         match self {
             Program::Show => "mdast_show",
-            Program::Json => "mdast_json",
+            Program::Json | Program::JsonUtf16 => "mdast_json",
         }
     }
 
-    /// The line for wrong arguments: `usage: mdast_json DOC`.
+    /// The line for wrong arguments: `usage: mdast_json [--utf16] DOC`.
     pub fn usage(self) -> &'static str
         ensures { result.now ≡ usage_line self }
     {
         match self {
             Program::Show => "usage: mdast_show [--check] DOC\n",
-            Program::Json => "usage: mdast_json DOC\n",
+            Program::Json | Program::JsonUtf16 => "usage: mdast_json [--utf16] DOC\n",
         }
     }
 
@@ -39,7 +41,7 @@ impl Program {
     {
         match self {
             Program::Show => "mdast_show: cannot read the document\n",
-            Program::Json => "mdast_json: cannot read the document\n",
+            Program::Json | Program::JsonUtf16 => "mdast_json: cannot read the document\n",
         }
     }
 
@@ -49,7 +51,7 @@ impl Program {
     {
         match self {
             Program::Show => "mdast_show: out of memory\n",
-            Program::Json => "mdast_json: out of memory\n",
+            Program::Json | Program::JsonUtf16 => "mdast_json: out of memory\n",
         }
     }
 }

@@ -1,7 +1,8 @@
 //! What the arguments of a program ask for, and what it prints where there is no document.
 
 ghost use Rattle.std.specs.Prelude.{◌≡◌};
-ghost use Rattle.mdast_programs.specs.Requests.{error_line, only_argument, requested};
+ghost use Rattle.mdast_programs.specs.Requests;
+ghost use Rattle.mdast_programs.specs.Requests.{error_line, requested, requested_json};
 
 use crate::program::Program;
 
@@ -29,28 +30,52 @@ impl Request {
     ) -> Option<Request>
         ensures { result ≡ requested first second third }
     {
-        let first = first?;
-        let Some(second) = second else {
-            return Some(Request::Show(first));
-        };
-        if third.is_some() || first.as_str() != "--check" {
-            return None;
+        let (checks, document) = named("--check", first, second, third)?;
+        if checks {
+            return Some(Request::Check(document));
         }
-        Some(Request::Check(second))
+        Some(Request::Show(document))
     }
 }
 
-/// The one argument of a program that takes the name of a document and nothing else, as `mdast_json`
-/// does. Gives `None` where there is another number of arguments.
+/// What the first three arguments of `mdast_json` ask for: in which form, and the name of the document.
+/// Gives `None` where they ask for nothing that there is.
 ///
-/// `hi.md` alone names the document `hi.md`.
-pub fn only(first: Option<String>, second: Option<String>) -> Option<String>
-    ensures { result ≡ only_argument first second }
+/// One argument names a document, whatever it is. Of two the first has to be `--utf16`, and the second
+/// names the document. The form is ours.
+///
+/// `hi.md` asks for JSON in bytes, and `--utf16 hi.md` for JSON in UTF-16 units.
+pub fn json_request(
+    first: Option<String>,
+    second: Option<String>,
+    third: Option<String>,
+) -> Option<(Program, String)>
+    ensures { result ≡ requested_json first second third }
 {
-    if second.is_some() {
+    let (in_units, document) = named("--utf16", first, second, third)?;
+    if in_units {
+        return Some((Program::JsonUtf16, document));
+    }
+    Some((Program::Json, document))
+}
+
+/// Whether an option stands before the name of a document, and that name.
+fn named(
+    option: &str,
+    first: Option<String>,
+    second: Option<String>,
+    third: Option<String>,
+) -> Option<(bool, String)>
+    ensures { result ≡ Requests.named option.now first second third }
+{
+    let first = first?;
+    let Some(second) = second else {
+        return Some((false, first));
+    };
+    if third.is_some() || first.as_str() != option {
         return None;
     }
-    first
+    Some((true, second))
 }
 
 /// Why there is no document.

@@ -1,6 +1,6 @@
 //! One run of the program.
 
-ghost use Rattle.std.specs.Prelude.{◌≡◌, ◌≢◌, ◌⊎◌, ◌≤◌, List, ℕ, codes, IfOk, IfSome, IsSome, IsSomeAnd, string_bytes};
+ghost use Rattle.std.specs.Prelude.{◌≡◌, ◌≢◌, ◌⊎◌, ◌≤◌, [], List, ℕ, codes, IfOk, IfSome, IsSome, IsSomeAnd, string_bytes};
 ghost use Rattle.std.specs.Io.KnownBytes.{IsAtEnd, Appends};
 ghost use Rattle.markdown_nodes.specs.declared.mdast.Node.{Node};
 ghost use Rattle.mdast_programs.specs.Run;
@@ -14,7 +14,7 @@ use crate::input::{ReadError, read_all};
 use crate::program::Program;
 use character_references::decoder::Decoder;
 use event_lines::lines::{LinesError, events};
-use markdown_json::to_json;
+use markdown_json::{to_json, to_json_utf16};
 use markdown_nodes::event::Event;
 use markdown_nodes::mdast::Node;
 use markdown_nodes::message::{Fault, Message};
@@ -47,12 +47,12 @@ impl Answer {
         }
     }
 
-    /// What a program prints.
-    pub fn line(&self, program: Program, alloc: Global) -> Result<String, AllocError>
-        ensures { IfOk result (λ line. Prints program self.now (string_bytes line)) }
+    /// What a program prints over a document.
+    pub fn line(&self, program: Program, alloc: Global, doc: &[u8]) -> Result<String, AllocError>
+        ensures { IfOk result (λ line. Prints program doc.now self.now (string_bytes line)) }
     {
         match self {
-            Answer::Tree(tree) => tree_line(program, alloc, tree),
+            Answer::Tree(tree) => tree_line(program, alloc, doc, tree),
             Answer::Refused(message) => message_line(alloc, message),
             Answer::UnreadLine(number) => unread_line(program, alloc, *number),
             Answer::UnreadEvents => {
@@ -122,6 +122,7 @@ pub fn run_json<I: Read, O: Write>(alloc: Global, doc: &[u8], input: &mut I, out
 }
 
 /// One run of a program that prints the tree: as [`run`] or [`run_json`], and it hands the answer back.
+/// With [`Program::JsonUtf16`] the line is that of [`to_json_utf16`].
 ///
 /// A library lets the outcome go, and the tree is dropped. A program that ends here may forget it.
 pub fn run_as<I: Read, O: Write>(
@@ -134,7 +135,7 @@ pub fn run_as<I: Read, O: Write>(
     ensures bound { result.status ≤ 3 }
     ensures end { result.status ≤ 1 → IsAtEnd (I.remaining input.new) }
     ensures tree { result.status ≡ 0 → (tree : Node) × Means (I.remaining input.old) doc.now tree
-        × ((line : List ℕ) × IsLineOf program (view tree) line × Appends (O.contents output.old) (O.contents output.new) line) }
+        × ((line : List ℕ) × IsLineOf program doc.now (view tree) line × Appends (O.contents output.old) (O.contents output.new) line) }
     ensures refused { result.status ≡ 1 → IsRefusedWith (I.remaining input.old) doc.now (Appends (O.contents output.old) (O.contents output.new)) }
     ensures memory { result.status ≡ 3 → Appends (O.contents output.old) (O.contents output.new) (memory_line program) }
 
@@ -150,7 +151,7 @@ pub fn run_as<I: Read, O: Write>(
         };
     };
     let status = answer.status();
-    match answer.line(program, alloc) {
+    match answer.line(program, alloc, doc) {
         Ok(line) => {
             let status = say(output, line.as_str(), status);
             Outcome {
@@ -208,12 +209,13 @@ fn compiled(alloc: Global, events: &[Event], doc: &[u8]) -> Result<Answer, Alloc
 }
 
 /// The tree as Debug prints it, or as JSON.
-fn tree_line(program: Program, alloc: Global, tree: &Node) -> Result<String, AllocError>
-    ensures { IfOk result (λ line. IsLineOf program (view tree.now) (string_bytes line)) }
+fn tree_line(program: Program, alloc: Global, doc: &[u8], tree: &Node) -> Result<String, AllocError>
+    ensures { IfOk result (λ line. IsLineOf program doc.now (view tree.now) (string_bytes line)) }
 {
     match program {
         Program::Show => debug_line(alloc, tree),
         Program::Json => json_line(alloc, tree),
+        Program::JsonUtf16 => json_utf16_line(alloc, doc, tree),
     }
 }
 
@@ -235,9 +237,18 @@ fn json_line(alloc: Global, tree: &Node) -> Result<String, AllocError>
     Ok(line)
 }
 
+/// The tree as JSON, with its points in UTF-16 units.
+fn json_utf16_line(alloc: Global, doc: &[u8], tree: &Node) -> Result<String, AllocError>
+    ensures { IfOk result (λ line. string_bytes line ≡ Run.json_utf16_line doc.now (view tree.now)) }
+{
+    let mut line = to_json_utf16(alloc, doc, tree)?;
+    line.push_str("\n")?;
+    Ok(line)
+}
+
 /// `mdast_show: event line 2 cannot be read`
 fn unread_line(program: Program, alloc: Global, number: usize) -> Result<String, AllocError>
-    ensures { IfOk result (λ line. Prints program (answers.UnreadLine number) (string_bytes line)) }
+    ensures { IfOk result (λ line. Prints program [] (answers.UnreadLine number) (string_bytes line)) }
 {
     let mut line = String::from_str(alloc, program.name())?;
     line.push_str(": event line ")?;

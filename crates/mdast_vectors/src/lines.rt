@@ -7,8 +7,8 @@ use event_lines::lines::events;
 use markdown_nodes::event::{Event, Kind, Name, Point};
 use mdast_programs::check::run_check;
 use mdast_programs::program::Program;
-use mdast_programs::request::{DocumentError, Request, only};
-use mdast_programs::run::{run, run_json};
+use mdast_programs::request::{DocumentError, Request, json_request};
+use mdast_programs::run::{run, run_as, run_json};
 use std::alloc::{AllocError, Global};
 use std::io::{self, ErrorKind, Read, Write};
 use std::process::Abort;
@@ -119,14 +119,45 @@ fn prints_json(rt: HostRuntime) {
     expect_json(&rt, b"+Data 1:1:0\n+Data\n", unread, 2);
 }
 
-#[test]
-fn takes_one_argument(rt: HostRuntime) -> Result<(), Fail> {
-    let doc = own(rt.alloc(), Some("hi.md"))?;
-    same(&rt, only(doc, None).as_deref(), Some("hi.md"));
-    let doc = own(rt.alloc(), Some("hi.md"))?;
-    holds(&rt, only(doc, own(rt.alloc(), Some("hi.md"))?).is_none());
-    holds(&rt, only(None, None).is_none());
+/// What arguments ask `mdast_json` for.
+fn expect_json_request<R: Abort + AllocGlobal>(
+    rt: &R,
+    arguments: [Option<&str>; 3],
+    request: &str,
+) -> Result<(), Fail> {
+    let [first, second, third] = arguments;
+    let found = json_request(
+        own(rt.alloc(), first)?,
+        own(rt.alloc(), second)?,
+        own(rt.alloc(), third)?,
+    );
+    same(rt, format!(in rt.alloc(); "{found:?}")?.as_str(), request);
     Ok(())
+}
+
+#[test]
+fn takes_a_document_and_an_option(rt: HostRuntime) -> Result<(), Fail> {
+    let doc = Some("hi.md");
+    expect_json_request(&rt, [doc, None, None], "Some((Json, \"hi.md\"))")?;
+    let option = Some("--utf16");
+    expect_json_request(&rt, [option, doc, None], "Some((JsonUtf16, \"hi.md\"))")?;
+    expect_json_request(&rt, [option, None, None], "Some((Json, \"--utf16\"))")?;
+    expect_json_request(&rt, [doc, doc, None], "None")?;
+    expect_json_request(&rt, [option, doc, doc], "None")?;
+    expect_json_request(&rt, [None, None, None], "None")
+}
+
+/// In `é!` the text of the second character is at the byte offset 2, and at the offset 1 in units.
+#[test]
+fn prints_json_in_utf16_units(rt: HostRuntime) {
+    let mut input: &[u8] = b"+Data 1:3:2\n-Data 1:4:3\n";
+    let mut output = Vec::new(rt.alloc());
+    let doc = "\u{E9}!".as_bytes();
+    let found = run_as(Program::JsonUtf16, rt.alloc(), doc, &mut input, &mut output);
+    let line =
+        "{\"type\":\"root\",\"children\":[{\"type\":\"text\",\"value\":\"!\",\"position\":{\"start\":{\"line\":1,\"column\":2,\"offset\":1},\"end\":{\"line\":1,\"column\":3,\"offset\":2}}}],\"position\":{\"start\":{\"line\":1,\"column\":2,\"offset\":1},\"end\":{\"line\":1,\"column\":3,\"offset\":2}}}\n";
+    same(&rt, str::from_utf8(&output), Ok(line));
+    same(&rt, found.status, 0);
 }
 
 /// The events of `# Hi`, a line ending, and `[^A]`: a heading, and a paragraph with a call of a
