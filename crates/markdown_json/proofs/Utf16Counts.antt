@@ -8,7 +8,7 @@ use Rattle.std.proofs.lemmas.Grind.{common_steps}
 use Rattle.std.proofs.lemmas.Option.{slice_get-get_or, slice_get_past, get_or_from_slice_get}
 use mathlib.Core.Logic.{⊎_elim}
 use Rattle.markdown_json.specs.declared.utf16.Counts.{Counts}
-use Rattle.markdown_json.specs.Utf16.{AreCountsOf, counted_by, counts_after, counts_at, ends_line, last_line, units, units_at, utf16}
+use Rattle.markdown_json.specs.Utf16.{AreCountsOf, counted_by, counts_after, counts_at, ends_line, in_units, last_line, units, units_at, utf16}
 
 units_at-le : (b : ℕ) → units_at b ≤ 2
 units_at-le b = grind (arith, nat_tests)
@@ -101,21 +101,16 @@ le_or_past k n = grind arith
 -- what is looked up at an offset is what is counted before it
 counts_at-is : (counts : List Counts) (document : List ℕ) (k : ℕ) → AreCountsOf counts document → counts_at counts k ≡ counts_after (take k document)
 counts_at-is counts document k (many, are) =
-    let zero : Counts = record { units = 0; line_bytes = 0; line_units = 0 } in
-    let last = unwrap_or (slice_get counts (length counts - 1)) zero in
+    let last = unwrap_or (slice_get counts (length counts - 1)) (counts_after []) in
     ⊎_elim
     (λ (l : k ≤ length document). ap (λ (o : Option Counts). unwrap_or o last) (are k l))
     (λ (l : length document + 1 ≤ k).
     let none : slice_get counts k ≡ None = slice_get_past counts k (omega (arith, many, l)) in
     let end : slice_get counts (length counts - 1) ≡ Some (counts_after (take (length document) document)) = ap (slice_get counts) (omega (arith, many)) ∙ are (length document) (omega arith) in
     let whole : take (length document) document ≡ take k document = grind (arith, common_steps) in
-    ap (λ (o : Option Counts). unwrap_or o last) none ∙ ap (λ (o : Option Counts). unwrap_or o zero) end ∙ ap counts_after whole)
+    ap (λ (o : Option Counts). unwrap_or o last) none ∙ ap (λ (o : Option Counts). unwrap_or o (counts_after [])) end ∙ ap counts_after whole)
     (le_or_past k (length document))
 
 -- the code counts points as the definition does
 pub counted-is : (counts : List Counts) (document : List ℕ) → AreCountsOf counts document → counted_by counts ≡ utf16 document
-counted-is counts document are = λ i point. record {
-  line = point.line;
-  column = min ((counts_at-is counts document point.offset are i).line_units + (point.column - (counts_at-is counts document point.offset are i).line_bytes)) (2 ^ 64 - 1);
-  offset = (counts_at-is counts document point.offset are i).units;
-}
+counted-is counts document are = λ i point. in_units (counts_at-is counts document point.offset are i) point

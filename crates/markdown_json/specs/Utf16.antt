@@ -24,25 +24,24 @@ abbrev pub last_line : List ℕ → List ℕ
 last_line [] = []
 last_line (b ∷ bytes) = if list_any ends_line bytes then last_line bytes else (if ends_line b then bytes else b ∷ bytes)
 
--- the column after the beginning of a line: its bytes give way to their units, and what a tab adds stays; at most the greatest number
-abbrev pub column_after : List ℕ → ℕ → ℕ
-column_after line column = min (units line + (column - length line)) (2 ^ 64 - 1)
+-- what is counted of the text before a point: its units, and the bytes and units of its last line
+abbrev pub counts_after : List ℕ → Counts
+counts_after text = record { units = units text; line_bytes = length (last_line text); line_units = units (last_line text) }
+
+-- a point after such a text: the bytes of its line give way to their units, and what a tab adds stays; a column is at most the greatest number
+abbrev pub in_units : Counts → Point → Point
+in_units before point =
+    record { line = point.line; column = min (before.line_units + (point.column - before.line_bytes)) (2 ^ 64 - 1); offset = before.units }
 
 -- a point of a document
 abbrev pub utf16 : List ℕ → Point → Point
-utf16 document point =
-    let before = take point.offset document in
-    record { line = point.line; column = column_after (last_line before) point.column; offset = units before }
+utf16 document point = in_units (counts_after (take point.offset document)) point
 
 -- a tree as JSON, with its points in units
 abbrev pub json_utf16 : List ℕ → Tree → List ℕ
 json_utf16 document tree = json_counted (utf16 document) tree
 
 -- ---- What the code keeps
-
--- what is kept at an offset, after the text before it: its units, and the bytes and units of its last line
-abbrev pub counts_after : List ℕ → Counts
-counts_after text = record { units = units text; line_bytes = length (last_line text); line_units = units (last_line text) }
 
 -- counts for each offset of a document, from the first to that of its end
 abbrev pub AreCountsOf : List Counts → List ℕ → Type 0
@@ -51,10 +50,8 @@ AreCountsOf counts document =
 
 -- what is counted before an offset, and before the end where the offset is after it
 abbrev pub counts_at : List Counts → ℕ → Counts
-counts_at counts offset = unwrap_or (slice_get counts offset) (unwrap_or (slice_get counts (length counts - 1)) (record { units = 0; line_bytes = 0; line_units = 0 }))
+counts_at counts offset = unwrap_or (slice_get counts offset) (unwrap_or (slice_get counts (length counts - 1)) (counts_after []))
 
 -- a point, by what is counted before it
 abbrev pub counted_by : List Counts → Point → Point
-counted_by counts point =
-    let before = counts_at counts point.offset in
-    record { line = point.line; column = min (before.line_units + (point.column - before.line_bytes)) (2 ^ 64 - 1); offset = before.units }
+counted_by counts point = in_units (counts_at counts point.offset) point

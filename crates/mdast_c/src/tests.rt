@@ -23,21 +23,28 @@ fn full() -> Outcome {
     }
 }
 
+/// Stops the test where a text of an outcome is not the one that it must be.
+fn same_text(rt: &impl Abort, found: &[u8], wanted: &[u8]) {
+    assert_eq!(rt; str::from_utf8(found), str::from_utf8(wanted));
+}
+
+/// Stops the test where a number of an outcome is not the one that it must be.
+fn same_number(rt: &impl Abort, found: usize, wanted: usize) {
+    assert_eq!(rt; found, wanted);
+}
+
 /// A call comes to an outcome with these fields, whatever the outcome had before.
 fn expect<R: Abort + AllocGlobal>(rt: &R, input: [&[u8]; 3], wanted: &Outcome) {
     let mut outcome = full();
     let [document, event_lines, references] = input;
     mdast_compile(rt.alloc(), document, event_lines, references, &mut outcome);
-    assert_eq!(rt; outcome.status, wanted.status);
-    assert_eq!(rt; str::from_utf8(outcome.text), str::from_utf8(wanted.text));
-    assert_eq!(rt; str::from_utf8(outcome.rule), str::from_utf8(wanted.rule));
-    assert_eq!(rt;
-        str::from_utf8(outcome.reason),
-        str::from_utf8(wanted.reason)
-    );
-    assert_eq!(rt; outcome.line, wanted.line);
-    assert_eq!(rt; outcome.column, wanted.column);
-    assert_eq!(rt; outcome.offset, wanted.offset);
+    same_number(rt, outcome.status as usize, wanted.status as usize);
+    same_text(rt, outcome.text, wanted.text);
+    same_text(rt, outcome.rule, wanted.rule);
+    same_text(rt, outcome.reason, wanted.reason);
+    same_number(rt, outcome.line, wanted.line);
+    same_number(rt, outcome.column, wanted.column);
+    same_number(rt, outcome.offset, wanted.offset);
 }
 
 #[test]

@@ -10,7 +10,6 @@ use mdast_programs::program::Program;
 use mdast_programs::request::{DocumentError, json_request};
 use mdast_programs::run::{run_as, say};
 use std::io::{self, Write};
-use std::mem;
 use std::process::ExitCode;
 
 fn main(rt: HostRuntime) -> ExitCode {
@@ -33,8 +32,5 @@ fn answer<O: Write>(rt: &HostRuntime, output: &mut O) -> Result<u8, DocumentErro
         &mut rt.reader(),
         output,
     );
-    let status = outcome.status;
-    // The program ends here, and its memory with it: the tree is not given back node by node.
-    mem::forget(outcome);
-    Ok(status)
+    Ok(outcome.forget())
 }

@@ -21,6 +21,7 @@ use markdown_nodes::message::{Fault, Message};
 use markdown_tree::to_mdast::compile;
 use std::alloc::{AllocError, Global};
 use std::io::{Read, Write};
+use std::mem;
 
 /// What a run comes to, if memory does not run out.
 #[derive(Debug, Drop)]
@@ -71,6 +72,20 @@ pub struct Outcome {
     pub status: u8,
     /// The answer, if memory did not run out before there was one.
     pub answer: Option<Answer>,
+}
+
+impl Outcome {
+    /// Gives the exit status, and forgets the answer: the tree is not given back node by node.
+    ///
+    /// It is for the last step of a program, whose memory ends with it. In `main`,
+    /// `run_as(..).forget()` is 0 where a tree was printed.
+    pub fn forget(self) -> u8
+        ensures { result ≡ self.status }
+    {
+        let status = self.status;
+        mem::forget(self);
+        status
+    }
 }
 
 /// Prints the tree that the events in `input` stand for over the bytes of a document, or what is
@@ -124,7 +139,8 @@ pub fn run_json<I: Read, O: Write>(alloc: Global, doc: &[u8], input: &mut I, out
 /// One run of a program that prints the tree: as [`run`] or [`run_json`], and it hands the answer back.
 /// With [`Program::JsonUtf16`] the line is that of [`to_json_utf16`].
 ///
-/// A library lets the outcome go, and the tree is dropped. A program that ends here may forget it.
+/// A library lets the outcome go, and the tree is dropped. A program that ends here may
+/// [`forget`](Outcome::forget) it.
 pub fn run_as<I: Read, O: Write>(
     program: Program,
     alloc: Global,
@@ -150,22 +166,13 @@ pub fn run_as<I: Read, O: Write>(
             answer: None,
         };
     };
-    let status = answer.status();
-    match answer.line(program, alloc, doc) {
-        Ok(line) => {
-            let status = say(output, line.as_str(), status);
-            Outcome {
-                status,
-                answer: Some(answer),
-            }
-        }
-        Err(_) => {
-            let status = say(output, program.out_of_memory(), 3);
-            Outcome {
-                status,
-                answer: Some(answer),
-            }
-        }
+    let status = match answer.line(program, alloc, doc) {
+        Ok(line) => say(output, line.as_str(), answer.status()),
+        Err(_) => say(output, program.out_of_memory(), 3),
+    };
+    Outcome {
+        status,
+        answer: Some(answer),
     }
 }
 

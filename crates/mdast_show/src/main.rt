@@ -12,7 +12,6 @@ use mdast_programs::program::Program;
 use mdast_programs::request::{DocumentError, Request};
 use mdast_programs::run::{run_as, say};
 use std::io::{self, Write};
-use std::mem;
 use std::process::ExitCode;
 
 fn main(rt: HostRuntime) -> ExitCode {
@@ -35,10 +34,7 @@ fn answer<O: Write>(rt: &HostRuntime, output: &mut O) -> Result<u8, DocumentErro
                 &mut rt.reader(),
                 output,
             );
-            let status = outcome.status;
-            // The program ends here, and its memory with it: the tree is not given back node by node.
-            mem::forget(outcome);
-            Ok(status)
+            Ok(outcome.forget())
         }
         Request::Check(name) => {
             let doc = document(rt, name.as_str())?;
