@@ -26,6 +26,11 @@ pub status_kept : (result status : ℕ) (a : Answer) → status ≡ status_of a 
 status_kept result status a is (inl e) zero = sym is ∙ sym e ∙ zero
 status_kept result status a is (inr e) zero = let two : 2 ≡ 0 = sym e ∙ zero in absurd cc
 
+-- nothing that is written for want of memory ends with status 0
+pub not_written : (result : ℕ) → (result ≡ 3) ⊎ (result ≡ 2) → result ≡ 0 → ⊥
+not_written result (inl e) zero = let three : 3 ≡ 0 = sym e ∙ zero in cc
+not_written result (inr e) zero = let two : 2 ≡ 0 = sym e ∙ zero in cc
+
 -- a line that is a tree as JSON is what was written
 pub json_written : (known old new : Option (List ℕ)) (doc : List ℕ)
     → (tree : Node) × IfSome known (λ all. IsSomeAnd (lines all) (λ events. IsMeaning tree events (over doc))) × ((line : List ℕ) × IsLineOf Json doc (view tree) line × Appends old new line)
