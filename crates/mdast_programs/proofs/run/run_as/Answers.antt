@@ -1,4 +1,4 @@
-use Rattle.std.proofs.Common.{◌≡◌, sym, ◌∙◌, subst, List, ℕ}
+use Rattle.std.proofs.Common.{rules, ◌≡◌, sym, ◌∙◌, subst, List, ℕ}
 use Rattle.std.specs.Io.KnownBytes.{Appends}
 use Rattle.mdast_programs.proofs.RunLemmas.{not_written, status_kept, tree_written}
 use Rattle.mdast_programs.proofs.run.run_as.Goals as goal
@@ -13,3 +13,6 @@ returns-clause-tree g c zero = elim c.match-line.branch [
       (subst (λ (t : List ℕ). Appends (g.O.Write.contents c.args.output.now) (g.O.Write.contents c.match-line.output) t) w.as_str.ensures.value (rw (sym w.output-is) at wrote))
   | in-Err w ↦ absurd (not_written w.say-status-in-Err.result w.say-status-in-Err.ensures.status (sym w.status-is ∙ zero))
 ]
+
+pub returns-clause-answered : goal.returns-clause-answered
+returns-clause-answered g c = search rules
