@@ -119,13 +119,13 @@ impl CodeFencedParts {
         self,
         alloc: Global,
         steps: &mut Steps<'_>,
-        nodes: &[Node],
+        nodes: Vec<Node>,
         position: Position,
     ) -> Result<Node, Stop>
         ensures node { Makes result (is_some self.fence) MissingFence
-            (IsNode (code_label self.fence (fenced_text nodes.now)) nothing position) }
+            (IsNode (code_label self.fence (fenced_text nodes.items)) nothing position) }
         ensures list { steps.new.events ≡ steps.old.events }
-        ensures bound { steps.new.count ≤ steps.old.count + node_count (views nodes.now) }
+        ensures bound { steps.new.count ≤ steps.old.count + node_count (views nodes.items) }
     {
         match self.fence {
             Some(fence) => Ok(fenced_code(alloc, steps, nodes, position, fence)?),
@@ -139,13 +139,13 @@ impl CodeFencedParts {
 fn fenced_code(
     alloc: Global,
     steps: &mut Steps<'_>,
-    nodes: &[Node],
+    nodes: Vec<Node>,
     position: Position,
     fence: CodeFenceParts,
 ) -> Result<Node, AllocError>
-    ensures node { IfOk result (IsNode (code_label (Some fence) (fenced_text nodes.now)) nothing position) }
+    ensures node { IfOk result (IsNode (code_label (Some fence) (fenced_text nodes.items)) nothing position) }
     ensures list { steps.new.events ≡ steps.old.events }
-    ensures bound { steps.new.count ≤ steps.old.count + node_count (views nodes.now) }
+    ensures bound { steps.new.count ≤ steps.old.count + node_count (views nodes.items) }
 {
     let CodeFenceParts { info, meta } = fence;
     let text = values_of(alloc, steps, nodes)?;
@@ -163,12 +163,12 @@ fn fenced_code(
 pub fn indented_code(
     alloc: Global,
     steps: &mut Steps<'_>,
-    nodes: &[Node],
+    nodes: Vec<Node>,
     position: Position,
 ) -> Result<Node, AllocError>
-    ensures node { IfOk result (IsNode (tree.code (indented_text nodes.now) None None) nothing position) }
+    ensures node { IfOk result (IsNode (tree.code (indented_text nodes.items) None None) nothing position) }
     ensures list { steps.new.events ≡ steps.old.events }
-    ensures bound { steps.new.count ≤ steps.old.count + node_count (views nodes.now) }
+    ensures bound { steps.new.count ≤ steps.old.count + node_count (views nodes.items) }
 {
     let text = values_of(alloc, steps, nodes)?;
     Ok(Node::Code(Code {
@@ -186,13 +186,13 @@ pub fn indented_code(
 pub fn inline_code(
     alloc: Global,
     steps: &mut Steps<'_>,
-    nodes: &[Node],
+    nodes: Vec<Node>,
     position: Position,
     in_table: bool,
 ) -> Result<Node, AllocError>
-    ensures node { IfOk result (IsNode (tree.inline_code (inline_text nodes.now in_table)) nothing position) }
+    ensures node { IfOk result (IsNode (tree.inline_code (inline_text nodes.items in_table)) nothing position) }
     ensures list { steps.new.events ≡ steps.old.events }
-    ensures bound { steps.new.count ≤ steps.old.count + node_count (views nodes.now) }
+    ensures bound { steps.new.count ≤ steps.old.count + node_count (views nodes.items) }
 {
     let text = values_of(alloc, steps, nodes)?;
     Ok(Node::InlineCode(InlineCode {

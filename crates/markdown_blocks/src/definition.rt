@@ -70,15 +70,15 @@ impl DefinitionParts {
         alloc: Global,
         steps: &mut Steps<'_>,
         bytes: &[u8],
-        nodes: &[Node],
+        nodes: Vec<Node>,
         start: Point,
         end: Point,
     ) -> Result<(), Stop>
         requires { misfit_in (definition self.old) (item_kinds.Part parts.DefinitionLabelString) ≡ None }
-        ensures taken { ReadsText bytes.now parts.DefinitionLabelString (views nodes.now) start end
+        ensures taken { ReadsText bytes.now parts.DefinitionLabelString (views nodes.items) start end
             (definition self.old) (definition self.new) result }
         ensures list { steps.new.events ≡ steps.old.events }
-        ensures bound { steps.new.count ≤ steps.old.count + node_count (views nodes.now) }
+        ensures bound { steps.new.count ≤ steps.old.count + node_count (views nodes.items) }
     {
         let slice = text_of(bytes, start, end)?;
         self.label = Some(identify(alloc, steps, slice, nodes)?);

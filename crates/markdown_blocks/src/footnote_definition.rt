@@ -61,15 +61,15 @@ impl FootnoteDefinitionParts {
         alloc: Global,
         steps: &mut Steps<'_>,
         bytes: &[u8],
-        nodes: &[Node],
+        nodes: Vec<Node>,
         start: Point,
         end: Point,
     ) -> Result<(), Stop>
         requires { misfit_in (footnote_definition self.old) (item_kinds.Part parts.FootnoteDefinitionLabelString) ≡ None }
-        ensures taken { ReadsText bytes.now parts.FootnoteDefinitionLabelString (views nodes.now) start end
+        ensures taken { ReadsText bytes.now parts.FootnoteDefinitionLabelString (views nodes.items) start end
             (footnote_definition self.old) (footnote_definition self.new) result }
         ensures list { steps.new.events ≡ steps.old.events }
-        ensures bound { steps.new.count ≤ steps.old.count + node_count (views nodes.now) }
+        ensures bound { steps.new.count ≤ steps.old.count + node_count (views nodes.items) }
     {
         let slice = text_of(bytes, start, end)?;
         self.label = Some(identify(alloc, steps, slice, nodes)?);

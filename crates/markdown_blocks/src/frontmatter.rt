@@ -24,13 +24,13 @@ use std::alloc::{AllocError, Global};
 pub fn frontmatter(
     alloc: Global,
     steps: &mut Steps<'_>,
-    nodes: &[Node],
+    nodes: Vec<Node>,
     position: Position,
     is_toml: bool,
 ) -> Result<Node, AllocError>
-    ensures node { IfOk result (IsNode (frontmatter is_toml (fenced_text nodes.now)) nothing position) }
+    ensures node { IfOk result (IsNode (frontmatter is_toml (fenced_text nodes.items)) nothing position) }
     ensures list { steps.new.events ≡ steps.old.events }
-    ensures bound { steps.new.count ≤ steps.old.count + node_count (views nodes.now) }
+    ensures bound { steps.new.count ≤ steps.old.count + node_count (views nodes.items) }
 {
     let text = values_of(alloc, steps, nodes)?;
     let value = block_value(text, true);

@@ -21,12 +21,12 @@ use std::alloc::{AllocError, Global};
 pub fn html(
     alloc: Global,
     steps: &mut Steps<'_>,
-    nodes: &[Node],
+    nodes: Vec<Node>,
     position: Position,
 ) -> Result<Node, AllocError>
-    ensures node { IfOk result (IsNode (tree.html (plain_text (views nodes.now))) nothing position) }
+    ensures node { IfOk result (IsNode (tree.html (plain_text (views nodes.items))) nothing position) }
     ensures list { steps.new.events ≡ steps.old.events }
-    ensures bound { steps.new.count ≤ steps.old.count + node_count (views nodes.now) }
+    ensures bound { steps.new.count ≤ steps.old.count + node_count (views nodes.items) }
 {
     Ok(Node::Html(Html {
         value: values_of(alloc, steps, nodes)?,

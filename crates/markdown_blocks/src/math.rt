@@ -102,13 +102,13 @@ impl MathFlowParts {
         self,
         alloc: Global,
         steps: &mut Steps<'_>,
-        nodes: &[Node],
+        nodes: Vec<Node>,
         position: Position,
     ) -> Result<Node, Stop>
         ensures node { Makes result (is_some self.fence) MissingFence
-            (IsNode (math_label self.fence (fenced_text nodes.now)) nothing position) }
+            (IsNode (math_label self.fence (fenced_text nodes.items)) nothing position) }
         ensures list { steps.new.events ≡ steps.old.events }
-        ensures bound { steps.new.count ≤ steps.old.count + node_count (views nodes.now) }
+        ensures bound { steps.new.count ≤ steps.old.count + node_count (views nodes.items) }
     {
         match self.fence {
             Some(fence) => Ok(block_math(alloc, steps, nodes, position, fence)?),
@@ -122,13 +122,13 @@ impl MathFlowParts {
 fn block_math(
     alloc: Global,
     steps: &mut Steps<'_>,
-    nodes: &[Node],
+    nodes: Vec<Node>,
     position: Position,
     fence: MathFenceParts,
 ) -> Result<Node, AllocError>
-    ensures node { IfOk result (IsNode (math_label (Some fence) (fenced_text nodes.now)) nothing position) }
+    ensures node { IfOk result (IsNode (math_label (Some fence) (fenced_text nodes.items)) nothing position) }
     ensures list { steps.new.events ≡ steps.old.events }
-    ensures bound { steps.new.count ≤ steps.old.count + node_count (views nodes.now) }
+    ensures bound { steps.new.count ≤ steps.old.count + node_count (views nodes.items) }
 {
     let MathFenceParts { meta } = fence;
     let text = values_of(alloc, steps, nodes)?;
@@ -146,13 +146,13 @@ fn block_math(
 pub fn inline_math(
     alloc: Global,
     steps: &mut Steps<'_>,
-    nodes: &[Node],
+    nodes: Vec<Node>,
     position: Position,
     in_table: bool,
 ) -> Result<Node, AllocError>
-    ensures node { IfOk result (IsNode (tree.inline_math (inline_text nodes.now in_table)) nothing position) }
+    ensures node { IfOk result (IsNode (tree.inline_math (inline_text nodes.items in_table)) nothing position) }
     ensures list { steps.new.events ≡ steps.old.events }
-    ensures bound { steps.new.count ≤ steps.old.count + node_count (views nodes.now) }
+    ensures bound { steps.new.count ≤ steps.old.count + node_count (views nodes.items) }
 {
     let text = values_of(alloc, steps, nodes)?;
     Ok(Node::InlineMath(InlineMath {

@@ -1,9 +1,11 @@
 -- What the levels on a stack read as, and how many nodes there are in them.
-use Rattle.std.proofs.Common.{◌≡◌, ◌≤◌, ◌<◌, ℕ, ◌+◌, ◌*◌, List, [], ◌∷◌, ◌++◌, length, Bor, Some, None, Vec, Global, refl, sym, ap, ◌∙◌, append_assoc, append-nil, arith}
+use Rattle.std.proofs.Common.{◌≡◌, ◌≤◌, ◌<◌, ℕ, ◌+◌, ◌*◌, List, [], ◌∷◌, ◌++◌, length, Bor, Some, None, Vec, Global, string_bytes, slice_index_or, refl, sym, ap, ◌∙◌, append_assoc, append-nil, arith}
 use Rattle.std.proofs.lemmas.List.{length-append}
 use Rattle.markdown_nodes.specs.declared.mdast.Node.{Node}
+use Rattle.markdown_nodes.specs.declared.mdast.Node.TheVariants as nodes
+use Rattle.markdown_nodes.specs.declared.mdast.Text.{Text}
 use Rattle.markdown_nodes.specs.Access.{children_of, items_in, label_of, nodes_in}
-use Rattle.markdown_nodes.specs.Tree.{Tree, Trees, before, nothing}
+use Rattle.markdown_nodes.specs.Tree.{Tree, Trees, before, nothing, plain_text}
 use Rattle.markdown_nodes.specs.View.{view, views}
 use Rattle.markdown_nodes.proofs.Views.{view-is}
 use Rattle.markdown_grammar.specs.Buffers.{node_count}
@@ -172,3 +174,16 @@ pub walks_up : (here rest : List Node) (levels after : List (Bor (List Node))) (
 walks_up here rest levels after top empty popped holds =
     let more : length levels ≡ length after + 1 = ap (λ (l : List (Bor (List Node))). length l) popped ∙ length-append after (top ∷ []) in
     omega (arith, left_up here rest levels after top empty popped holds, more)
+
+-- a text alone reads as its value, in one step
+pub alone_reads : (items : List Node) (node : Text) → length items ≡ 1 → nodes.Text node ≡ slice_index_or items 0 (nodes.Text node) → string_bytes node.value ≡ plain_text (views items)
+unfolding view
+alone_reads [] node one is = absurd (omega (arith, one))
+alone_reads (x ∷ []) node one is = sym (append-nil (string_bytes node.value ++ []) ∙ append-nil (string_bytes node.value)) ∙ ap (λ (n : Node). plain_text (views (n ∷ []))) is
+alone_reads (x ∷ y ∷ rest) node one is = absurd (omega (arith, one))
+
+pub alone_counts : (items : List Node) (node : Text) → length items ≡ 1 → nodes.Text node ≡ slice_index_or items 0 (nodes.Text node) → node_count (views items) ≡ 1
+unfolding view
+alone_counts [] node one is = absurd (omega (arith, one))
+alone_counts (x ∷ []) node one is = ap (λ (n : Node). node_count (views (n ∷ []))) (sym is)
+alone_counts (x ∷ y ∷ rest) node one is = absurd (omega (arith, one))

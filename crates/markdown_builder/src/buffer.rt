@@ -1,7 +1,7 @@
 //! The text of a buffer, a span whose nodes are collected for a text: that of a title, of a label or
 //! of a block of code.
 
-ghost use Rattle.std.specs.Prelude.{◌≡◌, ◌≤◌, ◌+◌, ◌++◌, OnOk, IfOk, string_bytes};
+ghost use Rattle.std.specs.Prelude.{◌≡◌, ◌≤◌, ◌+◌, ◌++◌, OnOk, IfOk, IfSome, IsNone, IsSome, string_bytes};
 ghost use Rattle.markdown_nodes.specs.Access;
 ghost use Rattle.markdown_nodes.specs.Tree.{plain_label, plain_text};
 ghost use Rattle.markdown_nodes.specs.View.{views};
@@ -11,6 +11,7 @@ ghost use Rattle.markdown_builder.specs.Readings.{own_text, reading};
 use markdown_nodes::mdast::Node;
 use markdown_nodes::steps::Steps;
 use std::alloc::{AllocError, Global};
+use std::mem;
 
 /// What of a node is read.
 #[derive(Clone, Copy)]
@@ -25,15 +26,43 @@ enum Form {
 /// Titles, destinations and blocks of code are read so. It takes one step for each node, and errs
 /// only where memory runs out.
 ///
+/// The nodes are used up: a text that stands alone, as in most buffers, gives its characters away, and
+/// is not copied.
+///
 /// An emphasis with the text `a` in it, and the text `b` after it, read as `ab`.
-pub fn values_of(alloc: Global, steps: &mut Steps<'_>, nodes: &[Node]) -> Result<String, AllocError>
-    ensures text { IfOk result (λ text. string_bytes text ≡ plain_text (views nodes.now)) }
+pub fn values_of(
+    alloc: Global,
+    steps: &mut Steps<'_>,
+    mut nodes: Vec<Node>,
+) -> Result<String, AllocError>
+    ensures text { IfOk result (λ text. string_bytes text ≡ plain_text (views nodes.items)) }
     ensures list { steps.new.events ≡ steps.old.events }
     // Each node takes one step, and where memory runs out none takes more.
-    ensures count { OnOk result (steps.new.count ≡ steps.old.count + node_count (views nodes.now)) }
-    ensures bound { steps.new.count ≤ steps.old.count + node_count (views nodes.now) }
+    ensures count { OnOk result (steps.new.count ≡ steps.old.count + node_count (views nodes.items)) }
+    ensures bound { steps.new.count ≤ steps.old.count + node_count (views nodes.items) }
 {
-    text_of(alloc, steps, Form::Values, nodes)
+    if let Some(text) = text_alone(alloc, &mut nodes) {
+        steps.tick();
+        return Ok(text);
+    }
+    text_of(alloc, steps, Form::Values, &nodes)
+}
+
+/// Takes the characters out of a text that stands alone. Other nodes stay as they are.
+#[tactic(auto, using(crate::proofs::Readings::alone_reads, crate::proofs::Readings::alone_counts))]
+fn text_alone(alloc: Global, nodes: &mut Vec<Node>) -> Option<String>
+    ensures text { IfSome result (λ text. string_bytes text ≡ plain_text (views nodes.old.items)) }
+    ensures count { IsSome result → node_count (views nodes.old.items) ≡ 1 }
+    ensures kept { IsNone result → nodes.new.items ≡ nodes.old.items }
+{
+    if nodes.len() != 1 {
+        return None;
+    }
+    let first = nodes.first_mut()?;
+    match first {
+        Node::Text(node) => Some(mem::replace(&mut node.value, String::new(alloc))),
+        _ => None,
+    }
 }
 
 /// The same with the alternative texts of images: the labels of links and images are read so.

@@ -30,12 +30,12 @@ pub fn identify(
     alloc: Global,
     steps: &mut Steps<'_>,
     slice: &str,
-    nodes: &[Node],
+    nodes: Vec<Node>,
 ) -> Result<Identified, AllocError>
     ensures identifier { IfOk result (λ made. string_bytes made.identifier ≡ fold slice.now) }
-    ensures label { IfOk result (λ made. string_bytes made.label ≡ plain_text (views nodes.now)) }
+    ensures label { IfOk result (λ made. string_bytes made.label ≡ plain_text (views nodes.items)) }
     ensures list { steps.new.events ≡ steps.old.events }
-    ensures bound { steps.new.count ≤ steps.old.count + node_count (views nodes.now) }
+    ensures bound { steps.new.count ≤ steps.old.count + node_count (views nodes.items) }
 {
     Ok(Identified {
         identifier: normalize_identifier(alloc, slice)?,

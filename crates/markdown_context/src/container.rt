@@ -331,10 +331,10 @@ impl<'a> Container<'a> {
             Part::ReferenceString
             | Part::DefinitionLabelString
             | Part::FootnoteDefinitionLabelString => {
-                self.take_identified(alloc, steps, bytes, part, &nodes, start, end)
+                self.take_identified(alloc, steps, bytes, part, nodes, start, end)
             }
             _ => {
-                let text = values_of(alloc, steps, &nodes)?;
+                let text = values_of(alloc, steps, nodes)?;
                 self.take_value(part, text);
                 Ok(())
             }
@@ -366,15 +366,15 @@ impl<'a> Container<'a> {
         steps: &mut Steps<'_>,
         bytes: &[u8],
         part: Part,
-        nodes: &[Node],
+        nodes: Vec<Node>,
         start: Point,
         end: Point,
     ) -> Result<(), Stop>
         requires such { is_label_string part ≡ true }
         requires fits { misfit_of self.old (item_kinds.Part part) ≡ None }
-        ensures taken { KeepsNodes bytes.now part start end (views nodes.now) self.old self.new result }
+        ensures taken { KeepsNodes bytes.now part start end (views nodes.items) self.old self.new result }
         ensures list { steps.new.events ≡ steps.old.events }
-        ensures bound { steps.new.count ≤ steps.old.count + node_count (views nodes.now) }
+        ensures bound { steps.new.count ≤ steps.old.count + node_count (views nodes.items) }
     {
         match (self, part) {
             (Container::Reference(parts), Part::ReferenceString) => {

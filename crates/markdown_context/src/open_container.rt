@@ -450,8 +450,8 @@ impl<'a> OpenContainer<'a> {
             Container::FootnoteDefinition(parts) => Ok(parts.node(alloc, nodes, position)),
             Container::HeadingAtx(parts) => parts.node(nodes, position),
             Container::HeadingSetext(parts) => parts.node(nodes, position),
-            Container::CodeFenced(parts) => parts.node(alloc, steps, &nodes, position),
-            Container::MathFlow(parts) => parts.node(alloc, steps, &nodes, position),
+            Container::CodeFenced(parts) => parts.node(alloc, steps, nodes, position),
+            Container::MathFlow(parts) => parts.node(alloc, steps, nodes, position),
             Container::Autolink(parts) => Ok(parts.node(alloc, ending.start, ending.end)?),
             Container::Media(parts) if content == Content::Image => {
                 Ok(parts.image(alloc, steps, position)?)
@@ -490,13 +490,13 @@ fn any_content_node(
     match content {
         Content::Table => Ok(table(nodes, position, columns.take(alloc))),
         Content::ListUnordered => Ok(unordered_list(nodes, position, ending.marks.list_blank)),
-        Content::CodeIndented => indented_code(alloc, steps, &nodes, position),
-        Content::CodeText => inline_code(alloc, steps, &nodes, position, ending.in_table),
-        Content::MathText => inline_math(alloc, steps, &nodes, position, ending.in_table),
-        Content::Html => html(alloc, steps, &nodes, position),
+        Content::CodeIndented => indented_code(alloc, steps, nodes, position),
+        Content::CodeText => inline_code(alloc, steps, nodes, position, ending.in_table),
+        Content::MathText => inline_math(alloc, steps, nodes, position, ending.in_table),
+        Content::Html => html(alloc, steps, nodes, position),
         Content::Frontmatter => {
             let is_toml = byte_at(bytes, ending.start) == Some(b'+');
-            frontmatter(alloc, steps, &nodes, position, is_toml)
+            frontmatter(alloc, steps, nodes, position, is_toml)
         }
         _ => unreachable!(),
     }

@@ -99,6 +99,7 @@ impl Stop {
     ///
     /// `Stop::Refused(ErrorKind::Unbalanced).at(point)` is a message of the rule `events-unbalanced`,
     /// whose place is the line, the column and the offset of the point. It takes no memory.
+    #[inline(never)]
     pub fn at(self, point: Point) -> Fault
         ensures { IsFaultOf self point result }
     {

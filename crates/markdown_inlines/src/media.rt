@@ -134,15 +134,15 @@ impl ReferenceParts {
         alloc: Global,
         steps: &mut Steps<'_>,
         bytes: &[u8],
-        nodes: &[Node],
+        nodes: Vec<Node>,
         start: Point,
         end: Point,
     ) -> Result<(), Stop>
         requires { misfit_in (reference self.old) (item_kinds.Part parts.ReferenceString) ≡ None }
-        ensures taken { ReadsText bytes.now parts.ReferenceString (views nodes.now) start end
+        ensures taken { ReadsText bytes.now parts.ReferenceString (views nodes.items) start end
             (reference self.old) (reference self.new) result }
         ensures list { steps.new.events ≡ steps.old.events }
-        ensures bound { steps.new.count ≤ steps.old.count + node_count (views nodes.now) }
+        ensures bound { steps.new.count ≤ steps.old.count + node_count (views nodes.items) }
     {
         let slice = text_of(bytes, start, end)?;
         self.string = Some(identify(alloc, steps, slice, nodes)?);
