@@ -201,6 +201,8 @@ pub fn answer_to<I: Read>(alloc: Global, doc: &[u8], input: &mut I) -> Result<An
         Err(LinesError::Unread(number)) => return Ok(Answer::UnreadLine(number)),
         Err(LinesError::Memory(error)) => return Err(error),
     };
+    // The tree needs the events and not their lines.
+    drop(text);
     compiled(alloc, &events, doc)
 }
 

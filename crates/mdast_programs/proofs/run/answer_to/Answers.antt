@@ -1,4 +1,4 @@
-use Rattle.std.proofs.Common.{◌≡◌, ℕ, List, Option, Some, None, Result, Ok, Err, sym, ◌∙◌, ap, subst}
+use Rattle.std.proofs.Common.{rules, ◌≡◌, ℕ, List, Option, Some, None, Result, Ok, Err, sym, ◌∙◌, ap, subst}
 use Rattle.std.specs.Prelude.{IfOk, IfSome, IsSomeAnd}
 use Rattle.std.specs.Io.KnownBytes.{IsAtEnd}
 use Rattle.markdown_events.specs.declared.event.Event.{Event}
@@ -31,3 +31,6 @@ pub returns : goal.returns
 returns g c =
     let are = rw c.deref.ensures.value at c.in-Ok-events.ensures.ok in
     if_answered c.compiled.result _ _ _ c.in-Ok-events.events.items c.args.doc.now c.in-Ok.ensures.end c.in-Ok.ensures.bytes are (rw c.deref-2.ensures.value at c.compiled.ensures)
+
+pub returns-in-Err-Unread : goal.returns-in-Err-Unread
+returns-in-Err-Unread g c = search rules
