@@ -428,7 +428,8 @@ impl<'a> Context<'a> {
         self.top.take_parent(content, nodes, frame.start, end)
     }
 
-    /// The same of any container.
+    /// The same of any container. It stays out of the loop over the events, which is quicker without it.
+    #[inline(never)]
     fn leave_any(
         &mut self,
         alloc: Global,

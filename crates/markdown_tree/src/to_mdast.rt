@@ -143,7 +143,8 @@ struct Taken<'a> {
     length: usize,
 }
 
-/// Takes all events, one after the other.
+/// Takes all events, one after the other. It stays out of its callers, whose code would crowd the loop.
+#[inline(never)]
 fn take_all<'a, R: References>(
     alloc: Global,
     steps: &mut Steps<'_>,
