@@ -1,5 +1,5 @@
 -- What the enter of a span makes of the state, in the program and in the steps.
-use Rattle.std.proofs.Common.{◌≡◌, Bool, true, false, ◌||◌, not, is_some, List, [], ◌∷◌, ◌++◌, Option, None, Some, Result, Ok, Err, refl, sym, ap, ◌∙◌, cond, reverse, subst}
+use Rattle.std.proofs.Common.{◌≡◌, Bool, true, false, ◌||◌, not, is_some, List, [], ◌∷◌, ◌++◌, Bor, Option, None, Some, Result, Ok, Err, refl, sym, ap, ◌∙◌, cond, reverse, subst}
 use Rattle.std.proofs.lemmas.List.{reverse-append}
 use Rattle.markdown_events.specs.Names.{role_of}
 use Rattle.markdown_events.specs.declared.event.Name.{Name}
@@ -116,13 +116,13 @@ significant_refused s name what point old why fails =
 
 -- the open spans with a leaf more
 leaf_frames : (what : ItemKind) (f : Frame) (fs fs' : List Frame) (hs : List OpenContainer) (kept : ContainerState) → role_of f.name ≡ significant what → fs' ≡ fs ++ f ∷ []
-    → opens (reverse fs') (Some kept) hs ≡ record { name = f.name; start = f.start; around = f.around; before = marks_of f.marks; outer = Some (what, kept) } ∷ opens (reverse fs) None hs
+    → opens (reverse fs') (Some kept) hs ≡ record { name = f.name; start = f.start.now; around = f.around; before = marks_of f.marks; outer = Some (what, kept) } ∷ opens (reverse fs) None hs
 leaf_frames what f fs fs' hs kept is_significant is =
     ap (λ (x : List Frame). opens (reverse x) (Some kept) hs) is
     ∙ ap (λ (x : List Frame). opens x (Some kept) hs) (pushed fs f)
     ∙ (λ t. record {
       name = f.name;
-      start = f.start;
+      start = f.start.now;
       around = f.around;
       before = marks_of f.marks;
       outer = outer_of (is_significant t) f.in_table (Some kept) hs;
@@ -132,13 +132,13 @@ leaf_frames what f fs fs' hs kept is_significant is =
 -- the open spans with a container more
 container_frames : (what : ItemKind) (f : Frame) (fs fs' : List Frame) (h : OpenContainer) (hs hs' : List OpenContainer) → role_of f.name ≡ significant what → fs' ≡ fs ++ f ∷ [] → hs' ≡ hs ++ h ∷ []
     → opens (reverse fs') None (reverse hs')
-    ≡ record { name = f.name; start = f.start; around = f.around; before = marks_of f.marks; outer = Some (what, container_state_of f.in_table None h) } ∷ opens (reverse fs) None (reverse hs)
+    ≡ record { name = f.name; start = f.start.now; around = f.around; before = marks_of f.marks; outer = Some (what, container_state_of f.in_table None h) } ∷ opens (reverse fs) None (reverse hs)
 container_frames what f fs fs' h hs hs' is_significant is held =
     (λ t. opens (reverse (is t)) None (reverse (held t)))
     ∙ (λ t. opens (pushed fs f t) None (reverse-append hs (h ∷ []) t))
     ∙ (λ t. record {
       name = f.name;
-      start = f.start;
+      start = f.start.now;
       around = f.around;
       before = marks_of f.marks;
       outer = outer_of (is_significant t) f.in_table None (h ∷ reverse hs);
@@ -146,20 +146,20 @@ container_frames what f fs fs' h hs hs' is_significant is held =
     ∷ opens (reverse fs) (leaf_left (is_significant t) None) (containers_left (is_significant t) None (h ∷ reverse hs)))
 
 -- a leaf begins
-pub leaf_entered : (s : Source) (name : Name) (what : ItemKind) (point : Point) (old mid new : Context) (in_table : Bool) → role_of name ≡ significant what → OpenedLeaf s what point old mid
-    → Begun name (significant what) point true in_table mid new → in_table ≡ (mid.in_table || is_table what) → enter_as s (significant what) name point (state_of old) ≡ Ok (state_of new)
-leaf_entered s name what point old mid new in_table is_significant o b is =
-    let begun : Begun name (significant what) point true in_table old new = subst (λ (m : Context). Begun name (significant what) point true in_table m new) o.same b in
-    let flag : old.is_leaf ≡ false = no_leaf s what point (leaf_place old.in_table) (kept_top old) old.is_leaf o.taken in
+pub leaf_entered : (s : Source) (name : Name) (what : ItemKind) (start : Bor Point) (old mid new : Context) (in_table : Bool) → role_of name ≡ significant what → OpenedLeaf s what start.now old mid
+    → Begun name (significant what) start true in_table mid new → in_table ≡ (mid.in_table || is_table what) → enter_as s (significant what) name start.now (state_of old) ≡ Ok (state_of new)
+leaf_entered s name what start old mid new in_table is_significant o b is =
+    let begun : Begun name (significant what) start true in_table old new = subst (λ (m : Context). Begun name (significant what) start true in_table m new) o.same b in
+    let flag : old.is_leaf ≡ false = no_leaf s what start.now (leaf_place old.in_table) (kept_top old) old.is_leaf o.taken in
     let inside : in_table ≡ (old.in_table || is_table what) = is ∙ ap (λ (m : Context). m.in_table || is_table what) o.same in
     let same : in_table ≡ old.in_table = inside ∙ or_false old.in_table (is_table what) (leaf_no_table (current_model_of old.top.container) what o.leaf_row) in
-    let f : Frame = record { name = name; start = point; around = old.around; in_table = old.in_table; marks = old.marks } in
+    let f : Frame = record { name = name; start = start; around = old.around; in_table = old.in_table; marks = old.marks } in
     let kept : ContainerState = container_state_of in_table old.pending old.top in
     let now_top : top_of old ≡ kept = (λ t. cond (flag t) (fresh leaf (leaf_place old.in_table)) (kept_top old)) ∙ sym (λ t. container_state_of (same t) old.pending old.top) in
     let spans : List OpenSpan = opens (reverse old.frames.items) None (reverse old.open_containers.items) in
-    significant_opened s name what point old (state_of new) o.taken
+    significant_opened s name what start.now old (state_of new) o.taken
     ((λ t. record {
-      frames = ((λ u. record { name = name; start = point; around = old.around; before = marks_of old.marks; outer = Some (what, now_top u) }
+      frames = ((λ u. record { name = name; start = start.now; around = old.around; before = marks_of old.marks; outer = Some (what, now_top u) }
           ∷ opens (reverse old.frames.items) (cond (flag u) (Some (kept_top old)) None) (reverse old.open_containers.items))
           ∙ sym (leaf_frames what f old.frames.items new.frames.items (reverse old.open_containers.items) kept is_significant begun.frames)) t;
       around = under old.around (is_significant t);
@@ -208,24 +208,24 @@ nothing_waits None ending h e = refl
 nothing_waits (Some p) ending h e = let wrong : true ≡ false = sym h ∙ e in absurd cc
 
 -- a container begins
-pub container_entered : (s : Source) (name : Name) (what : ItemKind) (point : Point) (old mid new : Context) (in_table : Bool) → role_of name ≡ significant what → OpenedContainer s what point old mid
-    → Begun name (significant what) point false in_table mid new → in_table ≡ (mid.in_table || is_table what) → enter_as s (significant what) name point (state_of old) ≡ Ok (state_of new)
-container_entered s name what point old mid new in_table is_significant o b is =
+pub container_entered : (s : Source) (name : Name) (what : ItemKind) (start : Bor Point) (old mid new : Context) (in_table : Bool) → role_of name ≡ significant what → OpenedContainer s what start.now old mid
+    → Begun name (significant what) start false in_table mid new → in_table ≡ (mid.in_table || is_table what) → enter_as s (significant what) name start.now (state_of old) ≡ Ok (state_of new)
+container_entered s name what start old mid new in_table is_significant o b is =
     let between : Context = record old { top = o.top; open_containers = mid.open_containers } in
-    let begun : Begun name (significant what) point false in_table between new = subst (λ (m : Context). Begun name (significant what) point false in_table m new) o.others b in
-    let flag : old.is_leaf ≡ false = no_leaf s what point (leaf_place old.in_table) (kept_top old) old.is_leaf o.taken in
+    let begun : Begun name (significant what) start false in_table between new = subst (λ (m : Context). Begun name (significant what) start false in_table m new) o.others b in
+    let flag : old.is_leaf ≡ false = no_leaf s what start.now (leaf_place old.in_table) (kept_top old) old.is_leaf o.taken in
     let inside : in_table ≡ (old.in_table || is_table what) = is ∙ ap (λ (m : Context). m.in_table || is_table what) o.others in
     let made : IsFresh o.top.container (model_of (current_model_of old.top.container) what) = o.fresh_container in
-    let kept_taken : first_failing (enter_checks s (kept_top old) what point) ≡ None =
-    (λ t. first_failing (enter_checks s (cond (sym flag t) (fresh leaf (leaf_place old.in_table)) (kept_top old)) what point)) ∙ o.taken in
+    let kept_taken : first_failing (enter_checks s (kept_top old) what start.now) ≡ None =
+    (λ t. first_failing (enter_checks s (cond (sym flag t) (fresh leaf (leaf_place old.in_table)) (kept_top old)) what start.now)) ∙ o.taken in
     let no_break : old.pending ≡ None = nothing_waits old.pending (is_line_ending what) (first_passes (not (is_some old.pending) || is_line_ending what) _ UnfinishedBreak kept_taken)
     (container_no_ending o.top.container (current_model_of old.top.container) what made.initial_model) in
-    let f : Frame = record { name = name; start = point; around = old.around; in_table = old.in_table; marks = old.marks } in
+    let f : Frame = record { name = name; start = start; around = old.around; in_table = old.in_table; marks = old.marks } in
     let now_top : top_of old ≡ container_state_of old.in_table None old.top =
     (λ t. cond (flag t) (fresh leaf (leaf_place old.in_table)) (kept_top old)) ∙ (λ t. container_state_of old.in_table (no_break t) old.top) in
-    significant_opened s name what point old (state_of new) o.taken
+    significant_opened s name what start.now old (state_of new) o.taken
     ((λ t. record {
-      frames = ((λ u. record { name = name; start = point; around = old.around; before = marks_of old.marks; outer = Some (what, now_top u) }
+      frames = ((λ u. record { name = name; start = start.now; around = old.around; before = marks_of old.marks; outer = Some (what, now_top u) }
           ∷ opens (reverse old.frames.items) (cond (flag u) (Some (kept_top old)) None) (reverse old.open_containers.items))
           ∙ sym (container_frames what f old.frames.items new.frames.items old.top old.open_containers.items mid.open_containers.items is_significant begun.frames o.open_containers)) t;
       around = under old.around (is_significant t);
@@ -248,10 +248,10 @@ container_entered s name what point old mid new in_table is_significant o b is =
     }) ∙ sym (ap state_of begun.others))
 
 -- a leaf or a container begins
-pub significant_entered : (s : Source) (name : Name) (what : ItemKind) (point : Point) (is_leaf : Bool) (old mid new : Context) (in_table : Bool) → role_of name ≡ significant what → Opened s what point old mid (Ok is_leaf)
-    → Begun name (significant what) point is_leaf in_table mid new → in_table ≡ (mid.in_table || is_table what) → enter_as s (significant what) name point (state_of old) ≡ Ok (state_of new)
-significant_entered s name what point true old mid new in_table is_significant o b is = leaf_entered s name what point old mid new in_table is_significant o b is
-significant_entered s name what point false old mid new in_table is_significant o b is = container_entered s name what point old mid new in_table is_significant o b is
+pub significant_entered : (s : Source) (name : Name) (what : ItemKind) (start : Bor Point) (is_leaf : Bool) (old mid new : Context) (in_table : Bool) → role_of name ≡ significant what → Opened s what start.now old mid (Ok is_leaf)
+    → Begun name (significant what) start is_leaf in_table mid new → in_table ≡ (mid.in_table || is_table what) → enter_as s (significant what) name start.now (state_of old) ≡ Ok (state_of new)
+significant_entered s name what start true old mid new in_table is_significant o b is = leaf_entered s name what start old mid new in_table is_significant o b is
+significant_entered s name what start false old mid new in_table is_significant o b is = container_entered s name what start old mid new in_table is_significant o b is
 
 -- or it stops there
 pub significant_stops : (s : Source) (name : Name) (what : ItemKind) (point : Point) (stop : Stop) (old mid : Context) → Opened s what point old mid (Err stop) → Stops stop point (enter_as s (significant what) name point (state_of old))

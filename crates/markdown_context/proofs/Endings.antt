@@ -85,7 +85,7 @@ stands_ends s o (significant what) in_table false c (h ∷ hs) Outside is at sta
 abbrev open_of : Frame → Context → OpenSpan
 open_of f c = record {
   name = f.name;
-  start = f.start;
+  start = f.start.now;
   around = f.around;
   before = marks_of f.marks;
   outer = outer_of (role_of f.name) f.in_table (leaf_container c) (reverse c.open_containers.items);
@@ -169,9 +169,9 @@ no_break (Some here) h = let z : ⊥ = cc in absurd z
 
 -- it goes into the container around it
 container_leaves : (s : Source) (what : ItemKind) (f : Frame) (end : Point) (c : Context) (outer : OpenContainer) (others : List OpenContainer) → c.is_leaf ≡ false → reverse c.open_containers.items ≡ outer ∷ others
-    → left_to s (significant what) f end c ≡ leave s what f.start end (child_facts (marks_of c.marks) (columns_of c.columns)) (kept_top c) (container_state_of f.in_table None outer)
+    → left_to s (significant what) f end c ≡ leave s what f.start.now end (child_facts (marks_of c.marks) (columns_of c.columns)) (kept_top c) (container_state_of f.in_table None outer)
 container_leaves s what f end c outer others grows at =
-    λ t. leave_to s f.start end (child_facts (marks_of c.marks) (columns_of c.columns)) (cond (grows t) (fresh leaf (leaf_place c.in_table)) (kept_top c))
+    λ t. leave_to s f.start.now end (child_facts (marks_of c.marks) (columns_of c.columns)) (cond (grows t) (fresh leaf (leaf_place c.in_table)) (kept_top c))
     (outer_of (significant what) f.in_table (cond (grows t) (Some (kept_top c)) None) (at t))
 
 -- where a break waits for its line ending
@@ -181,24 +181,24 @@ container_waits s what f end c grows h waits =
     let children : ChildFacts = child_facts (marks_of c.marks) (columns_of c.columns) in
     let own : ContainerState = kept_top c in
     let top : ContainerState = container_state_of f.in_table None h.outer in
-    let out : Result ContainerState ErrorAt = Ok (with_child s top what f.start end children own.inner) in
+    let out : Result ContainerState ErrorAt = Ok (with_child s top what f.start.now end children own.inner) in
     container_leaves s what f end c h.outer h.others grows h.open_containers
-    ∙ (λ t. cond (not (waits t)) (checked ((all_stood own.initial_model own.inner, missing_error own.initial_model) ∷ (is_read s top.model top.place top.after_break what f.start end, value_error s what f.start end) ∷ []) end out) (refused UnfinishedBreak end))
+    ∙ (λ t. cond (not (waits t)) (checked ((all_stood own.initial_model own.inner, missing_error own.initial_model) ∷ (is_read s top.model top.place top.after_break what f.start.now end, value_error s what f.start.now end) ∷ []) end out) (refused UnfinishedBreak end))
 
 -- where none does
 pub container_left : (s : Source) (what : ItemKind) (f : Frame) (end : Point) (c : Context) (outer : OpenContainer) (others : List OpenContainer) → c.is_leaf ≡ false → reverse c.open_containers.items ≡ outer ∷ others → is_some c.pending ≡ false
-    → left_to s (significant what) f end c ≡ leave s what f.start end (child_facts (marks_of c.marks) (columns_of c.columns)) (container_state_of c.in_table None c.top) (container_state_of f.in_table None outer)
+    → left_to s (significant what) f end c ≡ leave s what f.start.now end (child_facts (marks_of c.marks) (columns_of c.columns)) (container_state_of c.in_table None c.top) (container_state_of f.in_table None outer)
 container_left s what f end c outer others grows at none =
     container_leaves s what f end c outer others grows at
-    ∙ (λ t. leave s what f.start end (child_facts (marks_of c.marks) (columns_of c.columns)) (container_state_of c.in_table (no_break c.pending none t) c.top) (container_state_of f.in_table None outer))
+    ∙ (λ t. leave s what f.start.now end (child_facts (marks_of c.marks) (columns_of c.columns)) (container_state_of c.in_table (no_break c.pending none t) c.top) (container_state_of f.in_table None outer))
 
 -- where it is on top then
 pub container_gives : (s : Source) (what : ItemKind) (f : Frame) (end : Point) (old new : Context) (outer : OpenContainer) (others : List OpenContainer) (result : Result (Unit {0}) Stop) → old.is_leaf ≡ false → reverse old.open_containers.items ≡ outer ∷ others
     → is_some old.pending ≡ false → new.is_leaf ≡ old.is_leaf → new.pending ≡ old.pending → new.in_table ≡ f.in_table
-    → Gives {X = Unit {0}} {Y = ContainerState} (λ x. container_state_of f.in_table None new.top) end result (leave s what f.start end (child_facts (marks_of old.marks) (columns_of old.columns)) (container_state_of old.in_table None old.top) (container_state_of f.in_table None outer))
+    → Gives {X = Unit {0}} {Y = ContainerState} (λ x. container_state_of f.in_table None new.top) end result (leave s what f.start.now end (child_facts (marks_of old.marks) (columns_of old.columns)) (container_state_of old.in_table None old.top) (container_state_of f.in_table None outer))
     → Gives {X = Unit {0}} {Y = ContainerState} (λ x. top_of new) end result (left_to s (significant what) f end old)
 container_gives s what f end old new outer others result grows at none same_leaf same_break same_table given =
-    let after : Result ContainerState ErrorAt = leave s what f.start end (child_facts (marks_of old.marks) (columns_of old.columns)) (container_state_of old.in_table None old.top) (container_state_of f.in_table None outer) in
+    let after : Result ContainerState ErrorAt = leave s what f.start.now end (child_facts (marks_of old.marks) (columns_of old.columns)) (container_state_of old.in_table None old.top) (container_state_of f.in_table None outer) in
     let tops : top_of new ≡ container_state_of f.in_table None new.top =
     (λ t. cond ((same_leaf ∙ grows) t) (fresh leaf (leaf_place new.in_table)) (kept_top new)) ∙ (λ t. container_state_of (same_table t) ((same_break ∙ no_break old.pending none) t) new.top) in
     gives_same (λ x. top_of new) end result after (left_to s (significant what) f end old) (container_left s what f end old outer others grows at none)

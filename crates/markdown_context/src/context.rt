@@ -46,11 +46,11 @@ use markdown_nodes::unist::Position;
 use std::alloc::{AllocError, Global};
 use std::mem;
 
-/// An open span, with what was so around it. The point stands first, so that the small fields lie
-/// side by side.
+/// An open span, with what was so around it.
 #[derive(Clone, Copy)]
-pub struct Frame {
-    pub start: Point,
+pub struct Frame<'e> {
+    /// Where it begins: the point of its enter, which stays in the list of events.
+    pub start: &'e Point,
     pub name: Name,
     pub around: Around,
     /// Whether a table was around it.
@@ -61,8 +61,8 @@ pub struct Frame {
 
 /// The open spans, with the innermost container and the containers around it.
 #[derive(Drop)]
-pub struct Context<'a> {
-    pub frames: Vec<Frame>,
+pub struct Context<'a, 'e> {
+    pub frames: Vec<Frame<'e>>,
     /// The containers around the innermost one.
     pub open_containers: Vec<OpenContainer<'a>>,
     pub around: Around,
@@ -93,9 +93,9 @@ fn is_table(what: ItemKind) -> bool
     matches!(what, ItemKind::Content(Content::Table))
 }
 
-impl<'a> Context<'a> {
+impl<'a, 'e> Context<'a, 'e> {
     /// Before the first event.
-    pub fn new(alloc: Global) -> Context<'a>
+    pub fn new(alloc: Global) -> Context<'a, 'e>
         ensures { state_of result ≡ opening }
     {
         Context {
@@ -130,8 +130,8 @@ impl<'a> Context<'a> {
     }
 
     /// Why a significant span may not begin here, if it may not.
-    fn misfit(&self, bytes: &[u8], what: ItemKind, point: Point) -> Option<ErrorKind>
-        ensures { (s : Source) → s.bytes ≡ bytes.now → result ≡ first_failing (enter_checks s (state_of self.now).top what point) }
+    fn misfit(&self, bytes: &[u8], what: ItemKind, point: &Point) -> Option<ErrorKind>
+        ensures { (s : Source) → s.bytes ≡ bytes.now → result ≡ first_failing (enter_checks s (state_of self.now).top what point.now) }
     {
         if self.is_leaf {
             return Some(ErrorKind::Misplaced);
@@ -146,7 +146,7 @@ impl<'a> Context<'a> {
             return Some(ErrorKind::Misplaced);
         }
         match what {
-            ItemKind::Content(Content::Frontmatter) if byte_at(bytes, point).is_none() => {
+            ItemKind::Content(Content::Frontmatter) if byte_at(bytes, *point).is_none() => {
                 Some(ErrorKind::InvalidSlice)
             }
             _ => None,
@@ -159,9 +159,9 @@ impl<'a> Context<'a> {
         alloc: Global,
         bytes: &[u8],
         what: ItemKind,
-        point: Point,
+        point: &Point,
     ) -> Result<bool, Stop>
-        ensures { (s : Source) → s.bytes ≡ bytes.now → Opened s what point self.old self.new result }
+        ensures { (s : Source) → s.bytes ≡ bytes.now → Opened s what point.now self.old self.new result }
     {
         if let Some(error_kind) = self.misfit(bytes, what, point) {
             return Err(Stop::Refused(error_kind));
@@ -186,17 +186,17 @@ impl<'a> Context<'a> {
         steps: &mut Steps<'_>,
         bytes: &'a [u8],
         references: &R,
-        event: Event,
+        event: &'e Event,
     ) -> Result<(), Stop>
         requires { Well (source bytes.now (R.text references.now)) (state_of self.old) }
-        ensures gives { Reaches self.new event.point result
-            (Compiler.step (source bytes.now (R.text references.now)) event (state_of self.old)) }
+        ensures gives { Reaches self.new event.now.point result
+            (Compiler.step (source bytes.now (R.text references.now)) event.now (state_of self.old)) }
         ensures list { steps.new.events ≡ steps.old.events }
-        ensures bound { steps.new.count ≤ steps.old.count + step_visits event (state_of self.old) + 1 }
+        ensures bound { steps.new.count ≤ steps.old.count + step_visits event.now (state_of self.old) + 1 }
     {
         match event.kind {
-            Kind::Enter => self.enter(alloc, bytes, event.name, event.point),
-            Kind::Exit => self.exit(alloc, steps, bytes, references, event.name, event.point),
+            Kind::Enter => self.enter(alloc, bytes, event.name, &event.point),
+            Kind::Exit => self.exit(alloc, steps, bytes, references, event.name, &event.point),
         }
     }
 
@@ -216,8 +216,14 @@ impl<'a> Context<'a> {
     }
 
     /// Opens a span.
-    fn enter(&mut self, alloc: Global, bytes: &[u8], name: Name, point: Point) -> Result<(), Stop>
-        ensures { (s : Source) → s.bytes ≡ bytes.now → Reaches self.new point result (enter_step s name point (state_of self.old)) }
+    fn enter(
+        &mut self,
+        alloc: Global,
+        bytes: &[u8],
+        name: Name,
+        point: &'e Point,
+    ) -> Result<(), Stop>
+        ensures { (s : Source) → s.bytes ≡ bytes.now → Reaches self.new point.now result (enter_step s name point.now (state_of self.old)) }
     {
         let role = name.role();
         if !self.around.allows(role) {
@@ -235,11 +241,11 @@ impl<'a> Context<'a> {
         alloc: Global,
         name: Name,
         role: Role,
-        point: Point,
+        point: &'e Point,
     ) -> Result<(), Stop>
         requires role { role ≡ role_of name }
         requires transparent { is_transparent role ≡ true }
-        ensures { Reaches self.new point result (Ok (Compiler.push name point (state_of self.old) None (state_of self.old).top)) }
+        ensures { Reaches self.new point.now result (Ok (Compiler.push name point.now (state_of self.old) None (state_of self.old).top)) }
     {
         self.begin(alloc, name, role, point, self.is_leaf, self.in_table)?;
         Ok(())
@@ -252,11 +258,11 @@ impl<'a> Context<'a> {
         bytes: &[u8],
         name: Name,
         what: ItemKind,
-        point: Point,
+        point: &'e Point,
     ) -> Result<(), Stop>
         requires { role_of name ≡ roles.Significant what }
-        ensures { (s : Source) → s.bytes ≡ bytes.now → Reaches self.new point result
-            (enter_as s (roles.Significant what) name point (state_of self.old)) }
+        ensures { (s : Source) → s.bytes ≡ bytes.now → Reaches self.new point.now result
+            (enter_as s (roles.Significant what) name point.now (state_of self.old)) }
     {
         let is_leaf = self.open(alloc, bytes, what, point)?;
         let in_table = self.is_in_table(what);
@@ -278,11 +284,11 @@ impl<'a> Context<'a> {
         alloc: Global,
         name: Name,
         role: Role,
-        point: Point,
+        point: &'e Point,
         is_leaf: bool,
         in_table: bool,
     ) -> Result<(), AllocError>
-        ensures { OnOk result (Begun name role point is_leaf in_table self.old self.new) }
+        ensures { OnOk result (Begun name role point.entry is_leaf in_table self.old self.new) }
     {
         self.frames.push(Frame {
             start: point,
@@ -307,11 +313,11 @@ impl<'a> Context<'a> {
         bytes: &'a [u8],
         references: &R,
         name: Name,
-        point: Point,
+        point: &Point,
     ) -> Result<(), Stop>
         requires { Well (source bytes.now (R.text references.now)) (state_of self.old) }
-        ensures gives { Reaches self.new point result
-            (exit_step (source bytes.now (R.text references.now)) name point (state_of self.old)) }
+        ensures gives { Reaches self.new point.now result
+            (exit_step (source bytes.now (R.text references.now)) name point.now (state_of self.old)) }
         ensures list { steps.new.events ≡ steps.old.events }
         ensures bound { steps.new.count ≤ steps.old.count + exit_visits name (state_of self.old).frames (top_of self.old).inner + 1 }
     {
@@ -336,14 +342,15 @@ impl<'a> Context<'a> {
         bytes: &'a [u8],
         references: &R,
         role: Role,
-        frame: Frame,
-        end: Point,
+        frame: Frame<'e>,
+        end: &Point,
     ) -> Result<(), Stop>
         requires { Ends role self.old }
-        ensures gives { ReachesTop self.new end result (left_to (source bytes.now (R.text references.now)) role frame end self.old) }
+        ensures gives { ReachesTop self.new end.now result
+            (left_to (source bytes.now (R.text references.now)) role frame.entry end.now self.old) }
         ensures closed { OnOk result (Closed role self.old self.new) }
         ensures list { steps.new.events ≡ steps.old.events }
-        ensures bound { steps.new.count ≤ steps.old.count + left_visits role frame self.old + 1 }
+        ensures bound { steps.new.count ≤ steps.old.count + left_visits role frame.entry self.old + 1 }
     {
         match role {
             Role::Transparent(kind) => Ok(self.columns.exit(kind, self.marks)?),
@@ -361,17 +368,18 @@ impl<'a> Context<'a> {
         bytes: &'a [u8],
         references: &R,
         what: ItemKind,
-        frame: Frame,
-        end: Point,
+        frame: Frame<'e>,
+        end: &Point,
     ) -> Result<(), Stop>
         requires open { self.old.is_leaf ≡ true }
         requires ends { LeafEnds what self.old }
-        ensures gives { ReachesTop self.new end result (item_left (source bytes.now (R.text references.now)) what frame end self.old) }
+        ensures gives { ReachesTop self.new end.now result
+            (item_left (source bytes.now (R.text references.now)) what frame.entry end.now self.old) }
         ensures closed { OnOk result (Closed (roles.Significant what) self.old self.new) }
     {
         let ending = Ending {
-            start: frame.start,
-            end,
+            start: *frame.start,
+            end: *end,
             in_table: self.in_table,
             marks: self.marks,
         };
@@ -388,15 +396,16 @@ impl<'a> Context<'a> {
         steps: &mut Steps<'_>,
         bytes: &'a [u8],
         what: ItemKind,
-        frame: Frame,
-        end: Point,
+        frame: Frame<'e>,
+        end: &Point,
     ) -> Result<(), Stop>
         requires open { self.old.is_leaf ≡ false }
         requires ends { ContainerEnds what self.old }
-        ensures gives { (s : Source) → s.bytes ≡ bytes.now → ReachesTop self.new end result (item_left s what frame end self.old) }
+        ensures gives { (s : Source) → s.bytes ≡ bytes.now → ReachesTop self.new end.now result
+            (item_left s what frame.entry end.now self.old) }
         ensures closed { OnOk result (Closed (roles.Significant what) self.old self.new) }
         ensures list { steps.new.events ≡ steps.old.events }
-        ensures bound { steps.new.count ≤ steps.old.count + left_visits (roles.Significant what) frame self.old + 1 }
+        ensures bound { steps.new.count ≤ steps.old.count + left_visits (roles.Significant what) frame.entry self.old + 1 }
     {
         if self.pending.is_some() {
             return Err(Stop::Refused(ErrorKind::UnfinishedBreak));
@@ -411,13 +420,19 @@ impl<'a> Context<'a> {
 
     /// The same of a parent of which nothing but nodes is kept, as most containers are. No other part of
     /// its open container is moved.
-    fn leave_parent(&mut self, content: Content, frame: Frame, end: Point) -> Result<(), AllocError>
+    fn leave_parent(
+        &mut self,
+        content: Content,
+        frame: Frame<'e>,
+        end: &Point,
+    ) -> Result<(), AllocError>
         requires open { self.old.is_leaf ≡ false }
         requires ends { ContainerEnds (item_kinds.Content content) self.old }
         requires settled { is_some self.old.pending ≡ false }
         requires such { is_parent content ≡ true }
         requires container { self.old.top.container ≡ containers.AnyContent }
-        ensures gives { OnOk result ((s : Source) → item_left s (item_kinds.Content content) frame end self.old ≡ Ok (top_of self.new)) }
+        ensures gives { OnOk result ((s : Source) →
+            item_left s (item_kinds.Content content) frame.entry end.now self.old ≡ Ok (top_of self.new)) }
         ensures closed { OnOk result (Closed (roles.Significant (item_kinds.Content content)) self.old self.new) }
     {
         let Some(outer) = self.open_containers.pop() else {
@@ -425,7 +440,7 @@ impl<'a> Context<'a> {
         };
         let OpenContainer { nodes, .. } = mem::replace(&mut self.top, outer);
         self.in_table = frame.in_table;
-        self.top.take_parent(content, nodes, frame.start, end)
+        self.top.take_parent(content, nodes, *frame.start, *end)
     }
 
     /// The same of any container. It stays out of the loop over the events, which is quicker without it.
@@ -436,25 +451,26 @@ impl<'a> Context<'a> {
         steps: &mut Steps<'_>,
         bytes: &'a [u8],
         what: ItemKind,
-        frame: Frame,
-        end: Point,
+        frame: Frame<'e>,
+        end: &Point,
     ) -> Result<(), Stop>
         requires open { self.old.is_leaf ≡ false }
         requires ends { ContainerEnds what self.old }
         requires settled { is_some self.old.pending ≡ false }
         requires no_parent { IsNoParent what self.old.top.container }
-        ensures gives { (s : Source) → s.bytes ≡ bytes.now → ReachesTop self.new end result (item_left s what frame end self.old) }
+        ensures gives { (s : Source) → s.bytes ≡ bytes.now → ReachesTop self.new end.now result
+            (item_left s what frame.entry end.now self.old) }
         ensures closed { OnOk result (Closed (roles.Significant what) self.old self.new) }
         ensures list { steps.new.events ≡ steps.old.events }
-        ensures bound { steps.new.count ≤ steps.old.count + left_visits (roles.Significant what) frame self.old + 1 }
+        ensures bound { steps.new.count ≤ steps.old.count + left_visits (roles.Significant what) frame.entry self.old + 1 }
     {
         let Some(outer) = self.open_containers.pop() else {
             unreachable!()
         };
         let own = mem::replace(&mut self.top, outer);
         let ending = Ending {
-            start: frame.start,
-            end,
+            start: *frame.start,
+            end: *end,
             in_table: frame.in_table,
             marks: self.marks,
         };

@@ -1,6 +1,6 @@
 //! A reader of a list of events that counts what `compile` does, for its contract.
 
-ghost use Rattle.std.specs.Prelude.{◌≡◌, ℕ, ◌+◌, ◌^◌, ◌<◌, slice_get, IfSome};
+ghost use Rattle.std.specs.Prelude.{◌≡◌, ℕ, ◌+◌, ◌^◌, ◌<◌, slice_get, IfSome, option_map};
 ghost use Rattle.markdown_events.specs.Steps.{steps_of};
 
 use crate::count::Count;
@@ -53,18 +53,18 @@ impl<'a> Steps<'a> {
         self.count = self.count.next();
     }
 
-    /// The event at an index, counted from 0, in one step. Past the end of the list it is `None`, and
-    /// no step is taken.
+    /// The event at an index, counted from 0, where it stands in the list, in one step. Past the end of
+    /// the list it is `None`, and no step is taken.
     ///
     /// `Steps::new(&events).read(0)` is the first event.
     #[inline]
-    pub fn read(&mut self, index: usize) -> Option<Event>
+    pub fn read(&mut self, index: usize) -> Option<&'a Event>
         ensures list { self.new.events ≡ self.old.events }
         ensures within { IfSome result (λ _. index + 1 < 2 ^ 64) }
-        ensures event { result ≡ slice_get self.old.events index }
+        ensures event { option_map (λ event. event.now) result ≡ slice_get self.old.events index }
         ensures count { self.new.count ≡ self.old.count + steps_of result }
     {
-        let event = *self.events.get(index)?;
+        let event = self.events.get(index)?;
         self.tick();
         Some(event)
     }

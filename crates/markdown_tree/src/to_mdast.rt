@@ -138,19 +138,19 @@ fn compile_list<R: References>(
 
 /// What all events made, and how many there are.
 #[derive(Drop)]
-struct Taken<'a> {
-    context: Context<'a>,
+struct Taken<'a, 'e> {
+    context: Context<'a, 'e>,
     length: usize,
 }
 
 /// Takes all events, one after the other. It stays out of its callers, whose code would crowd the loop.
 #[inline(never)]
-fn take_all<'a, R: References>(
+fn take_all<'a, 'e, R: References>(
     alloc: Global,
-    steps: &mut Steps<'_>,
+    steps: &mut Steps<'e>,
     bytes: &'a [u8],
     references: &R,
-) -> Result<Taken<'a>, Fault>
+) -> Result<Taken<'a, 'e>, Fault>
     ensures gives { Completes (λ taken. state_of taken.context) result
         (run (source bytes.now (R.text references.now)) steps.old.events opening) }
     ensures empty { steps.old.events ≡ [] → IsOk result }

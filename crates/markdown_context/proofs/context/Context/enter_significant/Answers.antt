@@ -4,7 +4,7 @@ use Rattle.markdown_context.proofs.context.Context.enter_significant.Goals as go
 
 pub returns-in_err-is_leaf : goal.returns-in_err-is_leaf
 returns-in_err-is_leaf c s same =
-    passed_on _ c.args.point c.from_residual.result _ _ c.from_residual.ensures (significant_stops s c.args.name c.args.what c.args.point c.in_err-is_leaf.field-0.0 c.args.self.now c.«open».new.self (c.in_err-is_leaf.ensures s same))
+    passed_on _ c.args.point.now c.from_residual.result _ _ c.from_residual.ensures (significant_stops s c.args.name c.args.what c.args.point.now c.in_err-is_leaf.field-0.0 c.args.self.now c.«open».new.self (c.in_err-is_leaf.ensures s same))
 
 pub returns : goal.returns
 returns c s same =

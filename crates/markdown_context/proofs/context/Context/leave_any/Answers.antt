@@ -28,13 +28,13 @@ pub returns-in-Part-clause-gives : goal.returns-in-Part-clause-gives
 returns-in-Part-clause-gives c s same =
     let children : ChildFacts = child_facts (marks_of c.args.self.now.marks) (columns_of c.args.self.now.columns) in
     let in_table : Bool = c.args.self.now.in_table in
-    container_gives s c.args.what c.args.frame c.args.end c.args.self.now
+    container_gives s c.args.what c.args.frame c.args.end.now c.args.self.now
     (record c.args.self.now { open_containers = c.pop.new.self; top = c.take_part.new.self; in_table = c.args.frame.in_table })
     c.in-Some.outer (reverse c.pop.new.self.items) c.take_part.result c.requires.«open»
     (popped c.args.self.now.open_containers.items c.pop.new.self.items c.in-Some.outer c.in-Some.ensures.items)
     c.requires.settled refl refl refl
-    (gives_same (λ x. container_state_of c.args.frame.in_table None c.take_part.new.self) c.args.end c.take_part.result _ _
-    (λ t. leave s (c.in-Part.is t) c.args.frame.start c.args.end children (container_state_of in_table None (sym c.replace-own.ensures.value t)) (container_state_of c.args.frame.in_table None (sym c.replace-own.ensures.after t)))
+    (gives_same (λ x. container_state_of c.args.frame.in_table None c.take_part.new.self) c.args.end.now c.take_part.result _ _
+    (λ t. leave s (c.in-Part.is t) c.args.frame.start.now c.args.end.now children (container_state_of in_table None (sym c.replace-own.ensures.value t)) (container_state_of c.args.frame.in_table None (sym c.replace-own.ensures.after t)))
     (c.take_part.ensures.left children s in_table same))
 
 pub returns-in-Content-clause-bound : goal.returns-in-Content-clause-bound
@@ -57,11 +57,11 @@ pub returns-in-Content-clause-gives : goal.returns-in-Content-clause-gives
 returns-in-Content-clause-gives c s same =
     let children : ChildFacts = child_facts (marks_of c.args.self.now.marks) (columns_of c.args.self.now.columns) in
     let in_table : Bool = c.args.self.now.in_table in
-    container_gives s c.args.what c.args.frame c.args.end c.args.self.now
+    container_gives s c.args.what c.args.frame c.args.end.now c.args.self.now
     (record c.args.self.now { open_containers = c.pop.new.self; top = c.take_content.new.self; in_table = c.args.frame.in_table; columns = c.take_content.new.columns })
     c.in-Some.outer (reverse c.pop.new.self.items) c.take_content.result c.requires.«open»
     (popped c.args.self.now.open_containers.items c.pop.new.self.items c.in-Some.outer c.in-Some.ensures.items)
     c.requires.settled refl refl refl
-    (gives_same (λ x. container_state_of c.args.frame.in_table None c.take_content.new.self) c.args.end c.take_content.result _ _
-    (λ t. leave s (c.in-Content.is t) c.args.frame.start c.args.end children (container_state_of in_table None (sym c.replace-own.ensures.value t)) (container_state_of c.args.frame.in_table None (sym c.replace-own.ensures.after t)))
+    (gives_same (λ x. container_state_of c.args.frame.in_table None c.take_content.new.self) c.args.end.now c.take_content.result _ _
+    (λ t. leave s (c.in-Content.is t) c.args.frame.start.now c.args.end.now children (container_state_of in_table None (sym c.replace-own.ensures.value t)) (container_state_of c.args.frame.in_table None (sym c.replace-own.ensures.after t)))
     (c.take_content.ensures.left s in_table same))
