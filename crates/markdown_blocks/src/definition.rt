@@ -15,7 +15,7 @@ ghost use Rattle.markdown_nodes.specs.View.{view, views};
 
 use markdown_builder::label::{Identified, identify, named};
 use markdown_builder::misfits::at_most_one;
-use markdown_builder::slice::text_of;
+use markdown_builder::slice::{Document, text_of};
 use markdown_grammar::error_kind::{ErrorKind, Stop};
 use markdown_nodes::event::Point;
 use markdown_nodes::mdast::{Definition, Node};
@@ -69,18 +69,18 @@ impl DefinitionParts {
         &mut self,
         alloc: Global,
         steps: &mut Steps<'_>,
-        bytes: &[u8],
+        document: &Document<'_>,
         nodes: Vec<Node>,
         start: Point,
         end: Point,
     ) -> Result<(), Stop>
         requires { misfit_in (definition self.old) (item_kinds.Part parts.DefinitionLabelString) ≡ None }
-        ensures taken { ReadsText bytes.now parts.DefinitionLabelString (views nodes.items) start end
+        ensures taken { ReadsText document.now parts.DefinitionLabelString (views nodes.items) start end
             (definition self.old) (definition self.new) result }
         ensures list { steps.new.events ≡ steps.old.events }
         ensures bound { steps.new.count ≤ steps.old.count + node_count (views nodes.items) }
     {
-        let slice = text_of(bytes, start, end)?;
+        let slice = text_of(document, start, end)?;
         self.label = Some(identify(alloc, steps, slice, nodes)?);
         Ok(())
     }

@@ -14,7 +14,7 @@ ghost use Rattle.markdown_nodes.specs.View.{view, views};
 
 use markdown_builder::label::{Identified, identify, named};
 use markdown_builder::misfits::at_most_one;
-use markdown_builder::slice::text_of;
+use markdown_builder::slice::{Document, text_of};
 use markdown_grammar::error_kind::{ErrorKind, Stop};
 use markdown_nodes::event::Point;
 use markdown_nodes::mdast::{FootnoteDefinition, Node};
@@ -60,18 +60,18 @@ impl FootnoteDefinitionParts {
         &mut self,
         alloc: Global,
         steps: &mut Steps<'_>,
-        bytes: &[u8],
+        document: &Document<'_>,
         nodes: Vec<Node>,
         start: Point,
         end: Point,
     ) -> Result<(), Stop>
         requires { misfit_in (footnote_definition self.old) (item_kinds.Part parts.FootnoteDefinitionLabelString) ≡ None }
-        ensures taken { ReadsText bytes.now parts.FootnoteDefinitionLabelString (views nodes.items) start end
+        ensures taken { ReadsText document.now parts.FootnoteDefinitionLabelString (views nodes.items) start end
             (footnote_definition self.old) (footnote_definition self.new) result }
         ensures list { steps.new.events ≡ steps.old.events }
         ensures bound { steps.new.count ≤ steps.old.count + node_count (views nodes.items) }
     {
-        let slice = text_of(bytes, start, end)?;
+        let slice = text_of(document, start, end)?;
         self.label = Some(identify(alloc, steps, slice, nodes)?);
         Ok(())
     }

@@ -15,7 +15,7 @@ ghost use Rattle.markdown_nodes.specs.Tree.{Trees};
 ghost use Rattle.markdown_nodes.specs.View.{views};
 
 use markdown_builder::misfits::at_most_one;
-use markdown_builder::slice::{byte_at, length_between};
+use markdown_builder::slice::{Document, byte_at, length_between};
 use markdown_grammar::error_kind::{ErrorKind, Stop};
 use markdown_nodes::event::Point;
 use markdown_nodes::mdast::{Heading, Node};
@@ -53,13 +53,18 @@ impl AtxParts {
     /// text, as in `# a #`, gives nothing. A first sequence that lies outside the document is refused as
     /// `ErrorKind::InvalidSlice`, and one that is not 1 to 6 bytes long as
     /// `ErrorKind::HeadingDepth`.
-    pub fn take_sequence(&mut self, bytes: &[u8], start: Point, end: Point) -> Result<(), Stop>
-        ensures { Reads bytes.now parts.HeadingAtxSequence start end (atx self.old) (atx self.new) result }
+    pub fn take_sequence(
+        &mut self,
+        document: &Document<'_>,
+        start: Point,
+        end: Point,
+    ) -> Result<(), Stop>
+        ensures { Reads document.now parts.HeadingAtxSequence start end (atx self.old) (atx self.new) result }
     {
         if self.depth.is_some() {
             return Ok(());
         }
-        let Some(length) = length_between(bytes, start, end) else {
+        let Some(length) = length_between(document, start, end) else {
             return Err(Stop::Refused(ErrorKind::InvalidSlice));
         };
         let Some(depth) = depth_of(length) else {
@@ -118,11 +123,16 @@ impl SetextParts {
 
     /// Takes the underline: with hyphens the depth is 2, else 1. One that begins outside the
     /// document is refused as `ErrorKind::InvalidSlice`.
-    pub fn take_underline(&mut self, bytes: &[u8], start: Point, end: Point) -> Result<(), Stop>
+    pub fn take_underline(
+        &mut self,
+        document: &Document<'_>,
+        start: Point,
+        end: Point,
+    ) -> Result<(), Stop>
         requires { misfit_in (setext self.old) (item_kinds.Part parts.HeadingSetextUnderlineSequence) ≡ None }
-        ensures { Reads bytes.now parts.HeadingSetextUnderlineSequence start end (setext self.old) (setext self.new) result }
+        ensures { Reads document.now parts.HeadingSetextUnderlineSequence start end (setext self.old) (setext self.new) result }
     {
-        let Some(byte) = byte_at(bytes, start) else {
+        let Some(byte) = byte_at(document, start) else {
             return Err(Stop::Refused(ErrorKind::InvalidSlice));
         };
         self.depth = Some(if byte == b'-' { 2 } else { 1 });

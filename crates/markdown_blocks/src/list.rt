@@ -19,7 +19,7 @@ ghost use Rattle.markdown_nodes.specs.View.{view, views};
 use crate::number::item_number;
 use crate::task::trim;
 use markdown_builder::misfits::at_most_one;
-use markdown_builder::slice::text_of;
+use markdown_builder::slice::{Document, text_of};
 use markdown_grammar::error_kind::{ErrorKind, Stop};
 use markdown_nodes::event::Point;
 use markdown_nodes::mdast::{List, ListItem, Node};
@@ -130,11 +130,16 @@ impl NumberedItemParts {
     /// Takes the number between two points: `7` in `7. a`. One that is no text of the document is
     /// refused as `ErrorKind::InvalidSlice`, and one that is no number up to 4294967295 as
     /// `ErrorKind::InvalidListValue`.
-    pub fn take_value(&mut self, bytes: &[u8], start: Point, end: Point) -> Result<(), Stop>
+    pub fn take_value(
+        &mut self,
+        document: &Document<'_>,
+        start: Point,
+        end: Point,
+    ) -> Result<(), Stop>
         requires { misfit_in (numbered_item self.old) (item_kinds.Part parts.ListItemValue) ≡ None }
-        ensures { Reads bytes.now parts.ListItemValue start end (numbered_item self.old) (numbered_item self.new) result }
+        ensures { Reads document.now parts.ListItemValue start end (numbered_item self.old) (numbered_item self.new) result }
     {
-        let text = text_of(bytes, start, end)?;
+        let text = text_of(document, start, end)?;
         let Some(value) = item_number(text) else {
             return Err(Stop::Refused(ErrorKind::InvalidListValue));
         };

@@ -1,5 +1,5 @@
 -- The text of a span, as the program reads it.
-use Rattle.std.proofs.Common.{◌≡◌, ◌≤◌, ℕ, Bool, true, false, cond, List, length, Some, None, Result, Ok, Err, refl, sym, ap, ◌∙◌}
+use Rattle.std.proofs.Common.{◌≡◌, ◌≤◌, ◌+◌, arith, ℕ, Bool, true, false, cond, List, length, Some, None, Result, Ok, Err, refl, sym, ap, ◌∙◌}
 use Rattle.std.specs.Prelude.{IsUtf8, MatchResult, option_copied, slice_range}
 use Rattle.std.specs.Result.{result_ok}
 use Rattle.std.specs.Borrow.{Bor}
@@ -22,3 +22,8 @@ read_is bytes i j (Ok s) Q low high h =
     rw (within bytes i j low high, is_utf8-from_IsUtf8 (slice_range bytes i j) h.1) (ap (λ (x : List ℕ). Some x) h.0)
 read_is bytes i j (Err e) Q low high h =
     sym (within bytes i j low high ∙ by_test (is_utf8 (slice_range bytes i j)) (IsUtf8 (slice_range bytes i j)) (slice_range bytes i j) (IsUtf8-from_is_utf8 (slice_range bytes i j)) h.0)
+
+-- a part of the whole text is what stands there
+pub part_is : (bytes : List ℕ) (i j : ℕ) (part : List ℕ) → part ≡ slice_range bytes i j → length part + i ≡ j → j ≤ length bytes → IsUtf8 part → Some part ≡ text_between bytes i j
+part_is bytes i j part is ends high valid =
+    sym (within bytes i j (omega (arith, ends)) high ∙ (rw (← is, is_utf8-from_IsUtf8 part valid) refl))

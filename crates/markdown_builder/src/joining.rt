@@ -11,11 +11,26 @@ use markdown_nodes::unist::Position;
 use std::alloc::{AllocError, Global};
 
 /// Makes room for one node where there is none: most lists of children stay that short.
-fn first_place(nodes: &mut Vec<Node>) -> Result<(), AllocError>
+fn one_place(nodes: &mut Vec<Node>) -> Result<(), AllocError>
     ensures { nodes.new.items ≡ nodes.old.items }
 {
     if nodes.is_empty() {
         nodes.reserve_exact(1)?;
+    }
+    Ok(())
+}
+
+/// Makes room for the first node where there is none, and for some more where it is a cell, which
+/// seldom stands alone in its row.
+fn first_place(nodes: &mut Vec<Node>, first: &Node) -> Result<(), AllocError>
+    ensures { nodes.new.items ≡ nodes.old.items }
+{
+    if nodes.is_empty() {
+        nodes.reserve_exact(if matches!(first, Node::TableCell(_)) {
+            4
+        } else {
+            1
+        })?;
     }
     Ok(())
 }
@@ -26,7 +41,7 @@ pub fn put(nodes: &mut Vec<Node>, node: Node) -> Result<(), AllocError>
     requires { is_text (view node).label ≡ false }
     ensures { OnOk result (views nodes.new.items ≡ join (views nodes.old.items) (only (view node))) }
 {
-    first_place(nodes)?;
+    first_place(nodes, &node)?;
     nodes.push(node)?;
     Ok(())
 }
@@ -49,7 +64,7 @@ pub fn put_text(
             return Ok(());
         }
     }
-    first_place(nodes)?;
+    one_place(nodes)?;
     nodes.push(new_text(alloc, value, position)?)?;
     Ok(())
 }
@@ -107,7 +122,7 @@ fn put_first(nodes: &mut Vec<Node>, node: Node) -> Result<(), AllocError>
             }
         }
     }
-    first_place(nodes)?;
+    first_place(nodes, &node)?;
     nodes.push(node)?;
     Ok(())
 }

@@ -109,36 +109,32 @@ impl Marks {
         }
     }
 
-    /// The same after one child more, of a role and with children of its own.
-    pub fn with(self, role: Role, inner: Marks) -> Marks
-        ensures { marks_of result ≡ marks_with (marks_of self) role (marks_of inner) }
+    /// Takes one child more, of a role and with children of its own.
+    pub fn add(&mut self, role: Role, inner: Marks)
+        ensures { marks_of self.new ≡ marks_with (marks_of self.old) role (marks_of inner) }
     {
         match role {
-            Role::Transparent(TransparentKind::BlankLineEnding) => self.with_blank_line(),
-            _ => Marks {
-                near: inner.sibling(role),
-                far: self.near,
-                first: self.first.or(role),
-                item_blank: self.item_blank,
-                list_blank: self.list_blank,
-            },
+            Role::Transparent(TransparentKind::BlankLineEnding) => self.add_blank_line(),
+            _ => {
+                self.far = self.near;
+                self.near = inner.sibling(role);
+                self.first = self.first.or(role);
+            }
         }
     }
 
-    /// The same after a blank line. It makes a list loose, but not after an item that ends without
-    /// content, and it makes an item loose, but not after the item's prefix (CommonMark, lists).
-    fn with_blank_line(self) -> Marks
-        ensures { marks_of result ≡ marks_with (marks_of self) (roles.Transparent transparents.BlankLineEnding) no_marks }
+    /// Takes a blank line. It makes a list loose, but not after an item that ends without content, and
+    /// it makes an item loose, but not after the item's prefix (CommonMark, lists).
+    fn add_blank_line(&mut self)
+        ensures { marks_of self.new ≡ marks_with (marks_of self.old) (roles.Transparent transparents.BlankLineEnding) no_marks }
     {
-        Marks {
-            near: Sibling::Other,
-            far: self.near,
-            first: self
-                .first
-                .or(Role::Transparent(TransparentKind::BlankLineEnding)),
-            item_blank: self.item_blank || !matches!(self.past_space(), Sibling::ListItemPrefix),
-            list_blank: self.list_blank || !matches!(self.near, Sibling::BareListItem),
-        }
+        self.item_blank = self.item_blank || !matches!(self.past_space(), Sibling::ListItemPrefix);
+        self.list_blank = self.list_blank || !matches!(self.near, Sibling::BareListItem);
+        self.far = self.near;
+        self.near = Sibling::Other;
+        self.first = self
+            .first
+            .or(Role::Transparent(TransparentKind::BlankLineEnding));
     }
 
     /// How a cell of the delimiter row with these children aligns its column: `:-:` to the center, `:-`

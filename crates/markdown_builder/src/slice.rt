@@ -1,8 +1,8 @@
-//! What stands between two points of the document, and the position from one to the other.
+//! A document, what stands in it between two points, and the position from one to the other.
 
-ghost use Rattle.std.specs.Prelude.{◌≡◌, ◌^◌, ◌<◌, IfErr, Some, SomeIff, IfSome, is_some, option_copied};
+ghost use Rattle.std.specs.Prelude.{◌≡◌, ◌^◌, ◌<◌, ◌≤◌, IfErr, Some, SomeIff, IfSome, is_some, length, option_copied};
 ghost use Rattle.std.specs.Result.{result_ok};
-ghost use Rattle.markdown_events.specs.Slices.{edge, slice, between};
+ghost use Rattle.markdown_events.specs.Slices.{between, edge, slice, text_between};
 ghost use Rattle.markdown_grammar.specs.Document.{byte_at, length_between};
 ghost use Rattle.markdown_grammar.specs.declared.error_kind.ErrorKind.TheVariants.{InvalidSlice};
 ghost use Rattle.markdown_grammar.specs.declared.error_kind.Stop.TheVariants.{Refused};
@@ -10,6 +10,7 @@ ghost use Rattle.markdown_grammar.specs.declared.error_kind.Stop.TheVariants.{Re
 use markdown_grammar::error_kind::{ErrorKind, Stop};
 use markdown_nodes::event::Point;
 use markdown_nodes::unist::Position;
+use std::marker::Model;
 
 /// The offset in bytes at which a slice begins or ends. Of a point in the virtual spaces of a tab it
 /// is the byte after that tab.
@@ -23,49 +24,119 @@ fn edge_of(point: Point) -> Option<usize>
     }
 }
 
+/// A document: its bytes, and the text that they are, where all of them are UTF-8.
+///
+/// A span is then a part of that text, whose ends alone are looked at. In a document that is not all
+/// UTF-8, each span is tested for itself.
+#[derive(Drop)]
+pub struct Document<'a> {
+    bytes: &'a [u8],
+    text: Option<&'a str>,
+}
+
+impl<'a> Model for Document<'a> {
+    ghost use Rattle.std.specs.Prelude.{List, ℕ, ◌≡◌, IfSome};
+
+    ghost Value = { List ℕ };
+
+    ghost view = { λ d. d.bytes.now };
+
+    ghost invariant = { λ d. IfSome d.text (λ text. text.now ≡ d.bytes.now) };
+}
+
+impl<'a> Document<'a> {
+    /// The document with these bytes.
+    pub fn new(bytes: &'a [u8]) -> Document<'a>
+        ensures { result ≡ bytes.now }
+    {
+        Document {
+            bytes,
+            text: str::from_utf8(bytes).ok(),
+        }
+    }
+
+    /// How many bytes it has.
+    fn len(&self) -> usize
+        ensures { result ≡ length self.now }
+    {
+        self.bytes.len()
+    }
+
+    /// The bytes from one index to another as a part of the whole text, if there is one, and they are.
+    fn part(&self, from: usize, to: usize) -> Option<&'a str>
+        ensures { IfSome result (λ part. Some part.now ≡ text_between self.now from to) }
+    {
+        let part = self.text?.get(from..to)?;
+        // For the proof: what is a text is UTF-8.
+        let _ = part.as_bytes();
+        Some(part)
+    }
+
+    /// The bytes from one index to another as a text, if they are UTF-8.
+    #[inline(never)]
+    fn tested(&self, from: usize, to: usize) -> Option<&'a str>
+        requires order { from ≤ to }
+        requires within { to ≤ length self.now }
+        ensures { option_copied result ≡ text_between self.now from to }
+    {
+        str::from_utf8(&self.bytes[from..to]).ok()
+    }
+}
+
+/// The indexes of the bytes from which to which a span reaches, if they are in order and in the
+/// document.
+fn range_of(document: &Document<'_>, start: Point, end: Point) -> Option<(usize, usize)>
+    ensures { SomeIff result ((edge start ≤ edge end) × (edge end ≤ length document.now)) (edge start, edge end) }
+{
+    let length = document.len();
+    let from = edge_of(start)?;
+    let to = edge_of(end)?;
+    if from > to || to > length {
+        return None;
+    }
+    Some((from, to))
+}
+
 /// The text of a span. It is refused as `ErrorKind::InvalidSlice` where its ends are not in order or
 /// lie outside the document, and where what is between them is no UTF-8.
-pub fn text_of<'a>(bytes: &'a [u8], start: Point, end: Point) -> Result<&'a str, Stop>
-    ensures text { option_copied (result_ok result) ≡ slice bytes.now start end }
+#[inline(always)]
+pub fn text_of<'a>(document: &Document<'a>, start: Point, end: Point) -> Result<&'a str, Stop>
+    ensures text { option_copied (result_ok result) ≡ slice document.now start end }
     ensures refused { IfErr result (λ stop. stop ≡ Refused InvalidSlice) }
 {
-    slice_of(bytes, start, end).ok_or(Stop::Refused(ErrorKind::InvalidSlice))
+    slice_of(document, start, end).ok_or(Stop::Refused(ErrorKind::InvalidSlice))
 }
 
 /// The text of a span, if its ends are in order and in the document, and what is between them is
 /// UTF-8.
+#[inline(always)]
 #[tactic(auto, unfolding(markdown_events::specs::Slices::slice))]
-fn slice_of<'a>(bytes: &'a [u8], start: Point, end: Point) -> Option<&'a str>
-    ensures { option_copied result ≡ slice bytes.now start end }
+fn slice_of<'a>(document: &Document<'a>, start: Point, end: Point) -> Option<&'a str>
+    ensures { option_copied result ≡ slice document.now start end }
 {
-    let from = edge_of(start)?;
-    let to = edge_of(end)?;
-    if from > to || to > bytes.len() {
-        return None;
+    let (from, to) = range_of(document, start, end)?;
+    if let Some(part) = document.part(from, to) {
+        return Some(part);
     }
-    str::from_utf8(&bytes[from..to]).ok()
+    document.tested(from, to)
 }
 
 /// How many bytes a span has, if its ends are in order and in the document: the sequence of an ATX
 /// heading is one byte for each step of depth.
-pub fn length_between(bytes: &[u8], start: Point, end: Point) -> Option<usize>
-    ensures { result ≡ length_between bytes.now start end }
+pub fn length_between(document: &Document<'_>, start: Point, end: Point) -> Option<usize>
+    ensures { result ≡ length_between document.now start end }
 {
-    let start = edge_of(start)?;
-    let end = edge_of(end)?;
-    if start > end || end > bytes.len() {
-        return None;
-    }
-    Some(end - start)
+    let (from, to) = range_of(document, start, end)?;
+    Some(to - from)
 }
 
 /// The byte at the offset of a point, whatever its virtual spaces, if it is in the document: the
 /// first byte of frontmatter says which language follows, and the first of the underline of a setext
 /// heading says the depth.
-pub fn byte_at(bytes: &[u8], point: Point) -> Option<u8>
-    ensures { result ≡ byte_at bytes.now point }
+pub fn byte_at(document: &Document<'_>, point: Point) -> Option<u8>
+    ensures { result ≡ byte_at document.now point }
 {
-    bytes.get(point.index).copied()
+    document.bytes.get(point.index).copied()
 }
 
 /// From the start of a span to its end.

@@ -32,6 +32,7 @@ use Rattle.markdown_grammar.specs.Attributes.{Place, line_ending_is_text}
 use Rattle.markdown_grammar.specs.Refusals.{ErrorAt}
 use Rattle.markdown_steps.specs.Checks.{checked, refused}
 use Rattle.markdown_grammar.specs.Document.{Source}
+use Rattle.markdown_context.specs.Nest.{around_innermost, innermost}
 use Rattle.markdown_context.specs.States.{Begun, Opened, OpenedContainer, Stops, OpenedLeaf, containers_left, container_state_of, kept_top, leaf_left, leaf_place, opens, outer_of, state_of, top_of, with_break}
 use Rattle.markdown_blocks.specs.Columns.{columns_of}
 use Rattle.markdown_builder.specs.Marks.{marks_of}
@@ -116,34 +117,34 @@ significant_refused s name what point old why fails =
 
 -- the open spans with a leaf more
 leaf_frames : (what : ItemKind) (f : Frame) (fs fs' : List Frame) (hs : List OpenContainer) (kept : ContainerState) → role_of f.name ≡ significant what → fs' ≡ fs ++ f ∷ []
-    → opens (reverse fs') (Some kept) hs ≡ record { name = f.name; start = f.start.now; around = f.around; before = marks_of f.marks; outer = Some (what, kept) } ∷ opens (reverse fs) None hs
+    → opens (reverse fs') (Some kept) hs ≡ record { name = f.name; start = f.start.now; around = f.outside.around; before = marks_of f.outside.marks; outer = Some (what, kept) } ∷ opens (reverse fs) None hs
 leaf_frames what f fs fs' hs kept is_significant is =
     ap (λ (x : List Frame). opens (reverse x) (Some kept) hs) is
     ∙ ap (λ (x : List Frame). opens x (Some kept) hs) (pushed fs f)
     ∙ (λ t. record {
       name = f.name;
       start = f.start.now;
-      around = f.around;
-      before = marks_of f.marks;
+      around = f.outside.around;
+      before = marks_of f.outside.marks;
       outer = outer_of (is_significant t) f.in_table (Some kept) hs;
     }
     ∷ opens (reverse fs) (leaf_left (is_significant t) (Some kept)) (containers_left (is_significant t) (Some kept) hs))
 
 -- the open spans with a container more
-container_frames : (what : ItemKind) (f : Frame) (fs fs' : List Frame) (h : OpenContainer) (hs hs' : List OpenContainer) → role_of f.name ≡ significant what → fs' ≡ fs ++ f ∷ [] → hs' ≡ hs ++ h ∷ []
-    → opens (reverse fs') None (reverse hs')
-    ≡ record { name = f.name; start = f.start.now; around = f.around; before = marks_of f.marks; outer = Some (what, container_state_of f.in_table None h) } ∷ opens (reverse fs) None (reverse hs)
+container_frames : (what : ItemKind) (f : Frame) (fs fs' : List Frame) (h : OpenContainer) (hs hs' : List OpenContainer) → role_of f.name ≡ significant what → fs' ≡ fs ++ f ∷ [] → hs' ≡ h ∷ hs
+    → opens (reverse fs') None hs'
+    ≡ record { name = f.name; start = f.start.now; around = f.outside.around; before = marks_of f.outside.marks; outer = Some (what, container_state_of f.in_table None h) } ∷ opens (reverse fs) None hs
 container_frames what f fs fs' h hs hs' is_significant is held =
-    (λ t. opens (reverse (is t)) None (reverse (held t)))
-    ∙ (λ t. opens (pushed fs f t) None (reverse-append hs (h ∷ []) t))
+    (λ t. opens (reverse (is t)) None (held t))
+    ∙ (λ t. opens (pushed fs f t) None (h ∷ hs))
     ∙ (λ t. record {
       name = f.name;
       start = f.start.now;
-      around = f.around;
-      before = marks_of f.marks;
-      outer = outer_of (is_significant t) f.in_table None (h ∷ reverse hs);
+      around = f.outside.around;
+      before = marks_of f.outside.marks;
+      outer = outer_of (is_significant t) f.in_table None (h ∷ hs);
     }
-    ∷ opens (reverse fs) (leaf_left (is_significant t) None) (containers_left (is_significant t) None (h ∷ reverse hs)))
+    ∷ opens (reverse fs) (leaf_left (is_significant t) None) (containers_left (is_significant t) None (h ∷ hs)))
 
 -- a leaf begins
 pub leaf_entered : (s : Source) (name : Name) (what : ItemKind) (start : Bor Point) (old mid new : Context) (in_table : Bool) → role_of name ≡ significant what → OpenedLeaf s what start.now old mid
@@ -152,21 +153,21 @@ leaf_entered s name what start old mid new in_table is_significant o b is =
     let begun : Begun name (significant what) start true in_table old new = subst (λ (m : Context). Begun name (significant what) start true in_table m new) o.same b in
     let flag : old.is_leaf ≡ false = no_leaf s what start.now (leaf_place old.in_table) (kept_top old) old.is_leaf o.taken in
     let inside : in_table ≡ (old.in_table || is_table what) = is ∙ ap (λ (m : Context). m.in_table || is_table what) o.same in
-    let same : in_table ≡ old.in_table = inside ∙ or_false old.in_table (is_table what) (leaf_no_table (current_model_of old.top.container) what o.leaf_row) in
-    let f : Frame = record { name = name; start = start; around = old.around; in_table = old.in_table; marks = old.marks } in
-    let kept : ContainerState = container_state_of in_table old.pending old.top in
-    let now_top : top_of old ≡ kept = (λ t. cond (flag t) (fresh leaf (leaf_place old.in_table)) (kept_top old)) ∙ sym (λ t. container_state_of (same t) old.pending old.top) in
-    let spans : List OpenSpan = opens (reverse old.frames.items) None (reverse old.open_containers.items) in
+    let same : in_table ≡ old.in_table = inside ∙ or_false old.in_table (is_table what) (leaf_no_table (current_model_of (innermost old.containers).container) what o.leaf_row) in
+    let f : Frame = record { start = start; outside = old.interior; name = name; in_table = old.in_table } in
+    let kept : ContainerState = container_state_of in_table old.pending (innermost old.containers) in
+    let now_top : top_of old ≡ kept = (λ t. cond (flag t) (fresh leaf (leaf_place old.in_table)) (kept_top old)) ∙ sym (λ t. container_state_of (same t) old.pending (innermost old.containers)) in
+    let spans : List OpenSpan = opens (reverse old.frames.items) None (around_innermost old.containers) in
     significant_opened s name what start.now old (state_of new) o.taken
     ((λ t. record {
-      frames = ((λ u. record { name = name; start = start.now; around = old.around; before = marks_of old.marks; outer = Some (what, now_top u) }
-          ∷ opens (reverse old.frames.items) (cond (flag u) (Some (kept_top old)) None) (reverse old.open_containers.items))
-          ∙ sym (leaf_frames what f old.frames.items new.frames.items (reverse old.open_containers.items) kept is_significant begun.frames)) t;
-      around = under old.around (is_significant t);
+      frames = ((λ u. record { name = name; start = start.now; around = old.interior.around; before = marks_of old.interior.marks; outer = Some (what, now_top u) }
+          ∷ opens (reverse old.frames.items) (cond (flag u) (Some (kept_top old)) None) (around_innermost old.containers))
+          ∙ sym (leaf_frames what f old.frames.items new.frames.items (around_innermost old.containers) kept is_significant begun.frames)) t;
+      around = under old.interior.around (is_significant t);
       marks = sym begun.marks t;
       columns = ((λ u. columns_entered (cond (flag u) (fresh leaf (leaf_place old.in_table)) (kept_top old)).place.in_table (is_significant u) (columns_of old.columns)) ∙ sym begun.columns) t;
       top = ((λ u. entered (cond (flag u) (fresh leaf (leaf_place old.in_table)) (kept_top old)) what)
-          ∙ (λ u. fresh (o.leaf_row u) (record { line_endings = leaf_speaks (current_model_of old.top.container) what o.leaf_row u; in_table = sym inside u; marker = None }))) t;
+          ∙ (λ u. fresh (o.leaf_row u) (record { line_endings = leaf_speaks (current_model_of (innermost old.containers).container) what o.leaf_row u; in_table = sym inside u; marker = None }))) t;
     }) ∙ sym (ap state_of begun.others))
 
 -- no container of the program is a leaf
@@ -211,24 +212,24 @@ nothing_waits (Some p) ending h e = let wrong : true ≡ false = sym h ∙ e in 
 pub container_entered : (s : Source) (name : Name) (what : ItemKind) (start : Bor Point) (old mid new : Context) (in_table : Bool) → role_of name ≡ significant what → OpenedContainer s what start.now old mid
     → Begun name (significant what) start false in_table mid new → in_table ≡ (mid.in_table || is_table what) → enter_as s (significant what) name start.now (state_of old) ≡ Ok (state_of new)
 container_entered s name what start old mid new in_table is_significant o b is =
-    let between : Context = record old { top = o.top; open_containers = mid.open_containers } in
+    let between : Context = record old { containers = mid.containers } in
     let begun : Begun name (significant what) start false in_table between new = subst (λ (m : Context). Begun name (significant what) start false in_table m new) o.others b in
     let flag : old.is_leaf ≡ false = no_leaf s what start.now (leaf_place old.in_table) (kept_top old) old.is_leaf o.taken in
     let inside : in_table ≡ (old.in_table || is_table what) = is ∙ ap (λ (m : Context). m.in_table || is_table what) o.others in
-    let made : IsFresh o.top.container (model_of (current_model_of old.top.container) what) = o.fresh_container in
+    let made : IsFresh (innermost mid.containers).container (model_of (current_model_of (innermost old.containers).container) what) = o.fresh_container in
     let kept_taken : first_failing (enter_checks s (kept_top old) what start.now) ≡ None =
     (λ t. first_failing (enter_checks s (cond (sym flag t) (fresh leaf (leaf_place old.in_table)) (kept_top old)) what start.now)) ∙ o.taken in
     let no_break : old.pending ≡ None = nothing_waits old.pending (is_line_ending what) (first_passes (not (is_some old.pending) || is_line_ending what) _ UnfinishedBreak kept_taken)
-    (container_no_ending o.top.container (current_model_of old.top.container) what made.initial_model) in
-    let f : Frame = record { name = name; start = start; around = old.around; in_table = old.in_table; marks = old.marks } in
-    let now_top : top_of old ≡ container_state_of old.in_table None old.top =
-    (λ t. cond (flag t) (fresh leaf (leaf_place old.in_table)) (kept_top old)) ∙ (λ t. container_state_of old.in_table (no_break t) old.top) in
+    (container_no_ending (innermost mid.containers).container (current_model_of (innermost old.containers).container) what made.initial_model) in
+    let f : Frame = record { start = start; outside = old.interior; name = name; in_table = old.in_table } in
+    let now_top : top_of old ≡ container_state_of old.in_table None (innermost old.containers) =
+    (λ t. cond (flag t) (fresh leaf (leaf_place old.in_table)) (kept_top old)) ∙ (λ t. container_state_of old.in_table (no_break t) (innermost old.containers)) in
     significant_opened s name what start.now old (state_of new) o.taken
     ((λ t. record {
-      frames = ((λ u. record { name = name; start = start.now; around = old.around; before = marks_of old.marks; outer = Some (what, now_top u) }
-          ∷ opens (reverse old.frames.items) (cond (flag u) (Some (kept_top old)) None) (reverse old.open_containers.items))
-          ∙ sym (container_frames what f old.frames.items new.frames.items old.top old.open_containers.items mid.open_containers.items is_significant begun.frames o.open_containers)) t;
-      around = under old.around (is_significant t);
+      frames = ((λ u. record { name = name; start = start.now; around = old.interior.around; before = marks_of old.interior.marks; outer = Some (what, now_top u) }
+          ∷ opens (reverse old.frames.items) (cond (flag u) (Some (kept_top old)) None) (around_innermost old.containers))
+          ∙ sym (container_frames what f old.frames.items new.frames.items (innermost old.containers) (around_innermost old.containers) (around_innermost mid.containers) is_significant begun.frames o.outer)) t;
+      around = under old.interior.around (is_significant t);
       marks = sym begun.marks t;
       columns = ((λ u. columns_entered (cond (flag u) (fresh leaf (leaf_place old.in_table)) (kept_top old)).place.in_table (is_significant u) (columns_of old.columns)) ∙ sym begun.columns) t;
       top = ((λ u. entered (cond (flag u) (fresh leaf (leaf_place old.in_table)) (kept_top old)) what)
@@ -261,12 +262,12 @@ significant_stops s name what point (stops.Memory error) old mid o = tt
 -- ---- Any span
 
 -- a span that may not begin, and one that may
-pub enter_held : (s : Source) (name : Name) (role : Role) (point : Point) (allowed : Bool) (c : Context) → role ≡ role_of name → allowed ≡ may_begin c.around role → allowed ≡ false
+pub enter_held : (s : Source) (name : Name) (role : Role) (point : Point) (allowed : Bool) (c : Context) → role ≡ role_of name → allowed ≡ may_begin c.interior.around role → allowed ≡ false
     → enter_step s name point (state_of c) ≡ refused Held point
 unfolding enter_step
-enter_held s name role point allowed c is is_allowed held = λ t. cond ((ap (may_begin c.around) (sym is) ∙ sym is_allowed ∙ held) t) (enter_as s (role_of name) name point (state_of c)) (refused Held point)
+enter_held s name role point allowed c is is_allowed held = λ t. cond ((ap (may_begin c.interior.around) (sym is) ∙ sym is_allowed ∙ held) t) (enter_as s (role_of name) name point (state_of c)) (refused Held point)
 
-pub enter_free : (s : Source) (name : Name) (role : Role) (point : Point) (allowed : Bool) (c : Context) → role ≡ role_of name → allowed ≡ may_begin c.around role → allowed ≡ true
+pub enter_free : (s : Source) (name : Name) (role : Role) (point : Point) (allowed : Bool) (c : Context) → role ≡ role_of name → allowed ≡ may_begin c.interior.around role → allowed ≡ true
     → enter_step s name point (state_of c) ≡ enter_as s role name point (state_of c)
 unfolding enter_step
-enter_free s name role point allowed c is is_allowed free = λ t. cond ((ap (may_begin c.around) (sym is) ∙ sym is_allowed ∙ free) t) (enter_as s (sym is t) name point (state_of c)) (refused Held point)
+enter_free s name role point allowed c is is_allowed free = λ t. cond ((ap (may_begin c.interior.around) (sym is) ∙ sym is_allowed ∙ free) t) (enter_as s (sym is t) name point (state_of c)) (refused Held point)

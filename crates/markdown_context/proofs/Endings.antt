@@ -1,6 +1,6 @@
 -- What the exit of a span makes of the state, in the program and in the steps.
-use Rattle.std.proofs.Common.{◌≡◌, ◌<◌, ℕ, arith, length, Bool, true, false, ◌||◌, ◌&&◌, not, is_some, List, [], ◌∷◌, ◌++◌, Option, None, Some, Result, Ok, Vec, Global, refl, sym, ap, ◌∙◌, cond, reverse, subst}
-use Rattle.std.specs.Prelude.{if◌then◌else◌}
+use Rattle.std.proofs.Common.{◌≡◌, ◌<◌, ℕ, arith, length, Bool, true, false, ◌||◌, ◌&&◌, not, is_some, List, [], ◌∷◌, ◌++◌, Option, None, Some, Result, Ok, Err, Vec, Global, refl, sym, ap, ◌∙◌, cond, reverse, subst}
+use Rattle.std.specs.Prelude.{OnOk, if◌then◌else◌}
 use Rattle.markdown_events.specs.Names.{is_same_name, role_of}
 use Rattle.markdown_events.specs.declared.event.Name.{Name}
 use Rattle.markdown_events.specs.declared.event.Point.{Point}
@@ -39,6 +39,13 @@ use Rattle.markdown_grammar.specs.Refusals.{ErrorAt}
 use Rattle.markdown_steps.specs.Checks.{checked, passes, refused, ◌>>=◌}
 use Rattle.markdown_steps.specs.Siblings.{marks_with}
 use Rattle.markdown_grammar.specs.Document.{Source}
+use Rattle.markdown_context.specs.Nest.{around_innermost, first_or, innermost, with_innermost}
+use Rattle.markdown_context.specs.declared.nest.Nest.{Nest}
+use Rattle.markdown_context.proofs.Nesting.{put_around, put_innermost, written_around, written_innermost}
+use Rattle.markdown_context.specs.Takings.{TakesParent}
+use Rattle.markdown_context.specs.declared.container.Container.TheVariants as containers
+use Rattle.markdown_blocks.specs.Parents.{is_parent}
+use Rattle.markdown_steps.specs.Columns.{no_columns}
 use Rattle.markdown_context.specs.States.{Closed, Ends, EndsAs, Gives, ContainerEnds, Stops, containers_left, container_state_of, kept_top, leaf_container, leaf_left, leaf_place, left_to, left_visits, summary_of_container, opens, outer_of, state_of, top_of}
 use Rattle.markdown_blocks.specs.Columns.{columns_of}
 use Rattle.markdown_builder.specs.Marks.{marks_of}
@@ -62,21 +69,21 @@ fits_of s in_table pending h what start passed =
     (sym (misfit_first h.container top.inner what others refl) ∙ none_fails tests (and-right (not top.after_break || is_line_ending what) (passes tests) passed))
 
 -- a leaf, or a container around which there is another
-stands_ends : (s : Source) (o : OpenSpan) (role : Role) (in_table leaves : Bool) (c : Context) (hs : List OpenContainer) (Outside : ContainerState → Type 0) → role_of o.name ≡ role → reverse c.open_containers.items ≡ hs
+stands_ends : (s : Source) (o : OpenSpan) (role : Role) (in_table leaves : Bool) (c : Context) (hs : List OpenContainer) (Outside : ContainerState → Type 0) → role_of o.name ≡ role → around_innermost c.containers ≡ hs
     → Stands s o (cond leaves (fresh leaf (leaf_place c.in_table)) (kept_top c)) Outside (outer_of role in_table (cond leaves (Some (kept_top c)) None) hs) → EndsAs leaves role c
 stands_ends s o (transparent k) in_table leaves c hs Outside is at stands = tt
 stands_ends s o (significant what) in_table true c hs Outside is at stands =
     let own : ContainerState = fresh leaf (leaf_place c.in_table) in
     record {
       initial_model = sym (stands.0).initial_model;
-      fits = fits_of s c.in_table c.pending c.top what o.start (stands.0).passed;
+      fits = fits_of s c.in_table c.pending (innermost c.containers) what o.start (stands.0).passed;
       awaited = taken-awaited s o what own (kept_top c) stands.0;
     }
 stands_ends s o (significant what) in_table false c [] Outside is at stands = let wrong : true ≡ false = sym stands.0 ∙ ap is_transparent is in absurd cc
 stands_ends s o (significant what) in_table false c (h ∷ hs) Outside is at stands = record {
   outer = h;
   others = hs;
-  open_containers = at;
+  stack = at;
   initial_model = (stands.0).initial_model;
   fits = fits_of s in_table None h what o.start (stands.0).passed;
 }
@@ -86,26 +93,26 @@ abbrev open_of : Frame → Context → OpenSpan
 open_of f c = record {
   name = f.name;
   start = f.start.now;
-  around = f.around;
-  before = marks_of f.marks;
-  outer = outer_of (role_of f.name) f.in_table (leaf_container c) (reverse c.open_containers.items);
+  around = f.outside.around;
+  before = marks_of f.outside.marks;
+  outer = outer_of (role_of f.name) f.in_table (leaf_container c) (around_innermost c.containers);
 }
 
 -- those around it
 abbrev around_it : Frame → List Frame → Context → List OpenSpan
-around_it f fs c = opens (reverse fs) (leaf_left (role_of f.name) (leaf_container c)) (containers_left (role_of f.name) (leaf_container c) (reverse c.open_containers.items))
+around_it f fs c = opens (reverse fs) (leaf_left (role_of f.name) (leaf_container c)) (containers_left (role_of f.name) (leaf_container c) (around_innermost c.containers))
 
 -- the innermost of the open spans, and those around it
 last_open : (c : Context) (f : Frame) (fs : List Frame) → c.frames.items ≡ fs ++ f ∷ [] → (state_of c).frames ≡ open_of f c ∷ around_it f fs c
 last_open c f fs at =
-    ap (λ (x : List Frame). opens (reverse x) (leaf_container c) (reverse c.open_containers.items)) at ∙ ap (λ (x : List Frame). opens x (leaf_container c) (reverse c.open_containers.items)) (pushed fs f)
+    ap (λ (x : List Frame). opens (reverse x) (leaf_container c) (around_innermost c.containers)) at ∙ ap (λ (x : List Frame). opens x (leaf_container c) (around_innermost c.containers)) (pushed fs f)
 
 -- where all open spans stand, the innermost may end
 pub ends : (s : Source) (old : Context) (frames : Vec Frame Global) (f : Frame) (role : Role) → Well s (state_of old) → old.frames.items ≡ frames.items ++ f ∷ [] → role ≡ role_of f.name → Ends role (record old { frames = frames })
 ends s old frames f role well at is =
     let stands : AllStand s (open_of f old ∷ around_it f frames.items old) (top_of old) = subst (λ (fs : List OpenSpan). AllStand s fs (top_of old)) (last_open old f frames.items at) well in
     subst (λ (r : Role). Ends r (record old { frames = frames })) (sym is)
-    (stands_ends s (open_of f old) (role_of f.name) f.in_table old.is_leaf (record old { frames = frames }) (reverse old.open_containers.items) (AllStand s (around_it f frames.items old)) refl refl stands)
+    (stands_ends s (open_of f old) (role_of f.name) f.in_table old.is_leaf (record old { frames = frames }) (around_innermost old.containers) (AllStand s (around_it f frames.items old)) refl refl stands)
 
 -- ---- The step of an exit
 
@@ -117,7 +124,7 @@ none_left (f ∷ fs) n last l h = let more : 0 < n = omega (arith, l) in let wro
 -- where no span is open
 pub exit_none : (s : Source) (name : Name) (point : Point) (c : Context) → c.frames.items ≡ [] → exit_step s name point (state_of c) ≡ refused Unbalanced point
 unfolding exit_step
-exit_none s name point c none = ap (λ (x : List Frame). exit_from s name point (opens (reverse x) (leaf_container c) (reverse c.open_containers.items)) (state_of c)) none
+exit_none s name point c none = ap (λ (x : List Frame). exit_from s name point (opens (reverse x) (leaf_container c) (around_innermost c.containers)) (state_of c)) none
 
 -- the step by whether the names are the same
 exit_by : (s : Source) (name : Name) (point : Point) (c : Context) (f : Frame) (fs : List Frame) (same : Bool) → c.frames.items ≡ fs ++ f ∷ [] → is_same_name f.name name ≡ same
@@ -144,19 +151,19 @@ exit_stops s name point old frames f role (stops.Refused why) at is same left =
 -- where it takes it
 pub exit_done : (s : Source) (name : Name) (point : Point) (old mid : Context) (frames : Vec Frame Global) (f : Frame) (role : Role) (marks : OpenMarks) → old.frames.items ≡ frames.items ++ f ∷ [] → role ≡ role_of f.name
     → is_same_name f.name name ≡ true → left_to s role f point (record old { frames = frames }) ≡ Ok (top_of mid) → Closed role (record old { frames = frames }) mid
-    → marks_of marks ≡ marks_with (marks_of f.marks) role (marks_of mid.marks)
-    → exit_step s name point (state_of old) ≡ Ok (state_of (record mid { around = f.around; marks = marks }))
+    → marks_of marks ≡ marks_with (marks_of f.outside.marks) role (marks_of mid.interior.marks)
+    → exit_step s name point (state_of old) ≡ Ok (state_of (record mid { interior = record { around = f.outside.around; marks = marks } }))
 exit_done s name point old mid frames f role marks at is same left pops with =
     let on : ContainerState → Result State ErrorAt = λ top. Ok (pop (open_of f old) (around_it f frames.items old) (state_of old) top) in
     exit_by s name point old f frames.items true at same
     ∙ (λ t. left_to s (sym is t) f point old >>= on)
     ∙ ap (λ (r : Result ContainerState ErrorAt). r >>= on) left
     ∙ (λ t. Ok (record {
-      frames = ((λ u. opens (reverse frames.items) (leaf_left (sym is u) (leaf_container old)) (containers_left (sym is u) (leaf_container old) (reverse old.open_containers.items)))
-          ∙ (λ u. opens (reverse (sym pops.frames u).items) (sym pops.leaf u) (sym pops.open_containers u))) t;
-      around = f.around;
-      marks = ((λ u. marks_with (marks_of f.marks) (sym is u) (marks_of (sym pops.marks u))) ∙ sym with) t;
-      columns = ((λ u. columns_left (sym is u) (marks_of old.marks) (columns_of old.columns)) ∙ sym pops.columns) t;
+      frames = ((λ u. opens (reverse frames.items) (leaf_left (sym is u) (leaf_container old)) (containers_left (sym is u) (leaf_container old) (around_innermost old.containers)))
+          ∙ (λ u. opens (reverse (sym pops.frames u).items) (sym pops.leaf u) (sym pops.containers u))) t;
+      around = f.outside.around;
+      marks = ((λ u. marks_with (marks_of f.outside.marks) (sym is u) (marks_of (sym pops.marks u))) ∙ sym with) t;
+      columns = ((λ u. columns_left (sym is u) (marks_of old.interior.marks) (columns_of old.columns)) ∙ sym pops.columns) t;
       top = top_of mid;
     }))
 
@@ -168,45 +175,139 @@ no_break None h = refl
 no_break (Some here) h = let z : ⊥ = cc in absurd z
 
 -- it goes into the container around it
-container_leaves : (s : Source) (what : ItemKind) (f : Frame) (end : Point) (c : Context) (outer : OpenContainer) (others : List OpenContainer) → c.is_leaf ≡ false → reverse c.open_containers.items ≡ outer ∷ others
-    → left_to s (significant what) f end c ≡ leave s what f.start.now end (child_facts (marks_of c.marks) (columns_of c.columns)) (kept_top c) (container_state_of f.in_table None outer)
+container_leaves : (s : Source) (what : ItemKind) (f : Frame) (end : Point) (c : Context) (outer : OpenContainer) (others : List OpenContainer) → c.is_leaf ≡ false → around_innermost c.containers ≡ outer ∷ others
+    → left_to s (significant what) f end c ≡ leave s what f.start.now end (child_facts (marks_of c.interior.marks) (columns_of c.columns)) (kept_top c) (container_state_of f.in_table None outer)
 container_leaves s what f end c outer others grows at =
-    λ t. leave_to s f.start.now end (child_facts (marks_of c.marks) (columns_of c.columns)) (cond (grows t) (fresh leaf (leaf_place c.in_table)) (kept_top c))
+    λ t. leave_to s f.start.now end (child_facts (marks_of c.interior.marks) (columns_of c.columns)) (cond (grows t) (fresh leaf (leaf_place c.in_table)) (kept_top c))
     (outer_of (significant what) f.in_table (cond (grows t) (Some (kept_top c)) None) (at t))
 
 -- where a break waits for its line ending
 pub container_waits : (s : Source) (what : ItemKind) (f : Frame) (end : Point) (c : Context) → c.is_leaf ≡ false → ContainerEnds what c → is_some c.pending ≡ true → left_to s (significant what) f end c ≡ refused UnfinishedBreak end
 unfolding leave
 container_waits s what f end c grows h waits =
-    let children : ChildFacts = child_facts (marks_of c.marks) (columns_of c.columns) in
+    let children : ChildFacts = child_facts (marks_of c.interior.marks) (columns_of c.columns) in
     let own : ContainerState = kept_top c in
     let top : ContainerState = container_state_of f.in_table None h.outer in
     let out : Result ContainerState ErrorAt = Ok (with_child s top what f.start.now end children own.inner) in
-    container_leaves s what f end c h.outer h.others grows h.open_containers
+    container_leaves s what f end c h.outer h.others grows h.stack
     ∙ (λ t. cond (not (waits t)) (checked ((all_stood own.initial_model own.inner, missing_error own.initial_model) ∷ (is_read s top.model top.place top.after_break what f.start.now end, value_error s what f.start.now end) ∷ []) end out) (refused UnfinishedBreak end))
 
 -- where none does
-pub container_left : (s : Source) (what : ItemKind) (f : Frame) (end : Point) (c : Context) (outer : OpenContainer) (others : List OpenContainer) → c.is_leaf ≡ false → reverse c.open_containers.items ≡ outer ∷ others → is_some c.pending ≡ false
-    → left_to s (significant what) f end c ≡ leave s what f.start.now end (child_facts (marks_of c.marks) (columns_of c.columns)) (container_state_of c.in_table None c.top) (container_state_of f.in_table None outer)
+pub container_left : (s : Source) (what : ItemKind) (f : Frame) (end : Point) (c : Context) (outer : OpenContainer) (others : List OpenContainer) → c.is_leaf ≡ false → around_innermost c.containers ≡ outer ∷ others → is_some c.pending ≡ false
+    → left_to s (significant what) f end c ≡ leave s what f.start.now end (child_facts (marks_of c.interior.marks) (columns_of c.columns)) (container_state_of c.in_table None (innermost c.containers)) (container_state_of f.in_table None outer)
 container_left s what f end c outer others grows at none =
     container_leaves s what f end c outer others grows at
-    ∙ (λ t. leave s what f.start.now end (child_facts (marks_of c.marks) (columns_of c.columns)) (container_state_of c.in_table (no_break c.pending none t) c.top) (container_state_of f.in_table None outer))
+    ∙ (λ t. leave s what f.start.now end (child_facts (marks_of c.interior.marks) (columns_of c.columns)) (container_state_of c.in_table (no_break c.pending none t) (innermost c.containers)) (container_state_of f.in_table None outer))
 
 -- where it is on top then
-pub container_gives : (s : Source) (what : ItemKind) (f : Frame) (end : Point) (old new : Context) (outer : OpenContainer) (others : List OpenContainer) (result : Result (Unit {0}) Stop) → old.is_leaf ≡ false → reverse old.open_containers.items ≡ outer ∷ others
+pub container_gives : (s : Source) (what : ItemKind) (f : Frame) (end : Point) (old new : Context) (outer : OpenContainer) (others : List OpenContainer) (result : Result (Unit {0}) Stop) → old.is_leaf ≡ false → around_innermost old.containers ≡ outer ∷ others
     → is_some old.pending ≡ false → new.is_leaf ≡ old.is_leaf → new.pending ≡ old.pending → new.in_table ≡ f.in_table
-    → Gives {X = Unit {0}} {Y = ContainerState} (λ x. container_state_of f.in_table None new.top) end result (leave s what f.start.now end (child_facts (marks_of old.marks) (columns_of old.columns)) (container_state_of old.in_table None old.top) (container_state_of f.in_table None outer))
+    → Gives {X = Unit {0}} {Y = ContainerState} (λ x. container_state_of f.in_table None (innermost new.containers)) end result (leave s what f.start.now end (child_facts (marks_of old.interior.marks) (columns_of old.columns)) (container_state_of old.in_table None (innermost old.containers)) (container_state_of f.in_table None outer))
     → Gives {X = Unit {0}} {Y = ContainerState} (λ x. top_of new) end result (left_to s (significant what) f end old)
 container_gives s what f end old new outer others result grows at none same_leaf same_break same_table given =
-    let after : Result ContainerState ErrorAt = leave s what f.start.now end (child_facts (marks_of old.marks) (columns_of old.columns)) (container_state_of old.in_table None old.top) (container_state_of f.in_table None outer) in
-    let tops : top_of new ≡ container_state_of f.in_table None new.top =
-    (λ t. cond ((same_leaf ∙ grows) t) (fresh leaf (leaf_place new.in_table)) (kept_top new)) ∙ (λ t. container_state_of (same_table t) ((same_break ∙ no_break old.pending none) t) new.top) in
+    let after : Result ContainerState ErrorAt = leave s what f.start.now end (child_facts (marks_of old.interior.marks) (columns_of old.columns)) (container_state_of old.in_table None (innermost old.containers)) (container_state_of f.in_table None outer) in
+    let tops : top_of new ≡ container_state_of f.in_table None (innermost new.containers) =
+    (λ t. cond ((same_leaf ∙ grows) t) (fresh leaf (leaf_place new.in_table)) (kept_top new)) ∙ (λ t. container_state_of (same_table t) ((same_break ∙ no_break old.pending none) t) (innermost new.containers)) in
     gives_same (λ x. top_of new) end result after (left_to s (significant what) f end old) (container_left s what f end old outer others grows at none)
     (subst (λ (h : ContainerState). Gives {X = Unit {0}} {Y = ContainerState} (λ x. h) end result after) (sym tops) given)
 
--- the container around one that is popped
-pub popped : (hs rest : List OpenContainer) (h : OpenContainer) → hs ≡ rest ++ h ∷ [] → reverse hs ≡ h ∷ reverse rest
-popped hs rest h at = ap (λ (x : List OpenContainer). reverse x) at ∙ reverse-append rest (h ∷ [])
+-- the same by the containers once the innermost is taken out, and once the one around it has taken it
+pub closed_gives : (s : Source) (what : ItemKind) (f : Frame) (end : Point) (old new : Context) (rest : Nest OpenContainer) (own lent taken : OpenContainer) (result : Result (Unit {0}) Stop)
+    → old.is_leaf ≡ false → is_some old.pending ≡ false → old.containers.inner.items ≡ rest.inner.items ++ own ∷ [] → old.containers.outermost ≡ rest.outermost → lent ≡ innermost rest
+    → new.is_leaf ≡ old.is_leaf → new.pending ≡ old.pending → new.in_table ≡ f.in_table → new.containers ≡ with_innermost rest taken
+    → Gives {X = Unit {0}} {Y = ContainerState} (λ x. container_state_of f.in_table None taken) end result (leave s what f.start.now end (child_facts (marks_of old.interior.marks) (columns_of old.columns)) (container_state_of old.in_table None own) (container_state_of f.in_table None lent))
+    → Gives {X = Unit {0}} {Y = ContainerState} (λ x. top_of new) end result (left_to s (significant what) f end old)
+closed_gives s what f end old new rest own lent taken result grows none at same is_lent same_leaf same_break same_table written given =
+    let top : innermost new.containers ≡ taken = ap (λ (n : Nest OpenContainer). innermost n) written ∙ written_innermost rest taken in
+    let children : ChildFacts = child_facts (marks_of old.interior.marks) (columns_of old.columns) in
+    container_gives s what f end old new (innermost rest) (around_innermost rest) result grows (put_around rest old.containers own at same) none same_leaf same_break same_table
+    (gives_same (λ x. container_state_of f.in_table None (innermost new.containers)) end result _ _
+    (λ t. leave s what f.start.now end children (container_state_of old.in_table None (put_innermost rest old.containers own at t)) (container_state_of f.in_table None (sym is_lent t)))
+    (subst (λ (h : OpenContainer). Gives {X = Unit {0}} {Y = ContainerState} (λ x. container_state_of f.in_table None h) end result (leave s what f.start.now end children (container_state_of old.in_table None own) (container_state_of f.in_table None lent))) (sym top) given))
+
+-- what is taken out is the container that ends, and what it is lent to is the one around it
+pub closed_own : (what : ItemKind) (c : Context) (rest : Nest OpenContainer) (own lent : OpenContainer) (ends : ContainerEnds what c)
+    → c.containers.inner.items ≡ rest.inner.items ++ own ∷ [] → c.containers.outermost ≡ rest.outermost → lent ≡ innermost rest
+    → (innermost c.containers ≡ own) × (ends.outer ≡ lent)
+closed_own what c rest own lent ends at same is_lent = (
+  put_innermost rest c.containers own at,
+  ap (λ (hs : List OpenContainer). first_or hs ends.outer) (sym ends.stack ∙ put_around rest c.containers own at same) ∙ sym is_lent,
+)
+
+-- the context after it
+pub closed_so : (what : ItemKind) (old new : Context) (rest : Nest OpenContainer) (own taken : OpenContainer)
+    → old.is_leaf ≡ false → old.containers.inner.items ≡ rest.inner.items ++ own ∷ [] → old.containers.outermost ≡ rest.outermost
+    → new.frames ≡ old.frames → new.interior.marks ≡ old.interior.marks → new.is_leaf ≡ old.is_leaf → new.containers ≡ with_innermost rest taken
+    → columns_of new.columns ≡ columns_left (significant what) (marks_of old.interior.marks) (columns_of old.columns) → Closed (significant what) old new
+closed_so what old new rest own taken grows at same same_frames same_marks same_leaf written left = record {
+  frames = same_frames;
+  marks = same_marks;
+  columns = left;
+  leaf = λ t. cond ((same_leaf ∙ grows) t) (Some (kept_top new)) None;
+  containers = ap (λ (n : Nest OpenContainer). around_innermost n) written ∙ written_around rest taken
+      ∙ (λ t. containers_left (significant what) (cond (sym grows t) (Some (kept_top old)) None) (sym (put_around rest old.containers own at same) t));
+}
+
+-- ---- The end of a leaf
+
+-- the innermost container has taken it
+pub leaf_gives : (s : Source) (what : ItemKind) (f : Frame) (end : Point) (old new : Context) (lent taken : OpenContainer) (result : Result (Unit {0}) Stop)
+    → old.is_leaf ≡ true → lent ≡ innermost old.containers → new.is_leaf ≡ false → new.in_table ≡ old.in_table → new.containers ≡ with_innermost old.containers taken
+    → Gives {X = Unit {0}} {Y = ContainerState} (λ x. container_state_of old.in_table new.pending taken) end result (leave s what f.start.now end (child_facts (marks_of old.interior.marks) (columns_of old.columns)) (fresh leaf (leaf_place old.in_table)) (container_state_of old.in_table old.pending lent))
+    → Gives {X = Unit {0}} {Y = ContainerState} (λ x. top_of new) end result (left_to s (significant what) f end old)
+leaf_gives s what f end old new lent taken result is_leaf is_lent grows same_table written given =
+    let children : ChildFacts = child_facts (marks_of old.interior.marks) (columns_of old.columns) in
+    let after : Result ContainerState ErrorAt = leave s what f.start.now end children (fresh leaf (leaf_place old.in_table)) (container_state_of old.in_table old.pending lent) in
+    let top : innermost new.containers ≡ taken = ap (λ (n : Nest OpenContainer). innermost n) written ∙ written_innermost old.containers taken in
+    let tops : top_of new ≡ container_state_of old.in_table new.pending taken =
+    (λ t. cond (grows t) (fresh leaf (leaf_place new.in_table)) (kept_top new)) ∙ (λ t. container_state_of (same_table t) new.pending (top t)) in
+    gives_same (λ x. top_of new) end result after (left_to s (significant what) f end old)
+    ((λ t. leave_to s f.start.now end children (cond (is_leaf t) (fresh leaf (leaf_place old.in_table)) (kept_top old)) (outer_of (significant what) f.in_table (cond (is_leaf t) (Some (kept_top old)) None) (around_innermost old.containers)))
+    ∙ (λ t. leave s what f.start.now end children (fresh leaf (leaf_place old.in_table)) (container_state_of old.in_table old.pending (sym is_lent t))))
+    (subst (λ (h : ContainerState). Gives {X = Unit {0}} {Y = ContainerState} (λ x. h) end result after) (sym tops) given)
+
+-- the context after it
+pub leaf_closed : (what : ItemKind) (old new : Context) (taken : OpenContainer) → old.is_leaf ≡ true → new.is_leaf ≡ false → new.frames ≡ old.frames → new.interior.marks ≡ old.interior.marks → new.containers ≡ with_innermost old.containers taken
+    → columns_of new.columns ≡ columns_left (significant what) (marks_of old.interior.marks) (columns_of old.columns) → Closed (significant what) old new
+leaf_closed what old new taken is_leaf grows same_frames same_marks written left = record {
+  frames = same_frames;
+  marks = same_marks;
+  columns = left;
+  leaf = λ t. cond (grows t) (Some (kept_top new)) None;
+  containers = ap (λ (n : Nest OpenContainer). around_innermost n) written ∙ written_around old.containers taken
+      ∙ (λ t. containers_left (significant what) (cond (sym is_leaf t) (Some (kept_top old)) None) (around_innermost old.containers));
+}
+
+-- what is no table leaves the columns as they are
+pub columns_kept : (what : ItemKind) (old new : Context) → is_table what ≡ false → columns_of new.columns ≡ columns_of old.columns → columns_of new.columns ≡ columns_left (significant what) (marks_of old.interior.marks) (columns_of old.columns)
+columns_kept what old new none same = same ∙ sym (ap (λ (b : Bool). cond b no_columns (columns_of old.columns)) none)
+
+-- a parent is none
+pub parent_no_table : (c : Content) → is_parent c ≡ true → is_table (content c) ≡ false
+parent_no_table contents.Table such = let z : ⊥ = cc in absurd z
+parent_no_table c such = refl
+
+-- and nothing but nodes is in it
+pub parent_taken : (s : Source) (c : Content) (f : Frame) (end : Point) (old new : Context) (rest : Nest OpenContainer) (own lent taken : OpenContainer)
+    → old.is_leaf ≡ false → is_some old.pending ≡ false → (innermost old.containers).container ≡ containers.AnyContent
+    → old.containers.inner.items ≡ rest.inner.items ++ own ∷ [] → old.containers.outermost ≡ rest.outermost → lent ≡ innermost rest
+    → new.is_leaf ≡ old.is_leaf → new.pending ≡ old.pending → new.in_table ≡ f.in_table → new.containers ≡ with_innermost rest taken
+    → TakesParent c f.start.now end own.nodes lent taken → left_to s (significant (content c)) f end old ≡ Ok (top_of new)
+parent_taken s c f end old new rest own lent taken grows none any at same is_lent same_leaf same_break same_table written takes =
+    let children : ChildFacts = child_facts (marks_of old.interior.marks) (columns_of old.columns) in
+    let is : own.container ≡ containers.AnyContent = ap (λ (h : OpenContainer). h.container) (sym (put_innermost rest old.containers own at)) ∙ any in
+    closed_gives s (content c) f end old new rest own lent taken (Ok tt) grows none at same is_lent same_leaf same_break same_table written
+    ((λ t. leave s (content c) f.start.now end children (container_state_of old.in_table None (record own { container = is t })) (container_state_of f.in_table None lent))
+    ∙ takes s f.in_table old.in_table own.line_endings children)
+
+-- where a thing was made, what follows of it
+pub on_ok : {X E : Type 0} (r : Result X E) (P Q : Type 0) → (P → Q) → OnOk r P → OnOk r Q
+on_ok (Ok x) P Q follows h = follows h
+on_ok (Err e) P Q follows h = h
+
+pub always : {X E : Type 0} (r : Result X E) → OnOk r (Unit {0})
+always (Ok x) = tt
+always (Err e) = tt
 
 -- ---- Rows
 
@@ -253,13 +354,20 @@ part_row h x q e = ap (is_part_model q) e
 pub exit_visits_left : (name : Name) (old : Context) (frames : Vec Frame Global) (f : Frame) (role : Role) → old.frames.items ≡ frames.items ++ f ∷ [] → role ≡ role_of f.name → is_same_name f.name name ≡ true
     → left_visits role f (record old { frames = frames }) ≡ exit_visits name (state_of old).frames (top_of old).inner
 exit_visits_left name old frames f role at is same =
-    (λ t. visits_by_owner (outer_of (is t) f.in_table (leaf_container old) (reverse old.open_containers.items)) (top_of old).inner)
+    (λ t. visits_by_owner (outer_of (is t) f.in_table (leaf_container old) (around_innermost old.containers)) (top_of old).inner)
     ∙ sym (ap (λ (x : List OpenSpan). exit_visits name x (top_of old).inner) (last_open old f frames.items at)
     ∙ ap (λ (b : Bool). if b then visits_by_owner (open_of f old).outer (top_of old).inner else 0) same)
 
 -- those of a container, where no break waits in it
-pub container_walks : (what : ItemKind) (f : Frame) (c : Context) (outer : OpenContainer) (others : List OpenContainer) → c.is_leaf ≡ false → reverse c.open_containers.items ≡ outer ∷ others → is_some c.pending ≡ false
-    → left_visits (significant what) f c ≡ visits_at_end what (summary_of_container c.top)
+pub container_walks : (what : ItemKind) (f : Frame) (c : Context) (outer : OpenContainer) (others : List OpenContainer) → c.is_leaf ≡ false → around_innermost c.containers ≡ outer ∷ others → is_some c.pending ≡ false
+    → left_visits (significant what) f c ≡ visits_at_end what (summary_of_container (innermost c.containers))
 container_walks what f c outer others grows at none =
     (λ t. visits_by_owner (outer_of (significant what) f.in_table (cond (grows t) (Some (kept_top c)) None) (at t)) (cond (grows t) (fresh leaf (leaf_place c.in_table)) (kept_top c)).inner)
-    ∙ (λ t. visits_at_end what (container_state_of c.in_table (no_break c.pending none t) c.top).inner)
+    ∙ (λ t. visits_at_end what (container_state_of c.in_table (no_break c.pending none t) (innermost c.containers)).inner)
+
+-- the same of one that is taken out
+pub closed_walks : (what : ItemKind) (f : Frame) (c : Context) (rest : Nest OpenContainer) (own : OpenContainer) → c.is_leaf ≡ false → is_some c.pending ≡ false
+    → c.containers.inner.items ≡ rest.inner.items ++ own ∷ [] → c.containers.outermost ≡ rest.outermost → left_visits (significant what) f c ≡ visits_at_end what (summary_of_container own)
+closed_walks what f c rest own grows none at same =
+    container_walks what f c (innermost rest) (around_innermost rest) grows (put_around rest c.containers own at same) none
+    ∙ ap (λ (h : OpenContainer). visits_at_end what (summary_of_container h)) (put_innermost rest c.containers own at)

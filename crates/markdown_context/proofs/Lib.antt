@@ -8,3 +8,4 @@ pub mod Beginnings
 pub mod Endings
 pub mod Unfinished
 pub mod Kept
+pub mod Nesting

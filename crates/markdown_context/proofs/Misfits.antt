@@ -18,6 +18,7 @@ use Rattle.markdown_context.specs.declared.context.Context.{Context}
 use Rattle.markdown_grammar.specs.declared.error_kind.ErrorKind.TheVariants.{InvalidSlice, Misplaced, UnfinishedBreak}
 use Rattle.markdown_grammar.specs.Document.{byte_at}
 use Rattle.markdown_grammar.specs.Document.{Source}
+use Rattle.markdown_context.specs.Nest.{around_innermost, innermost}
 use Rattle.markdown_context.specs.States.{kept_top, leaf_place, top_of}
 use Rattle.markdown_steps.specs.Summaries.{Summary}
 use Rattle.markdown_steps.specs.Checks.{passes}
@@ -75,12 +76,12 @@ not_false false c e h = let wrong : true ≡ false = sym e ∙ h in absurd cc
 
 -- where no leaf is open and no break is in the way, the first misfit is that of the container
 pub misfit_of_context : (s : Source) (c : Context) (what : ItemKind) (point : Point) (cut : Bool) (r : ErrorKind)
-    → c.is_leaf ≡ false → cut ≡ not (not (is_some c.pending) || is_line_ending what) → cut ≡ false → Some r ≡ misfit_of c.top.container what
+    → c.is_leaf ≡ false → cut ≡ not (not (is_some c.pending) || is_line_ending what) → cut ≡ false → Some r ≡ misfit_of (innermost c.containers).container what
     → Some r ≡ first_failing (enter_checks s (top_of c) what point)
 misfit_of_context s c what point cut r no_leaf is_cut uncut found =
     let others : List (Bool × ErrorKind) = (not (c.in_table && is_table what), Misplaced) ∷ (not (is_frontmatter what) || is_some (byte_at s.bytes point), InvalidSlice) ∷ [] in
     let waits : Bool = not (is_some c.pending) || is_line_ending what in
     sym ((λ t. first_failing (enter_checks s (cond (no_leaf t) (fresh leaf (leaf_place c.in_table)) (kept_top c)) what point))
-    ∙ ap (λ (b : Bool). cond b (first_failing (rule_checks (initial_model_of c.top.container) (rules (initial_model_of c.top.container)) (kept_top c).inner what others)) (Some UnfinishedBreak)) (not_false waits cut is_cut uncut)
-    ∙ misfit_first c.top.container (kept_top c).inner what others refl
+    ∙ ap (λ (b : Bool). cond b (first_failing (rule_checks (initial_model_of (innermost c.containers).container) (rules (initial_model_of (innermost c.containers).container)) (kept_top c).inner what others)) (Some UnfinishedBreak)) (not_false waits cut is_cut uncut)
+    ∙ misfit_first (innermost c.containers).container (kept_top c).inner what others refl
     ∙ ap (λ (o : Option ErrorKind). option_or o (first_failing others)) (sym found))

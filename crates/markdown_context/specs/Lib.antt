@@ -1,3 +1,4 @@
 pub mod Containers
+pub mod Nest
 pub mod States
 pub mod Takings

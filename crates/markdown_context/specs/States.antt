@@ -17,6 +17,7 @@ use Rattle.markdown_context.specs.declared.context.Context.{Context}
 use Rattle.markdown_context.specs.declared.context.Frame.{Frame}
 use Rattle.markdown_nodes.specs.View.{views}
 use Rattle.markdown_context.specs.declared.open_container.OpenContainer.{OpenContainer}
+use Rattle.markdown_context.specs.Nest.{around_innermost, innermost}
 use Rattle.markdown_grammar.specs.declared.error_kind.Stop.{Stop}
 use Rattle.markdown_grammar.specs.declared.error_kind.Stop.TheVariants as stops
 use Rattle.markdown_nodes.specs.Tree.{Trees, join, node, nothing, «break»}
@@ -112,14 +113,14 @@ opens [] held hs = []
 opens (f ∷ fs) held hs = record {
   name = f.name;
   start = f.start.now;
-  around = f.around;
-  before = marks_of f.marks;
+  around = f.outside.around;
+  before = marks_of f.outside.marks;
   outer = outer_of (role_of f.name) f.in_table held hs;
 } ∷ opens fs (leaf_left (role_of f.name) held) (containers_left (role_of f.name) held hs)
 
 -- the innermost container that the program keeps: a leaf has none of its own
 abbrev pub kept_top : Context → ContainerState
-kept_top c = container_state_of c.in_table c.pending c.top
+kept_top c = container_state_of c.in_table c.pending (innermost c.containers)
 
 -- the place of the items in a leaf, of which it has none
 abbrev pub leaf_place : Bool → Place
@@ -136,9 +137,9 @@ leaf_container c = cond c.is_leaf (Some (kept_top c)) None
 -- the state of a compilation
 abbrev pub state_of : Context → State
 state_of c = record {
-  frames = opens (reverse c.frames.items) (leaf_container c) (reverse c.open_containers.items);
-  around = c.around;
-  marks = marks_of c.marks;
+  frames = opens (reverse c.frames.items) (leaf_container c) (around_innermost c.containers);
+  around = c.interior.around;
+  marks = marks_of c.interior.marks;
   columns = columns_of c.columns;
   top = top_of c;
 }
@@ -154,18 +155,17 @@ ReachesTop new point result expected = Gives (λ _. top_of new) point result exp
 -- a leaf begins: nothing of the program's changes
 pub record OpenedLeaf (s : Source) (what : ItemKind) (point : Point) (old new : Context) : Type 0 where
   pub taken : first_failing (enter_checks s (top_of old) what point) ≡ None
-  pub leaf_row : model_of (current_model_of old.top.container) what ≡ leaf
+  pub leaf_row : model_of (current_model_of (innermost old.containers).container) what ≡ leaf
   pub same : new ≡ old
 
 -- a container begins: it is the innermost, over the one that was
 pub record OpenedContainer (s : Source) (what : ItemKind) (point : Point) (old new : Context) : Type 0 where
   pub taken : first_failing (enter_checks s (top_of old) what point) ≡ None
-  pub top : OpenContainer
-  pub fresh_container : IsFresh top.container (model_of (current_model_of old.top.container) what)
-  pub line_endings : top.line_endings ≡ line_ending_is_text what
-  pub nodes : top.nodes.items ≡ []
-  pub open_containers : new.open_containers.items ≡ old.open_containers.items ++ old.top ∷ []
-  pub others : new ≡ record old { top = top; open_containers = new.open_containers }
+  pub fresh_container : IsFresh (innermost new.containers).container (model_of (current_model_of (innermost old.containers).container) what)
+  pub line_endings : (innermost new.containers).line_endings ≡ line_ending_is_text what
+  pub nodes : (innermost new.containers).nodes.items ≡ []
+  pub outer : around_innermost new.containers ≡ innermost old.containers ∷ around_innermost old.containers
+  pub others : new ≡ record old { containers = new.containers }
 
 -- a significant span begins, as a leaf or as a container, if it may
 abbrev pub Opened : Source → ItemKind → Point → Context → Context → Result Bool Stop → Type 0
@@ -176,25 +176,25 @@ Opened s what point old new (Err (stops.Memory error)) = Unit {0}
 
 -- a span is on the stack: what was around it stays there, and what is in it begins
 pub record Begun (name : Name) (role : Role) (start : Bor Point) (is_leaf in_table : Bool) (old new : Context) : Type 0 where
-  pub frames : new.frames.items ≡ old.frames.items ++ record { name = name; start = start; around = old.around; in_table = old.in_table; marks = old.marks } ∷ []
-  pub marks : marks_of new.marks ≡ no_marks
+  pub frames : new.frames.items ≡ old.frames.items ++ record { start = start; outside = old.interior; name = name; in_table = old.in_table } ∷ []
+  pub marks : marks_of new.interior.marks ≡ no_marks
   pub columns : columns_of new.columns ≡ columns_entered old.in_table role (columns_of old.columns)
-  pub others : new ≡ record old { frames = new.frames; marks = new.marks; columns = new.columns; around = under old.around role; is_leaf = is_leaf; in_table = in_table }
+  pub others : new ≡ record old { frames = new.frames; columns = new.columns; interior = record { around = under old.interior.around role; marks = new.interior.marks }; is_leaf = is_leaf; in_table = in_table }
 
 -- ---- The end of a span
 
 -- the innermost span, a leaf, ends: the innermost container took it
 pub record LeafEnds (what : ItemKind) (c : Context) : Type 0 where
-  pub initial_model : model_of (current_model_of c.top.container) what ≡ leaf
-  pub fits : misfit_of c.top.container what ≡ None
+  pub initial_model : model_of (current_model_of (innermost c.containers).container) what ≡ leaf
+  pub fits : misfit_of (innermost c.containers).container what ≡ None
   pub awaited : (not (is_some c.pending) || is_line_ending what) ≡ true
 
 -- the innermost span, which has a container of its own, ends: the container around it took it
 pub record ContainerEnds (what : ItemKind) (c : Context) : Type 0 where
   pub outer : OpenContainer
   pub others : List OpenContainer
-  pub open_containers : reverse c.open_containers.items ≡ outer ∷ others
-  pub initial_model : initial_model_of c.top.container ≡ model_of (current_model_of outer.container) what
+  pub stack : around_innermost c.containers ≡ outer ∷ others
+  pub initial_model : initial_model_of (innermost c.containers).container ≡ model_of (current_model_of outer.container) what
   pub fits : misfit_of outer.container what ≡ None
 
 -- the innermost span may end, by whether it is a leaf, and by its role: of a transparent one nothing is asked
@@ -209,7 +209,7 @@ Ends role c = EndsAs c.is_leaf role c
 
 -- what the innermost span belongs to, and what is made of that at its end
 abbrev pub left_to : Source → Role → Frame → Point → Context → Result ContainerState ErrorAt
-left_to s role f end c = leave_to s f.start.now end (child_facts (marks_of c.marks) (columns_of c.columns)) (top_of c) (outer_of role f.in_table (leaf_container c) (reverse c.open_containers.items))
+left_to s role f end c = leave_to s f.start.now end (child_facts (marks_of c.interior.marks) (columns_of c.columns)) (top_of c) (outer_of role f.in_table (leaf_container c) (around_innermost c.containers))
 
 -- the same of a significant span
 abbrev pub item_left : Source → ItemKind → Frame → Point → Context → Result ContainerState ErrorAt
@@ -221,12 +221,12 @@ IsNoParent what own = (content : Content) → what ≡ item_kinds.Content conten
 
 -- how many nodes are walked over there
 abbrev pub left_visits : Role → Frame → Context → ℕ
-left_visits role f c = visits_by_owner (outer_of role f.in_table (leaf_container c) (reverse c.open_containers.items)) (top_of c).inner
+left_visits role f c = visits_by_owner (outer_of role f.in_table (leaf_container c) (around_innermost c.containers)) (top_of c).inner
 
 -- the innermost span has left the stack, and the container around it is on top
 pub record Closed (role : Role) (old new : Context) : Type 0 where
   pub frames : new.frames ≡ old.frames
-  pub marks : new.marks ≡ old.marks
-  pub columns : columns_of new.columns ≡ columns_left role (marks_of old.marks) (columns_of old.columns)
+  pub marks : new.interior.marks ≡ old.interior.marks
+  pub columns : columns_of new.columns ≡ columns_left role (marks_of old.interior.marks) (columns_of old.columns)
   pub leaf : leaf_container new ≡ leaf_left role (leaf_container old)
-  pub open_containers : reverse new.open_containers.items ≡ containers_left role (leaf_container old) (reverse old.open_containers.items)
+  pub containers : around_innermost new.containers ≡ containers_left role (leaf_container old) (around_innermost old.containers)

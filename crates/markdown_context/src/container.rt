@@ -41,6 +41,7 @@ use markdown_blocks::list::{
 };
 use markdown_blocks::math::{MathFenceParts, MathFlowParts};
 use markdown_builder::buffer::values_of;
+use markdown_builder::slice::Document;
 use markdown_grammar::error_kind::{ErrorKind, Stop};
 use markdown_inlines::autolink::AutolinkParts;
 use markdown_inlines::character_reference::{CharacterReferenceParts, Marker};
@@ -252,7 +253,7 @@ impl<'a> Container<'a> {
     pub fn take_leaf_part<R: References>(
         &mut self,
         alloc: Global,
-        bytes: &'a [u8],
+        document: &Document<'a>,
         references: &R,
         part: Part,
         start: Point,
@@ -260,26 +261,26 @@ impl<'a> Container<'a> {
     ) -> Result<(), Stop>
         requires leaf { Models.part_model (current_model_of self.old) part ≡ Models.leaf }
         requires fits { misfit_of self.old (item_kinds.Part part) ≡ None }
-        ensures { KeepsPart (source bytes.now (R.text references.now)) part start end nothing_yet self.old self.new result }
+        ensures { KeepsPart (source document.now (R.text references.now)) part start end nothing_yet self.old self.new result }
     {
         match (self, part) {
             (Container::Autolink(parts), Part::AutolinkEmail) => {
-                parts.take_email(bytes, start, end)
+                parts.take_email(document, start, end)
             }
             (Container::Autolink(parts), Part::AutolinkProtocol) => {
-                parts.take_protocol(bytes, start, end)
+                parts.take_protocol(document, start, end)
             }
             (Container::CharacterReference(parts), Part::CharacterReferenceValue) => {
-                parts.take_value(alloc, bytes, references, start, end)
+                parts.take_value(alloc, document, references, start, end)
             }
             (Container::HeadingAtx(parts), Part::HeadingAtxSequence) => {
-                parts.take_sequence(bytes, start, end)
+                parts.take_sequence(document, start, end)
             }
             (Container::HeadingSetext(parts), Part::HeadingSetextUnderlineSequence) => {
-                parts.take_underline(bytes, start, end)
+                parts.take_underline(document, start, end)
             }
             (Container::NumberedItem(parts), Part::ListItemValue) => {
-                parts.take_value(bytes, start, end)
+                parts.take_value(document, start, end)
             }
             (Container::CharacterReference(parts), Part::CharacterReferenceMarker) => {
                 parts.take_marker(Marker::Named);
@@ -313,7 +314,7 @@ impl<'a> Container<'a> {
         &mut self,
         alloc: Global,
         steps: &mut Steps<'_>,
-        bytes: &'a [u8],
+        document: &Document<'a>,
         part: Part,
         nodes: Vec<Node>,
         start: Point,
@@ -322,16 +323,16 @@ impl<'a> Container<'a> {
         requires such { is_part_model part Models.any_content ≡ true }
         requires heading { part ≢ parts.HeadingSetextText }
         requires fits { misfit_of self.old (item_kinds.Part part) ≡ None }
-        ensures taken { KeepsNodes bytes.now part start end (views nodes.items) self.old self.new result }
+        ensures taken { KeepsNodes document.now part start end (views nodes.items) self.old self.new result }
         ensures list { steps.new.events ≡ steps.old.events }
         ensures bound { steps.new.count ≤ steps.old.count + visits_at_end (item_kinds.Part part) (summary_of_nodes (views nodes.items)) }
     {
         match part {
-            Part::LabelText => self.take_label(bytes, nodes, start, end),
+            Part::LabelText => self.take_label(document, nodes, start, end),
             Part::ReferenceString
             | Part::DefinitionLabelString
             | Part::FootnoteDefinitionLabelString => {
-                self.take_identified(alloc, steps, bytes, part, nodes, start, end)
+                self.take_identified(alloc, steps, document, part, nodes, start, end)
             }
             _ => {
                 let text = values_of(alloc, steps, nodes)?;
@@ -344,17 +345,17 @@ impl<'a> Container<'a> {
     /// Takes the label of a link, an image or a footnote call.
     fn take_label(
         &mut self,
-        bytes: &'a [u8],
+        document: &Document<'a>,
         nodes: Vec<Node>,
         start: Point,
         end: Point,
     ) -> Result<(), Stop>
         requires { misfit_of self.old (item_kinds.Part parts.LabelText) ≡ None }
-        ensures { KeepsNodes bytes.now parts.LabelText start end (views nodes.items) self.old self.new result }
+        ensures { KeepsNodes document.now parts.LabelText start end (views nodes.items) self.old self.new result }
     {
         match self {
-            Container::Media(parts) => parts.take_label(bytes, nodes, start, end),
-            Container::FootnoteCall(parts) => parts.take_label(bytes, nodes, start, end),
+            Container::Media(parts) => parts.take_label(document, nodes, start, end),
+            Container::FootnoteCall(parts) => parts.take_label(document, nodes, start, end),
             _ => unreachable!(),
         }
     }
@@ -364,7 +365,7 @@ impl<'a> Container<'a> {
         &mut self,
         alloc: Global,
         steps: &mut Steps<'_>,
-        bytes: &[u8],
+        document: &Document<'_>,
         part: Part,
         nodes: Vec<Node>,
         start: Point,
@@ -372,19 +373,19 @@ impl<'a> Container<'a> {
     ) -> Result<(), Stop>
         requires such { is_label_string part ≡ true }
         requires fits { misfit_of self.old (item_kinds.Part part) ≡ None }
-        ensures taken { KeepsNodes bytes.now part start end (views nodes.items) self.old self.new result }
+        ensures taken { KeepsNodes document.now part start end (views nodes.items) self.old self.new result }
         ensures list { steps.new.events ≡ steps.old.events }
         ensures bound { steps.new.count ≤ steps.old.count + node_count (views nodes.items) }
     {
         match (self, part) {
             (Container::Reference(parts), Part::ReferenceString) => {
-                parts.take_string(alloc, steps, bytes, nodes, start, end)
+                parts.take_string(alloc, steps, document, nodes, start, end)
             }
             (Container::Definition(parts), Part::DefinitionLabelString) => {
-                parts.take_label(alloc, steps, bytes, nodes, start, end)
+                parts.take_label(alloc, steps, document, nodes, start, end)
             }
             (Container::FootnoteDefinition(parts), Part::FootnoteDefinitionLabelString) => {
-                parts.take_label(alloc, steps, bytes, nodes, start, end)
+                parts.take_label(alloc, steps, document, nodes, start, end)
             }
             _ => unreachable!(),
         }

@@ -9,6 +9,8 @@ ghost use Rattle.markdown_steps.specs.Compiler.{enter_as, enter_checks, enter_st
 ghost use Rattle.markdown_blocks.specs.Parents.{is_parent};
 ghost use Rattle.markdown_builder.specs.PartsSoFar.{first_failing};
 ghost use Rattle.markdown_context.specs.declared.container.Container.TheVariants as containers;
+ghost use Rattle.markdown_context.specs.Containers.{misfit_of};
+ghost use Rattle.markdown_context.specs.Nest.{innermost};
 ghost use Rattle.markdown_grammar.specs.Items as Kinds;
 ghost use Rattle.markdown_grammar.specs.Document.{Source, source};
 ghost use Rattle.markdown_context.specs.States.{
@@ -31,52 +33,56 @@ ghost use Rattle.markdown_steps.specs.Visits.{exit_visits, step_visits};
 ghost use Rattle.markdown_steps.specs.Well.{Well, is_transparent};
 
 use crate::container::Container;
+use crate::nest::Nest;
 use crate::open_container::{Ending, OpenContainer, has_line_endings};
 use character_references::references::References;
 use markdown_blocks::parent::is_parent;
 use markdown_blocks::table::Columns;
 use markdown_builder::marks::Marks;
-use markdown_builder::slice::byte_at;
+use markdown_builder::slice::{Document, byte_at};
 use markdown_grammar::error_kind::{ErrorKind, Stop};
 use markdown_nodes::around::Around;
 use markdown_nodes::event::{Event, Kind, Name, Point};
+use markdown_nodes::mdast::Node;
 use markdown_nodes::role::{Content, ItemKind, Role};
 use markdown_nodes::steps::Steps;
 use markdown_nodes::unist::Position;
 use std::alloc::{AllocError, Global};
-use std::mem;
+
+/// What is so for the next span in the innermost open one.
+#[derive(Clone, Copy)]
+pub struct Interior {
+    pub around: Around,
+    /// What the spans so far, in the innermost open one, say.
+    pub marks: Marks,
+}
 
 /// An open span, with what was so around it.
 #[derive(Clone, Copy)]
 pub struct Frame<'e> {
     /// Where it begins: the point of its enter, which stays in the list of events.
     pub start: &'e Point,
+    /// What was so for it, in the span around it.
+    pub outside: Interior,
     pub name: Name,
-    pub around: Around,
     /// Whether a table was around it.
     pub in_table: bool,
-    /// What the spans before it, in the span around it, say.
-    pub marks: Marks,
 }
 
-/// The open spans, with the innermost container and the containers around it.
+/// The open spans, with the open containers.
 #[derive(Drop)]
 pub struct Context<'a, 'e> {
     pub frames: Vec<Frame<'e>>,
-    /// The containers around the innermost one.
-    pub open_containers: Vec<OpenContainer<'a>>,
-    pub around: Around,
+    /// The open containers, the root first.
+    pub containers: Nest<OpenContainer<'a>>,
+    pub interior: Interior,
     /// Whether the innermost significant span is a leaf, which has no container of its own.
     pub is_leaf: bool,
     /// Whether a table is around, at any depth.
     pub in_table: bool,
-    /// What the spans before this place, in the innermost open span, say.
-    pub marks: Marks,
     pub columns: Columns,
     /// A break that waits for its line ending.
     pub pending: Option<Position>,
-    /// The innermost container.
-    pub top: OpenContainer<'a>,
 }
 
 /// Whether a span is a line ending.
@@ -100,18 +106,22 @@ impl<'a, 'e> Context<'a, 'e> {
     {
         Context {
             frames: Vec::new(alloc),
-            open_containers: Vec::new(alloc),
-            around: Around::in_the_open(),
+            containers: Nest {
+                outermost: OpenContainer {
+                    container: Container::AnyContent,
+                    line_endings: false,
+                    nodes: Vec::new(alloc),
+                },
+                inner: Vec::new(alloc),
+            },
+            interior: Interior {
+                around: Around::in_the_open(),
+                marks: Marks::new(),
+            },
             is_leaf: false,
             in_table: false,
-            marks: Marks::new(),
             columns: Columns::new(alloc),
             pending: None,
-            top: OpenContainer {
-                container: Container::AnyContent,
-                line_endings: false,
-                nodes: Vec::new(alloc),
-            },
         }
     }
 
@@ -129,9 +139,16 @@ impl<'a, 'e> Context<'a, 'e> {
         self.in_table || is_table(what)
     }
 
+    /// The rule of the innermost container that a significant span violates, if it violates one.
+    fn container_misfit(&self, what: ItemKind) -> Option<ErrorKind>
+        ensures { result ≡ misfit_of (innermost self.now.containers).container what }
+    {
+        self.containers.innermost().container.misfit(what)
+    }
+
     /// Why a significant span may not begin here, if it may not.
-    fn misfit(&self, bytes: &[u8], what: ItemKind, point: &Point) -> Option<ErrorKind>
-        ensures { (s : Source) → s.bytes ≡ bytes.now → result ≡ first_failing (enter_checks s (state_of self.now).top what point.now) }
+    fn misfit(&self, document: &Document<'_>, what: ItemKind, point: &Point) -> Option<ErrorKind>
+        ensures { (s : Source) → s.bytes ≡ document.now → result ≡ first_failing (enter_checks s (state_of self.now).top what point.now) }
     {
         if self.is_leaf {
             return Some(ErrorKind::Misplaced);
@@ -139,14 +156,14 @@ impl<'a, 'e> Context<'a, 'e> {
         if self.interrupts_break(what) {
             return Some(ErrorKind::UnfinishedBreak);
         }
-        if let Some(error_kind) = self.top.container.misfit(what) {
+        if let Some(error_kind) = self.container_misfit(what) {
             return Some(error_kind);
         }
         if self.in_table && is_table(what) {
             return Some(ErrorKind::Misplaced);
         }
         match what {
-            ItemKind::Content(Content::Frontmatter) if byte_at(bytes, *point).is_none() => {
+            ItemKind::Content(Content::Frontmatter) if byte_at(document, *point).is_none() => {
                 Some(ErrorKind::InvalidSlice)
             }
             _ => None,
@@ -157,25 +174,25 @@ impl<'a, 'e> Context<'a, 'e> {
     fn open(
         &mut self,
         alloc: Global,
-        bytes: &[u8],
+        document: &Document<'_>,
         what: ItemKind,
         point: &Point,
     ) -> Result<bool, Stop>
-        ensures { (s : Source) → s.bytes ≡ bytes.now → Opened s what point.now self.old self.new result }
+        ensures { (s : Source) → s.bytes ≡ document.now → Opened s what point.now self.old self.new result }
     {
-        if let Some(error_kind) = self.misfit(bytes, what, point) {
+        if let Some(error_kind) = self.misfit(document, what, point) {
             return Err(Stop::Refused(error_kind));
         }
-        if self.top.container.has_leaf(what) {
+        let around = &self.containers.innermost().container;
+        if around.has_leaf(what) {
             return Ok(true);
         }
         let inner = OpenContainer {
-            container: self.top.container.opened(what),
+            container: around.opened(what),
             line_endings: has_line_endings(what),
             nodes: Vec::new(alloc),
         };
-        let outer = mem::replace(&mut self.top, inner);
-        self.open_containers.push(outer)?;
+        self.containers.inner.push(inner)?;
         Ok(false)
     }
 
@@ -184,19 +201,19 @@ impl<'a, 'e> Context<'a, 'e> {
         &mut self,
         alloc: Global,
         steps: &mut Steps<'_>,
-        bytes: &'a [u8],
+        document: &Document<'a>,
         references: &R,
         event: &'e Event,
     ) -> Result<(), Stop>
-        requires { Well (source bytes.now (R.text references.now)) (state_of self.old) }
+        requires { Well (source document.now (R.text references.now)) (state_of self.old) }
         ensures gives { Reaches self.new event.now.point result
-            (Compiler.step (source bytes.now (R.text references.now)) event.now (state_of self.old)) }
+            (Compiler.step (source document.now (R.text references.now)) event.now (state_of self.old)) }
         ensures list { steps.new.events ≡ steps.old.events }
         ensures bound { steps.new.count ≤ steps.old.count + step_visits event.now (state_of self.old) + 1 }
     {
         match event.kind {
-            Kind::Enter => self.enter(alloc, bytes, event.name, &event.point),
-            Kind::Exit => self.exit(alloc, steps, bytes, references, event.name, &event.point),
+            Kind::Enter => self.enter(alloc, document, event.name, &event.point),
+            Kind::Exit => self.exit(alloc, steps, document, references, event.name, &event.point),
         }
     }
 
@@ -215,23 +232,32 @@ impl<'a, 'e> Context<'a, 'e> {
         None
     }
 
+    /// The nodes of the innermost container: those of the root, once all spans have ended.
+    pub fn into_nodes(self) -> Vec<Node>
+        ensures { result ≡ (innermost self.entry.containers).nodes }
+    {
+        let Context { containers, .. } = self;
+        let OpenContainer { nodes, .. } = containers.into_innermost();
+        nodes
+    }
+
     /// Opens a span.
     fn enter(
         &mut self,
         alloc: Global,
-        bytes: &[u8],
+        document: &Document<'_>,
         name: Name,
         point: &'e Point,
     ) -> Result<(), Stop>
-        ensures { (s : Source) → s.bytes ≡ bytes.now → Reaches self.new point.now result (enter_step s name point.now (state_of self.old)) }
+        ensures { (s : Source) → s.bytes ≡ document.now → Reaches self.new point.now result (enter_step s name point.now (state_of self.old)) }
     {
         let role = name.role();
-        if !self.around.allows(role) {
+        if !self.interior.around.allows(role) {
             return Err(Stop::Refused(ErrorKind::Held));
         }
         match role {
             Role::Transparent(_) => self.enter_transparent(alloc, name, role, point),
-            Role::Significant(what) => self.enter_significant(alloc, bytes, name, what, point),
+            Role::Significant(what) => self.enter_significant(alloc, document, name, what, point),
         }
     }
 
@@ -255,16 +281,16 @@ impl<'a, 'e> Context<'a, 'e> {
     fn enter_significant(
         &mut self,
         alloc: Global,
-        bytes: &[u8],
+        document: &Document<'_>,
         name: Name,
         what: ItemKind,
         point: &'e Point,
     ) -> Result<(), Stop>
         requires { role_of name ≡ roles.Significant what }
-        ensures { (s : Source) → s.bytes ≡ bytes.now → Reaches self.new point.now result
+        ensures { (s : Source) → s.bytes ≡ document.now → Reaches self.new point.now result
             (enter_as s (roles.Significant what) name point.now (state_of self.old)) }
     {
-        let is_leaf = self.open(alloc, bytes, what, point)?;
+        let is_leaf = self.open(alloc, document, what, point)?;
         let in_table = self.is_in_table(what);
         self.begin(
             alloc,
@@ -292,16 +318,17 @@ impl<'a, 'e> Context<'a, 'e> {
     {
         self.frames.push(Frame {
             start: point,
+            outside: self.interior,
             name,
-            around: self.around,
             in_table: self.in_table,
-            marks: self.marks,
         })?;
         self.columns.enter(alloc, self.in_table, role);
-        self.around = self.around.inside(role);
+        self.interior = Interior {
+            around: self.interior.around.inside(role),
+            marks: Marks::new(),
+        };
         self.is_leaf = is_leaf;
         self.in_table = in_table;
-        self.marks = Marks::new();
         Ok(())
     }
 
@@ -310,14 +337,14 @@ impl<'a, 'e> Context<'a, 'e> {
         &mut self,
         alloc: Global,
         steps: &mut Steps<'_>,
-        bytes: &'a [u8],
+        document: &Document<'a>,
         references: &R,
         name: Name,
         point: &Point,
     ) -> Result<(), Stop>
-        requires { Well (source bytes.now (R.text references.now)) (state_of self.old) }
+        requires { Well (source document.now (R.text references.now)) (state_of self.old) }
         ensures gives { Reaches self.new point.now result
-            (exit_step (source bytes.now (R.text references.now)) name point.now (state_of self.old)) }
+            (exit_step (source document.now (R.text references.now)) name point.now (state_of self.old)) }
         ensures list { steps.new.events ≡ steps.old.events }
         ensures bound { steps.new.count ≤ steps.old.count + exit_visits name (state_of self.old).frames (top_of self.old).inner + 1 }
     {
@@ -328,9 +355,10 @@ impl<'a, 'e> Context<'a, 'e> {
             return Err(Stop::Refused(ErrorKind::Unbalanced));
         }
         let role = frame.name.role();
-        self.leave(alloc, steps, bytes, references, role, frame, point)?;
-        self.around = frame.around;
-        self.marks = frame.marks.with(role, self.marks);
+        self.leave(alloc, steps, document, references, role, frame, point)?;
+        let inner = self.interior.marks;
+        self.interior = frame.outside;
+        self.interior.marks.add(role, inner);
         Ok(())
     }
 
@@ -339,7 +367,7 @@ impl<'a, 'e> Context<'a, 'e> {
         &mut self,
         alloc: Global,
         steps: &mut Steps<'_>,
-        bytes: &'a [u8],
+        document: &Document<'a>,
         references: &R,
         role: Role,
         frame: Frame<'e>,
@@ -347,17 +375,19 @@ impl<'a, 'e> Context<'a, 'e> {
     ) -> Result<(), Stop>
         requires { Ends role self.old }
         ensures gives { ReachesTop self.new end.now result
-            (left_to (source bytes.now (R.text references.now)) role frame.entry end.now self.old) }
+            (left_to (source document.now (R.text references.now)) role frame.entry end.now self.old) }
         ensures closed { OnOk result (Closed role self.old self.new) }
         ensures list { steps.new.events ≡ steps.old.events }
         ensures bound { steps.new.count ≤ steps.old.count + left_visits role frame.entry self.old + 1 }
     {
         match role {
-            Role::Transparent(kind) => Ok(self.columns.exit(kind, self.marks)?),
+            Role::Transparent(kind) => Ok(self.columns.exit(kind, self.interior.marks)?),
             Role::Significant(what) if self.is_leaf => {
-                self.leave_leaf(alloc, bytes, references, what, frame, end)
+                self.leave_leaf(alloc, document, references, what, frame, end)
             }
-            Role::Significant(what) => self.leave_container(alloc, steps, bytes, what, frame, end),
+            Role::Significant(what) => self.leave_container(
+                alloc, steps, document, what, frame, end,
+            ),
         }
     }
 
@@ -365,7 +395,7 @@ impl<'a, 'e> Context<'a, 'e> {
     fn leave_leaf<R: References>(
         &mut self,
         alloc: Global,
-        bytes: &'a [u8],
+        document: &Document<'a>,
         references: &R,
         what: ItemKind,
         frame: Frame<'e>,
@@ -374,17 +404,23 @@ impl<'a, 'e> Context<'a, 'e> {
         requires open { self.old.is_leaf ≡ true }
         requires ends { LeafEnds what self.old }
         ensures gives { ReachesTop self.new end.now result
-            (item_left (source bytes.now (R.text references.now)) what frame.entry end.now self.old) }
+            (item_left (source document.now (R.text references.now)) what frame.entry end.now self.old) }
         ensures closed { OnOk result (Closed (roles.Significant what) self.old self.new) }
     {
         let ending = Ending {
             start: *frame.start,
             end: *end,
             in_table: self.in_table,
-            marks: self.marks,
+            marks: self.interior.marks,
         };
-        self.top
-            .take_leaf(&mut self.pending, alloc, bytes, references, what, ending)?;
+        self.containers.innermost_mut().take_leaf(
+            &mut self.pending,
+            alloc,
+            document,
+            references,
+            what,
+            ending,
+        )?;
         self.is_leaf = false;
         Ok(())
     }
@@ -394,14 +430,14 @@ impl<'a, 'e> Context<'a, 'e> {
         &mut self,
         alloc: Global,
         steps: &mut Steps<'_>,
-        bytes: &'a [u8],
+        document: &Document<'a>,
         what: ItemKind,
         frame: Frame<'e>,
         end: &Point,
     ) -> Result<(), Stop>
         requires open { self.old.is_leaf ≡ false }
         requires ends { ContainerEnds what self.old }
-        ensures gives { (s : Source) → s.bytes ≡ bytes.now → ReachesTop self.new end.now result
+        ensures gives { (s : Source) → s.bytes ≡ document.now → ReachesTop self.new end.now result
             (item_left s what frame.entry end.now self.old) }
         ensures closed { OnOk result (Closed (roles.Significant what) self.old self.new) }
         ensures list { steps.new.events ≡ steps.old.events }
@@ -410,11 +446,11 @@ impl<'a, 'e> Context<'a, 'e> {
         if self.pending.is_some() {
             return Err(Stop::Refused(ErrorKind::UnfinishedBreak));
         }
-        match (what, &self.top.container) {
+        match (what, &self.containers.innermost().container) {
             (ItemKind::Content(content), Container::AnyContent) if is_parent(content) => {
                 Ok(self.leave_parent(content, frame, end)?)
             }
-            _ => self.leave_any(alloc, steps, bytes, what, frame, end),
+            _ => self.leave_any(alloc, steps, document, what, frame, end),
         }
     }
 
@@ -430,17 +466,19 @@ impl<'a, 'e> Context<'a, 'e> {
         requires ends { ContainerEnds (item_kinds.Content content) self.old }
         requires settled { is_some self.old.pending ≡ false }
         requires such { is_parent content ≡ true }
-        requires container { self.old.top.container ≡ containers.AnyContent }
+        requires container { (innermost self.old.containers).container ≡ containers.AnyContent }
         ensures gives { OnOk result ((s : Source) →
             item_left s (item_kinds.Content content) frame.entry end.now self.old ≡ Ok (top_of self.new)) }
         ensures closed { OnOk result (Closed (roles.Significant (item_kinds.Content content)) self.old self.new) }
     {
-        let Some(outer) = self.open_containers.pop() else {
+        let Some(own) = self.containers.inner.pop() else {
             unreachable!()
         };
-        let OpenContainer { nodes, .. } = mem::replace(&mut self.top, outer);
+        let OpenContainer { nodes, .. } = own;
         self.in_table = frame.in_table;
-        self.top.take_parent(content, nodes, *frame.start, *end)
+        self.containers
+            .innermost_mut()
+            .take_parent(content, nodes, *frame.start, *end)
     }
 
     /// The same of any container. It stays out of the loop over the events, which is quicker without it.
@@ -449,7 +487,7 @@ impl<'a, 'e> Context<'a, 'e> {
         &mut self,
         alloc: Global,
         steps: &mut Steps<'_>,
-        bytes: &'a [u8],
+        document: &Document<'a>,
         what: ItemKind,
         frame: Frame<'e>,
         end: &Point,
@@ -457,29 +495,37 @@ impl<'a, 'e> Context<'a, 'e> {
         requires open { self.old.is_leaf ≡ false }
         requires ends { ContainerEnds what self.old }
         requires settled { is_some self.old.pending ≡ false }
-        requires no_parent { IsNoParent what self.old.top.container }
-        ensures gives { (s : Source) → s.bytes ≡ bytes.now → ReachesTop self.new end.now result
+        requires no_parent { IsNoParent what (innermost self.old.containers).container }
+        ensures gives { (s : Source) → s.bytes ≡ document.now → ReachesTop self.new end.now result
             (item_left s what frame.entry end.now self.old) }
         ensures closed { OnOk result (Closed (roles.Significant what) self.old self.new) }
         ensures list { steps.new.events ≡ steps.old.events }
         ensures bound { steps.new.count ≤ steps.old.count + left_visits (roles.Significant what) frame.entry self.old + 1 }
     {
-        let Some(outer) = self.open_containers.pop() else {
-            unreachable!()
-        };
-        let own = mem::replace(&mut self.top, outer);
         let ending = Ending {
             start: *frame.start,
             end: *end,
             in_table: frame.in_table,
-            marks: self.marks,
+            marks: self.interior.marks,
+        };
+        let Some(own) = self.containers.inner.pop() else {
+            unreachable!()
         };
         self.in_table = frame.in_table;
+        let top = self.containers.innermost_mut();
         match what {
             ItemKind::Content(content) => {
-                self.top.take_content(alloc, steps, bytes, &mut self.columns, content, own, ending)
+                top.take_content(
+                    alloc,
+                    steps,
+                    document,
+                    &mut self.columns,
+                    content,
+                    own,
+                    ending,
+                )
             }
-            ItemKind::Part(part) => self.top.take_part(alloc, steps, bytes, part, own, ending),
+            ItemKind::Part(part) => top.take_part(alloc, steps, document, part, own, ending),
         }
     }
 }

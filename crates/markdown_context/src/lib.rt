@@ -3,4 +3,5 @@
 
 pub mod container;
 pub mod context;
+pub mod nest;
 pub mod open_container;

@@ -52,7 +52,7 @@ use markdown_blocks::table::{Columns, table};
 use markdown_blocks::thematic_break::thematic_break;
 use markdown_builder::joining::{append, put, put_text};
 use markdown_builder::marks::Marks;
-use markdown_builder::slice::{byte_at, position_of};
+use markdown_builder::slice::{Document, byte_at, position_of};
 use markdown_grammar::error_kind::Stop;
 use markdown_inlines::autolink::literal;
 use markdown_inlines::text::{hard_break, put_slice};
@@ -133,7 +133,7 @@ impl<'a> OpenContainer<'a> {
         &mut self,
         pending: &mut Option<Position>,
         alloc: Global,
-        bytes: &'a [u8],
+        document: &Document<'a>,
         references: &R,
         what: ItemKind,
         ending: Ending,
@@ -141,13 +141,13 @@ impl<'a> OpenContainer<'a> {
         requires leaf { Models.model_of (current_model_of self.old.container) what ≡ Models.leaf }
         requires fits { misfit_of self.old.container what ≡ None }
         requires waits { (not (is_some pending.old) || is_line_ending what) ≡ true }
-        ensures { TakesLeaf (source bytes.now (R.text references.now)) what ending pending.old self.old pending.new self.new result }
+        ensures { TakesLeaf (source document.now (R.text references.now)) what ending pending.old self.old pending.new self.new result }
     {
         match what {
             ItemKind::Content(content) => {
-                self.take_leaf_content(pending, alloc, bytes, content, ending)
+                self.take_leaf_content(pending, alloc, document, content, ending)
             }
-            ItemKind::Part(part) => self.take_leaf_part(alloc, bytes, references, part, ending),
+            ItemKind::Part(part) => self.take_leaf_part(alloc, document, references, part, ending),
         }
     }
 
@@ -156,25 +156,25 @@ impl<'a> OpenContainer<'a> {
         &mut self,
         pending: &mut Option<Position>,
         alloc: Global,
-        bytes: &[u8],
+        document: &Document<'_>,
         content: Content,
         ending: Ending,
     ) -> Result<(), Stop>
         requires leaf { Models.content_model (current_model_of self.old.container) content ≡ Models.leaf }
         requires waits { (not (is_some pending.old) || is_line_ending (item_kinds.Content content)) ≡ true }
-        ensures { TakesAnyLeaf bytes.now (item_kinds.Content content) ending pending.old self.old pending.new self.new result }
+        ensures { TakesAnyLeaf document.now (item_kinds.Content content) ending pending.old self.old pending.new self.new result }
     {
         match content {
-            Content::Data => self.take_data(alloc, bytes, ending),
+            Content::Data => self.take_data(alloc, document, ending),
             Content::AutolinkLiteralEmail
             | Content::AutolinkLiteralWww
-            | Content::AutolinkLiteralWhole => self.take_literal(alloc, bytes, content, ending),
+            | Content::AutolinkLiteralWhole => self.take_literal(alloc, document, content, ending),
             Content::ThematicBreak => self.take_thematic_break(ending),
             Content::HardBreak => {
                 *pending = Some(position_of(ending.start, ending.end));
                 Ok(())
             }
-            Content::LineEnding => self.take_line_ending(pending, alloc, bytes, ending),
+            Content::LineEnding => self.take_line_ending(pending, alloc, document, ending),
             _ => unreachable!(),
         }
     }
@@ -183,41 +183,51 @@ impl<'a> OpenContainer<'a> {
     fn take_leaf_part<R: References>(
         &mut self,
         alloc: Global,
-        bytes: &'a [u8],
+        document: &Document<'a>,
         references: &R,
         part: Part,
         ending: Ending,
     ) -> Result<(), Stop>
         requires leaf { Models.part_model (current_model_of self.old.container) part ≡ Models.leaf }
         requires fits { misfit_of self.old.container (item_kinds.Part part) ≡ None }
-        ensures { TakesLeaf (source bytes.now (R.text references.now)) (item_kinds.Part part) ending None self.old None self.new result }
+        ensures { TakesLeaf (source document.now (R.text references.now)) (item_kinds.Part part) ending None self.old None self.new result }
     {
-        let taken = self
-            .container
-            .take_leaf_part(alloc, bytes, references, part, ending.start, ending.end);
+        let taken = self.container.take_leaf_part(
+            alloc,
+            document,
+            references,
+            part,
+            ending.start,
+            ending.end,
+        );
         self.line_endings = has_line_endings_after(part, self.line_endings);
         taken
     }
 
     /// Takes a run of characters: a text.
-    fn take_data(&mut self, alloc: Global, bytes: &[u8], ending: Ending) -> Result<(), Stop>
-        ensures { TakesAnyLeaf bytes.now (item_kinds.Content contents.Data) ending None self.old None self.new result }
+    fn take_data(
+        &mut self,
+        alloc: Global,
+        document: &Document<'_>,
+        ending: Ending,
+    ) -> Result<(), Stop>
+        ensures { TakesAnyLeaf document.now (item_kinds.Content contents.Data) ending None self.old None self.new result }
     {
-        put_slice(alloc, &mut self.nodes, bytes, ending.start, ending.end)
+        put_slice(alloc, &mut self.nodes, document, ending.start, ending.end)
     }
 
     /// Takes an address that stands in the text as it is: a link to it.
     fn take_literal(
         &mut self,
         alloc: Global,
-        bytes: &[u8],
+        document: &Document<'_>,
         content: Content,
         ending: Ending,
     ) -> Result<(), Stop>
         requires { is_literal content ≡ true }
-        ensures { TakesAnyLeaf bytes.now (item_kinds.Content content) ending None self.old None self.new result }
+        ensures { TakesAnyLeaf document.now (item_kinds.Content content) ending None self.old None self.new result }
     {
-        let node = literal(alloc, bytes, content, ending.start, ending.end)?;
+        let node = literal(alloc, document, content, ending.start, ending.end)?;
         put(&mut self.nodes, node)?;
         Ok(())
     }
@@ -237,17 +247,17 @@ impl<'a> OpenContainer<'a> {
         &mut self,
         pending: &mut Option<Position>,
         alloc: Global,
-        bytes: &[u8],
+        document: &Document<'_>,
         ending: Ending,
     ) -> Result<(), Stop>
-        ensures { TakesAnyLeaf bytes.now (item_kinds.Content contents.LineEnding) ending pending.old self.old pending.new self.new result }
+        ensures { TakesAnyLeaf document.now (item_kinds.Content contents.LineEnding) ending pending.old self.old pending.new self.new result }
     {
         if let Some(position) = pending.take() {
             put(&mut self.nodes, hard_break(position, ending.end))?;
             return Ok(());
         }
         if self.line_endings {
-            return put_slice(alloc, &mut self.nodes, bytes, ending.start, ending.end);
+            return put_slice(alloc, &mut self.nodes, document, ending.start, ending.end);
         }
         Ok(())
     }
@@ -259,7 +269,7 @@ impl<'a> OpenContainer<'a> {
         &mut self,
         alloc: Global,
         steps: &mut Steps<'_>,
-        bytes: &'a [u8],
+        document: &Document<'a>,
         part: Part,
         own: OpenContainer<'a>,
         ending: Ending,
@@ -267,7 +277,7 @@ impl<'a> OpenContainer<'a> {
         requires initial_model { initial_model_of own.container ≡ Models.part_model (current_model_of self.old.container) part }
         requires such { is_part_model part (initial_model_of own.container) ≡ true }
         requires fits { misfit_of self.old.container (item_kinds.Part part) ≡ None }
-        ensures left { TakesPart bytes.now part own.entry ending self.old self.new result }
+        ensures left { TakesPart document.now part own.entry ending self.old self.new result }
         ensures list { steps.new.events ≡ steps.old.events }
         ensures bound { steps.new.count ≤ steps.old.count + visits_at_end (item_kinds.Part part) (summary_of_container own.entry) }
     {
@@ -278,7 +288,9 @@ impl<'a> OpenContainer<'a> {
         } = own;
         match (container, part) {
             (Container::AnyContent, Part::HeadingSetextText) => Ok(self.take_heading_text(nodes)?),
-            (Container::AnyContent, _) => self.take_text(alloc, steps, bytes, part, nodes, ending),
+            (Container::AnyContent, _) => self.take_text(
+                alloc, steps, document, part, nodes, ending,
+            ),
             (inner, _) => {
                 self.take_parts(part, inner);
                 Ok(())
@@ -304,7 +316,7 @@ impl<'a> OpenContainer<'a> {
         &mut self,
         alloc: Global,
         steps: &mut Steps<'_>,
-        bytes: &'a [u8],
+        document: &Document<'a>,
         part: Part,
         nodes: Vec<Node>,
         ending: Ending,
@@ -312,12 +324,19 @@ impl<'a> OpenContainer<'a> {
         requires such { is_part_model part Models.any_content ≡ true }
         requires heading { part ≢ parts.HeadingSetextText }
         requires fits { misfit_of self.old.container (item_kinds.Part part) ≡ None }
-        ensures left { TakesText bytes.now part (views nodes.items) ending self.old self.new result }
+        ensures left { TakesText document.now part (views nodes.items) ending self.old self.new result }
         ensures list { steps.new.events ≡ steps.old.events }
         ensures bound { steps.new.count ≤ steps.old.count + visits_at_end (item_kinds.Part part) (summary_of_nodes (views nodes.items)) }
     {
-        self.container
-            .take_text(alloc, steps, bytes, part, nodes, ending.start, ending.end)
+        self.container.take_text(
+            alloc,
+            steps,
+            document,
+            part,
+            nodes,
+            ending.start,
+            ending.end,
+        )
     }
 
     /// Takes a part with parts of its own. After a first fence line endings are text.
@@ -357,7 +376,7 @@ impl<'a> OpenContainer<'a> {
         &mut self,
         alloc: Global,
         steps: &mut Steps<'_>,
-        bytes: &[u8],
+        document: &Document<'_>,
         columns: &mut Columns,
         content: Content,
         own: OpenContainer<'_>,
@@ -366,7 +385,7 @@ impl<'a> OpenContainer<'a> {
         requires initial_model { initial_model_of own.container ≡ Models.content_model (current_model_of self.old.container) content }
         requires such { is_model_of content (initial_model_of own.container) ≡ true }
         requires no_parent { own.container ≡ containers.AnyContent → is_parent content ≡ false }
-        ensures left { TakesContent bytes.now content own.entry ending columns.old self.old self.new result }
+        ensures left { TakesContent document.now content own.entry ending columns.old self.old self.new result }
         ensures columns { OnOk result (LeavesColumns content ending.marks columns.old columns.new) }
         ensures list { steps.new.events ≡ steps.old.events }
         ensures bound { steps.new.count ≤ steps.old.count + content_visits content own.entry + 1 }
@@ -375,7 +394,7 @@ impl<'a> OpenContainer<'a> {
         match content {
             Content::CharacterReference => self.take_reference(alloc, own, ending),
             _ => {
-                let node = own.node(alloc, steps, bytes, columns, content, ending)?;
+                let node = own.node(alloc, steps, document, columns, content, ending)?;
                 put(&mut self.nodes, node)?;
                 Ok(())
             }
@@ -414,7 +433,7 @@ impl<'a> OpenContainer<'a> {
         self,
         alloc: Global,
         steps: &mut Steps<'_>,
-        bytes: &[u8],
+        document: &Document<'_>,
         columns: &mut Columns,
         content: Content,
         ending: Ending,
@@ -422,7 +441,7 @@ impl<'a> OpenContainer<'a> {
         requires such { is_model_of content (initial_model_of self.container) ≡ true }
         requires other { content ≢ contents.CharacterReference }
         requires no_parent { self.container ≡ containers.AnyContent → is_parent content ≡ false }
-        ensures node { MakesOf self.entry result (IsNodeOf bytes.now content ending columns.old (summary_of_container self.entry)) }
+        ensures node { MakesOf self.entry result (IsNodeOf document.now content ending columns.old (summary_of_container self.entry)) }
         ensures columns { OnOk result (LeavesColumns content ending.marks columns.old columns.new) }
         ensures list { steps.new.events ≡ steps.old.events }
         ensures bound { steps.new.count ≤ steps.old.count + content_visits content self.entry + 1 }
@@ -435,7 +454,7 @@ impl<'a> OpenContainer<'a> {
         let position = position_of(ending.start, ending.end);
         match container {
             Container::AnyContent => {
-                Ok(any_content_node(alloc, steps, bytes, columns, content, nodes, ending)?)
+                Ok(any_content_node(alloc, steps, document, columns, content, nodes, ending)?)
             }
             Container::TaskParagraph(_) | Container::MarkedParagraph => {
                 Ok(parent(Content::Paragraph, nodes, position))
@@ -473,7 +492,7 @@ impl<'a> OpenContainer<'a> {
 fn any_content_node(
     alloc: Global,
     steps: &mut Steps<'_>,
-    bytes: &[u8],
+    document: &Document<'_>,
     columns: &mut Columns,
     content: Content,
     nodes: Vec<Node>,
@@ -481,7 +500,7 @@ fn any_content_node(
 ) -> Result<Node, AllocError>
     requires such { is_model_of content Models.any_content ≡ true }
     requires no_parent { is_parent content ≡ false }
-    ensures node { IfOk result (IsNodeOf bytes.now content ending columns.old (summary_of_nodes (views nodes.items))) }
+    ensures node { IfOk result (IsNodeOf document.now content ending columns.old (summary_of_nodes (views nodes.items))) }
     ensures columns { OnOk result (LeavesColumns content ending.marks columns.old columns.new) }
     ensures list { steps.new.events ≡ steps.old.events }
     ensures bound { steps.new.count ≤ steps.old.count + visits_at_end (item_kinds.Content content) (summary_of_nodes (views nodes.items)) }
@@ -495,7 +514,7 @@ fn any_content_node(
         Content::MathText => inline_math(alloc, steps, nodes, position, ending.in_table),
         Content::Html => html(alloc, steps, nodes, position),
         Content::Frontmatter => {
-            let is_toml = byte_at(bytes, ending.start) == Some(b'+');
+            let is_toml = byte_at(document, ending.start) == Some(b'+');
             frontmatter(alloc, steps, nodes, position, is_toml)
         }
         _ => unreachable!(),

@@ -19,7 +19,7 @@ ghost use Rattle.markdown_inlines.specs.Autolinks.{IsLiteral, IsSchemeOf, autoli
 use crate::link::link_to;
 use markdown_builder::joining::new_text;
 use markdown_builder::misfits::at_most_one;
-use markdown_builder::slice::{position_of, text_of};
+use markdown_builder::slice::{Document, position_of, text_of};
 use markdown_builder::texts::address;
 use markdown_grammar::error_kind::{ErrorKind, Stop};
 use markdown_nodes::event::Point;
@@ -72,22 +72,32 @@ impl<'a> AutolinkParts<'a> {
 
     /// Takes the email address between two points: `a@b.c` in `<a@b.c>`. One that is no text of the
     /// document is refused as `ErrorKind::InvalidSlice`.
-    pub fn take_email(&mut self, bytes: &'a [u8], start: Point, end: Point) -> Result<(), Stop>
+    pub fn take_email(
+        &mut self,
+        document: &Document<'a>,
+        start: Point,
+        end: Point,
+    ) -> Result<(), Stop>
         requires { misfit_in (autolink self.old) (item_kinds.Part parts.AutolinkEmail) ≡ None }
-        ensures { Reads bytes.now parts.AutolinkEmail start end (autolink self.old) (autolink self.new) result }
+        ensures { Reads document.now parts.AutolinkEmail start end (autolink self.old) (autolink self.new) result }
     {
-        let value = text_of(bytes, start, end)?;
+        let value = text_of(document, start, end)?;
         *self = AutolinkParts::Email(Address { start, end, value });
         Ok(())
     }
 
     /// Takes the address with its scheme between two points: `https://a.b` in `<https://a.b>`. One
     /// that is no text of the document is refused as `ErrorKind::InvalidSlice`.
-    pub fn take_protocol(&mut self, bytes: &'a [u8], start: Point, end: Point) -> Result<(), Stop>
+    pub fn take_protocol(
+        &mut self,
+        document: &Document<'a>,
+        start: Point,
+        end: Point,
+    ) -> Result<(), Stop>
         requires { misfit_in (autolink self.old) (item_kinds.Part parts.AutolinkProtocol) ≡ None }
-        ensures { Reads bytes.now parts.AutolinkProtocol start end (autolink self.old) (autolink self.new) result }
+        ensures { Reads document.now parts.AutolinkProtocol start end (autolink self.old) (autolink self.new) result }
     {
-        let value = text_of(bytes, start, end)?;
+        let value = text_of(document, start, end)?;
         *self = AutolinkParts::Protocol(Address { start, end, value });
         Ok(())
     }
@@ -122,15 +132,15 @@ impl<'a> AutolinkParts<'a> {
 /// For `www.a.b` it is a link to `http://www.a.b`, with the text `www.a.b` in it.
 pub fn literal(
     alloc: Global,
-    bytes: &[u8],
+    document: &Document<'_>,
     content: Content,
     start: Point,
     end: Point,
 ) -> Result<Node, Stop>
     requires { is_literal content ≡ true }
-    ensures { Makes result (is_some (slice bytes.now start end)) InvalidSlice (IsLiteral bytes.now content start end) }
+    ensures { Makes result (is_some (slice document.now start end)) InvalidSlice (IsLiteral document.now content start end) }
 {
-    let value = text_of(bytes, start, end)?;
+    let value = text_of(document, start, end)?;
     let position = position_of(start, end);
     Ok(linked(alloc, scheme_of(content), value, position, position)?)
 }

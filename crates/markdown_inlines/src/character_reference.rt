@@ -16,7 +16,7 @@ ghost use Rattle.markdown_inlines.specs.CharacterReferences.{ReadsValue, byte_of
 
 use character_references::references::References;
 use markdown_builder::misfits::only;
-use markdown_builder::slice::text_of;
+use markdown_builder::slice::{Document, text_of};
 use markdown_grammar::error_kind::{ErrorKind, Stop};
 use markdown_nodes::event::Point;
 use markdown_nodes::role::{ItemKind, Part};
@@ -111,19 +111,19 @@ impl CharacterReferenceParts {
     pub fn take_value<R: References>(
         &mut self,
         alloc: Global,
-        bytes: &[u8],
+        document: &Document<'_>,
         references: &R,
         start: Point,
         end: Point,
     ) -> Result<(), Stop>
         requires { misfit_in (character_reference self.old) (item_kinds.Part parts.CharacterReferenceValue) ≡ None }
-        ensures { ReadsValue (source bytes.now (R.text references.now)) start end self.old self.new result }
+        ensures { ReadsValue (source document.now (R.text references.now)) start end self.old self.new result }
     {
         // `misfit` has refused a value without a marker before it.
         let Some(markers) = self.markers else {
             return Err(Stop::Refused(ErrorKind::IncompleteReference));
         };
-        let value = text_of(bytes, start, end)?;
+        let value = text_of(document, start, end)?;
         let Some(text) = references.decode(alloc, value, markers.last.byte())? else {
             return Err(Stop::Refused(ErrorKind::UnknownReference));
         };

@@ -15,6 +15,7 @@ ghost use Rattle.markdown_inlines.specs.FootnoteCalls.{call_label, footnote_call
 use crate::label::{Label, identified};
 use markdown_builder::label::Identified;
 use markdown_builder::misfits::at_most_one;
+use markdown_builder::slice::Document;
 use markdown_grammar::error_kind::{ErrorKind, Stop};
 use markdown_nodes::event::Point;
 use markdown_nodes::mdast::{FootnoteReference, Node};
@@ -56,15 +57,15 @@ impl<'a> FootnoteCallParts<'a> {
     /// text of the document is refused as `ErrorKind::InvalidSlice`.
     pub fn take_label(
         &mut self,
-        bytes: &'a [u8],
+        document: &Document<'a>,
         nodes: Vec<Node>,
         start: Point,
         end: Point,
     ) -> Result<(), Stop>
         requires { misfit_in (footnote_call self.old) (item_kinds.Part parts.LabelText) ≡ None }
-        ensures { ReadsLabel bytes.now nodes start end (footnote_call self.old) (footnote_call self.new) result }
+        ensures { ReadsLabel document.now nodes start end (footnote_call self.old) (footnote_call self.new) result }
     {
-        self.label = Some(Label::read(bytes, nodes, start, end)?);
+        self.label = Some(Label::read(document, nodes, start, end)?);
         Ok(())
     }
 

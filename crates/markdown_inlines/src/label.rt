@@ -15,7 +15,7 @@ ghost use Rattle.markdown_inlines.specs.Labels.{IsLabelOf, label_kept};
 
 use markdown_builder::buffer::label_of;
 use markdown_builder::label::Identified;
-use markdown_builder::slice::text_of;
+use markdown_builder::slice::{Document, text_of};
 use markdown_grammar::error_kind::Stop;
 use markdown_nodes::event::Point;
 use markdown_nodes::mdast::Node;
@@ -39,14 +39,14 @@ impl<'a> Label<'a> {
     ///
     /// In `[a *b*](c)` its slice is `a *b*`, and its nodes are a text and an emphasis.
     pub fn read(
-        bytes: &'a [u8],
+        document: &Document<'a>,
         nodes: Vec<Node>,
         start: Point,
         end: Point,
     ) -> Result<Label<'a>, Stop>
-        ensures { Makes result (is_some (slice bytes.now start end)) InvalidSlice (IsLabelOf bytes.now start end nodes) }
+        ensures { Makes result (is_some (slice document.now start end)) InvalidSlice (IsLabelOf document.now start end nodes) }
     {
-        let slice = text_of(bytes, start, end)?;
+        let slice = text_of(document, start, end)?;
         Ok(Label { slice, nodes })
     }
 }

@@ -19,7 +19,7 @@ ghost use Rattle.markdown_inlines.specs.Media.{media, reference, resource};
 use crate::label::Label;
 use markdown_builder::label::{Identified, identify};
 use markdown_builder::misfits::at_most_one;
-use markdown_builder::slice::text_of;
+use markdown_builder::slice::{Document, text_of};
 use markdown_grammar::error_kind::{ErrorKind, Stop};
 use markdown_nodes::event::Point;
 use markdown_nodes::mdast::Node;
@@ -133,18 +133,18 @@ impl ReferenceParts {
         &mut self,
         alloc: Global,
         steps: &mut Steps<'_>,
-        bytes: &[u8],
+        document: &Document<'_>,
         nodes: Vec<Node>,
         start: Point,
         end: Point,
     ) -> Result<(), Stop>
         requires { misfit_in (reference self.old) (item_kinds.Part parts.ReferenceString) ≡ None }
-        ensures taken { ReadsText bytes.now parts.ReferenceString (views nodes.items) start end
+        ensures taken { ReadsText document.now parts.ReferenceString (views nodes.items) start end
             (reference self.old) (reference self.new) result }
         ensures list { steps.new.events ≡ steps.old.events }
         ensures bound { steps.new.count ≤ steps.old.count + node_count (views nodes.items) }
     {
-        let slice = text_of(bytes, start, end)?;
+        let slice = text_of(document, start, end)?;
         self.string = Some(identify(alloc, steps, slice, nodes)?);
         Ok(())
     }
@@ -184,15 +184,15 @@ impl<'a> MediaParts<'a> {
     /// no text of the document is refused as `ErrorKind::InvalidSlice`.
     pub fn take_label(
         &mut self,
-        bytes: &'a [u8],
+        document: &Document<'a>,
         nodes: Vec<Node>,
         start: Point,
         end: Point,
     ) -> Result<(), Stop>
         requires { misfit_in (media self.old) (item_kinds.Part parts.LabelText) ≡ None }
-        ensures { ReadsLabel bytes.now nodes start end (media self.old) (media self.new) result }
+        ensures { ReadsLabel document.now nodes start end (media self.old) (media self.new) result }
     {
-        self.label = Some(Label::read(bytes, nodes, start, end)?);
+        self.label = Some(Label::read(document, nodes, start, end)?);
         Ok(())
     }
 

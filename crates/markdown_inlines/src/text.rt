@@ -13,7 +13,7 @@ ghost use Rattle.markdown_builder.specs.PartsSoFar.{Makes, placed};
 ghost use Rattle.markdown_inlines.specs.Texts.{text_between};
 
 use markdown_builder::joining::put_text;
-use markdown_builder::slice::{position_of, text_of};
+use markdown_builder::slice::{Document, position_of, text_of};
 use markdown_grammar::error_kind::Stop;
 use markdown_nodes::event::Point;
 use markdown_nodes::mdast::{Break, Node};
@@ -28,14 +28,14 @@ use std::alloc::Global;
 pub fn put_slice(
     alloc: Global,
     nodes: &mut Vec<Node>,
-    bytes: &[u8],
+    document: &Document<'_>,
     start: Point,
     end: Point,
 ) -> Result<(), Stop>
-    ensures { Makes result (is_some (slice bytes.now start end)) InvalidSlice
-        (λ _. views nodes.new.items ≡ join (views nodes.old.items) (text_between bytes.now start end)) }
+    ensures { Makes result (is_some (slice document.now start end)) InvalidSlice
+        (λ _. views nodes.new.items ≡ join (views nodes.old.items) (text_between document.now start end)) }
 {
-    let value = text_of(bytes, start, end)?;
+    let value = text_of(document, start, end)?;
     put_text(alloc, nodes, value, position_of(start, end))?;
     Ok(())
 }

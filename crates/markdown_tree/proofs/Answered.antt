@@ -26,6 +26,7 @@ use Rattle.markdown_grammar.specs.Refusals.{IsFaultOf}
 use Rattle.markdown_grammar.specs.Refusals.{ErrorAt}
 use Rattle.markdown_steps.specs.Checks.{checked, refused, ◌>>=◌}
 use Rattle.markdown_grammar.specs.Document.{Source}
+use Rattle.markdown_context.specs.Nest.{around_innermost, innermost}
 use Rattle.markdown_context.specs.States.{Completes, Fails, kept_top, leaf_container, leaf_place, opens, state_of, top_of, with_break}
 use Rattle.markdown_steps.specs.Visits.{run_visits}
 use Rattle.markdown_steps.specs.Well.{AllStand}
@@ -117,8 +118,8 @@ leaf_outermost false kept in_table h = refl
 
 pub no_leaf_open : (s : Source) (es : List Event) (c : Context) → run s es opening ≡ Ok (state_of c) → c.frames.items ≡ [] → c.is_leaf ≡ false
 no_leaf_open s es c h none =
-    let stands : AllStand s (opens (reverse c.frames.items) (leaf_container c) (reverse c.open_containers.items)) (top_of c) = well-run s es opening (state_of c) h (well-opening s) in
-    let outermost : AllStand s [] (top_of c) = subst (λ (fs : List Frame). AllStand s (opens (reverse fs) (leaf_container c) (reverse c.open_containers.items)) (top_of c)) none stands in
+    let stands : AllStand s (opens (reverse c.frames.items) (leaf_container c) (around_innermost c.containers)) (top_of c) = well-run s es opening (state_of c) h (well-opening s) in
+    let outermost : AllStand s [] (top_of c) = subst (λ (fs : List Frame). AllStand s (opens (reverse fs) (leaf_container c) (around_innermost c.containers)) (top_of c)) none stands in
     leaf_outermost c.is_leaf (kept_top c) c.in_table outermost
 
 -- a break waits in the container that the program keeps
@@ -134,13 +135,13 @@ nothing_waits : (pending : Option Position) → not (is_some pending) ≡ true �
 nothing_waits None h = refl
 nothing_waits (Some p) h = let z : ⊥ = cc in absurd z
 
-pub root_nodes : (s : Source) (es : List Event) (c : Context) → run s es opening ≡ Ok (state_of c) → first_failing (last_checks (state_of c)) ≡ None → views c.top.nodes.items ≡ (state_of c).top.inner.nodes
+pub root_nodes : (s : Source) (es : List Event) (c : Context) → run s es opening ≡ Ok (state_of c) → first_failing (last_checks (state_of c)) ≡ None → views (innermost c.containers).nodes.items ≡ (state_of c).top.inner.nodes
 root_nodes s es c h none =
     let a = first_none (no_open_span (state_of c).frames) Unbalanced (cond (not (top_of c).after_break) None (Some UnfinishedBreak)) none in
-    let no_leaf : c.is_leaf ≡ false = no_leaf_open s es c h (no_frames c.frames.items (pop_none (reverse c.frames.items) (leaf_container c) (reverse c.open_containers.items) a.0)) in
+    let no_leaf : c.is_leaf ≡ false = no_leaf_open s es c h (no_frames c.frames.items (pop_none (reverse c.frames.items) (leaf_container c) (around_innermost c.containers) a.0)) in
     let b = first_none (not (top_of c).after_break) UnfinishedBreak None a.1 in
     let no_break : c.pending ≡ None = nothing_waits c.pending (sym (ap not (waits_on_top c no_leaf)) ∙ b.0) in
-    sym ((λ t. (cond (no_leaf t) (fresh leaf (leaf_place c.in_table)) (kept_top c)).inner.nodes) ∙ ap (λ (p : Option Position). with_break p (views c.top.nodes.items)) no_break)
+    sym ((λ t. (cond (no_leaf t) (fresh leaf (leaf_place c.in_table)) (kept_top c)).inner.nodes) ∙ ap (λ (p : Option Position). with_break p (views (innermost c.containers).nodes.items)) no_break)
 
 -- ---- Steps
 

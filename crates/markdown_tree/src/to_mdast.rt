@@ -15,9 +15,8 @@ ghost use Rattle.markdown_events.specs.Steps.{events_in};
 ghost use Rattle.markdown_steps.specs.Visits.{run_visits};
 
 pub use character_references::references::References;
-use markdown_builder::slice::position_of;
+use markdown_builder::slice::{Document, position_of};
 use markdown_context::context::Context;
-use markdown_context::open_container::OpenContainer;
 use markdown_grammar::error_kind::Stop;
 use markdown_nodes::event::{Event, Point};
 use markdown_nodes::mdast::{Node, Root};
@@ -124,14 +123,12 @@ fn compile_list<R: References>(
     ensures bound { steps.new.count ≤ steps.old.count + 4 * length steps.old.events
         + run_visits (source bytes.now (R.text references.now)) steps.old.events opening }
 {
-    let Taken { context, length } = take_all(alloc, steps, bytes, references)?;
+    let Taken { context, length } = take_all(alloc, steps, &Document::new(bytes), references)?;
     if let Some(error_kind) = context.unfinished() {
         return Err(Stop::Refused(error_kind).at(last_point(steps, length)));
     }
-    let Context { top, .. } = context;
-    let OpenContainer { nodes, .. } = top;
     Ok(Node::Root(Root {
-        children: nodes,
+        children: context.into_nodes(),
         position: Some(whole(steps, length)),
     }))
 }
@@ -148,21 +145,21 @@ struct Taken<'a, 'e> {
 fn take_all<'a, 'e, R: References>(
     alloc: Global,
     steps: &mut Steps<'e>,
-    bytes: &'a [u8],
+    document: &Document<'a>,
     references: &R,
 ) -> Result<Taken<'a, 'e>, Fault>
     ensures gives { Completes (λ taken. state_of taken.context) result
-        (run (source bytes.now (R.text references.now)) steps.old.events opening) }
+        (run (source document.now (R.text references.now)) steps.old.events opening) }
     ensures empty { steps.old.events ≡ [] → IsOk result }
     ensures length { IfOk result (λ taken. taken.length ≡ length steps.old.events) }
     ensures list { steps.new.events ≡ steps.old.events }
     ensures bound { steps.new.count ≤ steps.old.count + 2 * length steps.old.events
-        + run_visits (source bytes.now (R.text references.now)) steps.old.events opening }
+        + run_visits (source document.now (R.text references.now)) steps.old.events opening }
 {
     let mut context = Context::new(alloc);
     let mut index = 0;
     while let Some(event) = steps.read(index) {
-        if let Err(stop) = context.step(alloc, steps, bytes, references, event) {
+        if let Err(stop) = context.step(alloc, steps, document, references, event) {
             return Err(stop.at(event.point));
         }
         index += 1;

@@ -21,8 +21,8 @@ returns c =
     elim c.match-last_mut.branch [
       | in-Some+in_default-last w ↦
           let some : 0 < vec_len v = w.in-Some.ensures.variant.0 refl in
-          text_begun v.items c.first_place.new.nodes.items c.push.new.self.items (vec_len v) w.in-Some.last.now c.in_ok-new_text.field-0 (one_text c.args.value.now c.args.position) v.ok.0 some w.in-Some.ensures.value
-          (c.first_place.ensures ∙ ap (λ x. x.items) w.nodes-is) c.in_ok-push.ensures.items (no_text w.in-Some.last.now w.in_default-last.not-Text) c.in_ok-new_text.ensures
+          text_begun v.items c.one_place.new.nodes.items c.push.new.self.items (vec_len v) w.in-Some.last.now c.in_ok-new_text.field-0 (one_text c.args.value.now c.args.position) v.ok.0 some w.in-Some.ensures.value
+          (c.one_place.ensures ∙ ap (λ x. x.items) w.nodes-is) c.in_ok-push.ensures.items (no_text w.in-Some.last.now w.in_default-last.not-Text) c.in_ok-new_text.ensures
       | in_default w ↦
-          first_begun v.items c.first_place.new.nodes.items c.push.new.self.items (vec_len v) c.in_ok-new_text.field-0 (one_text c.args.value.now c.args.position) v.ok.0 w.in_default.ensures.variant.1 (c.first_place.ensures ∙ ap (λ x. x.items) w.nodes-is) c.in_ok-push.ensures.items c.in_ok-new_text.ensures
+          first_begun v.items c.one_place.new.nodes.items c.push.new.self.items (vec_len v) c.in_ok-new_text.field-0 (one_text c.args.value.now c.args.position) v.ok.0 w.in_default.ensures.variant.1 (c.one_place.ensures ∙ ap (λ x. x.items) w.nodes-is) c.in_ok-push.ensures.items c.in_ok-new_text.ensures
     ]

@@ -9,12 +9,12 @@ use Rattle.markdown_tree.proofs.to_mdast.take_all.Goals as goal
 pub returns-in-Err-clause-gives : goal.returns-in-Err-clause-gives
 returns-in-Err-clause-gives g c =
     let at = c.in-Some.ensures.event ∙ ap (λ es. slice_get es c.loop-event.index) c.loop-event.invariant.1 in
-    stops_here c.in-Err.stop c.at.result c.in-Some.event.now.point (source c.args.bytes.now (g.R.References.text c.args.references.now)) c.args.steps.now.events _ _ c.loop-event.index c.in-Some.event.now (state_of c.loop-event.context) at c.in-Err.ensures.gives c.at.ensures c.loop-event.invariant.0
+    stops_here c.in-Err.stop c.at.result c.in-Some.event.now.point (source c.args.document.now (g.R.References.text c.args.references.now)) c.args.steps.now.events _ _ c.loop-event.index c.in-Some.event.now (state_of c.loop-event.context) at c.in-Err.ensures.gives c.at.ensures c.loop-event.invariant.0
 
 pub returns-in-Err-clause-bound : goal.returns-in-Err-clause-bound
 returns-in-Err-clause-bound g c =
     let at = c.in-Some.ensures.event ∙ ap (λ es. slice_get es c.loop-event.index) c.loop-event.invariant.1 in
-    stops_within (source c.args.bytes.now (g.R.References.text c.args.references.now)) c.args.steps.now.events _ _ _ _ c.loop-event.index c.in-Some.event.now (state_of c.loop-event.context) at c.in-Some.ensures.count c.step.ensures.bound c.loop-event.invariant.0
+    stops_within (source c.args.document.now (g.R.References.text c.args.references.now)) c.args.steps.now.events _ _ _ _ c.loop-event.index c.in-Some.event.now (state_of c.loop-event.context) at c.in-Some.ensures.count c.step.ensures.bound c.loop-event.invariant.0
 
 pub loop-event-smaller : goal.loop-event-smaller
 loop-event-smaller g c =
@@ -25,14 +25,14 @@ loop-event-smaller g c =
 pub loop-event-preserved : goal.loop-event-preserved
 loop-event-preserved g c =
     let at = c.in-Some.ensures.event ∙ ap (λ es. slice_get es c.loop-event.index) c.loop-event.invariant.1 in (
-      goes_on (source c.args.bytes.now (g.R.References.text c.args.references.now)) c.args.steps.now.events _ _ _ _ c.loop-event.index c.in-Some.event.now (state_of c.loop-event.context) (state_of c.step.new.self) at c.in_default-step.ensures.gives c.in-Some.ensures.count c.step.ensures.bound c.loop-event.invariant.0,
+      goes_on (source c.args.document.now (g.R.References.text c.args.references.now)) c.args.steps.now.events _ _ _ _ c.loop-event.index c.in-Some.event.now (state_of c.loop-event.context) (state_of c.step.new.self) at c.in_default-step.ensures.gives c.in-Some.ensures.count c.step.ensures.bound c.loop-event.invariant.0,
       c.step.ensures.list ∙ c.in-Some.ensures.list ∙ c.loop-event.invariant.1,
     )
 
 pub returns-clause-gives : goal.returns-clause-gives
 returns-clause-gives g c =
     let at = c.in_default.ensures.event ∙ ap (λ es. slice_get es c.loop-event.index) c.loop-event.invariant.1 in
-    is_done (source c.args.bytes.now (g.R.References.text c.args.references.now)) c.args.steps.now.events _ _ c.loop-event.index (state_of c.loop-event.context) at c.loop-event.invariant.0
+    is_done (source c.args.document.now (g.R.References.text c.args.references.now)) c.args.steps.now.events _ _ c.loop-event.index (state_of c.loop-event.context) at c.loop-event.invariant.0
 
 pub returns-clause-length : goal.returns-clause-length
 returns-clause-length g c =

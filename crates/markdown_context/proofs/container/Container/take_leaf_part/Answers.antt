@@ -11,7 +11,7 @@ use Rattle.markdown_context.proofs.container.Container.take_leaf_part.Goals.{in-
 pub returns : goal.returns
 returns g c line_endings in_table =
     let text : List ℕ → ℕ → Option (List ℕ) = g.R.References.text c.args.references.now in
-    let s : Source = source c.args.bytes.now text in
+    let s : Source = source c.args.document.now text in
     let a : Point = c.args.start in
     let b : Point = c.args.end in
     let q : Part = c.args.part in

@@ -14,8 +14,8 @@ returns-in_ok-text-in_default c =
     let bound = c.values_of.ensures.bound in
     record {
       taken = λ text line_endings in_table. let p = place_with line_endings in_table (marker_of c.args.self.now) in (
-        text_is_read (source c.args.bytes.now text) (current_model_of c.args.self.now) p c.args.part c.args.start c.args.end such,
-        c.take_value.ensures (views c.args.nodes.items) c.in_ok-text-in_default.ensures.text (source c.args.bytes.now text) p c.args.start c.args.end,
+        text_is_read (source c.args.document.now text) (current_model_of c.args.self.now) p c.args.part c.args.start c.args.end such,
+        c.take_value.ensures (views c.args.nodes.items) c.in_ok-text-in_default.ensures.text (source c.args.document.now text) p c.args.start c.args.end,
       );
       list = c.values_of.ensures.list;
       bound = omega (arith, visits, bound);

@@ -1,4 +1,5 @@
 use Rattle.std.proofs.Common.{false, refl, reverse, sym, ◌∙◌}
+use Rattle.markdown_context.specs.Nest.{around_innermost, innermost}
 use Rattle.markdown_context.specs.States.{leaf_container, top_of}
 use Rattle.markdown_context.proofs.Unfinished.{is_open_so, left_by}
 use Rattle.markdown_context.proofs.context.Context.unfinished.Goals as goal
@@ -6,4 +7,4 @@ use Rattle.markdown_context.proofs.context.Context.unfinished.Goals as goal
 pub returns-then-not-is_empty : goal.returns-then-not-is_empty
 returns-then-not-is_empty c =
     sym (left_by c.args.self.now false (top_of c.args.self.now).after_break
-    (is_open_so c.args.self.now.frames (leaf_container c.args.self.now) (reverse c.args.self.now.open_containers.items) (sym c.is_empty.ensures ∙ c.if-not-is_empty.true)) refl)
+    (is_open_so c.args.self.now.frames (leaf_container c.args.self.now) (around_innermost c.args.self.now.containers) (sym c.is_empty.ensures ∙ c.if-not-is_empty.true)) refl)

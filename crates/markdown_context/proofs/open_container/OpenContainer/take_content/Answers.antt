@@ -22,8 +22,8 @@ use Rattle.markdown_context.proofs.open_container.OpenContainer.take_content.Goa
 
 pub put-requires : goal.put-requires
 put-requires c =
-    made_no_text (source c.args.bytes.now (λ v m. None)) (place_with false c.args.ending.in_table None) c.args.content c.args.ending.start c.args.ending.end _ (summary_of_container c.args.own) (initial_model_of c.args.own.container) _
-    c.requires.such c.in_default.not-CharacterReference (c.in_ok-node-in_default.ensures.node.1 (source c.args.bytes.now (λ v m. None)) false None refl)
+    made_no_text (source c.args.document.now (λ v m. None)) (place_with false c.args.ending.in_table None) c.args.content c.args.ending.start c.args.ending.end _ (summary_of_container c.args.own) (initial_model_of c.args.own.container) _
+    c.requires.such c.in_default.not-CharacterReference (c.in_ok-node-in_default.ensures.node.1 (source c.args.document.now (λ v m. None)) false None refl)
 
 pub returns-in_err-node-in_default : goal.returns-in_err-node-in_default
 returns-in_err-node-in_default c = record {

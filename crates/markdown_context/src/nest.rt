@@ -1,0 +1,54 @@
+//! Values that stand in one another.
+
+ghost use Rattle.std.specs.Prelude.{◌≡◌};
+ghost use Rattle.std.specs.Borrow.{sem};
+ghost use Rattle.markdown_context.specs.Nest.{LendsInnermost, innermost};
+
+/// Values that stand in one another, of which there is always one. The innermost stays where it is
+/// when another is put into it, so that nothing is moved then.
+#[derive(Drop)]
+pub struct Nest<T> {
+    pub outermost: T,
+    /// Those in the outermost, the innermost last.
+    pub inner: Vec<T>,
+}
+
+impl<T> Nest<T> {
+    /// The innermost value.
+    pub fn innermost(&self) -> &T
+        ensures { result.now ≡ innermost self.now }
+    {
+        if self.inner.is_empty() {
+            return &self.outermost;
+        }
+        &self.inner[self.inner.len() - 1]
+    }
+
+    /// The innermost value, to be changed.
+    pub fn innermost_mut(&mut self) -> &mut T
+        ensures* writes_back { sem 𝓛 (LendsInnermost T.row self.entry result) }
+        ensures value { result.now ≡ innermost self.old }
+    {
+        if self.inner.is_empty() {
+            return &mut self.outermost;
+        }
+        let last = self.inner.len() - 1;
+        &mut self.inner[last]
+    }
+}
+
+impl<T: Drop> Nest<T> {
+    /// The innermost value by itself.
+    pub fn into_innermost(self) -> T
+        ensures { result ≡ innermost self }
+    {
+        let Nest {
+            outermost,
+            mut inner,
+        } = self;
+        match inner.pop() {
+            Some(last) => last,
+            None => outermost,
+        }
+    }
+}
