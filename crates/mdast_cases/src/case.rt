@@ -49,10 +49,3 @@ impl Forms<'_> {
         }
     }
 }
-
-impl Case<'_> {
-    /// Whether the list has a tree.
-    pub fn has_tree(&self) -> bool {
-        self.answer.starts_with("= ")
-    }
-}

@@ -5,7 +5,7 @@ use markdown_tree::to_mdast::References;
 use std::alloc::{AllocError, Global};
 
 /// The decoder of a case.
-#[derive(Clone, Copy, PartialEq, Eq, Debug)]
+#[derive(Clone, Copy)]
 pub enum CaseDecoder {
     /// That of the program `mdast_show`.
     Usual,

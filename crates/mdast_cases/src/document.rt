@@ -1,7 +1,5 @@
 //! The document of a case: its bytes, and where its lines begin.
 
-use crate::line::LineError;
-use crate::quoted::unescaped;
 use markdown_nodes::event::Point;
 use std::alloc::{AllocError, Global};
 
@@ -16,21 +14,9 @@ pub struct Document {
 
 impl Document {
     /// A document with these bytes, whose lines end at LF, CR and CRLF.
-    fn new(alloc: Global, bytes: Vec<u8>) -> Result<Document, AllocError> {
+    pub fn new(alloc: Global, bytes: Vec<u8>) -> Result<Document, AllocError> {
         let line_starts = line_starts(alloc, bytes.as_slice())?;
         Ok(Document { bytes, line_starts })
-    }
-
-    /// The document that a text between quotes says: `\n`, `\r`, `\t`, `\\` and `\"` are one byte.
-    pub fn from_quoted(alloc: Global, text: &str) -> Result<Document, LineError> {
-        let bytes = unescaped(alloc, text)?;
-        Ok(Document::new(alloc, bytes)?)
-    }
-
-    /// The document that hexadecimal digits say.
-    pub fn from_hexadecimal(alloc: Global, digits: &str) -> Result<Document, LineError> {
-        let bytes = bytes_of_digits(alloc, digits)?;
-        Ok(Document::new(alloc, bytes)?)
     }
 
     /// Makes one line of it.
@@ -67,23 +53,4 @@ fn line_starts(alloc: Global, bytes: &[u8]) -> Result<Vec<usize>, AllocError> {
 /// Whether a line ends after a byte that the next one follows.
 fn ends_line(byte: u8, next: Option<&u8>) -> bool {
     byte == b'\n' || byte == b'\r' && next != Some(&b'\n')
-}
-
-/// The bytes that hexadecimal digits say.
-fn bytes_of_digits(alloc: Global, digits: &str) -> Result<Vec<u8>, LineError> {
-    let mut bytes = Vec::new(alloc);
-    for pair in digits.as_bytes().chunks(2) {
-        bytes.push(byte_of_digits(pair).ok_or(LineError::Unread)?)?;
-    }
-    Ok(bytes)
-}
-
-/// The byte that two hexadecimal digits say.
-fn byte_of_digits(pair: &[u8]) -> Option<u8> {
-    let [high, low] = pair else {
-        return None;
-    };
-    let high = char::from(*high).to_digit(16)?;
-    let low = char::from(*low).to_digit(16)?;
-    u8::try_from(high.checked_mul(16)?.checked_add(low)?).ok()
 }

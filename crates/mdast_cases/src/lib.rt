@@ -8,6 +8,7 @@
 mod case;
 mod decoder;
 mod document;
+mod hexadecimal;
 mod line;
 mod quoted;
 mod replay;

@@ -3,42 +3,53 @@
 use event_lines::lines::LinesError;
 use std::alloc::{AllocError, AllocFailed};
 
-/// What a line of a table says.
-#[derive(Clone, Copy, PartialEq, Eq, Debug)]
-pub enum Line<'a> {
-    /// Nothing: it is empty, or a comment.
+/// What a line of a table is.
+#[derive(Clone, Copy)]
+pub enum LineKind {
+    /// Empty, or a comment.
     Nothing,
-    /// A section with this name begins: `section Texts`.
-    Section(&'a str),
-    /// A case begins, which is called so: `row yaml`, or `case 12`.
-    Case(&'a str),
+    /// The beginning of a section with this name: `section Texts`.
+    Section,
+    /// The beginning of a case, which is called so: `row yaml`, or `case 12`.
+    Case,
     /// The document, between quotes and with escapes: `"a\nb"`.
-    Quoted(&'a str),
+    Quoted,
     /// The document, in hexadecimal: `doc 610a62`.
-    Hexadecimal(&'a str),
-    /// All of the document is one line: `columns bytes`.
-    OneLine,
-    /// The decoder is the one that knows the empty value: `decoder blank`.
-    Blank,
+    Hexadecimal,
+    /// That the columns count these: `columns bytes`, where all of the document is one line.
+    Columns,
+    /// The decoder that the case has: `decoder blank`, the one that knows the empty value.
+    Decoder,
     /// The spans of the list: `Paragraph 0-2 { Data 0-2 }`.
-    Spans(&'a str),
+    Spans,
     /// An event of the list: `+Data 1:1:0`.
-    Event(&'a str),
+    Event,
     /// What `compile` must give: `= Root { .. }` or `! slice-invalid 1:2 (1)`.
-    Answer(&'a str),
+    Answer,
     /// Whether the tree is ordered: `ordered yes`.
-    Ordered(bool),
+    Ordered,
     /// The tree as JSON: `json {"type":"root","children":[]}`.
-    Json(&'a str),
+    Json,
     /// The plain text of the tree, between quotes and with escapes: `plain "Hi"`.
-    Plain(&'a str),
+    Plain,
     /// The lines of what is found in the tree, between quotes and with escapes:
     /// `report "heading 1 \"Hi\"\n"`.
-    Report(&'a str),
+    Report,
+}
+
+/// A line of a table.
+#[derive(Clone, Copy)]
+pub struct Line<'a> {
+    /// What it is.
+    pub kind: LineKind,
+    /// All of it.
+    pub whole: &'a str,
+    /// What it says: what stands after its word, or all of it where it begins with a sign.
+    pub text: &'a str,
 }
 
 /// Why a line was not read.
-#[derive(Debug, Drop)]
+#[derive(Drop)]
 pub enum LineError {
     /// It is no line of a table, or not one that may stand there.
     Unread,
@@ -67,40 +78,48 @@ impl From<LinesError> for LineError {
     }
 }
 
-/// What a line says, by the sign or the word that it begins with.
-pub fn read_line(text: &str) -> Option<Line<'_>> {
-    match text.as_bytes().first() {
-        None | Some(b'#') => Some(Line::Nothing),
-        Some(b'"') => Some(Line::Quoted(between_quotes(text)?)),
-        Some(b'+' | b'-') => Some(Line::Event(text)),
-        Some(b'=' | b'!') => Some(Line::Answer(text)),
-        Some(b'A'..=b'Z') => Some(Line::Spans(text)),
-        Some(_) => read_words(text),
+/// A line, by the sign or the word that it begins with.
+pub fn read_line(whole: &str) -> Option<Line<'_>> {
+    let (kind, text) = match sign(whole.as_bytes()) {
+        Some(kind) => (kind, whole),
+        None => read_word(whole)?,
+    };
+    Some(Line { kind, whole, text })
+}
+
+/// What a line is that begins with a sign, or is empty.
+fn sign(line: &[u8]) -> Option<LineKind> {
+    match line.first() {
+        None | Some(b'#') => Some(LineKind::Nothing),
+        Some(b'"') => Some(LineKind::Quoted),
+        Some(b'+' | b'-') => Some(LineKind::Event),
+        Some(b'=' | b'!') => Some(LineKind::Answer),
+        Some(b'A'..=b'Z') => Some(LineKind::Spans),
+        Some(_) => None,
     }
 }
 
-/// What a line says that begins with a word.
-fn read_words(text: &str) -> Option<Line<'_>> {
-    if text == "doc" {
-        return Some(Line::Hexadecimal(""));
+/// What a line is that begins with a word, and what stands after it.
+fn read_word(line: &str) -> Option<(LineKind, &str)> {
+    if line == "doc" {
+        return Some((LineKind::Hexadecimal, ""));
     }
-    let (word, rest) = text.split_once(' ')?;
+    let (word, rest) = line.split_once(' ')?;
+    Some((word_kind(word)?, rest))
+}
+
+/// What a line is that begins with this word.
+fn word_kind(word: &str) -> Option<LineKind> {
     match word {
-        "section" => Some(Line::Section(rest)),
-        "row" | "case" => Some(Line::Case(text)),
-        "doc" => Some(Line::Hexadecimal(rest)),
-        "columns" if rest == "bytes" => Some(Line::OneLine),
-        "decoder" if rest == "blank" => Some(Line::Blank),
-        "ordered" if rest == "yes" => Some(Line::Ordered(true)),
-        "ordered" if rest == "no" => Some(Line::Ordered(false)),
-        "json" => Some(Line::Json(rest)),
-        "plain" => Some(Line::Plain(between_quotes(rest)?)),
-        "report" => Some(Line::Report(between_quotes(rest)?)),
+        "section" => Some(LineKind::Section),
+        "row" | "case" => Some(LineKind::Case),
+        "doc" => Some(LineKind::Hexadecimal),
+        "columns" => Some(LineKind::Columns),
+        "decoder" => Some(LineKind::Decoder),
+        "ordered" => Some(LineKind::Ordered),
+        "json" => Some(LineKind::Json),
+        "plain" => Some(LineKind::Plain),
+        "report" => Some(LineKind::Report),
         _ => None,
     }
-}
-
-/// What stands between the quotes of a text.
-fn between_quotes(text: &str) -> Option<&str> {
-    text.strip_prefix('"')?.strip_suffix('"')
 }

@@ -3,36 +3,44 @@
 use crate::line::LineError;
 use std::alloc::Global;
 
-/// What the next byte of a quoted text is.
-#[derive(Clone, Copy, PartialEq, Eq, Debug)]
-enum Next {
-    /// A byte of the document, or a backslash.
-    Byte,
-    /// The letter of an escape, after its backslash.
-    Letter,
+/// The bytes that a text between quotes says: `\n`, `\r`, `\t`, `\\` and `\"` are one byte.
+pub fn unquoted(alloc: Global, text: &str) -> Result<Vec<u8>, LineError> {
+    match between_quotes(text) {
+        Some(text) => unescaped(alloc, text),
+        None => Err(LineError::Unread),
+    }
 }
 
-/// The bytes that a text with escapes says: `\n`, `\r`, `\t`, `\\` and `\"` are one byte.
-pub fn unescaped(alloc: Global, text: &str) -> Result<Vec<u8>, LineError> {
+/// What stands between the quotes of a text.
+fn between_quotes(text: &str) -> Option<&str> {
+    text.strip_prefix('"')?.strip_suffix('"')
+}
+
+/// The bytes that a text with escapes says.
+fn unescaped(alloc: Global, text: &str) -> Result<Vec<u8>, LineError> {
     let mut bytes = Vec::new(alloc);
-    let mut next = Next::Byte;
+    let mut is_escape = false;
     for byte in text.bytes() {
-        next = match (next, byte) {
-            (Next::Byte, b'\\') => Next::Letter,
-            (Next::Byte, b'"') => return Err(LineError::Unread),
-            (Next::Byte, _) => {
-                bytes.push(byte)?;
-                Next::Byte
-            }
-            (Next::Letter, _) => {
-                bytes.push(escaped(byte).ok_or(LineError::Unread)?)?;
-                Next::Byte
-            }
-        };
+        if byte == b'\\' && !is_escape {
+            is_escape = true;
+        } else {
+            bytes.push(said(byte, is_escape).ok_or(LineError::Unread)?)?;
+            is_escape = false;
+        }
     }
-    match next {
-        Next::Byte => Ok(bytes),
-        Next::Letter => Err(LineError::Unread),
+    if is_escape {
+        Err(LineError::Unread)
+    } else {
+        Ok(bytes)
+    }
+}
+
+/// The byte that a byte says which stands alone or, in an escape, after a backslash.
+fn said(byte: u8, is_escape: bool) -> Option<u8> {
+    match (byte, is_escape) {
+        (b'"', false) => None,
+        (_, false) => Some(byte),
+        (_, true) => escaped(byte),
     }
 }
 

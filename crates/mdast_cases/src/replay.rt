@@ -11,7 +11,7 @@ use mdast_check::report::report_of;
 use std::alloc::{AllocError, AllocFailed, Global};
 
 /// A list of events that is compiled for a case.
-#[derive(Clone, Copy, PartialEq, Eq, Debug)]
+#[derive(Clone, Copy)]
 pub enum List {
     /// That of the case.
     Whole,
@@ -36,7 +36,7 @@ impl List {
 }
 
 /// Why a case is not as it must be.
-#[derive(Debug, Drop)]
+#[derive(Drop)]
 pub enum ReplayError {
     /// This list gives another answer.
     Differs(List, String),
@@ -72,38 +72,32 @@ pub fn difference(alloc: Global, case: &Case<'_>) -> Result<Option<String>, Allo
 /// Compiles a case, looks at what is made of its tree, and compiles what comes of the list when it is
 /// cut or its exits are swapped.
 fn replay(alloc: Global, case: &Case<'_>) -> Result<(), ReplayError> {
-    let events = case.events.as_slice();
-    expect(List::Whole, compiled(alloc, case, events)?, case.answer)?;
-    expect(List::Counted, counted(alloc, case)?, case.answer)?;
-    if case.has_tree() {
-        let tree = tree(alloc, case)?;
-        order(alloc, case, &tree)?;
-        copy(alloc, case, &tree)?;
-        forms(alloc, &case.forms, &tree)?;
-        cut(alloc, case)?;
-        swap(alloc, case)?;
+    let outcome = outcome(alloc, case, case.events.as_slice());
+    expect(List::Whole, answer(alloc, &outcome), case.answer)?;
+    expect(List::Counted, counted(alloc, case), case.answer)?;
+    match &outcome {
+        Ok(tree) => replay_tree(alloc, case, tree),
+        Err(_) => Ok(()),
     }
-    Ok(())
+}
+
+/// Looks at what is made of the tree of a case, and compiles what comes of the list when it is cut or
+/// its exits are swapped.
+fn replay_tree(alloc: Global, case: &Case<'_>, tree: &Node) -> Result<(), ReplayError> {
+    order(alloc, case, tree)?;
+    copy(alloc, case, tree)?;
+    forms(alloc, &case.forms, tree)?;
+    cut(alloc, case)?;
+    swap(alloc, case)
 }
 
 /// Compares an answer with the one that must come.
-fn expect(list: List, answer: String, want: &str) -> Result<(), ReplayError> {
+fn expect(list: List, answer: Result<String, AllocError>, want: &str) -> Result<(), ReplayError> {
+    let answer = answer?;
     if answer.as_str() == want {
         Ok(())
     } else {
         Err(ReplayError::Differs(list, answer))
-    }
-}
-
-/// The tree of a case.
-fn tree(alloc: Global, case: &Case<'_>) -> Result<Node, ReplayError> {
-    let bytes = case.document.bytes.as_slice();
-    match compile(alloc, case.events.as_slice(), bytes, &case.decoder) {
-        Ok(tree) => Ok(tree),
-        Err(Fault::Message(message)) => {
-            Err(ReplayError::Differs(List::Whole, refusal(alloc, message)?))
-        }
-        Err(Fault::Memory(error)) => Err(ReplayError::Memory(error)),
     }
 }
 
@@ -125,37 +119,47 @@ fn copy(alloc: Global, case: &Case<'_>, tree: &Node) -> Result<(), ReplayError> 
         let answer = format!(in alloc; "another copy, {copy:?}")?;
         return Err(ReplayError::Differs(List::Whole, answer));
     }
-    let line = copy.to_debug_string(alloc)?;
-    expect(List::Whole, format!(in alloc; "= {line}")?, case.answer)
+    expect(List::Whole, line_answer(alloc, &copy), case.answer)
+}
+
+/// The answer of a case with this tree, by `to_debug_string`.
+fn line_answer(alloc: Global, tree: &Node) -> Result<String, AllocError> {
+    let line = tree.to_debug_string(alloc)?;
+    format!(in alloc; "= {line}")
 }
 
 /// The JSON, the plain text and the report of the tree are as the case says.
 fn forms(alloc: Global, forms: &Forms<'_>, tree: &Node) -> Result<(), ReplayError> {
     if let Some(want) = forms.json {
-        expect_form(alloc, "JSON", to_json(alloc, tree)?, want.as_bytes())?;
+        expect_form(alloc, "JSON", to_json(alloc, tree), want.as_bytes())?;
     }
     if let Some(want) = &forms.plain {
-        expect_form(alloc, "plain text", tree.to_string(alloc)?, want.as_slice())?;
+        expect_form(alloc, "plain text", tree.to_string(alloc), want)?;
     }
     if let Some(want) = &forms.report {
-        expect_form(
-            alloc,
-            "report",
-            report_of(alloc, tree)?.text,
-            want.as_slice(),
-        )?;
+        expect_form(alloc, "report", report(alloc, tree), want)?;
     }
     Ok(())
 }
 
+/// The lines of what is found in a tree.
+fn report(alloc: Global, tree: &Node) -> Result<String, AllocError> {
+    Ok(report_of(alloc, tree)?.text)
+}
+
 /// Compares what is made of a tree with what must be made.
-fn expect_form(alloc: Global, what: &str, form: String, want: &[u8]) -> Result<(), ReplayError> {
+fn expect_form(
+    alloc: Global,
+    what: &str,
+    form: Result<String, AllocError>,
+    want: &[u8],
+) -> Result<(), ReplayError> {
+    let form = form?;
     if form.as_bytes() == want {
-        Ok(())
-    } else {
-        let answer = format!(in alloc; "the {what} {form}")?;
-        Err(ReplayError::Differs(List::Whole, answer))
+        return Ok(());
     }
+    let answer = format!(in alloc; "the {what} {form}")?;
+    Err(ReplayError::Differs(List::Whole, answer))
 }
 
 /// How a line says whether a tree is ordered.
@@ -191,9 +195,7 @@ fn cut(alloc: Global, case: &Case<'_>) -> Result<(), ReplayError> {
         };
         if open > 0 {
             let count = index + 1;
-            let answer = compiled(alloc, case, &events[..count])?;
-            let want = unbalanced(alloc, event.point)?;
-            expect(List::First(count), answer, want.as_str())?;
+            expect_unbalanced(alloc, case, List::First(count), &events[..count], event)?;
         }
     }
     Ok(())
@@ -202,67 +204,77 @@ fn cut(alloc: Global, case: &Case<'_>) -> Result<(), ReplayError> {
 /// With two neighbouring exits of different names swapped, the list is unbalanced at the first of
 /// them.
 fn swap(alloc: Global, case: &Case<'_>) -> Result<(), ReplayError> {
-    for index in 0..case.events.len() {
-        let (before, rest) = case.events.split_at(index);
-        if let [first, second, after @ ..] = rest {
-            if are_unlike_exits(first, second) {
-                let events = joined(alloc, before, &[*second, *first], after)?;
-                let answer = compiled(alloc, case, events.as_slice())?;
-                let want = unbalanced(alloc, second.point)?;
-                expect(List::Swapped(index + 1), answer, want.as_str())?;
-            }
+    let events = case.events.as_slice();
+    for index in 1..events.len() {
+        let first = events[index - 1];
+        let second = events[index];
+        if are_unlike_exits(first, second) {
+            let swapped = swapped(alloc, events, index)?;
+            expect_unbalanced(
+                alloc,
+                case,
+                List::Swapped(index),
+                swapped.as_slice(),
+                second,
+            )?;
         }
     }
     Ok(())
 }
 
+/// A list that is compiled for a case is unbalanced at this event.
+fn expect_unbalanced(
+    alloc: Global,
+    case: &Case<'_>,
+    list: List,
+    events: &[Event],
+    event: Event,
+) -> Result<(), ReplayError> {
+    let want = unbalanced(alloc, event.point)?;
+    let outcome = outcome(alloc, case, events);
+    expect(list, answer(alloc, &outcome), want.as_str())
+}
+
 /// Whether two events are exits of different names.
-fn are_unlike_exits(first: &Event, second: &Event) -> bool {
+fn are_unlike_exits(first: Event, second: Event) -> bool {
     first.kind == Kind::Exit && second.kind == Kind::Exit && !first.name.is(second.name)
 }
 
-/// Three lists of events, one after the other.
-fn joined(
-    alloc: Global,
-    before: &[Event],
-    pair: &[Event],
-    after: &[Event],
-) -> Result<Vec<Event>, AllocError> {
-    let mut events = Vec::new(alloc);
-    events.extend_from_slice(before)?;
-    events.extend_from_slice(pair)?;
-    events.extend_from_slice(after)?;
-    Ok(events)
+/// A list of events, with the one at this index and the one before it in each other's place.
+fn swapped(alloc: Global, events: &[Event], index: usize) -> Result<Vec<Event>, AllocError> {
+    let mut swapped = events.to_vec(alloc)?;
+    if 0 < index && index < swapped.len() {
+        swapped.swap(index - 1, index);
+    }
+    Ok(swapped)
 }
 
 /// What `compile` gives for events over the document of a case.
-fn compiled(alloc: Global, case: &Case<'_>, events: &[Event]) -> Result<String, AllocError> {
+fn outcome(alloc: Global, case: &Case<'_>, events: &[Event]) -> Result<Node, Fault> {
     let bytes = case.document.bytes.as_slice();
-    answer(alloc, compile(alloc, events, bytes, &case.decoder))
+    compile(alloc, events, bytes, &case.decoder)
 }
 
-/// What `compile_counted` gives for a case.
+/// The answer of a case by `compile_counted`.
 fn counted(alloc: Global, case: &Case<'_>) -> Result<String, AllocError> {
     let mut steps = Steps::new(case.events.as_slice());
     let bytes = case.document.bytes.as_slice();
-    answer(
-        alloc,
-        compile_counted(alloc, &mut steps, bytes, &case.decoder),
-    )
+    let outcome = compile_counted(alloc, &mut steps, bytes, &case.decoder);
+    answer(alloc, &outcome)
 }
 
 /// The answer of a case for which this comes out.
-fn answer(alloc: Global, outcome: Result<Node, Fault>) -> Result<String, AllocError> {
+fn answer(alloc: Global, outcome: &Result<Node, Fault>) -> Result<String, AllocError> {
     match outcome {
         Ok(tree) => format!(in alloc; "= {tree:?}"),
         Err(Fault::Message(message)) => refusal(alloc, message),
-        Err(Fault::Memory(error)) => Err(error),
+        Err(Fault::Memory(_)) => Err(AllocError),
     }
 }
 
 /// The answer of a case that is refused with this message.
-fn refusal(alloc: Global, message: Message) -> Result<String, AllocError> {
-    match message.place {
+fn refusal(alloc: Global, message: &Message) -> Result<String, AllocError> {
+    match &message.place {
         Some(Place::Point(point)) => format!(in alloc; "! {} {point:?}", message.rule_id),
         _ => String::from_str(alloc, "! a message without a point"),
     }

@@ -157,24 +157,38 @@ pub fn run<O: Write>(alloc: Global, inputs: &[Input], output: &mut O) -> Result<
 
 /// Replays the cases of a table.
 fn replay<O: Write>(alloc: Global, table: &Table<'_>, output: &mut O) -> Result<Verdict, RunError> {
-    let name = table.name;
-    let count = table.cases.len();
     let mut wrong: usize = 0;
     for case in &table.cases {
         if let Some(difference) = difference(alloc, case)? {
             wrong = wrong.saturating_add(1);
-            write(output, format!(in alloc; "{name}: {difference}\n")?)?;
+            write(
+                output,
+                difference_line(alloc, table.name, difference.as_str()),
+            )?;
         }
     }
-    let (verdict, line) = if wrong == 0 {
-        let line = format!(in alloc; "{name}: {count} cases, each as it must be\n")?;
-        (Verdict::Right, line)
+    write(output, count_line(alloc, table, wrong))?;
+    Ok(if wrong == 0 {
+        Verdict::Right
     } else {
-        let line = format!(in alloc; "{name}: {count} cases, {wrong} not as they must be\n")?;
-        (Verdict::Wrong, line)
-    };
-    write(output, line)?;
-    Ok(verdict)
+        Verdict::Wrong
+    })
+}
+
+/// The line of a case that is not as it must be.
+fn difference_line(alloc: Global, name: &str, difference: &str) -> Result<String, AllocError> {
+    format!(in alloc; "{name}: {difference}\n")
+}
+
+/// The line of a table of which so many cases are not as they must be.
+fn count_line(alloc: Global, table: &Table<'_>, wrong: usize) -> Result<String, AllocError> {
+    let name = table.name;
+    let count = table.cases.len();
+    if wrong == 0 {
+        format!(in alloc; "{name}: {count} cases, each as it must be\n")
+    } else {
+        format!(in alloc; "{name}: {count} cases, {wrong} not as they must be\n")
+    }
 }
 
 /// Compares a file of checksums with a table.
@@ -185,31 +199,36 @@ fn compare<O: Write>(
     output: &mut O,
 ) -> Result<Verdict, RunError> {
     let name = input.name.as_str();
-    let rows = table.name;
-    let count = table.cases.len();
     let Ok(sums) = str::from_utf8(input.bytes.as_slice()) else {
         return Err(RunError::UnreadFile(String::from_str(alloc, name)?));
     };
-    let (verdict, line) = match sums_difference(alloc, table.cases.as_slice(), sums)? {
-        None => {
-            let line = format!(in alloc; "{name}: {count} rows, as in {rows}\n")?;
-            (Verdict::Right, line)
-        }
-        Some(SumsDifference::Row(row)) => {
-            let line = format!(in alloc; "{name}: {row} is not as in {rows}\n")?;
-            (Verdict::Wrong, line)
-        }
-        Some(SumsDifference::Line(line)) => {
-            let line = format!(in alloc; "{name}: {line} is not in {rows}\n")?;
-            (Verdict::Wrong, line)
-        }
-    };
-    write(output, line)?;
-    Ok(verdict)
+    let difference = sums_difference(alloc, table.cases.as_slice(), sums)?;
+    write(output, sums_line(alloc, name, table, difference))?;
+    Ok(match difference {
+        None => Verdict::Right,
+        Some(_) => Verdict::Wrong,
+    })
+}
+
+/// The line of a file of checksums that differs so from a table, or not at all.
+fn sums_line(
+    alloc: Global,
+    name: &str,
+    table: &Table<'_>,
+    difference: Option<SumsDifference<'_>>,
+) -> Result<String, AllocError> {
+    let count = table.cases.len();
+    let rows = table.name;
+    match difference {
+        None => format!(in alloc; "{name}: {count} rows, as in {rows}\n"),
+        Some(SumsDifference::Row(row)) => format!(in alloc; "{name}: {row} is not as in {rows}\n"),
+        Some(SumsDifference::Line(line)) => format!(in alloc; "{name}: {line} is not in {rows}\n"),
+    }
 }
 
 /// Writes a line.
-fn write<O: Write>(output: &mut O, line: String) -> Result<(), RunError> {
+fn write<O: Write>(output: &mut O, line: Result<String, AllocError>) -> Result<(), RunError> {
+    let line = line?;
     match output.write_all(line.as_bytes()) {
         Ok(()) => Ok(()),
         Err(_) => Err(RunError::Unwritten),

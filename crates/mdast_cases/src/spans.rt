@@ -63,11 +63,16 @@ impl Walk<'_> {
     /// Begins spans, each in the one before it.
     fn begin_all(&mut self, spans: &str) -> Result<(), LineError> {
         for span in spans.split(" { ") {
-            let (enter, exit) = ends(self.document, span).ok_or(LineError::Unread)?;
-            self.events.push(enter)?;
-            self.open.push(exit)?;
+            self.begin(span)?;
         }
         Ok(())
+    }
+
+    /// Begins a span.
+    fn begin(&mut self, span: &str) -> Result<(), LineError> {
+        let (enter, exit) = ends(self.document, span).ok_or(LineError::Unread)?;
+        self.events.push(enter)?;
+        Ok(self.open.push(exit)?)
     }
 
     /// Ends the innermost open span.
@@ -106,15 +111,19 @@ fn point(document: &Document, text: &str) -> Option<Point> {
 
 /// The point that `line:column:index:vs` says.
 fn point_of_numbers(text: &str) -> Option<Point> {
-    let mut numbers = text.split(':');
-    let point = Point {
-        line: number(numbers.next()?)?,
-        column: number(numbers.next()?)?,
-        index: number(numbers.next()?)?,
-        vs: number(numbers.next()?)?,
-    };
-    match numbers.next() {
-        None => Some(point),
+    let mut parts = text.split(':');
+    let mut numbers = [0; 4];
+    for place in &mut numbers {
+        *place = number(parts.next()?)?;
+    }
+    let [line, column, index, vs] = numbers;
+    match parts.next() {
+        None => Some(Point {
+            line,
+            column,
+            index,
+            vs,
+        }),
         Some(_) => None,
     }
 }

@@ -7,7 +7,7 @@ use crate::case::Case;
 use std::alloc::{AllocError, Global};
 
 /// The checksum of lines: FNV-1a with 64 bits, over their bytes and the line feed after each.
-#[derive(Clone, Copy, PartialEq, Eq, Debug)]
+#[derive(Clone, Copy)]
 pub struct Checksum(u64);
 
 impl Checksum {
@@ -32,7 +32,7 @@ impl Checksum {
 }
 
 /// Where a file of checksums first differs from a table.
-#[derive(Clone, Copy, PartialEq, Eq, Debug)]
+#[derive(Clone, Copy)]
 pub enum SumsDifference<'a> {
     /// At this row of the table.
     Row(&'a str),

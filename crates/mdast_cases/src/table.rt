@@ -21,8 +21,9 @@
 use crate::case::{Case, Forms};
 use crate::decoder::CaseDecoder;
 use crate::document::Document;
-use crate::line::{Line, LineError, read_line};
-use crate::quoted::unescaped;
+use crate::hexadecimal::bytes_of_digits;
+use crate::line::{Line, LineError, LineKind, read_line};
+use crate::quoted::unquoted;
 use crate::spans::events_of_spans;
 use crate::sums::Checksum;
 use event_lines::lines::events;
@@ -30,7 +31,7 @@ use markdown_nodes::event::Event;
 use std::alloc::{AllocError, AllocFailed, Global};
 
 /// Why a table was not read.
-#[derive(Debug, Drop)]
+#[derive(Drop)]
 pub enum TableError {
     /// This line, counted from 1, cannot be read; or it names a case that has no document or no
     /// answer.
@@ -53,12 +54,7 @@ pub fn cases(alloc: Global, table: &[u8]) -> Result<Vec<Case<'_>>, TableError> {
         draft: None,
         cases: Vec::new(alloc),
     };
-    let mut number: usize = 0;
-    for line in table.split(|byte| *byte == b'\n') {
-        number = number.saturating_add(1);
-        reader.line(number, line)?;
-    }
-    reader.end_case()?;
+    reader.read(table)?;
     Ok(reader.cases)
 }
 
@@ -76,39 +72,49 @@ struct Reader<'a> {
 }
 
 impl<'a> Reader<'a> {
+    /// Reads the lines of a table.
+    fn read(&mut self, table: &'a [u8]) -> Result<(), TableError> {
+        let mut number: usize = 0;
+        for line in table.split(|byte| *byte == b'\n') {
+            number = number.saturating_add(1);
+            self.line(number, line)?;
+        }
+        self.end_case()
+    }
+
     /// Reads a line with this number.
     fn line(&mut self, number: usize, bytes: &'a [u8]) -> Result<(), TableError> {
-        let Ok(text) = str::from_utf8(bytes) else {
+        let Some(line) = line_of_bytes(bytes) else {
             return Err(TableError::Unread(number));
         };
-        match read_line(text) {
-            Some(Line::Nothing) => Ok(()),
-            Some(Line::Section(name)) => {
-                self.end_case()?;
-                self.section = name;
-                Ok(())
-            }
-            Some(Line::Case(name)) => {
-                self.end_case()?;
-                self.draft = Some(Draft::new(self.alloc, number, name));
-                Ok(())
-            }
-            Some(line) => self.line_of_case(number, line, text),
-            None => Err(TableError::Unread(number)),
+        match line.kind {
+            LineKind::Nothing => Ok(()),
+            LineKind::Section => self.begin_section(line.text),
+            LineKind::Case => self.begin_case(number, line.whole),
+            _ => self.line_of_case(number, line),
         }
     }
 
+    /// Begins the section of this name.
+    fn begin_section(&mut self, name: &'a str) -> Result<(), TableError> {
+        self.end_case()?;
+        self.section = name;
+        Ok(())
+    }
+
+    /// Begins the case of this name.
+    fn begin_case(&mut self, number: usize, name: &'a str) -> Result<(), TableError> {
+        self.end_case()?;
+        self.draft = Some(Draft::new(self.alloc, number, name));
+        Ok(())
+    }
+
     /// Reads a line of the case.
-    fn line_of_case(
-        &mut self,
-        number: usize,
-        line: Line<'a>,
-        text: &str,
-    ) -> Result<(), TableError> {
+    fn line_of_case(&mut self, number: usize, line: Line<'a>) -> Result<(), TableError> {
         let Some(draft) = &mut self.draft else {
             return Err(TableError::Unread(number));
         };
-        match draft.add(self.alloc, line, text) {
+        match draft.add(self.alloc, line) {
             Ok(()) => Ok(()),
             Err(LineError::Unread) => Err(TableError::Unread(number)),
             Err(LineError::Memory(error)) => Err(TableError::Memory(error)),
@@ -125,6 +131,14 @@ impl<'a> Reader<'a> {
             }
         }
         Ok(())
+    }
+}
+
+/// The line that these bytes are.
+fn line_of_bytes(bytes: &[u8]) -> Option<Line<'_>> {
+    match str::from_utf8(bytes) {
+        Ok(text) => read_line(text),
+        Err(_) => None,
     }
 }
 
@@ -168,52 +182,71 @@ impl<'a> Draft<'a> {
     }
 
     /// Adds what a line says.
-    fn add(&mut self, alloc: Global, line: Line<'a>, text: &str) -> Result<(), LineError> {
-        self.checksum = self.checksum.with_line(text);
-        match line {
-            Line::Quoted(text) => once(&mut self.document, Document::from_quoted(alloc, text)?),
-            Line::Hexadecimal(digits) => {
-                once(
-                    &mut self.document,
-                    Document::from_hexadecimal(alloc, digits)?,
-                )
-            }
-            Line::OneLine => self.join_lines(),
-            Line::Blank => {
-                self.decoder = CaseDecoder::Blank;
-                Ok(())
-            }
-            Line::Spans(text) => self.add_spans(alloc, text),
-            Line::Event(text) => Ok(self.events.append(&mut events(alloc, text.as_bytes())?)?),
-            Line::Answer(text) => once(&mut self.answer, text),
-            Line::Ordered(ordered) => once(&mut self.ordered, ordered),
-            Line::Json(text) => once(&mut self.forms.json, text),
-            Line::Plain(text) => once(&mut self.forms.plain, unescaped(alloc, text)?),
-            Line::Report(text) => once(&mut self.forms.report, unescaped(alloc, text)?),
-            Line::Nothing | Line::Section(_) | Line::Case(_) => Err(LineError::Unread),
+    fn add(&mut self, alloc: Global, line: Line<'a>) -> Result<(), LineError> {
+        self.checksum = self.checksum.with_line(line.whole);
+        let text = line.text;
+        match line.kind {
+            LineKind::Quoted => self.add_document(alloc, unquoted(alloc, text)),
+            LineKind::Hexadecimal => self.add_document(alloc, bytes_of_digits(alloc, text)),
+            LineKind::Columns => self.join_lines(text),
+            LineKind::Decoder => self.add_decoder(text),
+            LineKind::Spans => self.add_spans(alloc, text),
+            LineKind::Event => self.add_events(events_of_line(alloc, text)),
+            LineKind::Answer => once(&mut self.answer, text),
+            LineKind::Ordered => once_read(&mut self.ordered, answer_to(text)),
+            LineKind::Json => once(&mut self.forms.json, text),
+            LineKind::Plain => once_read(&mut self.forms.plain, unquoted(alloc, text)),
+            LineKind::Report => once_read(&mut self.forms.report, unquoted(alloc, text)),
+            LineKind::Nothing | LineKind::Section | LineKind::Case => Err(LineError::Unread),
         }
     }
 
+    /// Adds the document, of which these bytes were read.
+    fn add_document(
+        &mut self,
+        alloc: Global,
+        bytes: Result<Vec<u8>, LineError>,
+    ) -> Result<(), LineError> {
+        let document = Document::new(alloc, bytes?)?;
+        once(&mut self.document, document)
+    }
+
     /// The document is one line, which must be known before the events.
-    fn join_lines(&mut self) -> Result<(), LineError> {
+    fn join_lines(&mut self, columns: &str) -> Result<(), LineError> {
+        if columns != "bytes" || !self.events.is_empty() {
+            return Err(LineError::Unread);
+        }
         match &mut self.document {
-            Some(document) if self.events.is_empty() => {
+            Some(document) => {
                 document.join_lines();
                 Ok(())
             }
-            _ => Err(LineError::Unread),
+            None => Err(LineError::Unread),
+        }
+    }
+
+    /// The decoder is the one of this name.
+    fn add_decoder(&mut self, name: &str) -> Result<(), LineError> {
+        if name == "blank" {
+            self.decoder = CaseDecoder::Blank;
+            Ok(())
+        } else {
+            Err(LineError::Unread)
         }
     }
 
     /// Adds the events of spans, for which the document must be known.
     fn add_spans(&mut self, alloc: Global, text: &str) -> Result<(), LineError> {
-        match &self.document {
-            Some(document) => {
-                let mut events = events_of_spans(alloc, document, text)?;
-                Ok(self.events.append(&mut events)?)
-            }
+        let events = match &self.document {
+            Some(document) => events_of_spans(alloc, document, text),
             None => Err(LineError::Unread),
-        }
+        };
+        self.add_events(events)
+    }
+
+    /// Adds events, if they were read.
+    fn add_events(&mut self, events: Result<Vec<Event>, LineError>) -> Result<(), LineError> {
+        Ok(self.events.append(&mut events?)?)
     }
 
     /// The case of a section, if nothing is missing.
@@ -232,10 +265,29 @@ impl<'a> Draft<'a> {
     }
 }
 
+/// The event that a line says.
+fn events_of_line(alloc: Global, line: &str) -> Result<Vec<Event>, LineError> {
+    Ok(events(alloc, line.as_bytes())?)
+}
+
+/// What `yes` or `no` says.
+fn answer_to(text: &str) -> Result<bool, LineError> {
+    match text {
+        "yes" => Ok(true),
+        "no" => Ok(false),
+        _ => Err(LineError::Unread),
+    }
+}
+
 /// Keeps what a line says. A case has at most one line for it.
 fn once<T: Drop>(place: &mut Option<T>, value: T) -> Result<(), LineError> {
     match place.replace(value) {
         None => Ok(()),
         Some(_) => Err(LineError::Unread),
     }
+}
+
+/// Keeps what was read of a line, if it was read.
+fn once_read<T: Drop>(place: &mut Option<T>, read: Result<T, LineError>) -> Result<(), LineError> {
+    once(place, read?)
 }

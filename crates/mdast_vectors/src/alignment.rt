@@ -7,7 +7,6 @@ use markdown_nodes::infer::gfm_table_align;
 use markdown_nodes::mdast::AlignKind;
 use std::alloc::{AllocError, Global};
 use std::process::Abort;
-use std::test::Fail;
 
 const TABLE: (usize, Name) = (0, Name::GfmTable);
 
@@ -57,7 +56,7 @@ fn aligned(
     alloc: Global,
     outline: &[(usize, Name)],
     want: &[AlignKind],
-) -> Result<(), Fail> {
+) -> Result<(), AllocError> {
     let events = spelled(alloc, outline)?;
     let kinds = table_align(alloc, events.as_slice(), 0)?;
     holds(
@@ -68,7 +67,7 @@ fn aligned(
 }
 
 #[test]
-fn colons_align_a_column(rt: HostRuntime) -> Result<(), Fail> {
+fn colons_align_a_column(rt: HostRuntime) -> Result<(), AllocError> {
     let want = [
         AlignKind::None,
         AlignKind::Left,
@@ -81,11 +80,11 @@ fn colons_align_a_column(rt: HostRuntime) -> Result<(), Fail> {
 }
 
 #[test]
-fn a_table_without_its_row_has_no_column(rt: HostRuntime) -> Result<(), Fail> {
+fn a_table_without_its_row_has_no_column(rt: HostRuntime) -> Result<(), AllocError> {
     aligned(&rt, rt.alloc(), &NO_ROW, &[])
 }
 
 #[test]
-fn a_second_row_aligns_nothing(rt: HostRuntime) -> Result<(), Fail> {
+fn a_second_row_aligns_nothing(rt: HostRuntime) -> Result<(), AllocError> {
     aligned(&rt, rt.alloc(), &SECOND_ROW, &[AlignKind::Center])
 }

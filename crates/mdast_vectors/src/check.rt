@@ -1,32 +1,14 @@
 //! What is found in trees that no list of events gives. A reference to a link or an image is answered
 //! by a definition, one to a footnote by a footnote definition. The cases of `forms.txt` have more.
 
-use crate::expect::{holds_in, same};
+use crate::expect::{prints, same};
+use crate::trees::{add, alone, blockquote, own, quoted, root, text};
 use markdown_nodes::mdast;
 use markdown_nodes::mdast::{Node, ReferenceKind};
 use mdast_check::outline::headings;
 use mdast_check::references::{Open, open_references};
 use std::alloc::{AllocError, Global};
 use std::process::Abort;
-use std::test::Fail;
-
-fn own(alloc: Global, text: &str) -> Result<String, AllocError> {
-    String::from_str(alloc, text)
-}
-
-fn root(children: Vec<Node>) -> Node {
-    Node::Root(mdast::Root {
-        children,
-        position: None,
-    })
-}
-
-fn blockquote(children: Vec<Node>) -> Node {
-    Node::Blockquote(mdast::Blockquote {
-        children,
-        position: None,
-    })
-}
 
 fn heading(depth: u8, children: Vec<Node>) -> Node {
     Node::Heading(mdast::Heading {
@@ -34,13 +16,6 @@ fn heading(depth: u8, children: Vec<Node>) -> Node {
         position: None,
         depth,
     })
-}
-
-fn text(alloc: Global, value: &str) -> Result<Node, AllocError> {
-    Ok(Node::Text(mdast::Text {
-        value: own(alloc, value)?,
-        position: None,
-    }))
 }
 
 /// A link by reference, with no text.
@@ -86,45 +61,49 @@ fn definition(alloc: Global, identifier: &str) -> Result<Node, AllocError> {
 }
 
 /// The open references of a tree are printed so.
-fn opens(rt: &impl Abort, alloc: Global, tree: &Node, want: &str) -> Result<(), Fail> {
+fn opens(rt: &impl Abort, alloc: Global, tree: &Node, want: &str) -> Result<(), AllocError> {
     let found = open_references(alloc, tree)?;
-    same(rt, format!(in alloc; "{found:?}")?.as_str(), want);
-    Ok(())
+    prints(rt, alloc, &found, want)
 }
 
 /// The headings of a tree are printed so.
-fn lists(rt: &impl Abort, alloc: Global, tree: &Node, want: &str) -> Result<(), Fail> {
+fn lists(rt: &impl Abort, alloc: Global, tree: &Node, want: &str) -> Result<(), AllocError> {
     let found = headings(alloc, tree)?;
-    same(rt, format!(in alloc; "{found:?}")?.as_str(), want);
-    Ok(())
+    prints(rt, alloc, &found, want)
 }
 
 /// A tree may be a single node of any kind.
 #[test]
-fn trees_of_one_node(rt: HostRuntime) -> Result<(), Fail> {
-    let alloc = rt.alloc();
-    let empty = root(Vec::new(alloc));
-    opens(&rt, alloc, &empty, "[]")?;
-    lists(&rt, alloc, &empty, "[]")?;
-    let alone = heading(0, Vec::new(alloc));
-    lists(&rt, alloc, &alone, "[Title { depth: 0, text: \"\" }]")?;
-    let reference = footnote(alloc, "a")?;
+fn trees_of_one_node(rt: HostRuntime) -> Result<(), AllocError> {
+    let empty = root(Vec::new(rt.alloc()));
+    opens(&rt, rt.alloc(), &empty, "[]")?;
+    lists(&rt, rt.alloc(), &empty, "[]")?;
+    let alone = heading(0, Vec::new(rt.alloc()));
+    lists(&rt, rt.alloc(), &alone, "[Title { depth: 0, text: \"\" }]")?;
+    let reference = footnote(rt.alloc(), "a")?;
     opens(
         &rt,
-        alloc,
+        rt.alloc(),
         &reference,
         "[Open { kind: Footnote, identifier: \"a\", position: None }]",
     )
 }
 
+/// A root of a link to `a` and a definition of `A`.
+fn capital(alloc: Global) -> Result<Node, AllocError> {
+    let mut nodes = Vec::new(alloc);
+    add(&mut nodes, link(alloc, "a"))?;
+    add(&mut nodes, definition(alloc, "A"))?;
+    Ok(root(nodes))
+}
+
 /// Identifiers are compared as they are: those of mdast are normalized already.
 #[test]
-fn identifiers_in_capitals(rt: HostRuntime) -> Result<(), Fail> {
-    let alloc = rt.alloc();
-    let tree = root(vec![in alloc; link(alloc, "a")?, definition(alloc, "A")?]?);
+fn identifiers_in_capitals(rt: HostRuntime) -> Result<(), AllocError> {
+    let tree = capital(rt.alloc())?;
     opens(
         &rt,
-        alloc,
+        rt.alloc(),
         &tree,
         "[Open { kind: Link, identifier: \"a\", position: None }]",
     )
@@ -135,39 +114,48 @@ fn digits(alloc: Global, number: u32) -> Result<String, AllocError> {
     format!(in alloc; "{number}")
 }
 
-/// Links to a hundred identifiers, and definitions of those that are a multiple of three.
-fn hundred(alloc: Global) -> Result<Vec<Node>, AllocError> {
-    let mut nodes = Vec::new(alloc);
-    for number in 0..100 {
-        let identifier = digits(alloc, number)?;
-        nodes.push(link(alloc, identifier.as_str())?)?;
-        if number % 3 == 0 {
-            nodes.push(definition(alloc, identifier.as_str())?)?;
-        }
+/// Puts a link to a number, and where it is a multiple of three its definition, at the end of nodes.
+fn add_number(alloc: Global, nodes: &mut Vec<Node>, number: u32) -> Result<(), AllocError> {
+    let identifier = digits(alloc, number)?;
+    add(nodes, link(alloc, identifier.as_str()))?;
+    if number % 3 != 0 {
+        return Ok(());
     }
-    Ok(nodes)
+    add(nodes, definition(alloc, identifier.as_str()))
 }
 
-/// Whether this open reference is to this identifier.
-fn is_to(open: Option<&Open>, identifier: &str) -> bool {
-    match open {
-        Some(open) => open.identifier.as_str() == identifier,
-        None => false,
+/// A root of links to a hundred identifiers, and definitions of those that are a multiple of three.
+fn hundred(alloc: Global) -> Result<Node, AllocError> {
+    let mut nodes = Vec::new(alloc);
+    for number in 0..100 {
+        add_number(alloc, &mut nodes, number)?;
     }
+    Ok(root(nodes))
+}
+
+/// Stops the test where this open reference is not to this number.
+fn is_to(
+    rt: &impl Abort,
+    alloc: Global,
+    open: Option<&Open>,
+    number: u32,
+) -> Result<(), AllocError> {
+    let want = digits(alloc, number)?;
+    let found = open.map(|open| open.identifier.as_str());
+    same(rt, found, Some(want.as_str()));
+    Ok(())
 }
 
 /// Which of a hundred identifiers are missing: those that are no multiple of three.
 #[test]
-fn a_hundred_identifiers(rt: HostRuntime) -> Result<(), Fail> {
-    let alloc = rt.alloc();
-    let tree = root(hundred(alloc)?);
-    let found = open_references(alloc, &tree)?;
+fn a_hundred_identifiers(rt: HostRuntime) -> Result<(), AllocError> {
+    let tree = hundred(rt.alloc())?;
+    let found = open_references(rt.alloc(), &tree)?;
     same(&rt, found.len(), 66);
     let mut numbers = found.iter();
     for number in 0..100 {
         if number % 3 != 0 {
-            let want = digits(alloc, number)?;
-            holds_in(&rt, is_to(numbers.next(), want.as_str()), want.as_str());
+            is_to(&rt, rt.alloc(), numbers.next(), number)?;
         }
     }
     Ok(())
@@ -176,20 +164,31 @@ fn a_hundred_identifiers(rt: HostRuntime) -> Result<(), Fail> {
 /// How many block quotes stand in one another.
 const LEVELS: usize = 100_000;
 
+/// A block quote of a heading of the text `a` and an image of `b`.
+fn titled(alloc: Global) -> Result<Node, AllocError> {
+    let mut nodes = Vec::new(alloc);
+    add(&mut nodes, Ok(heading(6, alone(alloc, text(alloc, "a"))?)))?;
+    add(&mut nodes, image(alloc, "b"))?;
+    Ok(blockquote(nodes))
+}
+
+/// A root of that in as many block quotes, a link to `c` and a definition of `b`.
+fn levels(alloc: Global) -> Result<Node, AllocError> {
+    let mut nodes = Vec::new(alloc);
+    add(&mut nodes, quoted(alloc, titled(alloc)?, LEVELS))?;
+    add(&mut nodes, link(alloc, "c"))?;
+    add(&mut nodes, definition(alloc, "b"))?;
+    Ok(root(nodes))
+}
+
 #[test]
-fn a_hundred_thousand_levels(rt: HostRuntime) -> Result<(), Fail> {
-    let alloc = rt.alloc();
-    let title = heading(6, vec![in alloc; text(alloc, "a")?]?);
-    let mut tree = blockquote(vec![in alloc; title, image(alloc, "b")?]?);
-    for _ in 0..LEVELS {
-        tree = blockquote(vec![in alloc; tree]?);
-    }
-    let tree = root(vec![in alloc; tree, link(alloc, "c")?, definition(alloc, "b")?]?);
+fn a_hundred_thousand_levels(rt: HostRuntime) -> Result<(), AllocError> {
+    let tree = levels(rt.alloc())?;
     opens(
         &rt,
-        alloc,
+        rt.alloc(),
         &tree,
         "[Open { kind: Link, identifier: \"c\", position: None }]",
     )?;
-    lists(&rt, alloc, &tree, "[Title { depth: 6, text: \"a\" }]")
+    lists(&rt, rt.alloc(), &tree, "[Title { depth: 6, text: \"a\" }]")
 }

@@ -4,14 +4,14 @@ use crate::expect::same;
 use character_references::decoder::{Decoder, NoReferences};
 use character_references::named::NamedReferences;
 use character_references::references::References;
+use std::alloc::AllocError;
 use std::process::Abort;
-use std::test::Fail;
 
 /// A value with its marker, and its text where there is one.
 type Known = (&'static str, u8, Option<&'static str>);
 
 /// What the decoder of the programs says.
-const KNOWN: [Known; 28] = [
+static KNOWN: [Known; 28] = [
     ("amp", b'&', Some("&")),
     ("lt", b'&', Some("<")),
     ("gt", b'&', Some(">")),
@@ -48,7 +48,7 @@ const TABLE: &str =
     "copy=\u{A9}\nnot a line\ncopy=c\nempty=\nequals==\nNotEqualTilde=\u{2242}\u{338}";
 
 /// What the decoder with that table says.
-const NAMED: [Known; 13] = [
+static NAMED: [Known; 13] = [
     ("copy", b'&', Some("\u{A9}")),
     ("empty", b'&', Some("")),
     ("equals", b'&', Some("=")),
@@ -69,7 +69,7 @@ fn expect<R: References, A: Abort + AllocGlobal>(
     rt: &A,
     decoder: &R,
     table: &[Known],
-) -> Result<(), Fail> {
+) -> Result<(), AllocError> {
     for (value, marker, text) in table {
         let found = decoder.decode(rt.alloc(), value, *marker)?;
         same(rt, found.as_deref(), *text);
@@ -78,18 +78,20 @@ fn expect<R: References, A: Abort + AllocGlobal>(
 }
 
 #[test]
-fn decodes_names_and_numbers(rt: HostRuntime) -> Result<(), Fail> {
+fn decodes_names_and_numbers(rt: HostRuntime) -> Result<(), AllocError> {
     expect(&rt, &Decoder, &KNOWN)
 }
 
 #[test]
-fn decodes_the_names_of_a_table(rt: HostRuntime) -> Result<(), Fail> {
+fn decodes_the_names_of_a_table(rt: HostRuntime) -> Result<(), AllocError> {
     expect(&rt, &NamedReferences { table: TABLE }, &NAMED)
 }
 
+/// What each other decoder knows.
+static NOTHING: [Known; 3] = [("amp", b'&', None), ("65", b'#', None), ("41", b'x', None)];
+
 /// A decoder that knows nothing gives nothing, also for what each other one knows.
 #[test]
-fn decodes_nothing_at_all(rt: HostRuntime) -> Result<(), Fail> {
-    let nothing = [("amp", b'&', None), ("65", b'#', None), ("41", b'x', None)];
-    expect(&rt, &NoReferences, &nothing)
+fn decodes_nothing_at_all(rt: HostRuntime) -> Result<(), AllocError> {
+    expect(&rt, &NoReferences, &NOTHING)
 }

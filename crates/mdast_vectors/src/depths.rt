@@ -1,6 +1,6 @@
 //! Trees that are deep.
 
-use crate::expect::{holds, same};
+use crate::expect::{holds, same, says};
 use crate::ordered;
 use crate::outline::{compiled, spelled, spelled_to};
 use markdown_nodes::event::{Event, Name};
@@ -46,7 +46,7 @@ fn a_blank_line_in_the_innermost_of_nested_lists(rt: HostRuntime) -> Result<(), 
     let mut node = first_child(&tree);
     for level in 1..=400 {
         let found = node.and_then(spread);
-        assert_eq!(rt; found, Some(level == 400), "at {level}");
+        same(&rt, (level, found), (level, Some(level == 400)));
         node = node.and_then(first_child);
     }
     holds(&rt, matches!(node, Some(Node::Paragraph(_))));
@@ -127,15 +127,20 @@ fn expect(
     text: &str,
 ) -> Result<(), Fail> {
     let events = tower(alloc, outer, level, inner)?;
-    let tree = compiled(alloc, b"a", events.as_slice())?;
-    same(rt, tree.to_string(alloc)?.as_str(), text);
-    holds(rt, ordered(&tree));
-    let copy = tree.clone(alloc)?;
-    holds(rt, copy == tree);
-    drop(tree);
+    let copy = copied(rt, alloc, events.as_slice(), text)?;
     holds(rt, copy != compiled(alloc, b"b", events.as_slice())?);
     let line = line(alloc, outer, level, inner)?;
     printed(rt, alloc, &copy, line.as_str())
+}
+
+/// The copy of the tree over the byte `a`, which is ordered and has this text.
+fn copied(rt: &impl Abort, alloc: Global, events: &[Event], text: &str) -> Result<Node, Fail> {
+    let tree = compiled(alloc, b"a", events)?;
+    says(rt, tree.to_string(alloc), text)?;
+    holds(rt, ordered(&tree));
+    let copy = tree.clone(alloc)?;
+    holds(rt, copy == tree);
+    Ok(copy)
 }
 
 /// A tree is printed so, by Debug and as a text. A difference is not shown, for its length.

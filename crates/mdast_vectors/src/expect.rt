@@ -1,5 +1,6 @@
 //! What the tests ask: each comparison is proved once, and not in each test.
 
+use std::alloc::{AllocError, Global};
 use std::fmt::Debug;
 use std::process::Abort;
 
@@ -11,6 +12,27 @@ pub fn same<T: PartialEq + Debug + Drop>(rt: &impl Abort, found: T, want: T) {
 /// As `same`, and says which case it is.
 pub fn same_in<T: PartialEq + Debug + Drop>(rt: &impl Abort, found: T, want: T, case: &str) {
     assert_eq!(rt; found, want, "{case}");
+}
+
+/// Stops the test where the text that was made is not the one that it must be.
+pub fn says(
+    rt: &impl Abort,
+    found: Result<String, AllocError>,
+    want: &str,
+) -> Result<(), AllocError> {
+    let found = found?;
+    same(rt, found.as_str(), want);
+    Ok(())
+}
+
+/// Stops the test where a value is not printed so.
+pub fn prints<T: Debug>(
+    rt: &impl Abort,
+    alloc: Global,
+    value: &T,
+    want: &str,
+) -> Result<(), AllocError> {
+    says(rt, format!(in alloc; "{value:?}"), want)
 }
 
 /// Stops the test where something does not hold.

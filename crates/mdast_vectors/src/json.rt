@@ -1,76 +1,68 @@
 //! What trees are as JSON that no list of events gives. The cases of `forms.txt` and of the lists of the
 //! original have each kind of node.
 
-use crate::expect::{holds, same};
+use crate::expect::{holds, says};
+use crate::trees::{add, quoted, root, text};
 use markdown_json::{to_json, to_json_utf16};
-use markdown_nodes::mdast;
-use markdown_nodes::mdast::Node;
 use markdown_nodes::unist::Position;
 use std::alloc::{AllocError, Global};
-use std::test::Fail;
-
-/// A text without a position.
-fn text(alloc: Global, value: &str) -> Result<Node, AllocError> {
-    Ok(Node::Text(mdast::Text {
-        value: String::from_str(alloc, value)?,
-        position: None,
-    }))
-}
+use std::process::Abort;
 
 #[test]
-fn nodes_without_positions(rt: HostRuntime) -> Result<(), Fail> {
-    let alloc = rt.alloc();
-    let tree = Node::Root(mdast::Root {
-        children: vec![in alloc; text(alloc, "a")?, text(alloc, "")?]?,
-        position: None,
-    });
-    same(
+fn nodes_without_positions(rt: HostRuntime) -> Result<(), AllocError> {
+    let mut children = Vec::new(rt.alloc());
+    add(&mut children, text(rt.alloc(), "a"))?;
+    add(&mut children, text(rt.alloc(), ""))?;
+    says(
         &rt,
-        to_json(alloc, &tree)?.as_str(),
+        to_json(rt.alloc(), &root(children)),
         r#"{"type":"root","children":[{"type":"text","value":"a"},{"type":"text","value":""}]}"#,
-    );
-    Ok(())
+    )
+}
+
+/// A text at a position is so as JSON, with the points in units, over two lines, of which the second
+/// begins with a tab.
+fn in_units(
+    rt: &impl Abort,
+    alloc: Global,
+    value: &str,
+    position: Position,
+    want: &str,
+) -> Result<(), AllocError> {
+    let document = "\u{E9}\n\t\u{1F600}!".as_bytes();
+    let mut node = text(alloc, value)?;
+    node.position_set(Some(position));
+    says(rt, to_json_utf16(alloc, document, &node), want)
 }
 
 /// In bytes the tab goes to column 5 and the character after it takes four; in units it takes two.
 #[test]
-fn points_in_utf16_units(rt: HostRuntime) -> Result<(), Fail> {
-    let alloc = rt.alloc();
-    let document = "\u{E9}\n\t\u{1F600}!".as_bytes();
-    let mut first = text(alloc, "\u{E9}")?;
-    first.position_set(Some(Position::new(1, 1, 0, 1, 3, 2)));
-    let mut last = text(alloc, "!")?;
-    last.position_set(Some(Position::new(2, 9, 8, 2, 10, 9)));
-    same(
-        &rt,
-        to_json_utf16(alloc, document, &first)?.as_str(),
-        "{\"type\":\"text\",\"value\":\"\u{E9}\",\"position\":{\"start\":{\"line\":1,\"column\":1,\"offset\":0},\"end\":{\"line\":1,\"column\":2,\"offset\":1}}}",
-    );
-    same(
-        &rt,
-        to_json_utf16(alloc, document, &last)?.as_str(),
-        r#"{"type":"text","value":"!","position":{"start":{"line":2,"column":7,"offset":5},"end":{"line":2,"column":8,"offset":6}}}"#,
-    );
-    Ok(())
+fn points_in_utf16_units(rt: HostRuntime) -> Result<(), AllocError> {
+    let first = Position::new(1, 1, 0, 1, 3, 2);
+    let line =
+        "{\"type\":\"text\",\"value\":\"\u{E9}\",\"position\":{\"start\":{\"line\":1,\"column\":1,\"offset\":0},\"end\":{\"line\":1,\"column\":2,\"offset\":1}}}";
+    in_units(&rt, rt.alloc(), "\u{E9}", first, line)?;
+    let last = Position::new(2, 9, 8, 2, 10, 9);
+    let line =
+        r#"{"type":"text","value":"!","position":{"start":{"line":2,"column":7,"offset":5},"end":{"line":2,"column":8,"offset":6}}}"#;
+    in_units(&rt, rt.alloc(), "!", last, line)
 }
 
 /// How many block quotes stand in one another.
 const LEVELS: usize = 100_000;
 
+/// The JSON of the text `a` in so many block quotes.
+fn levels(alloc: Global) -> Result<String, AllocError> {
+    let mut line = "{\"type\":\"blockquote\",\"children\":[".repeat(alloc, LEVELS)?;
+    line.push_str("{\"type\":\"text\",\"value\":\"a\"}")?;
+    line.push_str("]}".repeat(alloc, LEVELS)?.as_str())?;
+    Ok(line)
+}
+
 #[test]
-fn a_hundred_thousand_levels(rt: HostRuntime) -> Result<(), Fail> {
-    let alloc = rt.alloc();
-    let mut tree = text(alloc, "a")?;
-    for _ in 0..LEVELS {
-        tree = Node::Blockquote(mdast::Blockquote {
-            children: vec![in alloc; tree]?,
-            position: None,
-        });
-    }
-    let line = to_json(alloc, &tree)?;
-    let mut want = "{\"type\":\"blockquote\",\"children\":[".repeat(alloc, LEVELS)?;
-    want.push_str("{\"type\":\"text\",\"value\":\"a\"}")?;
-    want.push_str("]}".repeat(alloc, LEVELS)?.as_str())?;
-    holds(&rt, line == want);
+fn a_hundred_thousand_levels(rt: HostRuntime) -> Result<(), AllocError> {
+    let tree = quoted(rt.alloc(), text(rt.alloc(), "a")?, LEVELS)?;
+    let line = to_json(rt.alloc(), &tree)?;
+    holds(&rt, line == levels(rt.alloc())?);
     Ok(())
 }

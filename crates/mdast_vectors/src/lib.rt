@@ -14,6 +14,8 @@
 #[cfg(test)]
 mod alignment;
 #[cfg(test)]
+mod bytes;
+#[cfg(test)]
 mod check;
 #[cfg(test)]
 mod debug_form;
@@ -51,6 +53,8 @@ mod spans;
 mod spread;
 #[cfg(test)]
 mod texts;
+#[cfg(test)]
+mod trees;
 #[cfg(test)]
 mod unbalanced;
 

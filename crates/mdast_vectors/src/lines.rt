@@ -2,7 +2,7 @@
 
 ghost use Rattle.std.specs.Prelude.{◌<◌};
 
-use crate::expect::{holds, same};
+use crate::expect::{holds, prints, same};
 use event_lines::lines::events;
 use markdown_nodes::event::{Event, Kind, Name, Point};
 use mdast_programs::check::run_check;
@@ -119,24 +119,25 @@ fn prints_json(rt: HostRuntime) {
     expect_json(&rt, b"+Data 1:1:0\n+Data\n", unread, 2);
 }
 
+/// Copies of arguments.
+fn owned(alloc: Global, arguments: [Option<&str>; 3]) -> Result<[Option<String>; 3], AllocError> {
+    let [first, second, third] = arguments;
+    Ok([own(alloc, first)?, own(alloc, second)?, own(alloc, third)?])
+}
+
 /// What arguments ask `mdast_json` for.
 fn expect_json_request<R: Abort + AllocGlobal>(
     rt: &R,
     arguments: [Option<&str>; 3],
     request: &str,
-) -> Result<(), Fail> {
-    let [first, second, third] = arguments;
-    let found = json_request(
-        own(rt.alloc(), first)?,
-        own(rt.alloc(), second)?,
-        own(rt.alloc(), third)?,
-    );
-    same(rt, format!(in rt.alloc(); "{found:?}")?.as_str(), request);
-    Ok(())
+) -> Result<(), AllocError> {
+    let [first, second, third] = owned(rt.alloc(), arguments)?;
+    let found = json_request(first, second, third);
+    prints(rt, rt.alloc(), &found, request)
 }
 
 #[test]
-fn takes_a_document_and_an_option(rt: HostRuntime) -> Result<(), Fail> {
+fn takes_a_document_and_an_option(rt: HostRuntime) -> Result<(), AllocError> {
     let doc = Some("hi.md");
     expect_json_request(&rt, [doc, None, None], "Some((Json, \"hi.md\"))")?;
     let option = Some("--utf16");
@@ -220,15 +221,10 @@ fn expect_request<R: Abort + AllocGlobal>(
     rt: &R,
     arguments: [Option<&str>; 3],
     request: &str,
-) -> Result<(), Fail> {
-    let [first, second, third] = arguments;
-    let found = Request::of(
-        own(rt.alloc(), first)?,
-        own(rt.alloc(), second)?,
-        own(rt.alloc(), third)?,
-    );
-    same(rt, format!(in rt.alloc(); "{found:?}")?.as_str(), request);
-    Ok(())
+) -> Result<(), AllocError> {
+    let [first, second, third] = owned(rt.alloc(), arguments)?;
+    let found = Request::of(first, second, third);
+    prints(rt, rt.alloc(), &found, request)
 }
 
 /// A copy of an argument.
@@ -240,7 +236,7 @@ fn own(alloc: Global, argument: Option<&str>) -> Result<Option<String>, AllocErr
 }
 
 #[test]
-fn tells_what_the_arguments_ask_for(rt: HostRuntime) -> Result<(), Fail> {
+fn tells_what_the_arguments_ask_for(rt: HostRuntime) -> Result<(), AllocError> {
     let doc = Some("hi.md");
     let check = Some("--check");
     expect_request(&rt, [None, None, None], "None")?;
@@ -284,47 +280,52 @@ fn prints_a_refusal(rt: HostRuntime) {
     expect(&rt, &mut input, error_kind, 1);
 }
 
+/// Events, and the line of each list that cannot be read.
+static UNREAD: [(&[u8], usize); 9] = [
+    (b"+Nope 1:1:0\n+Paragraph 1:1:0\n", 1),
+    (b"Data 1:1:0\n", 1),
+    (b"+Data 1:1\n", 1),
+    (b"\n+Data 1:1:0:\n", 2),
+    (b"+Data 1:1:0\n+Data  1:1:0", 2),
+    (b"\n\n+Data 1:1:18446744073709551616\n", 3),
+    (b"+D\xFFta 1:1:0\n", 1),
+    (b"+Data 1:1:0\r\n", 1),
+    (b"+Data 1:1:0\n\n+Data 1:1:0\nx\ny\n", 4),
+];
+
 #[test]
-fn numbers_a_line_that_cannot_be_read(rt: HostRuntime) -> Result<(), Fail> {
-    for (text, number) in [
-        (b"+Nope 1:1:0\n+Paragraph 1:1:0\n".as_slice(), 1),
-        (b"Data 1:1:0\n".as_slice(), 1),
-        (b"+Data 1:1\n".as_slice(), 1),
-        (b"\n+Data 1:1:0:\n".as_slice(), 2),
-        (b"+Data 1:1:0\n+Data  1:1:0".as_slice(), 2),
-        (b"\n\n+Data 1:1:18446744073709551616\n".as_slice(), 3),
-        (b"+D\xFFta 1:1:0\n".as_slice(), 1),
-        (b"+Data 1:1:0\r\n".as_slice(), 1),
-        (b"+Data 1:1:0\n\n+Data 1:1:0\nx\ny\n".as_slice(), 4),
-    ] {
-        let mut input = text;
+fn numbers_a_line_that_cannot_be_read(rt: HostRuntime) -> Result<(), AllocError> {
+    for (text, number) in &UNREAD {
+        let mut input = *text;
         let line = format!(in rt.alloc(); "mdast_show: event line {number} cannot be read\n")?;
         expect(&rt, &mut input, line.as_str(), 2);
     }
     Ok(())
 }
 
+/// An event is this one, with as many virtual spaces.
+fn is_event(rt: &impl Abort, event: Event, kind: Kind, name: Name, vs: usize) {
+    holds(rt, event.kind == kind);
+    holds(rt, event.name == name);
+    same(rt, event.point.vs, vs);
+}
+
 #[test]
 fn reads_virtual_spaces(rt: HostRuntime) -> Result<(), Fail> {
     let read = events(rt.alloc(), b"+Data 1:1:0:0\n\n-Data 1:3:2:7\n+Link 2:03:4")?;
     same(&rt, read.len(), 3);
-    for (event, kind, name, vs) in [
-        (read[0], Kind::Enter, Name::Data, 0),
-        (read[1], Kind::Exit, Name::Data, 7),
-        (read[2], Kind::Enter, Name::Link, 0),
-    ] {
-        holds(&rt, event.kind == kind);
-        holds(&rt, event.name == name);
-        same(&rt, event.point.vs, vs);
-    }
+    is_event(&rt, read[0], Kind::Enter, Name::Data, 0);
+    is_event(&rt, read[1], Kind::Exit, Name::Data, 7);
+    is_event(&rt, read[2], Kind::Enter, Name::Link, 0);
     same(&rt, read[2].point.line, 2);
     same(&rt, read[2].point.column, 3);
     same(&rt, read[2].point.index, 4);
     Ok(())
 }
 
-/// A point.
-fn point(line: usize, column: usize, index: usize, vs: usize) -> Point {
+/// The point of a line, a column, an index and virtual spaces.
+fn point(numbers: [usize; 4]) -> Point {
+    let [line, column, index, vs] = numbers;
     Point {
         line,
         column,
@@ -359,35 +360,52 @@ fn say_twice(text: &mut String, point: &str) -> Result<(), AllocError> {
     Ok(())
 }
 
+/// Points as they are said, some of them again.
+static POINTS: [(&str, [usize; 4]); 9] = [
+    ("1:1:0", [1, 1, 0, 0]),
+    ("1:1:01", [1, 1, 1, 0]),
+    ("1:1:0:3", [1, 1, 0, 3]),
+    ("1:1:0", [1, 1, 0, 0]),
+    ("1234567:12345678:0", [1_234_567, 12_345_678, 0, 0]),
+    ("123456789:1:0", [123_456_789, 1, 0, 0]),
+    (
+        "1:10000000000:100000000000000:2",
+        [1, 10_000_000_000, 100_000_000_000_000, 2],
+    ),
+    (
+        "1:10000000000:100000000000000:21",
+        [1, 10_000_000_000, 100_000_000_000_000, 21],
+    ),
+    (
+        "18446744073709551615:1:18446744073709551615",
+        [usize::MAX, 1, usize::MAX, 0],
+    ),
+];
+
+/// The lines of two events at each of these points.
+fn text_of_points(alloc: Global) -> Result<String, AllocError> {
+    let mut text = String::new(alloc);
+    for (said, _) in &POINTS {
+        say_twice(&mut text, said)?;
+    }
+    Ok(text)
+}
+
+/// Two events at each of these points.
+fn events_of_points(alloc: Global) -> Result<Vec<Event>, AllocError> {
+    let mut events = Vec::new(alloc);
+    for (_, numbers) in &POINTS {
+        let point = point(*numbers);
+        events.extend_from_slice(&events_at(point))?;
+    }
+    Ok(events)
+}
+
 /// A point that is said again is the same, however long its text is, and another one is read.
 #[test]
 fn reads_points_that_are_said_again(rt: HostRuntime) -> Result<(), Fail> {
-    let points = [
-        ("1:1:0", point(1, 1, 0, 0)),
-        ("1:1:01", point(1, 1, 1, 0)),
-        ("1:1:0:3", point(1, 1, 0, 3)),
-        ("1:1:0", point(1, 1, 0, 0)),
-        ("1234567:12345678:0", point(1_234_567, 12_345_678, 0, 0)),
-        ("123456789:1:0", point(123_456_789, 1, 0, 0)),
-        (
-            "1:10000000000:100000000000000:2",
-            point(1, 10_000_000_000, 100_000_000_000_000, 2),
-        ),
-        (
-            "1:10000000000:100000000000000:21",
-            point(1, 10_000_000_000, 100_000_000_000_000, 21),
-        ),
-        (
-            "18446744073709551615:1:18446744073709551615",
-            point(usize::MAX, 1, usize::MAX, 0),
-        ),
-    ];
-    let mut text = String::new(rt.alloc());
-    let mut wanted = Vec::new(rt.alloc());
-    for (said, point) in points {
-        say_twice(&mut text, said)?;
-        wanted.extend_from_slice(&events_at(point))?;
-    }
+    let text = text_of_points(rt.alloc())?;
+    let wanted = events_of_points(rt.alloc())?;
     let read = events(rt.alloc(), text.as_bytes())?;
     same(&rt, read.as_slice(), wanted.as_slice());
     Ok(())

@@ -1,6 +1,6 @@
 //! What `compile` asks of memory.
 
-use crate::expect::{holds, same};
+use crate::expect::{holds, says};
 use crate::ordered;
 use crate::outline::{compiled, spelled, spelled_to};
 use markdown_nodes::event::{Event, Name};
@@ -8,6 +8,7 @@ use markdown_nodes::mdast::Node;
 use markdown_nodes::message::Fault;
 use markdown_tree::to_mdast::{References, compile};
 use std::alloc::{AllocError, Global};
+use std::process::Abort;
 use std::test::Fail;
 
 /// A decoder that never has memory.
@@ -70,23 +71,24 @@ fn wide_and_deep(alloc: Global, depth: usize, end: usize) -> Result<Vec<Event>, 
     spelled_to(alloc, outline.as_slice(), end)
 }
 
+/// A tree is printed alike by Debug and as a text.
+fn is_printed_alike(rt: &impl Abort, alloc: Global, tree: &Node) -> Result<(), AllocError> {
+    let line = tree.to_debug_string(alloc)?;
+    let shown = format!(in alloc; "{tree:?}")?;
+    holds(rt, shown == line);
+    Ok(())
+}
+
 /// `scripts/release-memory` shows that all memory is given back, whichever request is refused.
 #[test]
 fn a_wide_and_deep_tree(rt: HostRuntime) -> Result<(), Fail> {
-    let alloc = rt.alloc();
-    let events = wide_and_deep(alloc, 20, 1)?;
-    let tree = compiled(alloc, b"a", events.as_slice())?;
-    let copy = tree.clone(alloc)?;
+    let events = wide_and_deep(rt.alloc(), 20, 1)?;
+    let tree = compiled(rt.alloc(), b"a", events.as_slice())?;
+    let copy = tree.clone(rt.alloc())?;
     holds(&rt, copy == tree);
-    same(
-        &rt,
-        copy.to_string(alloc)?.as_str(),
-        "a".repeat(alloc, 80)?.as_str(),
-    );
-    holds(
-        &rt,
-        format!(in alloc; "{copy:?}")? == tree.to_debug_string(alloc)?,
-    );
+    let text = "a".repeat(rt.alloc(), 80)?;
+    says(&rt, copy.to_string(rt.alloc()), text.as_str())?;
+    is_printed_alike(&rt, rt.alloc(), &copy)?;
     Ok(())
 }
 

@@ -1,25 +1,34 @@
 //! Rows of names and of points.
 
-use crate::expect::{holds, same};
+use crate::expect::{holds, prints, same};
 use markdown_nodes::event::{Name, Point};
 use markdown_nodes::unist;
-use std::test::Fail;
+use std::alloc::AllocError;
+use std::process::Abort;
+
+/// Names, and how they are written.
+static WRITTEN: [(Name, &str); 4] = [
+    (Name::Data, "Data"),
+    (Name::BlockQuote, "BlockQuote"),
+    (Name::LineEnding, "LineEnding"),
+    (
+        Name::GfmTaskListItemValueChecked,
+        "GfmTaskListItemValueChecked",
+    ),
+];
+
+/// A name is written so, and is found by that.
+fn is_written(rt: &impl Abort, name: Name, text: &str) {
+    same(rt, name.text(), text);
+    holds(rt, Name::find(text) == Some(name));
+    holds(rt, Name::find_bytes(text.as_bytes()) == Some(name));
+    holds(rt, name.is(name));
+}
 
 #[test]
 fn names_are_written_as_they_are_called(rt: HostRuntime) {
-    for (name, text) in [
-        (Name::Data, "Data"),
-        (Name::BlockQuote, "BlockQuote"),
-        (Name::LineEnding, "LineEnding"),
-        (
-            Name::GfmTaskListItemValueChecked,
-            "GfmTaskListItemValueChecked",
-        ),
-    ] {
-        same(&rt, name.text(), text);
-        holds(&rt, Name::find(text) == Some(name));
-        holds(&rt, Name::find_bytes(text.as_bytes()) == Some(name));
-        holds(&rt, name.is(name));
+    for (name, text) in &WRITTEN {
+        is_written(&rt, *name, text);
     }
 }
 
@@ -32,43 +41,38 @@ fn other_words_are_no_names(rt: HostRuntime) {
     holds(&rt, !Name::HtmlFlow.is(Name::HtmlText));
 }
 
+/// Names, and whether each is that of a span that holds nothing, a delimiter row, or a delimiter cell
+/// value.
+static ROLES: [(Name, bool, bool, bool); 6] = [
+    (Name::LineEnding, true, false, false),
+    (Name::BlankLineEnding, true, false, false),
+    (Name::SpaceOrTab, true, false, false),
+    (Name::GfmTableDelimiterRow, false, true, false),
+    (Name::GfmTableDelimiterCellValue, false, false, true),
+    (Name::Paragraph, false, false, false),
+];
+
 #[test]
 fn roles_say_what_well_formedness_asks(rt: HostRuntime) {
-    for (name, nothing, row, value) in [
-        (Name::LineEnding, true, false, false),
-        (Name::BlankLineEnding, true, false, false),
-        (Name::SpaceOrTab, true, false, false),
-        (Name::GfmTableDelimiterRow, false, true, false),
-        (Name::GfmTableDelimiterCellValue, false, false, true),
-        (Name::Paragraph, false, false, false),
-    ] {
+    for (name, nothing, row, value) in &ROLES {
         let role = name.role();
-        same(&rt, role.is_sealed(), nothing);
-        same(&rt, role.is_delimiter_row(), row);
-        same(&rt, role.is_delimiter_cell_value(), value);
+        same(&rt, role.is_sealed(), *nothing);
+        same(&rt, role.is_delimiter_row(), *row);
+        same(&rt, role.is_delimiter_cell_value(), *value);
     }
 }
 
 #[test]
-fn points_lose_their_virtual_spaces(rt: HostRuntime) -> Result<(), Fail> {
+fn points_lose_their_virtual_spaces(rt: HostRuntime) -> Result<(), AllocError> {
     let point = Point {
         line: 1,
         column: 3,
         index: 2,
         vs: 1,
     };
-    holds(&rt, point.to_unist() == unist::Point::new(1, 3, 2));
     let place = point.to_unist();
-    same(
-        &rt,
-        format!(in rt.alloc(); "{place:?}")?.as_str(),
-        "1:3 (2)",
-    );
+    holds(&rt, place == unist::Point::new(1, 3, 2));
+    prints(&rt, rt.alloc(), &place, "1:3 (2)")?;
     let position = unist::Position::new(1, 1, 0, 1, 3, 2);
-    same(
-        &rt,
-        format!(in rt.alloc(); "{position:?}")?.as_str(),
-        "1:1-1:3 (0-2)",
-    );
-    Ok(())
+    prints(&rt, rt.alloc(), &position, "1:1-1:3 (0-2)")
 }

@@ -2,14 +2,15 @@
 
 ghost use Rattle.std.specs.Prelude.{Some, codes};
 
-use crate::expect::holds;
+use crate::expect::{holds, same};
 use crate::ordered;
-use crate::outline::{compiled, event_at};
-use markdown_nodes::event::{Event, Kind, Name};
+use crate::outline::{compiled, events_at};
+use markdown_nodes::event::{Kind, Name};
 use markdown_nodes::mdast::{List, ListItem, Node, Paragraph, Root};
 use markdown_nodes::unist::Position;
 use markdown_tree::to_mdast::{References, compile};
 use std::alloc::{AllocError, Global};
+use std::process::Abort;
 use std::test::Fail;
 
 /// A decoder that gives one space for every value.
@@ -78,89 +79,99 @@ fn checked_item(alloc: Global, position: Option<Position>) -> Result<Node, Alloc
     Ok(root(Vec::from_array(alloc, [list])?))
 }
 
+/// The events of `* [x]`, with a reference of no bytes after the mark.
+static MARKED: [(Kind, Name, usize); 16] = [
+    (Kind::Enter, Name::ListUnordered, 0),
+    (Kind::Enter, Name::ListItem, 0),
+    (Kind::Enter, Name::ListItemPrefix, 0),
+    (Kind::Exit, Name::ListItemPrefix, 2),
+    (Kind::Enter, Name::Paragraph, 2),
+    (Kind::Enter, Name::GfmTaskListItemValueChecked, 3),
+    (Kind::Exit, Name::GfmTaskListItemValueChecked, 4),
+    (Kind::Enter, Name::CharacterReference, 5),
+    (Kind::Enter, Name::CharacterReferenceMarker, 5),
+    (Kind::Exit, Name::CharacterReferenceMarker, 5),
+    (Kind::Enter, Name::CharacterReferenceValue, 5),
+    (Kind::Exit, Name::CharacterReferenceValue, 5),
+    (Kind::Exit, Name::CharacterReference, 5),
+    (Kind::Exit, Name::Paragraph, 5),
+    (Kind::Exit, Name::ListItem, 5),
+    (Kind::Exit, Name::ListUnordered, 5),
+];
+
 /// A reference of no bytes after the mark gives the space that is cut off with the mark, so that the
 /// paragraph starts a byte after its end.
 #[test]
 fn the_first_paragraph_of_a_checked_item_starts_after_its_end(rt: HostRuntime) -> Result<(), Fail> {
-    let alloc = rt.alloc();
-    let events = [
-        event_at(Kind::Enter, Name::ListUnordered, 0),
-        event_at(Kind::Enter, Name::ListItem, 0),
-        event_at(Kind::Enter, Name::ListItemPrefix, 0),
-        event_at(Kind::Exit, Name::ListItemPrefix, 2),
-        event_at(Kind::Enter, Name::Paragraph, 2),
-        event_at(Kind::Enter, Name::GfmTaskListItemValueChecked, 3),
-        event_at(Kind::Exit, Name::GfmTaskListItemValueChecked, 4),
-        event_at(Kind::Enter, Name::CharacterReference, 5),
-        event_at(Kind::Enter, Name::CharacterReferenceMarker, 5),
-        event_at(Kind::Exit, Name::CharacterReferenceMarker, 5),
-        event_at(Kind::Enter, Name::CharacterReferenceValue, 5),
-        event_at(Kind::Exit, Name::CharacterReferenceValue, 5),
-        event_at(Kind::Exit, Name::CharacterReference, 5),
-        event_at(Kind::Exit, Name::Paragraph, 5),
-        event_at(Kind::Exit, Name::ListItem, 5),
-        event_at(Kind::Exit, Name::ListUnordered, 5),
-    ];
-    let tree = compile(alloc, &events, b"* [x]", &Spaces)?;
-    holds(&rt, tree == checked_item(alloc, between(6, 5))?);
+    let events = events_at(rt.alloc(), &MARKED)?;
+    let tree = compile(rt.alloc(), events.as_slice(), b"* [x]", &Spaces)?;
+    holds(&rt, tree == checked_item(rt.alloc(), between(6, 5))?);
     holds(&rt, ordered(&tree));
     Ok(())
 }
 
 /// So may that paragraph alone, and even it may not end after its item.
 #[test]
-fn only_the_first_paragraph_of_a_checked_item_may_do_so(rt: HostRuntime) -> Result<(), Fail> {
-    let alloc = rt.alloc();
-    holds(&rt, !ordered(&paragraphs(alloc, &[between(6, 5)])?));
-    holds(&rt, !ordered(&checked_item(alloc, between(6, 6))?));
+fn only_the_first_paragraph_of_a_checked_item_may_do_so(rt: HostRuntime) -> Result<(), AllocError> {
+    are_ordered(&rt, rt.alloc(), &[between(6, 5)], false)?;
+    let tree = checked_item(rt.alloc(), between(6, 6))?;
+    holds(&rt, !ordered(&tree));
     Ok(())
 }
+
+/// The events of two paragraphs, of which the second stands before the first.
+static FALLING: [(Kind, Name, usize); 8] = [
+    (Kind::Enter, Name::Paragraph, 1),
+    (Kind::Enter, Name::Data, 1),
+    (Kind::Exit, Name::Data, 2),
+    (Kind::Exit, Name::Paragraph, 2),
+    (Kind::Enter, Name::Paragraph, 0),
+    (Kind::Enter, Name::Data, 0),
+    (Kind::Exit, Name::Data, 1),
+    (Kind::Exit, Name::Paragraph, 1),
+];
 
 /// `compile` takes events whose offsets go back, and makes a tree of them.
 #[test]
 fn paragraphs_in_falling_order(rt: HostRuntime) -> Result<(), Fail> {
-    let alloc = rt.alloc();
-    let events = [
-        event_at(Kind::Enter, Name::Paragraph, 1),
-        event_at(Kind::Enter, Name::Data, 1),
-        event_at(Kind::Exit, Name::Data, 2),
-        event_at(Kind::Exit, Name::Paragraph, 2),
-        event_at(Kind::Enter, Name::Paragraph, 0),
-        event_at(Kind::Enter, Name::Data, 0),
-        event_at(Kind::Exit, Name::Data, 1),
-        event_at(Kind::Exit, Name::Paragraph, 1),
-    ];
-    let tree = compiled(alloc, b"ab", &events)?;
+    let events = events_at(rt.alloc(), &FALLING)?;
+    let tree = compiled(rt.alloc(), b"ab", events.as_slice())?;
     holds(&rt, tree.position() == between(1, 1).as_ref());
     holds(&rt, !ordered(&tree));
     Ok(())
 }
 
-#[test]
-fn a_node_without_a_position(rt: HostRuntime) -> Result<(), Fail> {
-    let alloc = rt.alloc();
-    holds(&rt, ordered(&paragraph(alloc, between(0, 1))));
-    holds(&rt, !ordered(&paragraph(alloc, None)));
-    holds(&rt, !ordered(&paragraphs(alloc, &[between(0, 1), None])?));
+/// Whether a root with paragraphs at these positions is ordered is said so.
+fn are_ordered(
+    rt: &impl Abort,
+    alloc: Global,
+    positions: &[Option<Position>],
+    want: bool,
+) -> Result<(), AllocError> {
+    let tree = paragraphs(alloc, positions)?;
+    same(rt, ordered(&tree), want);
     Ok(())
 }
 
 #[test]
-fn a_node_that_leaves_its_parent(rt: HostRuntime) -> Result<(), Fail> {
-    let alloc = rt.alloc();
-    holds(&rt, ordered(&paragraphs(alloc, &[between(0, 5)])?));
-    holds(&rt, !ordered(&paragraphs(alloc, &[between(0, 6)])?));
-    holds(&rt, !ordered(&paragraphs(alloc, &[between(4, 3)])?));
-    Ok(())
+fn a_node_without_a_position(rt: HostRuntime) -> Result<(), AllocError> {
+    holds(&rt, ordered(&paragraph(rt.alloc(), between(0, 1))));
+    holds(&rt, !ordered(&paragraph(rt.alloc(), None)));
+    are_ordered(&rt, rt.alloc(), &[between(0, 1), None], false)
+}
+
+#[test]
+fn a_node_that_leaves_its_parent(rt: HostRuntime) -> Result<(), AllocError> {
+    are_ordered(&rt, rt.alloc(), &[between(0, 5)], true)?;
+    are_ordered(&rt, rt.alloc(), &[between(0, 6)], false)?;
+    are_ordered(&rt, rt.alloc(), &[between(4, 3)], false)
 }
 
 /// The third begins before the first ends, and the second does not.
 #[test]
-fn siblings_out_of_order(rt: HostRuntime) -> Result<(), Fail> {
-    let alloc = rt.alloc();
+fn siblings_out_of_order(rt: HostRuntime) -> Result<(), AllocError> {
     let in_order = [between(0, 2), between(2, 3), between(3, 4)];
-    holds(&rt, ordered(&paragraphs(alloc, &in_order)?));
+    are_ordered(&rt, rt.alloc(), &in_order, true)?;
     let out_of_order = [between(0, 2), between(2, 3), between(1, 4)];
-    holds(&rt, !ordered(&paragraphs(alloc, &out_of_order)?));
-    Ok(())
+    are_ordered(&rt, rt.alloc(), &out_of_order, false)
 }

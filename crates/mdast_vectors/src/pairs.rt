@@ -5,6 +5,7 @@ use crate::outline::{compiled, event_at};
 use markdown_nodes::event::{Kind, Name};
 use markdown_nodes::message::Fault;
 use std::alloc::Global;
+use std::process::Abort;
 use std::test::Fail;
 
 /// How each name is written.
@@ -55,24 +56,26 @@ fn names(alloc: Global) -> Result<Vec<Name>, Fail> {
     Ok(names)
 }
 
+/// A span of the inner name in one of the outer name gives a tree or a message.
+fn is_answered(rt: &impl Abort, alloc: Global, outer: Name, inner: Name) {
+    let events = [
+        event_at(Kind::Enter, outer, 0),
+        event_at(Kind::Enter, inner, 0),
+        event_at(Kind::Exit, inner, 1),
+        event_at(Kind::Exit, outer, 2),
+    ];
+    let answer = compiled(alloc, b"ab", &events);
+    let is_fault = matches!(&answer, Err(Fault::Memory(_)));
+    assert!(rt; !is_fault, "{inner:?} in {outer:?}");
+}
+
 #[test]
 fn each_name_in_each_name_gives_a_tree_or_a_message(rt: HostRuntime) -> Result<(), Fail> {
-    let alloc = rt.alloc();
-    let names = names(alloc)?;
+    let names = names(rt.alloc())?;
     same(&rt, names.len(), 141);
     for outer in &names {
         for inner in &names {
-            let events = [
-                event_at(Kind::Enter, *outer, 0),
-                event_at(Kind::Enter, *inner, 0),
-                event_at(Kind::Exit, *inner, 1),
-                event_at(Kind::Exit, *outer, 2),
-            ];
-            let answer = compiled(alloc, b"ab", &events);
-            assert!(rt;
-                !matches!(&answer, Err(Fault::Memory(_))),
-                "{inner:?} in {outer:?}"
-            );
+            is_answered(&rt, rt.alloc(), *outer, *inner);
         }
     }
     Ok(())

@@ -1,6 +1,6 @@
 //! What each refusal says. The texts are those of the table in `docs/REFUSALS.md`.
 
-use crate::expect::{holds, same};
+use crate::expect::{holds, says};
 use event_lines::lines::LinesError;
 use markdown_grammar::error_kind::{ErrorKind, Stop};
 use markdown_nodes::event::Point;
@@ -9,10 +9,9 @@ use markdown_nodes::unist;
 use std::alloc::AllocError;
 use std::fmt::Display;
 use std::process::Abort;
-use std::test::Fail;
 
 /// Each refusal, with its rule and its reason.
-const REFUSALS: [(ErrorKind, &str, &str); 12] = [
+static REFUSALS: [(ErrorKind, &str, &str); 12] = [
     (
         ErrorKind::Unbalanced,
         "events-unbalanced",
@@ -95,8 +94,8 @@ fn each_refusal_names_its_rule_and_its_event(rt: HostRuntime) {
         index: 17,
         vs: 2,
     };
-    for (error_kind, rule_id, reason) in REFUSALS {
-        let fault = Stop::Refused(error_kind).at(point);
+    for (error_kind, rule_id, reason) in &REFUSALS {
+        let fault = Stop::Refused(*error_kind).at(point);
         holds(&rt, is_refusal(&fault, rule_id, reason));
     }
 }
@@ -118,14 +117,12 @@ fn expect_text<T: Display, A: Abort + AllocGlobal>(
     rt: &A,
     value: &T,
     text: &str,
-) -> Result<(), Fail> {
-    let found = value.to_string(rt.alloc())?;
-    same(rt, found.as_str(), text);
-    Ok(())
+) -> Result<(), AllocError> {
+    says(rt, value.to_string(rt.alloc()), text)
 }
 
 #[test]
-fn messages_and_faults_are_printed(rt: HostRuntime) -> Result<(), Fail> {
+fn messages_and_faults_are_printed(rt: HostRuntime) -> Result<(), AllocError> {
     let mut message = Message {
         place: Some(Place::Point(unist::Point::new(3, 5, 17))),
         reason: "a raw block has no fence",

@@ -2,8 +2,8 @@
 
 use crate::expect::same;
 use mdast_cases::run::{Input, run, status};
+use std::alloc::{AllocError, Global};
 use std::process::Abort;
-use std::test::Fail;
 
 /// A table of a row that has a tree, and of one that is refused.
 const ROWS: &str = r#"# A comment.
@@ -23,30 +23,41 @@ HardBreakTrailing 0-1
 ! break-unfinished 1:2 (1)
 "#;
 
+/// A file of this name and text.
+fn input(alloc: Global, name: &str, text: &str) -> Result<Input, AllocError> {
+    Ok(Input {
+        name: String::from_str(alloc, name)?,
+        bytes: text.as_bytes().to_vec(alloc)?,
+    })
+}
+
+/// Files of these names and texts.
+fn inputs(alloc: Global, files: &[(&str, &str)]) -> Result<Vec<Input>, AllocError> {
+    let mut inputs = Vec::new(alloc);
+    for (name, text) in files {
+        inputs.push(input(alloc, name, text)?)?;
+    }
+    Ok(inputs)
+}
+
 /// Runs the program over files, and compares what it does.
 fn expect<R: Abort + AllocGlobal>(
     rt: &R,
     files: &[(&str, &str)],
     said: &str,
     ended: u8,
-) -> Result<(), Fail> {
-    let alloc = rt.alloc();
-    let mut inputs = Vec::new(alloc);
-    for (name, text) in files {
-        let name = String::from_str(alloc, name)?;
-        let bytes = text.as_bytes().to_vec(alloc)?;
-        inputs.push(Input { name, bytes })?;
-    }
-    let mut output = Vec::new(alloc);
-    let verdict = run(alloc, inputs.as_slice(), &mut output);
-    let status = status(alloc, verdict, &mut output);
+) -> Result<(), AllocError> {
+    let inputs = inputs(rt.alloc(), files)?;
+    let mut output = Vec::new(rt.alloc());
+    let verdict = run(rt.alloc(), inputs.as_slice(), &mut output);
+    let status = status(rt.alloc(), verdict, &mut output);
     same(rt, str::from_utf8(output.as_slice()), Ok(said));
     same(rt, status, ended);
     Ok(())
 }
 
 #[test]
-fn names_turned_answers(rt: HostRuntime) -> Result<(), Fail> {
+fn names_turned_answers(rt: HostRuntime) -> Result<(), AllocError> {
     let table =
         "row a\n\"a\"\nData 0-1\n! slice-invalid 1:1 (0)\n\ncase 7\ndoc\n= Root { children: [] }\n";
     let said =
@@ -55,7 +66,7 @@ fn names_turned_answers(rt: HostRuntime) -> Result<(), Fail> {
 }
 
 #[test]
-fn names_turned_orders(rt: HostRuntime) -> Result<(), Fail> {
+fn names_turned_orders(rt: HostRuntime) -> Result<(), AllocError> {
     let table =
         "row a\n\"a\"\nData 0-1\n= Root { children: [Text { value: \"a\", position: Some(1:1-1:2 (0-1)) }], position: Some(1:1-1:2 (0-1)) }\nordered no\n\nrow b\n\"ab\"\nParagraph 1-2, Paragraph 0-1\n= Root { children: [Paragraph { children: [], position: Some(1:2-1:3 (1-2)) }, Paragraph { children: [], position: Some(1:1-1:2 (0-1)) }], position: Some(1:2-1:2 (1-1)) }\nordered yes\n";
     let said =
@@ -63,72 +74,78 @@ fn names_turned_orders(rt: HostRuntime) -> Result<(), Fail> {
     expect(&rt, &[("x", table)], said, 1)
 }
 
+/// Checksums for the rows above, what is said of them, and the status.
+static CHECKSUMS: [(&str, &str, u8); 4] = [
+    (
+        "# A comment.\nTexts row a-text dd668283f150b65e\nBreaks row a-break-alone b89b56eb277dfbbe\n",
+        "y.sums: 2 rows, as in x\n",
+        0,
+    ),
+    (
+        "Texts row a-text dd668283f150b65e\nBreaks row a-break-alone b89b56eb277dfbbf\n",
+        "y.sums: row a-break-alone is not as in x\n",
+        1,
+    ),
+    (
+        "Texts row a-text dd668283f150b65e\n",
+        "y.sums: row a-break-alone is not as in x\n",
+        1,
+    ),
+    (
+        "Texts row a-text dd668283f150b65e\nBreaks row a-break-alone b89b56eb277dfbbe\nBreaks row b 0\n",
+        "y.sums: Breaks row b 0 is not in x\n",
+        1,
+    ),
+];
+
 #[test]
-fn names_rows_with_another_checksum(rt: HostRuntime) -> Result<(), Fail> {
-    for (sums, told, ended) in [
-        (
-            "# A comment.\nTexts row a-text dd668283f150b65e\nBreaks row a-break-alone b89b56eb277dfbbe\n",
-            "y.sums: 2 rows, as in x\n",
-            0,
-        ),
-        (
-            "Texts row a-text dd668283f150b65e\nBreaks row a-break-alone b89b56eb277dfbbf\n",
-            "y.sums: row a-break-alone is not as in x\n",
-            1,
-        ),
-        (
-            "Texts row a-text dd668283f150b65e\n",
-            "y.sums: row a-break-alone is not as in x\n",
-            1,
-        ),
-        (
-            "Texts row a-text dd668283f150b65e\nBreaks row a-break-alone b89b56eb277dfbbe\nBreaks row b 0\n",
-            "y.sums: Breaks row b 0 is not in x\n",
-            1,
-        ),
-    ] {
+fn names_rows_with_another_checksum(rt: HostRuntime) -> Result<(), AllocError> {
+    for (sums, told, ended) in &CHECKSUMS {
         let said = format!(in rt.alloc(); "x: 2 cases, each as it must be\n{told}")?;
-        expect(&rt, &[("x", ROWS), ("y.sums", sums)], said.as_str(), ended)?;
+        expect(&rt, &[("x", ROWS), ("y.sums", sums)], said.as_str(), *ended)?;
     }
     Ok(())
 }
 
 #[test]
-fn asks_for_a_table_before_its_checksums(rt: HostRuntime) -> Result<(), Fail> {
+fn asks_for_a_table_before_its_checksums(rt: HostRuntime) -> Result<(), AllocError> {
     let said = "usage: mdast_replay FILE.., each a table, or the .sums of the table before it\n";
     expect(&rt, &[("y.sums", "")], said, 2)
 }
 
+/// Tables, and the line of each that cannot be read.
+static UNREAD: [(&str, usize); 26] = [
+    ("nothing", 1),
+    ("\n\"a\"\n", 2),
+    ("row a\n\"a\"\nData 0-1\n\nrow b\n", 1),
+    ("row a\n= Root\n", 1),
+    ("row a\n\"a\n", 2),
+    ("row a\n\"a\\q\"\n", 2),
+    ("row a\n\"a\\\"\n", 2),
+    ("row a\n\"a\"b\"\n", 2),
+    ("row a\n\"a\"\n\"a\"\n", 3),
+    ("row a\nData 0-1\n", 2),
+    ("row a\n\"a\"\nDate 0-1\n", 3),
+    ("row a\n\"a\"\nData 0\n", 3),
+    ("row a\n\"a\"\nData +0-1\n", 3),
+    ("row a\n\"a\"\nData @1:1:0-1\n", 3),
+    ("row a\n\"a\"\nData 0-1 { Data 0-1\n", 3),
+    ("row a\n\"a\"\nData 0-1 }\n", 3),
+    ("row a\n\"a\"\nData 0-1 } { Data 0-1\n", 3),
+    ("row a\n\"a\"\nData 0-1 { }\n", 3),
+    ("row a\n\"a\"\nData 0-1,\n", 3),
+    ("row a\n\"a\"\nData 0-1\ncolumns bytes\n", 4),
+    ("row a\n\"a\"\n= Root\n= Root\n", 4),
+    ("row a\n\"a\"\nordered perhaps\n", 3),
+    ("row a\n\"a\"\nordered yes\nordered no\n", 4),
+    ("case 1\ndoc 616\n", 2),
+    ("case 1\ndoc 6g\n", 2),
+    ("case 1\ndoc 61\n+Data 1:1:0\n+Data 1:1\n", 4),
+];
+
 #[test]
-fn numbers_a_line_that_cannot_be_read(rt: HostRuntime) -> Result<(), Fail> {
-    for (table, number) in [
-        ("nothing", 1),
-        ("\n\"a\"\n", 2),
-        ("row a\n\"a\"\nData 0-1\n\nrow b\n", 1),
-        ("row a\n= Root\n", 1),
-        ("row a\n\"a\n", 2),
-        ("row a\n\"a\\q\"\n", 2),
-        ("row a\n\"a\\\"\n", 2),
-        ("row a\n\"a\"b\"\n", 2),
-        ("row a\n\"a\"\n\"a\"\n", 3),
-        ("row a\nData 0-1\n", 2),
-        ("row a\n\"a\"\nDate 0-1\n", 3),
-        ("row a\n\"a\"\nData 0\n", 3),
-        ("row a\n\"a\"\nData +0-1\n", 3),
-        ("row a\n\"a\"\nData @1:1:0-1\n", 3),
-        ("row a\n\"a\"\nData 0-1 { Data 0-1\n", 3),
-        ("row a\n\"a\"\nData 0-1 }\n", 3),
-        ("row a\n\"a\"\nData 0-1 } { Data 0-1\n", 3),
-        ("row a\n\"a\"\nData 0-1 { }\n", 3),
-        ("row a\n\"a\"\nData 0-1,\n", 3),
-        ("row a\n\"a\"\nData 0-1\ncolumns bytes\n", 4),
-        ("row a\n\"a\"\n= Root\n= Root\n", 4),
-        ("row a\n\"a\"\nordered perhaps\n", 3),
-        ("row a\n\"a\"\nordered yes\nordered no\n", 4),
-        ("case 1\ndoc 616\n", 2),
-        ("case 1\ndoc 6g\n", 2),
-        ("case 1\ndoc 61\n+Data 1:1:0\n+Data 1:1\n", 4),
-    ] {
+fn numbers_a_line_that_cannot_be_read(rt: HostRuntime) -> Result<(), AllocError> {
+    for (table, number) in &UNREAD {
         let said = format!(in rt.alloc(); "mdast_replay: line {number} of x cannot be read\n")?;
         expect(&rt, &[("x", table)], said.as_str(), 2)?;
     }

@@ -8,6 +8,7 @@ use crate::spread::{LISTS, item_spread, list_spread};
 use markdown_nodes::event::{Event, Name};
 use markdown_nodes::mdast::{AlignKind, Node};
 use std::alloc::{AllocError, Global};
+use std::process::Abort;
 use std::test::Fail;
 
 /// Where the span begins in what `placed` gives.
@@ -69,28 +70,40 @@ fn shown_table(tree: &Node) -> Option<&[AlignKind]> {
     }
 }
 
+/// The list of an outline, and its items, show what is said of their events.
+fn list_shows(rt: &impl Abort, alloc: Global, outline: &[(usize, Name)]) -> Result<(), Fail> {
+    let events = placed(alloc, outline)?;
+    let list = list_spread(alloc, events.as_slice(), BEGIN, false)?;
+    let items = said_items(alloc, events.as_slice())?;
+    holds(rt, list.is_some() && !items.is_empty());
+    let tree = compiled(alloc, b"", events.as_slice())?;
+    same(rt, shown_list(&tree), list);
+    holds(rt, shown_items(alloc, &tree)? == items);
+    Ok(())
+}
+
 #[test]
 fn lists_and_items_show_what_is_said_of_events(rt: HostRuntime) -> Result<(), Fail> {
     for outline in LISTS {
-        let events = placed(rt.alloc(), outline)?;
-        let list = list_spread(rt.alloc(), events.as_slice(), BEGIN, false)?;
-        let items = said_items(rt.alloc(), events.as_slice())?;
-        holds(&rt, list.is_some() && !items.is_empty());
-        let tree = compiled(rt.alloc(), b"", events.as_slice())?;
-        same(&rt, shown_list(&tree), list);
-        holds(&rt, shown_items(rt.alloc(), &tree)? == items);
+        list_shows(&rt, rt.alloc(), outline)?;
     }
+    Ok(())
+}
+
+/// The table of an outline shows what is said of its events.
+fn table_shows(rt: &impl Abort, alloc: Global, outline: &[(usize, Name)]) -> Result<(), Fail> {
+    let events = placed(alloc, outline)?;
+    let kinds = table_align(alloc, events.as_slice(), BEGIN)?;
+    holds(rt, kinds.is_some());
+    let tree = compiled(alloc, b"", events.as_slice())?;
+    holds(rt, shown_table(&tree) == kinds.as_deref());
     Ok(())
 }
 
 #[test]
 fn tables_show_what_is_said_of_events(rt: HostRuntime) -> Result<(), Fail> {
     for outline in TABLES {
-        let events = placed(rt.alloc(), outline)?;
-        let kinds = table_align(rt.alloc(), events.as_slice(), BEGIN)?;
-        holds(&rt, kinds.is_some());
-        let tree = compiled(rt.alloc(), b"", events.as_slice())?;
-        holds(&rt, shown_table(&tree) == kinds.as_deref());
+        table_shows(&rt, rt.alloc(), outline)?;
     }
     Ok(())
 }

@@ -4,41 +4,42 @@ use crate::expect::same;
 use crate::outline::{enter, exit, spelled};
 use markdown_nodes::around::Around;
 use markdown_nodes::event::{Event, Name, span_begins};
-use std::alloc::Global;
+use std::alloc::{AllocError, Global};
 use std::process::Abort;
-use std::test::Fail;
 
-// What begins at each of these indexes.
+/// What begins at each of these indexes.
 fn found(
     rt: &impl Abort,
     alloc: Global,
     events: &[Event],
     cases: &[(usize, Option<usize>)],
-) -> Result<(), Fail> {
+) -> Result<(), AllocError> {
     for (index, want) in cases {
-        assert_eq!(rt; span_begins(alloc, events, *index)?, *want, "at {index}");
+        same(
+            rt,
+            (*index, span_begins(alloc, events, *index)?),
+            (*index, *want),
+        );
     }
     Ok(())
 }
 
 #[test]
-fn a_span_ends_at_its_exit(rt: HostRuntime) -> Result<(), Fail> {
-    let alloc = rt.alloc();
-    let events = spelled(alloc, &[(0, Name::Paragraph), (1, Name::Data)])?;
+fn a_span_ends_at_its_exit(rt: HostRuntime) -> Result<(), AllocError> {
+    let events = spelled(rt.alloc(), &[(0, Name::Paragraph), (1, Name::Data)])?;
     let cases = [(0, Some(3)), (1, Some(2)), (2, None), (4, None)];
-    found(&rt, alloc, events.as_slice(), &cases)
+    found(&rt, rt.alloc(), events.as_slice(), &cases)
 }
 
 #[test]
-fn a_span_of_the_same_name_has_its_own_exit(rt: HostRuntime) -> Result<(), Fail> {
-    let alloc = rt.alloc();
-    let events = spelled(alloc, &[(0, Name::BlockQuote), (1, Name::BlockQuote)])?;
+fn a_span_of_the_same_name_has_its_own_exit(rt: HostRuntime) -> Result<(), AllocError> {
+    let events = spelled(rt.alloc(), &[(0, Name::BlockQuote), (1, Name::BlockQuote)])?;
     let cases = [(0, Some(3)), (1, Some(2))];
-    found(&rt, alloc, events.as_slice(), &cases)
+    found(&rt, rt.alloc(), events.as_slice(), &cases)
 }
 
 #[test]
-fn crossed_exits_end_no_span(rt: HostRuntime) -> Result<(), Fail> {
+fn crossed_exits_end_no_span(rt: HostRuntime) -> Result<(), AllocError> {
     let events = [
         enter(Name::Paragraph),
         enter(Name::Data),
@@ -49,11 +50,10 @@ fn crossed_exits_end_no_span(rt: HostRuntime) -> Result<(), Fail> {
 }
 
 #[test]
-fn a_line_ending_holds_nothing(rt: HostRuntime) -> Result<(), Fail> {
-    let alloc = rt.alloc();
-    let events = spelled(alloc, &[(0, Name::LineEnding), (1, Name::Data)])?;
+fn a_line_ending_holds_nothing(rt: HostRuntime) -> Result<(), AllocError> {
+    let events = spelled(rt.alloc(), &[(0, Name::LineEnding), (1, Name::Data)])?;
     let cases = [(0, None), (1, Some(2))];
-    found(&rt, alloc, events.as_slice(), &cases)
+    found(&rt, rt.alloc(), events.as_slice(), &cases)
 }
 
 #[test]

@@ -5,7 +5,7 @@ use crate::outline::spelled;
 use markdown_nodes::event::{Event, Name, span_begins};
 use markdown_nodes::infer::{list_item_loose, list_loose};
 use std::alloc::{AllocError, Global};
-use std::test::Fail;
+use std::process::Abort;
 
 const LIST: (usize, Name) = (0, Name::ListUnordered);
 
@@ -99,45 +99,51 @@ pub fn item_spread(
     }
 }
 
-#[test]
-fn blank_lines_between_items(rt: HostRuntime) -> Result<(), Fail> {
-    for (outline, want) in [
-        (BARE.as_slice(), false),
-        (&SPACED, false),
-        (&TWICE, true),
-        (&QUOTED, false),
-    ] {
-        let events = spelled(rt.alloc(), outline)?;
-        let spread = list_spread(rt.alloc(), events.as_slice(), 0, false)?;
-        same(&rt, spread, Some(want));
-    }
+/// The list of an outline is loose, or not.
+fn list_is(
+    rt: &impl Abort,
+    alloc: Global,
+    outline: &[(usize, Name)],
+    include_items: bool,
+    want: bool,
+) -> Result<(), AllocError> {
+    let events = spelled(alloc, outline)?;
+    let spread = list_spread(alloc, events.as_slice(), 0, include_items)?;
+    same(rt, spread, Some(want));
     Ok(())
 }
 
 #[test]
-fn blank_lines_within_an_item(rt: HostRuntime) -> Result<(), Fail> {
-    let events = spelled(rt.alloc(), &WITHIN)?;
-    for (include_items, want) in [(false, false), (true, true)] {
-        let spread = list_spread(rt.alloc(), events.as_slice(), 0, include_items)?;
-        same(&rt, spread, Some(want));
-    }
+fn blank_lines_between_items(rt: HostRuntime) -> Result<(), AllocError> {
+    list_is(&rt, rt.alloc(), &BARE, false, false)?;
+    list_is(&rt, rt.alloc(), &SPACED, false, false)?;
+    list_is(&rt, rt.alloc(), &TWICE, false, true)?;
+    list_is(&rt, rt.alloc(), &QUOTED, false, false)
+}
+
+#[test]
+fn blank_lines_within_an_item(rt: HostRuntime) -> Result<(), AllocError> {
+    list_is(&rt, rt.alloc(), &WITHIN, false, false)?;
+    list_is(&rt, rt.alloc(), &WITHIN, true, true)
+}
+
+/// The first item of the list of an outline is loose, or not.
+fn item_is(
+    rt: &impl Abort,
+    alloc: Global,
+    outline: &[(usize, Name)],
+    want: bool,
+) -> Result<(), AllocError> {
+    let events = spelled(alloc, outline)?;
+    let spread = item_spread(alloc, events.as_slice(), 1)?;
+    same(rt, spread, Some(want));
     Ok(())
 }
 
 #[test]
-fn blank_lines_of_an_item(rt: HostRuntime) -> Result<(), Fail> {
-    for (outline, want) in [
-        (EMPTY_ITEM.as_slice(), false),
-        (&SPACED_ITEM, false),
-        (&BLANK_ITEM, true),
-        (&TEXT_ITEM, true),
-    ] {
-        let events = spelled(rt.alloc(), outline)?;
-        same(
-            &rt,
-            item_spread(rt.alloc(), events.as_slice(), 1)?,
-            Some(want),
-        );
-    }
-    Ok(())
+fn blank_lines_of_an_item(rt: HostRuntime) -> Result<(), AllocError> {
+    item_is(&rt, rt.alloc(), &EMPTY_ITEM, false)?;
+    item_is(&rt, rt.alloc(), &SPACED_ITEM, false)?;
+    item_is(&rt, rt.alloc(), &BLANK_ITEM, true)?;
+    item_is(&rt, rt.alloc(), &TEXT_ITEM, true)
 }

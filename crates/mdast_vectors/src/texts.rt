@@ -1,94 +1,117 @@
 //! What the calls on texts give.
 
-use crate::expect::same;
+use crate::expect::{same, says};
 use markdown_nodes::decimal::push_decimal;
 use markdown_nodes::text::{line_endings_to_spaces, normalize_identifier, raw_text, trim_eol};
-use std::test::Fail;
+use std::alloc::{AllocError, Global};
+use std::process::Abort;
+
+/// A value, and the text that must come of it.
+type Case = (&'static str, &'static str);
+
+/// A value, whether the line endings at its start and at its end go, and the text that must come.
+static TRIMMED: [(&str, bool, bool, &str); 3] = [
+    ("\na\n", true, true, "a"),
+    ("\r\n", true, true, ""),
+    ("\na\n", false, true, "\na"),
+];
 
 #[test]
 fn one_line_ending_goes(rt: HostRuntime) {
-    for (value, at_start, at_end, want) in [
-        ("\na\n", true, true, "a"),
-        ("\r\n", true, true, ""),
-        ("\na\n", false, true, "\na"),
-    ] {
-        same(&rt, trim_eol(value, at_start, at_end), want);
+    for (value, at_start, at_end, want) in &TRIMMED {
+        same(&rt, trim_eol(value, *at_start, *at_end), *want);
     }
 }
 
-#[test]
-fn padding_goes_once(rt: HostRuntime) -> Result<(), Fail> {
-    for (value, want) in [
-        (" a ", "a"),
-        ("   ", "   "),
-        (" a", " a"),
-        ("  ", "  "),
-        ("  a ", " a"),
-    ] {
-        same(&rt, raw_text(rt.alloc(), value, false)?.as_str(), want);
+/// Values of inline code come out so, in a table or outside.
+fn raw(rt: &impl Abort, alloc: Global, cases: &[Case], in_table: bool) -> Result<(), AllocError> {
+    for (value, want) in cases {
+        says(rt, raw_text(alloc, value, in_table), want)?;
     }
     Ok(())
 }
 
+static PADDED: [Case; 5] = [
+    (" a ", "a"),
+    ("   ", "   "),
+    (" a", " a"),
+    ("  ", "  "),
+    ("  a ", " a"),
+];
+
 #[test]
-fn pipes_are_escaped_in_tables(rt: HostRuntime) -> Result<(), Fail> {
-    for (value, want) in [("a\\|b", "a|b"), ("a\\\\|b", "a\\|b"), (" \\| ", "|")] {
-        same(&rt, raw_text(rt.alloc(), value, true)?.as_str(), want);
+fn padding_goes_once(rt: HostRuntime) -> Result<(), AllocError> {
+    raw(&rt, rt.alloc(), &PADDED, false)
+}
+
+static PIPED: [Case; 3] = [("a\\|b", "a|b"), ("a\\\\|b", "a\\|b"), (" \\| ", "|")];
+
+#[test]
+fn pipes_are_escaped_in_tables(rt: HostRuntime) -> Result<(), AllocError> {
+    raw(&rt, rt.alloc(), &PIPED, true)
+}
+
+static ENDED: [Case; 3] = [("a\r\n\rb", "a  b"), ("\r\n", " "), ("", "")];
+
+#[test]
+fn line_endings_become_spaces(rt: HostRuntime) -> Result<(), AllocError> {
+    for (value, want) in &ENDED {
+        says(&rt, line_endings_to_spaces(rt.alloc(), value), want)?;
     }
     Ok(())
 }
 
-#[test]
-fn line_endings_become_spaces(rt: HostRuntime) -> Result<(), Fail> {
-    for (value, want) in [("a\r\n\rb", "a  b"), ("\r\n", " "), ("", "")] {
-        same(
-            &rt,
-            line_endings_to_spaces(rt.alloc(), value)?.as_str(),
-            want,
-        );
-    }
-    Ok(())
+static INLINE: [Case; 4] = [
+    ("\na\n", "a"),
+    ("a\nb", "a b"),
+    ("\n\n", "  "),
+    ("\r\n", " "),
+];
+
+/// The text of inline code.
+fn inline_code(alloc: Global, value: &str) -> Result<String, AllocError> {
+    let spaced = line_endings_to_spaces(alloc, value)?;
+    raw_text(alloc, spaced.as_str(), false)
 }
 
 // Inline code: its line endings become spaces before its padding goes.
 #[test]
-fn inline_code_is_one_line(rt: HostRuntime) -> Result<(), Fail> {
-    for (value, want) in [
-        ("\na\n", "a"),
-        ("a\nb", "a b"),
-        ("\n\n", "  "),
-        ("\r\n", " "),
-    ] {
-        let spaced = line_endings_to_spaces(rt.alloc(), value)?;
-        same(
-            &rt,
-            raw_text(rt.alloc(), spaced.as_str(), false)?.as_str(),
-            want,
-        );
+fn inline_code_is_one_line(rt: HostRuntime) -> Result<(), AllocError> {
+    for (value, want) in &INLINE {
+        says(&rt, inline_code(rt.alloc(), value), want)?;
     }
     Ok(())
 }
 
+static IDENTIFIED: [Case; 4] = [("\na\t\tB\r", "a b"), (" \n", ""), ("ẞ", "ss"), ("ß", "ss")];
+
 #[test]
-fn identifiers_are_normal(rt: HostRuntime) -> Result<(), Fail> {
-    for (value, want) in [("\na\t\tB\r", "a b"), (" \n", ""), ("ẞ", "ss"), ("ß", "ss")] {
-        same(&rt, normalize_identifier(rt.alloc(), value)?.as_str(), want);
+fn identifiers_are_normal(rt: HostRuntime) -> Result<(), AllocError> {
+    for (value, want) in &IDENTIFIED {
+        says(&rt, normalize_identifier(rt.alloc(), value), want)?;
     }
     Ok(())
 }
 
+static NUMBERED: [(usize, &str); 5] = [
+    (0, "a0"),
+    (9, "a9"),
+    (10, "a10"),
+    (4096, "a4096"),
+    (usize::MAX, "a18446744073709551615"),
+];
+
+/// The letter `a` and the digits of a number.
+fn numbered(alloc: Global, number: usize) -> Result<String, AllocError> {
+    let mut text = String::from_str(alloc, "a")?;
+    push_decimal(&mut text, number)?;
+    Ok(text)
+}
+
 #[test]
-fn numbers_have_their_digits(rt: HostRuntime) -> Result<(), Fail> {
-    for (number, want) in [
-        (0, "a0"),
-        (9, "a9"),
-        (10, "a10"),
-        (4096, "a4096"),
-        (usize::MAX, "a18446744073709551615"),
-    ] {
-        let mut text = String::from_str(rt.alloc(), "a")?;
-        push_decimal(&mut text, number)?;
-        same(&rt, text.as_str(), want);
+fn numbers_have_their_digits(rt: HostRuntime) -> Result<(), AllocError> {
+    for (number, want) in &NUMBERED {
+        says(&rt, numbered(rt.alloc(), *number), want)?;
     }
     Ok(())
 }

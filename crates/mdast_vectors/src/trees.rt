@@ -1,0 +1,62 @@
+//! Nodes that the tests make. They have no positions.
+
+use markdown_nodes::mdast::{Blockquote, Node, Paragraph, Root, Text};
+use std::alloc::{AllocError, Global};
+
+/// A copy of a text.
+pub fn own(alloc: Global, text: &str) -> Result<String, AllocError> {
+    String::from_str(alloc, text)
+}
+
+/// A text of this value.
+pub fn text(alloc: Global, value: &str) -> Result<Node, AllocError> {
+    Ok(Node::Text(Text {
+        value: own(alloc, value)?,
+        position: None,
+    }))
+}
+
+/// A root with these children.
+pub fn root(children: Vec<Node>) -> Node {
+    Node::Root(Root {
+        children,
+        position: None,
+    })
+}
+
+/// A paragraph with these children.
+pub fn paragraph(children: Vec<Node>) -> Node {
+    Node::Paragraph(Paragraph {
+        children,
+        position: None,
+    })
+}
+
+/// Puts a node, if it was made, at the end of others.
+pub fn add(nodes: &mut Vec<Node>, node: Result<Node, AllocError>) -> Result<(), AllocError> {
+    Ok(nodes.push(node?)?)
+}
+
+/// A node alone.
+pub fn alone(alloc: Global, node: Result<Node, AllocError>) -> Result<Vec<Node>, AllocError> {
+    let mut nodes = Vec::new(alloc);
+    add(&mut nodes, node)?;
+    Ok(nodes)
+}
+
+/// A block quote with these children.
+pub fn blockquote(children: Vec<Node>) -> Node {
+    Node::Blockquote(Blockquote {
+        children,
+        position: None,
+    })
+}
+
+/// A node in as many block quotes, each in the one before it.
+pub fn quoted(alloc: Global, node: Node, depth: usize) -> Result<Node, AllocError> {
+    let mut node = node;
+    for _ in 0..depth {
+        node = blockquote(alone(alloc, Ok(node))?);
+    }
+    Ok(node)
+}
