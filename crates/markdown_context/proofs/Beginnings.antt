@@ -1,6 +1,5 @@
 -- What the enter of a span makes of the state, in the program and in the steps.
 use Rattle.std.proofs.Common.{◌≡◌, Bool, true, false, ◌||◌, not, is_some, List, [], ◌∷◌, ◌++◌, Bor, Option, None, Some, Result, Ok, Err, refl, sym, ap, ◌∙◌, cond, reverse, subst}
-use Rattle.std.proofs.lemmas.List.{reverse-append}
 use Rattle.markdown_events.specs.Names.{role_of}
 use Rattle.markdown_events.specs.declared.event.Name.{Name}
 use Rattle.markdown_events.specs.declared.event.Point.{Point}
@@ -33,6 +32,7 @@ use Rattle.markdown_grammar.specs.Refusals.{ErrorAt}
 use Rattle.markdown_steps.specs.Checks.{checked, refused}
 use Rattle.markdown_grammar.specs.Document.{Source}
 use Rattle.markdown_context.specs.Nest.{around_innermost, innermost}
+use Rattle.markdown_context.proofs.Nesting.{turned}
 use Rattle.markdown_context.specs.States.{Begun, Opened, OpenedContainer, Stops, OpenedLeaf, containers_left, container_state_of, kept_top, leaf_left, leaf_place, opens, outer_of, state_of, top_of, with_break}
 use Rattle.markdown_blocks.specs.Columns.{columns_of}
 use Rattle.markdown_builder.specs.Marks.{marks_of}
@@ -94,9 +94,6 @@ leaf_no_table h (content contents.Table) e = let z : ⊥ = cc in absurd z
 leaf_no_table h (content c) e = refl
 leaf_no_table h (part q) e = refl
 
-pub pushed : (fs : List Frame) (f : Frame) → reverse (fs ++ f ∷ []) ≡ f ∷ reverse fs
-pushed fs f = reverse-append fs (f ∷ [])
-
 or_false : (b c : Bool) → c ≡ false → (b || c) ≡ b
 or_false true c h = refl
 or_false false c h = h
@@ -120,7 +117,7 @@ leaf_frames : (what : ItemKind) (f : Frame) (fs fs' : List Frame) (hs : List Ope
     → opens (reverse fs') (Some kept) hs ≡ record { name = f.name; start = f.start.now; around = f.outside.around; before = marks_of f.outside.marks; outer = Some (what, kept) } ∷ opens (reverse fs) None hs
 leaf_frames what f fs fs' hs kept is_significant is =
     ap (λ (x : List Frame). opens (reverse x) (Some kept) hs) is
-    ∙ ap (λ (x : List Frame). opens x (Some kept) hs) (pushed fs f)
+    ∙ ap (λ (x : List Frame). opens x (Some kept) hs) (turned fs f)
     ∙ (λ t. record {
       name = f.name;
       start = f.start.now;
@@ -136,7 +133,7 @@ container_frames : (what : ItemKind) (f : Frame) (fs fs' : List Frame) (h : Open
     ≡ record { name = f.name; start = f.start.now; around = f.outside.around; before = marks_of f.outside.marks; outer = Some (what, container_state_of f.in_table None h) } ∷ opens (reverse fs) None hs
 container_frames what f fs fs' h hs hs' is_significant is held =
     (λ t. opens (reverse (is t)) None (held t))
-    ∙ (λ t. opens (pushed fs f t) None (h ∷ hs))
+    ∙ (λ t. opens (turned fs f t) None (h ∷ hs))
     ∙ (λ t. record {
       name = f.name;
       start = f.start.now;

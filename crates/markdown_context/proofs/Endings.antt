@@ -1,10 +1,9 @@
 -- What the exit of a span makes of the state, in the program and in the steps.
 use Rattle.std.proofs.Common.{◌≡◌, ◌<◌, ℕ, arith, length, Bool, true, false, ◌||◌, ◌&&◌, not, is_some, List, [], ◌∷◌, ◌++◌, Option, None, Some, Result, Ok, Err, Vec, Global, refl, sym, ap, ◌∙◌, cond, reverse, subst}
-use Rattle.std.specs.Prelude.{OnOk, if◌then◌else◌}
+use Rattle.std.specs.Prelude.{if◌then◌else◌}
 use Rattle.markdown_events.specs.Names.{is_same_name, role_of}
 use Rattle.markdown_events.specs.declared.event.Name.{Name}
 use Rattle.markdown_events.specs.declared.event.Point.{Point}
-use Rattle.std.proofs.lemmas.List.{reverse-append}
 use Rattle.markdown_steps.specs.ChildFacts.{ChildFacts}
 use Rattle.markdown_events.specs.declared.role.ItemKind.{ItemKind}
 use Rattle.markdown_events.specs.declared.role.ItemKind.TheVariants.{Content as content, Part as part}
@@ -41,7 +40,7 @@ use Rattle.markdown_steps.specs.Siblings.{marks_with}
 use Rattle.markdown_grammar.specs.Document.{Source}
 use Rattle.markdown_context.specs.Nest.{around_innermost, first_or, innermost, with_innermost}
 use Rattle.markdown_context.specs.declared.nest.Nest.{Nest}
-use Rattle.markdown_context.proofs.Nesting.{put_around, put_innermost, written_around, written_innermost}
+use Rattle.markdown_context.proofs.Nesting.{put_around, put_innermost, turned, written_around, written_innermost}
 use Rattle.markdown_context.specs.Takings.{TakesParent}
 use Rattle.markdown_context.specs.declared.container.Container.TheVariants as containers
 use Rattle.markdown_blocks.specs.Parents.{is_parent}
@@ -51,7 +50,7 @@ use Rattle.markdown_blocks.specs.Columns.{columns_of}
 use Rattle.markdown_builder.specs.Marks.{marks_of}
 use Rattle.markdown_steps.specs.Visits.{exit_visits, visits_at_end, visits_by_owner}
 use Rattle.markdown_steps.specs.Well.{AllStand, Stands, Well, is_transparent}
-use Rattle.markdown_context.proofs.Beginnings.{no_leaf_row, pushed}
+use Rattle.markdown_context.proofs.Beginnings.{no_leaf_row}
 use Rattle.markdown_steps.proofs.Booleans.{and-right}
 use Rattle.markdown_context.proofs.Misfits.{left_none, misfit_first, none_fails}
 use Rattle.markdown_context.proofs.Stopping.{gives_same}
@@ -105,7 +104,7 @@ around_it f fs c = opens (reverse fs) (leaf_left (role_of f.name) (leaf_containe
 -- the innermost of the open spans, and those around it
 last_open : (c : Context) (f : Frame) (fs : List Frame) → c.frames.items ≡ fs ++ f ∷ [] → (state_of c).frames ≡ open_of f c ∷ around_it f fs c
 last_open c f fs at =
-    ap (λ (x : List Frame). opens (reverse x) (leaf_container c) (around_innermost c.containers)) at ∙ ap (λ (x : List Frame). opens x (leaf_container c) (around_innermost c.containers)) (pushed fs f)
+    ap (λ (x : List Frame). opens (reverse x) (leaf_container c) (around_innermost c.containers)) at ∙ ap (λ (x : List Frame). opens x (leaf_container c) (around_innermost c.containers)) (turned fs f)
 
 -- where all open spans stand, the innermost may end
 pub ends : (s : Source) (old : Context) (frames : Vec Frame Global) (f : Frame) (role : Role) → Well s (state_of old) → old.frames.items ≡ frames.items ++ f ∷ [] → role ≡ role_of f.name → Ends role (record old { frames = frames })
@@ -299,15 +298,6 @@ parent_taken s c f end old new rest own lent taken grows none any at same is_len
     closed_gives s (content c) f end old new rest own lent taken (Ok tt) grows none at same is_lent same_leaf same_break same_table written
     ((λ t. leave s (content c) f.start.now end children (container_state_of old.in_table None (record own { container = is t })) (container_state_of f.in_table None lent))
     ∙ takes s f.in_table old.in_table own.line_endings children)
-
--- where a thing was made, what follows of it
-pub on_ok : {X E : Type 0} (r : Result X E) (P Q : Type 0) → (P → Q) → OnOk r P → OnOk r Q
-on_ok (Ok x) P Q follows h = follows h
-on_ok (Err e) P Q follows h = h
-
-pub always : {X E : Type 0} (r : Result X E) → OnOk r (Unit {0})
-always (Ok x) = tt
-always (Err e) = tt
 
 -- ---- Rows
 

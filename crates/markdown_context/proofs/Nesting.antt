@@ -7,7 +7,7 @@ use Rattle.markdown_context.specs.declared.nest.Nest.{Nest}
 use Rattle.markdown_context.specs.Nest.{after_first, around_innermost, first_or, innermost, with_innermost, with_innermost_by}
 
 -- the last of some values is the first of them turned round
-turned : {T : Type 0} (xs : List T) (x : T) → reverse (xs ++ x ∷ []) ≡ x ∷ reverse xs
+pub turned : {T : Type 0} (xs : List T) (x : T) → reverse (xs ++ x ∷ []) ≡ x ∷ reverse xs
 turned xs x = reverse-append xs (x ∷ [])
 
 first_and_rest : {T : Type 0} (xs : List T) (other : T) → xs ++ other ∷ [] ≡ first_or xs other ∷ after_first xs other

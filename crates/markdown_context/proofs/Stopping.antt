@@ -35,3 +35,12 @@ made_gives seen b (Err (stops.Refused error_kind)) complete why Is expected made
 -- an answer agrees with what is the same
 pub gives_same : {X Y : Type 0} (seen : X → Y) (b : Point) (r : Result X Stop) (x y : Result Y ErrorAt) → y ≡ x → Gives seen b r x → Gives seen b r y
 gives_same {X = X} {Y = Y} seen b r x y same given = subst (λ (z : Result Y ErrorAt). Gives {X = X} {Y = Y} seen b r z) (sym same) given
+
+-- where a thing was made, what follows of it
+pub on_ok : {X E : Type 0} (r : Result X E) (P Q : Type 0) → (P → Q) → OnOk r P → OnOk r Q
+on_ok (Ok x) P Q follows h = follows h
+on_ok (Err e) P Q follows h = h
+
+pub always : {X E : Type 0} (r : Result X E) → OnOk r (Unit {0})
+always (Ok x) = tt
+always (Err e) = tt

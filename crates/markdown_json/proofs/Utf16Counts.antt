@@ -14,7 +14,7 @@ units_at-le : (b : ℕ) → units_at b ≤ 2
 units_at-le b = grind (arith, nat_tests)
 
 -- no byte begins more than two units
-pub units-le : (bytes : List ℕ) → units bytes ≤ 2 * length bytes
+units-le : (bytes : List ℕ) → units bytes ≤ 2 * length bytes
 units-le [] = omega arith
 units-le (b ∷ bytes) = omega (arith, units_at-le b, units-le bytes)
 
@@ -25,9 +25,18 @@ line-le false true b bytes le = omega arith
 line-le false false b bytes le = omega arith
 
 -- the last line is no longer than the text
-pub last_line-le : (bytes : List ℕ) → length (last_line bytes) ≤ length bytes
+last_line-le : (bytes : List ℕ) → length (last_line bytes) ≤ length bytes
 last_line-le [] = omega arith
 last_line-le (b ∷ bytes) = line-le (list_any ends_line bytes) (ends_line b) b bytes (last_line-le bytes)
+
+-- so no count of a text is more than two for each of its bytes
+pub counts-le : (counts : Counts) (text : List ℕ) (most : ℕ) → counts ≡ counts_after text → length text ≤ most
+    → (counts.units ≤ 2 * most) × (counts.line_bytes ≤ most) × (counts.line_units ≤ 2 * most)
+counts-le counts text most is short =
+    let all : counts.units ≡ units text = ap (λ (x : Counts). x.units) is in
+    let bytes : counts.line_bytes ≡ length (last_line text) = ap (λ (x : Counts). x.line_bytes) is in
+    let of_line : counts.line_units ≡ units (last_line text) = ap (λ (x : Counts). x.line_units) is in
+    (omega (arith, all, short, units-le text), omega (arith, bytes, short, last_line-le text), omega (arith, of_line, short, units-le (last_line text), last_line-le text))
 
 -- one byte more
 units-more : (bytes : List ℕ) (c : ℕ) → units (bytes ++ c ∷ []) ≡ units bytes + units_at c

@@ -50,11 +50,15 @@ same_so_far xs ys i d e lt lt' so_far same =
 pub same_parts : (a b : Node) → label_of a ≡ label_of b → position_of a ≡ position_of b → views (nodes_in a) ≡ views (nodes_in b) → view a ≡ view b
 same_parts a b label position below = view-is a ∙ tree_is _ _ _ _ _ _ label below position ∙ sym (view-is b)
 
-pub label-same : (a b : Node) → view a ≡ view b → label_of a ≡ label_of b
+label-same : (a b : Node) → view a ≡ view b → label_of a ≡ label_of b
 label-same a b e = ap (λ (t : Tree). t.label) (sym (view-is a) ∙ e ∙ view-is b)
 
-pub position-same : (a b : Node) → view a ≡ view b → position_of a ≡ position_of b
+position-same : (a b : Node) → view a ≡ view b → position_of a ≡ position_of b
 position-same a b e = ap (λ (t : Tree). t.position) (sym (view-is a) ∙ e ∙ view-is b)
+
+-- the same nodes are the same but for their children
+pub alone-same : (a b : Node) → view a ≡ view b → (label_of a ≡ label_of b) × (position_of a ≡ position_of b)
+alone-same a b e = (label-same a b e, position-same a b e)
 
 pub nodes-same : (a b : Node) → view a ≡ view b → views (nodes_in a) ≡ views (nodes_in b)
 nodes-same a b e = ap (λ (t : Tree). t.children) (sym (view-is a) ∙ e ∙ view-is b)

@@ -1,5 +1,5 @@
 -- What a run with status 0 wrote.
-use Rattle.std.proofs.Common.{◌≡◌, ℕ, List, Option, inl, inr, sym, subst, ◌∙◌}
+use Rattle.std.proofs.Common.{◌≡◌, ℕ, List, ◌++◌, Option, codes, inl, inr, sym, subst, ap, ◌∙◌}
 use Rattle.std.specs.Prelude.{IfSome, IsSomeAnd, ◌⊎◌}
 use Rattle.std.specs.Io.KnownBytes.{Appends}
 use Rattle.markdown_nodes.specs.View.{view}
@@ -35,4 +35,4 @@ not_written result (inr e) zero = let two : 2 ≡ 0 = sym e ∙ zero in cc
 pub json_written : (known old new : Option (List ℕ)) (doc : List ℕ)
     → (tree : Node) × IfSome known (λ all. IsSomeAnd (lines all) (λ events. IsMeaning tree events (over doc))) × ((line : List ℕ) × IsLineOf Json doc (view tree) line × Appends old new line)
     → (tree : Node) × IfSome known (λ all. IsSomeAnd (lines all) (λ events. IsMeaning tree events (over doc))) × Appends old new (json_line (view tree))
-json_written known old new doc (tree, is, (line, same, wrote)) = (tree, is, subst (λ (text : List ℕ). Appends old new text) same wrote)
+json_written known old new doc (tree, is, (line, (text, same, ends), wrote)) = (tree, is, subst (λ (l : List ℕ). Appends old new l) (ends ∙ ap (λ (t : List ℕ). t ++ codes "\n") same) wrote)

@@ -55,23 +55,19 @@ IsRefusedWith known doc Said =
     IfSome known (λ all. IsSomeAnd (lines all) (λ events.
     (message : Message) × Refuses message events (over doc) × Said (message_line message)))
 
--- a tree as Debug prints it, and a line feed; which characters beyond ASCII stand as their Unicode escape is left open
-abbrev pub IsTreeLine : Tree → List ℕ → Type 0
-IsTreeLine tree text = (escapes : ℕ → Bool) × (text ≡ shown escapes tree ++ codes "\n")
+-- the text of a tree of a document, by the program; which characters beyond ASCII stand as their Unicode escape in that of Debug is left open
+abbrev pub IsTextOf : Program → List ℕ → Tree → List ℕ → Type 0
+IsTextOf Show doc tree text = (escapes : ℕ → Bool) × (text ≡ shown escapes tree)
+IsTextOf Json doc tree text = text ≡ json tree
+IsTextOf JsonUtf16 doc tree text = text ≡ json_utf16 doc tree
 
--- a tree as JSON, and a line feed
+-- its line: the text, and a line feed
+abbrev pub IsLineOf : Program → List ℕ → Tree → List ℕ → Type 0
+IsLineOf program doc tree line = (text : List ℕ) × IsTextOf program doc tree text × (line ≡ text ++ codes "\n")
+
+-- the line of a tree as JSON
 abbrev pub json_line : Tree → List ℕ
 json_line tree = json tree ++ codes "\n"
-
--- a tree of a document as JSON, with its points in UTF-16 units, and a line feed
-abbrev pub json_utf16_line : List ℕ → Tree → List ℕ
-json_utf16_line doc tree = json_utf16 doc tree ++ codes "\n"
-
--- the line of a tree of a document, by the program
-abbrev pub IsLineOf : Program → List ℕ → Tree → List ℕ → Type 0
-IsLineOf Show doc tree text = IsTreeLine tree text
-IsLineOf Json doc tree text = text ≡ json_line tree
-IsLineOf JsonUtf16 doc tree text = text ≡ json_utf16_line doc tree
 
 -- the line of an answer over a document
 abbrev pub Prints : Program → List ℕ → Answer → List ℕ → Type 0

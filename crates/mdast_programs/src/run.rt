@@ -5,7 +5,7 @@ ghost use Rattle.std.specs.Io.KnownBytes.{IsAtEnd, Appends};
 ghost use Rattle.markdown_nodes.specs.declared.mdast.Node.{Node};
 ghost use Rattle.mdast_programs.specs.Run;
 ghost use Rattle.mdast_programs.specs.Programs.{memory_line};
-ghost use Rattle.mdast_programs.specs.Run.{IsAnswer, IsCompiled, IsLineOf, IsRefusedWith, IsTreeLine, Means, Prints, status_of};
+ghost use Rattle.mdast_programs.specs.Run.{IsAnswer, IsCompiled, IsLineOf, IsRefusedWith, IsTextOf, Means, Prints, status_of};
 ghost use Rattle.mdast_programs.specs.declared.program.Program.TheVariants as programs;
 ghost use Rattle.mdast_programs.specs.declared.run.Answer.TheVariants as answers;
 ghost use Rattle.markdown_nodes.specs.View.{view};
@@ -101,7 +101,7 @@ pub fn run<I: Read, O: Write>(alloc: Global, doc: &[u8], input: &mut I, output: 
 
     // They are events with a tree, and what is written is the line of that tree.
     ensures tree { result ≡ 0 → (tree : Node) × Means (I.remaining input.old) doc.now tree
-        × ((line : List ℕ) × IsTreeLine (view tree) line × Appends (O.contents output.old) (O.contents output.new) line) }
+        × ((line : List ℕ) × IsLineOf programs.Show doc.now (view tree) line × Appends (O.contents output.old) (O.contents output.new) line) }
 
     // They are events without one, and a message of the compiler is written.
     ensures refused { result ≡ 1 → IsRefusedWith (I.remaining input.old) doc.now (Appends (O.contents output.old) (O.contents output.new)) }
@@ -217,42 +217,24 @@ fn compiled(alloc: Global, events: &[Event], doc: &[u8]) -> Result<Answer, Alloc
     }
 }
 
-/// The tree as Debug prints it, or as JSON.
+/// The line of a tree: its text, and a line feed.
 fn tree_line(program: Program, alloc: Global, doc: &[u8], tree: &Node) -> Result<String, AllocError>
     ensures { IfOk result (λ line. IsLineOf program doc.now (view tree.now) (string_bytes line)) }
 {
+    let mut line = tree_text(program, alloc, doc, tree)?;
+    line.push_str("\n")?;
+    Ok(line)
+}
+
+/// The tree as Debug prints it, or as JSON.
+fn tree_text(program: Program, alloc: Global, doc: &[u8], tree: &Node) -> Result<String, AllocError>
+    ensures { IfOk result (λ text. IsTextOf program doc.now (view tree.now) (string_bytes text)) }
+{
     match program {
-        Program::Show => debug_line(alloc, tree),
-        Program::Json => json_line(alloc, tree),
-        Program::JsonUtf16 => json_utf16_line(alloc, doc, tree),
+        Program::Show => tree.to_debug_string(alloc),
+        Program::Json => to_json(alloc, tree),
+        Program::JsonUtf16 => to_json_utf16(alloc, doc, tree),
     }
-}
-
-/// The tree as Debug prints it.
-fn debug_line(alloc: Global, tree: &Node) -> Result<String, AllocError>
-    ensures { IfOk result (λ line. IsTreeLine (view tree.now) (string_bytes line)) }
-{
-    let mut line = tree.to_debug_string(alloc)?;
-    line.push_str("\n")?;
-    Ok(line)
-}
-
-/// The tree as JSON.
-fn json_line(alloc: Global, tree: &Node) -> Result<String, AllocError>
-    ensures { IfOk result (λ line. string_bytes line ≡ Run.json_line (view tree.now)) }
-{
-    let mut line = to_json(alloc, tree)?;
-    line.push_str("\n")?;
-    Ok(line)
-}
-
-/// The tree as JSON, with its points in UTF-16 units.
-fn json_utf16_line(alloc: Global, doc: &[u8], tree: &Node) -> Result<String, AllocError>
-    ensures { IfOk result (λ line. string_bytes line ≡ Run.json_utf16_line doc.now (view tree.now)) }
-{
-    let mut line = to_json_utf16(alloc, doc, tree)?;
-    line.push_str("\n")?;
-    Ok(line)
 }
 
 /// `mdast_show: event line 2 cannot be read`

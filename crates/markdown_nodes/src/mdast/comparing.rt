@@ -283,6 +283,13 @@ fn same_position(a: &Node, b: &Node) -> bool
     }
 }
 
+/// Whether two nodes are the same but for their children.
+fn same_but_children(a: &Node, b: &Node) -> bool
+    ensures { IsTrue result ↔ ((label_of a.now ≡ label_of b.now) × (position_of a.now ≡ position_of b.now)) }
+{
+    same_label(a, b) && same_position(a, b)
+}
+
 /// Whether two lists of nodes are the same.
 #[cycle(same_node)]
 fn same_nodes(xs: &[Node], ys: &[Node]) -> bool
@@ -304,10 +311,7 @@ fn same_nodes(xs: &[Node], ys: &[Node]) -> bool
 fn same_node(a: &Node, b: &Node) -> bool
     ensures { IsTrue result ↔ (view a.now ≡ view b.now) }
 {
-    if !same_label(a, b) {
-        return false;
-    }
-    if !same_position(a, b) {
+    if !same_but_children(a, b) {
         return false;
     }
     same_nodes(a.child_nodes(), b.child_nodes())
@@ -324,10 +328,7 @@ struct Pair<'a> {
 fn same_trees(a: &Node, b: &Node) -> bool
     ensures { IsTrue result ↔ (view a.now ≡ view b.now) }
 {
-    if !same_label(a, b) {
-        return false;
-    }
-    if !same_position(a, b) {
+    if !same_but_children(a, b) {
         return false;
     }
     match a.children() {
@@ -349,10 +350,7 @@ fn same_levels(xs: &[Node], ys: &[Node], alloc: Global) -> bool
             let Some((y, rest_y)) = right.split_first() else {
                 return false;
             };
-            if !same_label(x, y) {
-                return false;
-            }
-            if !same_position(x, y) {
+            if !same_but_children(x, y) {
                 return false;
             }
             match pairs.push(Pair {

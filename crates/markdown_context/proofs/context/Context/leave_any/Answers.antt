@@ -14,8 +14,8 @@ use Rattle.markdown_context.specs.States.{container_state_of, summary_of_contain
 use Rattle.markdown_blocks.specs.Columns.{columns_of}
 use Rattle.markdown_builder.specs.Marks.{marks_of}
 use Rattle.markdown_steps.specs.Visits.{visits_at_end}
-use Rattle.markdown_context.proofs.Endings.{always, closed_gives, closed_own, closed_so, closed_walks, columns_kept, content_row, on_ok, part_row}
-use Rattle.markdown_context.proofs.Stopping.{gives_same}
+use Rattle.markdown_context.proofs.Endings.{closed_gives, closed_own, closed_so, closed_walks, columns_kept, content_row, part_row}
+use Rattle.markdown_context.proofs.Stopping.{always, gives_same, on_ok}
 use Rattle.markdown_context.proofs.context.Context.leave_any.Goals as goal
 
 pub take_content-requires-clause-initial_model : goal.take_content-requires-clause-initial_model

@@ -4,7 +4,8 @@ use Rattle.markdown_context.specs.Nest.{with_innermost}
 use Rattle.markdown_context.specs.declared.context.Context.{Context}
 use Rattle.markdown_context.specs.declared.nest.Nest.{Nest}
 use Rattle.markdown_context.specs.declared.open_container.OpenContainer.{OpenContainer}
-use Rattle.markdown_context.proofs.Endings.{closed_so, columns_kept, on_ok, parent_no_table, parent_taken}
+use Rattle.markdown_context.proofs.Endings.{closed_so, columns_kept, parent_no_table, parent_taken}
+use Rattle.markdown_context.proofs.Stopping.{on_ok}
 use Rattle.markdown_context.proofs.context.Context.leave_parent.Goals as goal
 
 pub returns-clause-gives : goal.returns-clause-gives

@@ -1,31 +1,19 @@
-use Rattle.std.proofs.Common.{◌≡◌, ℕ, ◌+◌, ◌≤◌, List, ◌++◌, ◌∷◌, [], subst, sym, ap, ◌∙◌, take, get_or, length, arith, if◌then◌else◌}
+use Rattle.std.proofs.Common.{◌≡◌, ℕ, ◌+◌, List, ◌++◌, ◌∷◌, [], subst, sym, ap, ◌∙◌, take, get_or, arith, if◌then◌else◌}
 use Rattle.std.proofs.lemmas.List.{take_more}
 use Rattle.std.proofs.lemmas.Grind.{common_steps}
 use Rattle.markdown_json.specs.declared.utf16.Counts.{Counts}
-use Rattle.markdown_json.specs.Utf16.{AreCountsOf, counts_after, ends_line, last_line, units, units_at}
-use Rattle.markdown_json.proofs.Utf16Counts.{are-more, counts-more, last_line-le, units-le}
+use Rattle.markdown_json.specs.Utf16.{AreCountsOf, counts_after, ends_line, units_at}
+use Rattle.markdown_json.proofs.Utf16Counts.{are-more, counts-le, counts-more}
 use Rattle.markdown_json.proofs.utf16.Utf16Points.new.Goals as goal
 
 pub after-last-requires-clause-units : goal.after-last-requires-clause-units
-after-last-requires-clause-units c =
-    let so_far = take c.loop-byte.byte-index c.args.document.now in
-    let is : c.loop-byte.last.units ≡ units so_far = ap (λ (x : Counts). x.units) c.loop-byte.invariant.0 in
-    let short : length so_far ≤ c.loop-byte.byte-index = grind (arith, common_steps) in
-    omega (arith, is, short, units-le so_far)
+after-last-requires-clause-units c = omega (arith, (counts-le c.loop-byte.last (take c.loop-byte.byte-index c.args.document.now) c.loop-byte.byte-index c.loop-byte.invariant.0 (grind (arith, common_steps))).0)
 
 pub after-last-requires-clause-line_bytes : goal.after-last-requires-clause-line_bytes
-after-last-requires-clause-line_bytes c =
-    let so_far = take c.loop-byte.byte-index c.args.document.now in
-    let is : c.loop-byte.last.line_bytes ≡ length (last_line so_far) = ap (λ (x : Counts). x.line_bytes) c.loop-byte.invariant.0 in
-    let short : length so_far ≤ c.loop-byte.byte-index = grind (arith, common_steps) in
-    omega (arith, is, short, last_line-le so_far)
+after-last-requires-clause-line_bytes c = omega (arith, (counts-le c.loop-byte.last (take c.loop-byte.byte-index c.args.document.now) c.loop-byte.byte-index c.loop-byte.invariant.0 (grind (arith, common_steps))).1)
 
 pub after-last-requires-clause-line_units : goal.after-last-requires-clause-line_units
-after-last-requires-clause-line_units c =
-    let so_far = take c.loop-byte.byte-index c.args.document.now in
-    let is : c.loop-byte.last.line_units ≡ units (last_line so_far) = ap (λ (x : Counts). x.line_units) c.loop-byte.invariant.0 in
-    let short : length so_far ≤ c.loop-byte.byte-index = grind (arith, common_steps) in
-    omega (arith, is, short, units-le (last_line so_far), last_line-le so_far)
+after-last-requires-clause-line_units c = omega (arith, (counts-le c.loop-byte.last (take c.loop-byte.byte-index c.args.document.now) c.loop-byte.byte-index c.loop-byte.invariant.0 (grind (arith, common_steps))).2)
 
 pub loop-byte-preserved : goal.loop-byte-preserved
 loop-byte-preserved c =

@@ -1,17 +1,14 @@
 use Rattle.std.proofs.Common.{◌≡◌, ◌<◌, true≢false, length, refl, sym, ap, ◌∙◌, arith}
 use Rattle.markdown_nodes.specs.View.{view, views}
-use Rattle.markdown_nodes.proofs.Comparing.{label-same, nodes-same, position-same, same_at, same_length, same_parts, same_so_far}
+use Rattle.markdown_nodes.proofs.Comparing.{alone-same, nodes-same, same_at, same_length, same_parts, same_so_far}
 use Rattle.markdown_nodes.proofs.mdast.comparing.+same_node.Goals as goal
 
-pub same_node-returns-then-not-same_label : goal.same_node-returns-then-not-same_label
-same_node-returns-then-not-same_label t c = (λ e. absurd (true≢false (sym e)), λ e. c.if-not-same_label.ensures.1 (label-same _ _ e))
-
-pub same_node-returns-then-not-same_position : goal.same_node-returns-then-not-same_position
-same_node-returns-then-not-same_position t c = (λ e. absurd (true≢false (sym e)), λ e. c.if-not-same_position.ensures.1 (position-same _ _ e))
+pub same_node-returns-then-not-same_but_children : goal.same_node-returns-then-not-same_but_children
+same_node-returns-then-not-same_but_children t c = (λ e. absurd (true≢false (sym e)), λ e. c.if-not-same_but_children.ensures.1 (alone-same _ _ e))
 
 pub same_node-returns : goal.same_node-returns
 same_node-returns t c = (
-  λ r. same_parts c.args.a.now c.args.b.now (c.if-not-same_label.ensures.0 refl) (c.if-not-same_position.ensures.0 refl) (ap views (sym c.child_nodes.ensures) ∙ c.same_nodes.ensures.0 r ∙ ap views c.child_nodes-2.ensures),
+  λ r. same_parts c.args.a.now c.args.b.now (c.if-not-same_but_children.ensures.0 refl).0 (c.if-not-same_but_children.ensures.0 refl).1 (ap views (sym c.child_nodes.ensures) ∙ c.same_nodes.ensures.0 r ∙ ap views c.child_nodes-2.ensures),
   λ e. c.same_nodes.ensures.1 (ap views c.child_nodes.ensures ∙ nodes-same c.args.a.now c.args.b.now e ∙ ap views (sym c.child_nodes-2.ensures)),
 )
 

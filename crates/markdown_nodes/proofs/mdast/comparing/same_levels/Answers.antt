@@ -2,16 +2,13 @@ use Rattle.std.proofs.Common.{true≢false, refl, sym, ap, ◌∙◌}
 use Rattle.std.proofs.lemmas.Bool.{eqb-true, eq-eqb}
 use Rattle.std.proofs.lemmas.List.{nil_from_length}
 use Rattle.markdown_nodes.specs.View.{views}
-use Rattle.markdown_nodes.proofs.Comparing.{label-same, nodes-same, position-same, same_length}
+use Rattle.markdown_nodes.proofs.Comparing.{alone-same, nodes-same, same_length}
 use Rattle.markdown_nodes.proofs.ComparingLevels.{compares_down, compares_past, compares_up, heads_same}
 use Rattle.markdown_nodes.proofs.Levels.{walks_down, walks_up}
 use Rattle.markdown_nodes.proofs.mdast.comparing.same_levels.Goals as goal
 
-pub returns-then-not-same_label : goal.returns-then-not-same_label
-returns-then-not-same_label c = (λ e. absurd (true≢false (sym e)), λ e. c.if-not-same_label.ensures.1 (label-same _ _ (heads_same c.args.xs.now c.args.ys.now c.walk.left.now c.walk.right.now c.in-Some.rest_x.now c.in-Some-split_first.rest_y.now c.in-Some.x.now c.in-Some-split_first.y.now c.walk.pairs.items c.walk.invariant c.in-Some.ensures.cases.0 c.in-Some-split_first.ensures.cases.0 e)))
-
-pub returns-then-not-same_position : goal.returns-then-not-same_position
-returns-then-not-same_position c = (λ e. absurd (true≢false (sym e)), λ e. c.if-not-same_position.ensures.1 (position-same _ _ (heads_same c.args.xs.now c.args.ys.now c.walk.left.now c.walk.right.now c.in-Some.rest_x.now c.in-Some-split_first.rest_y.now c.in-Some.x.now c.in-Some-split_first.y.now c.walk.pairs.items c.walk.invariant c.in-Some.ensures.cases.0 c.in-Some-split_first.ensures.cases.0 e)))
+pub returns-then-not-same_but_children : goal.returns-then-not-same_but_children
+returns-then-not-same_but_children c = (λ e. absurd (true≢false (sym e)), λ e. c.if-not-same_but_children.ensures.1 (alone-same _ _ (heads_same c.args.xs.now c.args.ys.now c.walk.left.now c.walk.right.now c.in-Some.rest_x.now c.in-Some-split_first.rest_y.now c.in-Some.x.now c.in-Some-split_first.y.now c.walk.pairs.items c.walk.invariant c.in-Some.ensures.cases.0 c.in-Some-split_first.ensures.cases.0 e)))
 
 pub returns-then-not-same_nodes : goal.returns-then-not-same_nodes
 returns-then-not-same_nodes c = (λ e. absurd (true≢false (sym e)), λ e. c.if-not-same_nodes.ensures.1 (ap views c.child_nodes.ensures ∙ nodes-same c.in-Some.x.now c.in-Some-split_first.y.now (heads_same c.args.xs.now c.args.ys.now c.walk.left.now c.walk.right.now c.in-Some.rest_x.now c.in-Some-split_first.rest_y.now c.in-Some.x.now c.in-Some-split_first.y.now c.walk.pairs.items c.walk.invariant c.in-Some.ensures.cases.0 c.in-Some-split_first.ensures.cases.0 e) ∙ ap views (sym c.child_nodes-in-Err.ensures)))
@@ -26,10 +23,10 @@ pub walk-smaller-in-Ok : goal.walk-smaller-in-Ok
 walk-smaller-in-Ok c = walks_down (λ x. x.xs.now) c.walk.left.now c.in-Some.rest_x.now c.child_nodes-left.result.now c.in-Some.x.now c.walk.pairs.items c.push.new.self.items _ c.in-Some.ensures.cases.0 c.child_nodes-left.ensures c.in-Ok.ensures.items refl
 
 pub walk-preserved-in-Ok : goal.walk-preserved-in-Ok
-walk-preserved-in-Ok c = compares_down c.args.xs.now c.args.ys.now c.walk.left.now c.walk.right.now c.in-Some.rest_x.now c.in-Some-split_first.rest_y.now _ _ c.in-Some.x.now c.in-Some-split_first.y.now c.walk.pairs.items _ _ c.walk.invariant c.in-Some.ensures.cases.0 c.in-Some-split_first.ensures.cases.0 (c.if-not-same_label.ensures.0 refl) (c.if-not-same_position.ensures.0 refl) c.child_nodes-left.ensures c.child_nodes-right.ensures c.in-Ok.ensures.items refl refl
+walk-preserved-in-Ok c = compares_down c.args.xs.now c.args.ys.now c.walk.left.now c.walk.right.now c.in-Some.rest_x.now c.in-Some-split_first.rest_y.now _ _ c.in-Some.x.now c.in-Some-split_first.y.now c.walk.pairs.items _ _ c.walk.invariant c.in-Some.ensures.cases.0 c.in-Some-split_first.ensures.cases.0 (c.if-not-same_but_children.ensures.0 refl).0 (c.if-not-same_but_children.ensures.0 refl).1 c.child_nodes-left.ensures c.child_nodes-right.ensures c.in-Ok.ensures.items refl refl
 
 pub walk-preserved-in-Err : goal.walk-preserved-in-Err
-walk-preserved-in-Err c = rw c.in-Err.ensures.items (compares_past c.args.xs.now c.args.ys.now c.walk.left.now c.walk.right.now c.in-Some.rest_x.now c.in-Some-split_first.rest_y.now _ _ c.in-Some.x.now c.in-Some-split_first.y.now c.walk.pairs.items c.walk.invariant c.in-Some.ensures.cases.0 c.in-Some-split_first.ensures.cases.0 (c.if-not-same_label.ensures.0 refl) (c.if-not-same_position.ensures.0 refl) c.child_nodes.ensures c.child_nodes-in-Err.ensures (c.if-not-same_nodes.ensures.0 refl))
+walk-preserved-in-Err c = rw c.in-Err.ensures.items (compares_past c.args.xs.now c.args.ys.now c.walk.left.now c.walk.right.now c.in-Some.rest_x.now c.in-Some-split_first.rest_y.now _ _ c.in-Some.x.now c.in-Some-split_first.y.now c.walk.pairs.items c.walk.invariant c.in-Some.ensures.cases.0 c.in-Some-split_first.ensures.cases.0 (c.if-not-same_but_children.ensures.0 refl).0 (c.if-not-same_but_children.ensures.0 refl).1 c.child_nodes.ensures c.child_nodes-in-Err.ensures (c.if-not-same_nodes.ensures.0 refl))
 
 pub walk-smaller : goal.walk-smaller
 walk-smaller c = walks_up (λ x. x.xs.now) c.walk.left.now c.in-Some-pop.pair.xs.now c.walk.pairs.items c.pop.new.self.items c.in-Some-pop.pair c.in-Some-pop.ensures.items refl
