@@ -31,8 +31,8 @@ use Rattle.markdown_grammar.specs.Attributes.{Place, line_ending_is_text}
 use Rattle.markdown_grammar.specs.Refusals.{ErrorAt}
 use Rattle.markdown_steps.specs.Checks.{checked, refused}
 use Rattle.markdown_grammar.specs.Document.{Source}
-use Rattle.markdown_context.specs.Nest.{around_innermost, innermost}
-use Rattle.markdown_context.proofs.Nesting.{turned}
+use Rattle.nest.specs.Nest.{around_innermost, innermost}
+use Rattle.nest.proofs.Nesting.{turned}
 use Rattle.markdown_context.specs.States.{Begun, Opened, OpenedContainer, Stops, OpenedLeaf, containers_left, container_state_of, kept_top, leaf_left, leaf_place, opens, outer_of, state_of, top_of, with_break}
 use Rattle.markdown_blocks.specs.Columns.{columns_of}
 use Rattle.markdown_builder.specs.Marks.{marks_of}

@@ -38,9 +38,9 @@ use Rattle.markdown_grammar.specs.Refusals.{ErrorAt}
 use Rattle.markdown_steps.specs.Checks.{checked, passes, refused, ◌>>=◌}
 use Rattle.markdown_steps.specs.Siblings.{marks_with}
 use Rattle.markdown_grammar.specs.Document.{Source}
-use Rattle.markdown_context.specs.Nest.{around_innermost, first_or, innermost, with_innermost}
-use Rattle.markdown_context.specs.declared.nest.Nest.{Nest}
-use Rattle.markdown_context.proofs.Nesting.{put_around, put_innermost, turned, written_around, written_innermost}
+use Rattle.nest.specs.Nest.{IsPut, around_innermost, first_or, innermost, with_innermost}
+use Rattle.nest.specs.declared.Nest.{Nest}
+use Rattle.nest.proofs.Nesting.{put_around, put_innermost, turned, written_around, written_innermost}
 use Rattle.markdown_context.specs.Takings.{TakesParent}
 use Rattle.markdown_context.specs.declared.container.Container.TheVariants as containers
 use Rattle.markdown_blocks.specs.Parents.{is_parent}
@@ -212,39 +212,39 @@ container_gives s what f end old new outer others result grows at none same_leaf
 
 -- the same by the containers once the innermost is taken out, and once the one around it has taken it
 pub closed_gives : (s : Source) (what : ItemKind) (f : Frame) (end : Point) (old new : Context) (rest : Nest OpenContainer) (own lent taken : OpenContainer) (result : Result (Unit {0}) Stop)
-    → old.is_leaf ≡ false → is_some old.pending ≡ false → old.containers.inner.items ≡ rest.inner.items ++ own ∷ [] → old.containers.outermost ≡ rest.outermost → lent ≡ innermost rest
+    → old.is_leaf ≡ false → is_some old.pending ≡ false → IsPut own rest old.containers → lent ≡ innermost rest
     → new.is_leaf ≡ old.is_leaf → new.pending ≡ old.pending → new.in_table ≡ f.in_table → new.containers ≡ with_innermost rest taken
     → Gives {X = Unit {0}} {Y = ContainerState} (λ x. container_state_of f.in_table None taken) end result (leave s what f.start.now end (child_facts (marks_of old.interior.marks) (columns_of old.columns)) (container_state_of old.in_table None own) (container_state_of f.in_table None lent))
     → Gives {X = Unit {0}} {Y = ContainerState} (λ x. top_of new) end result (left_to s (significant what) f end old)
-closed_gives s what f end old new rest own lent taken result grows none at same is_lent same_leaf same_break same_table written given =
+closed_gives s what f end old new rest own lent taken result grows none put is_lent same_leaf same_break same_table written given =
     let top : innermost new.containers ≡ taken = ap (λ (n : Nest OpenContainer). innermost n) written ∙ written_innermost rest taken in
     let children : ChildFacts = child_facts (marks_of old.interior.marks) (columns_of old.columns) in
-    container_gives s what f end old new (innermost rest) (around_innermost rest) result grows (put_around rest old.containers own at same) none same_leaf same_break same_table
+    container_gives s what f end old new (innermost rest) (around_innermost rest) result grows (put_around rest old.containers own put) none same_leaf same_break same_table
     (gives_same (λ x. container_state_of f.in_table None (innermost new.containers)) end result _ _
-    (λ t. leave s what f.start.now end children (container_state_of old.in_table None (put_innermost rest old.containers own at t)) (container_state_of f.in_table None (sym is_lent t)))
+    (λ t. leave s what f.start.now end children (container_state_of old.in_table None (put_innermost rest old.containers own put t)) (container_state_of f.in_table None (sym is_lent t)))
     (subst (λ (h : OpenContainer). Gives {X = Unit {0}} {Y = ContainerState} (λ x. container_state_of f.in_table None h) end result (leave s what f.start.now end children (container_state_of old.in_table None own) (container_state_of f.in_table None lent))) (sym top) given))
 
 -- what is taken out is the container that ends, and what it is lent to is the one around it
 pub closed_own : (what : ItemKind) (c : Context) (rest : Nest OpenContainer) (own lent : OpenContainer) (ends : ContainerEnds what c)
-    → c.containers.inner.items ≡ rest.inner.items ++ own ∷ [] → c.containers.outermost ≡ rest.outermost → lent ≡ innermost rest
+    → IsPut own rest c.containers → lent ≡ innermost rest
     → (innermost c.containers ≡ own) × (ends.outer ≡ lent)
-closed_own what c rest own lent ends at same is_lent = (
-  put_innermost rest c.containers own at,
-  ap (λ (hs : List OpenContainer). first_or hs ends.outer) (sym ends.stack ∙ put_around rest c.containers own at same) ∙ sym is_lent,
+closed_own what c rest own lent ends put is_lent = (
+  put_innermost rest c.containers own put,
+  ap (λ (hs : List OpenContainer). first_or hs ends.outer) (sym ends.stack ∙ put_around rest c.containers own put) ∙ sym is_lent,
 )
 
 -- the context after it
 pub closed_so : (what : ItemKind) (old new : Context) (rest : Nest OpenContainer) (own taken : OpenContainer)
-    → old.is_leaf ≡ false → old.containers.inner.items ≡ rest.inner.items ++ own ∷ [] → old.containers.outermost ≡ rest.outermost
+    → old.is_leaf ≡ false → IsPut own rest old.containers
     → new.frames ≡ old.frames → new.interior.marks ≡ old.interior.marks → new.is_leaf ≡ old.is_leaf → new.containers ≡ with_innermost rest taken
     → columns_of new.columns ≡ columns_left (significant what) (marks_of old.interior.marks) (columns_of old.columns) → Closed (significant what) old new
-closed_so what old new rest own taken grows at same same_frames same_marks same_leaf written left = record {
+closed_so what old new rest own taken grows put same_frames same_marks same_leaf written left = record {
   frames = same_frames;
   marks = same_marks;
   columns = left;
   leaf = λ t. cond ((same_leaf ∙ grows) t) (Some (kept_top new)) None;
   containers = ap (λ (n : Nest OpenContainer). around_innermost n) written ∙ written_around rest taken
-      ∙ (λ t. containers_left (significant what) (cond (sym grows t) (Some (kept_top old)) None) (sym (put_around rest old.containers own at same) t));
+      ∙ (λ t. containers_left (significant what) (cond (sym grows t) (Some (kept_top old)) None) (sym (put_around rest old.containers own put) t));
 }
 
 -- ---- The end of a leaf
@@ -289,13 +289,13 @@ parent_no_table c such = refl
 -- and nothing but nodes is in it
 pub parent_taken : (s : Source) (c : Content) (f : Frame) (end : Point) (old new : Context) (rest : Nest OpenContainer) (own lent taken : OpenContainer)
     → old.is_leaf ≡ false → is_some old.pending ≡ false → (innermost old.containers).container ≡ containers.AnyContent
-    → old.containers.inner.items ≡ rest.inner.items ++ own ∷ [] → old.containers.outermost ≡ rest.outermost → lent ≡ innermost rest
+    → IsPut own rest old.containers → lent ≡ innermost rest
     → new.is_leaf ≡ old.is_leaf → new.pending ≡ old.pending → new.in_table ≡ f.in_table → new.containers ≡ with_innermost rest taken
     → TakesParent c f.start.now end own.nodes lent taken → left_to s (significant (content c)) f end old ≡ Ok (top_of new)
-parent_taken s c f end old new rest own lent taken grows none any at same is_lent same_leaf same_break same_table written takes =
+parent_taken s c f end old new rest own lent taken grows none any put is_lent same_leaf same_break same_table written takes =
     let children : ChildFacts = child_facts (marks_of old.interior.marks) (columns_of old.columns) in
-    let is : own.container ≡ containers.AnyContent = ap (λ (h : OpenContainer). h.container) (sym (put_innermost rest old.containers own at)) ∙ any in
-    closed_gives s (content c) f end old new rest own lent taken (Ok tt) grows none at same is_lent same_leaf same_break same_table written
+    let is : own.container ≡ containers.AnyContent = ap (λ (h : OpenContainer). h.container) (sym (put_innermost rest old.containers own put)) ∙ any in
+    closed_gives s (content c) f end old new rest own lent taken (Ok tt) grows none put is_lent same_leaf same_break same_table written
     ((λ t. leave s (content c) f.start.now end children (container_state_of old.in_table None (record own { container = is t })) (container_state_of f.in_table None lent))
     ∙ takes s f.in_table old.in_table own.line_endings children)
 
@@ -357,7 +357,7 @@ container_walks what f c outer others grows at none =
 
 -- the same of one that is taken out
 pub closed_walks : (what : ItemKind) (f : Frame) (c : Context) (rest : Nest OpenContainer) (own : OpenContainer) → c.is_leaf ≡ false → is_some c.pending ≡ false
-    → c.containers.inner.items ≡ rest.inner.items ++ own ∷ [] → c.containers.outermost ≡ rest.outermost → left_visits (significant what) f c ≡ visits_at_end what (summary_of_container own)
-closed_walks what f c rest own grows none at same =
-    container_walks what f c (innermost rest) (around_innermost rest) grows (put_around rest c.containers own at same) none
-    ∙ ap (λ (h : OpenContainer). visits_at_end what (summary_of_container h)) (put_innermost rest c.containers own at)
+    → IsPut own rest c.containers → left_visits (significant what) f c ≡ visits_at_end what (summary_of_container own)
+closed_walks what f c rest own grows none put =
+    container_walks what f c (innermost rest) (around_innermost rest) grows (put_around rest c.containers own put) none
+    ∙ ap (λ (h : OpenContainer). visits_at_end what (summary_of_container h)) (put_innermost rest c.containers own put)

@@ -8,4 +8,3 @@ pub mod Beginnings
 pub mod Endings
 pub mod Unfinished
 pub mod Kept
-pub mod Nesting

@@ -1,4 +1,3 @@
 pub mod Containers
-pub mod Nest
 pub mod States
 pub mod Takings

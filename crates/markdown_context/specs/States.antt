@@ -17,7 +17,7 @@ use Rattle.markdown_context.specs.declared.context.Context.{Context}
 use Rattle.markdown_context.specs.declared.context.Frame.{Frame}
 use Rattle.markdown_nodes.specs.View.{views}
 use Rattle.markdown_context.specs.declared.open_container.OpenContainer.{OpenContainer}
-use Rattle.markdown_context.specs.Nest.{around_innermost, innermost}
+use Rattle.nest.specs.Nest.{around_innermost, innermost}
 use Rattle.markdown_grammar.specs.declared.error_kind.Stop.{Stop}
 use Rattle.markdown_grammar.specs.declared.error_kind.Stop.TheVariants as stops
 use Rattle.markdown_nodes.specs.Tree.{Trees, join, node, nothing, «break»}

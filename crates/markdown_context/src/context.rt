@@ -10,7 +10,7 @@ ghost use Rattle.markdown_blocks.specs.Parents.{is_parent};
 ghost use Rattle.markdown_builder.specs.PartsSoFar.{first_failing};
 ghost use Rattle.markdown_context.specs.declared.container.Container.TheVariants as containers;
 ghost use Rattle.markdown_context.specs.Containers.{misfit_of};
-ghost use Rattle.markdown_context.specs.Nest.{innermost};
+ghost use Rattle.nest.specs.Nest.{innermost};
 ghost use Rattle.markdown_grammar.specs.Items as Kinds;
 ghost use Rattle.markdown_grammar.specs.Document.{Source, source};
 ghost use Rattle.markdown_context.specs.States.{
@@ -33,7 +33,6 @@ ghost use Rattle.markdown_steps.specs.Visits.{exit_visits, step_visits};
 ghost use Rattle.markdown_steps.specs.Well.{Well, is_transparent};
 
 use crate::container::Container;
-use crate::nest::Nest;
 use crate::open_container::{Ending, OpenContainer, has_line_endings};
 use character_references::references::References;
 use markdown_blocks::parent::is_parent;
@@ -47,6 +46,7 @@ use markdown_nodes::mdast::Node;
 use markdown_nodes::role::{Content, ItemKind, Role};
 use markdown_nodes::steps::Steps;
 use markdown_nodes::unist::Position;
+use nest::Nest;
 use std::alloc::{AllocError, Global};
 
 /// What is so for the next span in the innermost open one.

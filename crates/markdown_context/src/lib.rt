@@ -3,5 +3,4 @@
 
 pub mod container;
 pub mod context;
-pub mod nest;
 pub mod open_container;

@@ -1,4 +1,4 @@
 mod Escapes
 mod Fragments
 mod Utf16Counts
-mod WritingLevels
+mod JsonWriting

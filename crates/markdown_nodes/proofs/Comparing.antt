@@ -57,8 +57,8 @@ position-same : (a b : Node) → view a ≡ view b → position_of a ≡ positio
 position-same a b e = ap (λ (t : Tree). t.position) (sym (view-is a) ∙ e ∙ view-is b)
 
 -- the same nodes are the same but for their children
-pub alone-same : (a b : Node) → view a ≡ view b → (label_of a ≡ label_of b) × (position_of a ≡ position_of b)
-alone-same a b e = (label-same a b e, position-same a b e)
+pub same_but_children-from_views : (a b : Node) → view a ≡ view b → (label_of a ≡ label_of b) × (position_of a ≡ position_of b)
+same_but_children-from_views a b e = (label-same a b e, position-same a b e)
 
 pub nodes-same : (a b : Node) → view a ≡ view b → views (nodes_in a) ≡ views (nodes_in b)
 nodes-same a b e = ap (λ (t : Tree). t.children) (sym (view-is a) ∙ e ∙ view-is b)

@@ -6,7 +6,8 @@ mod Items
 mod Quoting
 mod ReadingLevels
 mod Sizes
-mod WritingLevels
+pub mod WritingLevels
+mod Showing
 pub mod Joining
 pub mod Views
 pub mod Reading

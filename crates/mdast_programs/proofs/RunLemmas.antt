@@ -1,14 +1,13 @@
 -- What a run with status 0 wrote.
-use Rattle.std.proofs.Common.{◌≡◌, ℕ, List, ◌++◌, Option, codes, inl, inr, sym, subst, ap, ◌∙◌}
+use Rattle.std.proofs.Common.{◌≡◌, ℕ, List, ◌++◌, Option, codes, inl, inr, sym, ◌∙◌}
 use Rattle.std.specs.Prelude.{IfSome, IsSomeAnd, ◌⊎◌}
 use Rattle.std.specs.Io.KnownBytes.{Appends}
 use Rattle.markdown_nodes.specs.View.{view}
 use Rattle.markdown_nodes.specs.declared.mdast.Node.{Node}
 use Rattle.markdown_grammar.specs.Correct.{IsMeaning}
 use Rattle.event_lines.specs.Lines.{lines}
-use Rattle.mdast_programs.specs.Run.{IsAnswer, IsLineOf, Prints, json_line, over, status_of}
+use Rattle.mdast_programs.specs.Run.{IsAnswer, IsLineOf, Prints, over, status_of}
 use Rattle.mdast_programs.specs.declared.program.Program.{Program}
-use Rattle.mdast_programs.specs.declared.program.Program.TheVariants.{Json}
 use Rattle.mdast_programs.specs.declared.run.Answer.{Answer}
 use Rattle.mdast_programs.specs.declared.run.Answer.TheVariants as answers
 
@@ -30,9 +29,3 @@ status_kept result status a is (inr e) zero = let two : 2 ≡ 0 = sym e ∙ zero
 pub not_written : (result : ℕ) → (result ≡ 3) ⊎ (result ≡ 2) → result ≡ 0 → ⊥
 not_written result (inl e) zero = let three : 3 ≡ 0 = sym e ∙ zero in cc
 not_written result (inr e) zero = let two : 2 ≡ 0 = sym e ∙ zero in cc
-
--- a line that is a tree as JSON is what was written
-pub json_written : (known old new : Option (List ℕ)) (doc : List ℕ)
-    → (tree : Node) × IfSome known (λ all. IsSomeAnd (lines all) (λ events. IsMeaning tree events (over doc))) × ((line : List ℕ) × IsLineOf Json doc (view tree) line × Appends old new line)
-    → (tree : Node) × IfSome known (λ all. IsSomeAnd (lines all) (λ events. IsMeaning tree events (over doc))) × Appends old new (json_line (view tree))
-json_written known old new doc (tree, is, (line, (text, same, ends), wrote)) = (tree, is, subst (λ (l : List ℕ). Appends old new l) (ends ∙ ap (λ (t : List ℕ). t ++ codes "\n") same) wrote)

@@ -65,10 +65,6 @@ IsTextOf JsonUtf16 doc tree text = text ≡ json_utf16 doc tree
 abbrev pub IsLineOf : Program → List ℕ → Tree → List ℕ → Type 0
 IsLineOf program doc tree line = (text : List ℕ) × IsTextOf program doc tree text × (line ≡ text ++ codes "\n")
 
--- the line of a tree as JSON
-abbrev pub json_line : Tree → List ℕ
-json_line tree = json tree ++ codes "\n"
-
 -- the line of an answer over a document
 abbrev pub Prints : Program → List ℕ → Answer → List ℕ → Type 0
 Prints program doc (answers.Tree tree) text = IsLineOf program doc (view tree) text

@@ -123,9 +123,9 @@ pub fn run_json<I: Read, O: Write>(alloc: Global, doc: &[u8], input: &mut I, out
     // The events were read to their end.
     ensures end { result ≤ 1 → IsAtEnd (I.remaining input.new) }
 
-    // They are events with a tree, and what is written is that tree as JSON, and a line feed.
+    // They are events with a tree, and what is written is the line of that tree as JSON.
     ensures tree { result ≡ 0 → (tree : Node) × Means (I.remaining input.old) doc.now tree
-        × Appends (O.contents output.old) (O.contents output.new) (Run.json_line (view tree)) }
+        × ((line : List ℕ) × IsLineOf programs.Json doc.now (view tree) line × Appends (O.contents output.old) (O.contents output.new) line) }
 
     // They are events without one, and a message of the compiler is written.
     ensures refused { result ≡ 1 → IsRefusedWith (I.remaining input.old) doc.now (Appends (O.contents output.old) (O.contents output.new)) }

@@ -34,6 +34,8 @@ mod memory;
 #[cfg(test)]
 mod names;
 #[cfg(test)]
+mod nests;
+#[cfg(test)]
 mod nodes;
 #[cfg(test)]
 mod order;

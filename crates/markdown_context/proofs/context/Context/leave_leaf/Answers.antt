@@ -3,7 +3,7 @@ use Rattle.markdown_grammar.specs.Document.{source}
 use Rattle.markdown_steps.specs.Columns.{child_facts}
 use Rattle.markdown_blocks.specs.Columns.{columns_of}
 use Rattle.markdown_builder.specs.Marks.{marks_of}
-use Rattle.markdown_context.specs.Nest.{with_innermost}
+use Rattle.nest.specs.Nest.{with_innermost}
 use Rattle.markdown_context.specs.States.{leaf_place}
 use Rattle.markdown_context.proofs.Beginnings.{leaf_no_table}
 use Rattle.markdown_context.proofs.Endings.{columns_kept, leaf_closed, leaf_gives}

@@ -1,10 +1,10 @@
 use Rattle.std.proofs.Common.{◌≡◌, ◌<◌, true≢false, length, refl, sym, ap, ◌∙◌, arith}
 use Rattle.markdown_nodes.specs.View.{view, views}
-use Rattle.markdown_nodes.proofs.Comparing.{alone-same, nodes-same, same_at, same_length, same_parts, same_so_far}
+use Rattle.markdown_nodes.proofs.Comparing.{same_but_children-from_views, nodes-same, same_at, same_length, same_parts, same_so_far}
 use Rattle.markdown_nodes.proofs.mdast.comparing.+same_node.Goals as goal
 
 pub same_node-returns-then-not-same_but_children : goal.same_node-returns-then-not-same_but_children
-same_node-returns-then-not-same_but_children t c = (λ e. absurd (true≢false (sym e)), λ e. c.if-not-same_but_children.ensures.1 (alone-same _ _ e))
+same_node-returns-then-not-same_but_children t c = (λ e. absurd (true≢false (sym e)), λ e. c.if-not-same_but_children.ensures.1 (same_but_children-from_views _ _ e))
 
 pub same_node-returns : goal.same_node-returns
 same_node-returns t c = (

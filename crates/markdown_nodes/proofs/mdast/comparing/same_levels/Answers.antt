@@ -2,13 +2,13 @@ use Rattle.std.proofs.Common.{true≢false, refl, sym, ap, ◌∙◌}
 use Rattle.std.proofs.lemmas.Bool.{eqb-true, eq-eqb}
 use Rattle.std.proofs.lemmas.List.{nil_from_length}
 use Rattle.markdown_nodes.specs.View.{views}
-use Rattle.markdown_nodes.proofs.Comparing.{alone-same, nodes-same, same_length}
+use Rattle.markdown_nodes.proofs.Comparing.{same_but_children-from_views, nodes-same, same_length}
 use Rattle.markdown_nodes.proofs.ComparingLevels.{compares_down, compares_past, compares_up, heads_same}
 use Rattle.markdown_nodes.proofs.Levels.{walks_down, walks_up}
 use Rattle.markdown_nodes.proofs.mdast.comparing.same_levels.Goals as goal
 
 pub returns-then-not-same_but_children : goal.returns-then-not-same_but_children
-returns-then-not-same_but_children c = (λ e. absurd (true≢false (sym e)), λ e. c.if-not-same_but_children.ensures.1 (alone-same _ _ (heads_same c.args.xs.now c.args.ys.now c.walk.left.now c.walk.right.now c.in-Some.rest_x.now c.in-Some-split_first.rest_y.now c.in-Some.x.now c.in-Some-split_first.y.now c.walk.pairs.items c.walk.invariant c.in-Some.ensures.cases.0 c.in-Some-split_first.ensures.cases.0 e)))
+returns-then-not-same_but_children c = (λ e. absurd (true≢false (sym e)), λ e. c.if-not-same_but_children.ensures.1 (same_but_children-from_views _ _ (heads_same c.args.xs.now c.args.ys.now c.walk.left.now c.walk.right.now c.in-Some.rest_x.now c.in-Some-split_first.rest_y.now c.in-Some.x.now c.in-Some-split_first.y.now c.walk.pairs.items c.walk.invariant c.in-Some.ensures.cases.0 c.in-Some-split_first.ensures.cases.0 e)))
 
 pub returns-then-not-same_nodes : goal.returns-then-not-same_nodes
 returns-then-not-same_nodes c = (λ e. absurd (true≢false (sym e)), λ e. c.if-not-same_nodes.ensures.1 (ap views c.child_nodes.ensures ∙ nodes-same c.in-Some.x.now c.in-Some-split_first.y.now (heads_same c.args.xs.now c.args.ys.now c.walk.left.now c.walk.right.now c.in-Some.rest_x.now c.in-Some-split_first.rest_y.now c.in-Some.x.now c.in-Some-split_first.y.now c.walk.pairs.items c.walk.invariant c.in-Some.ensures.cases.0 c.in-Some-split_first.ensures.cases.0 e) ∙ ap views (sym c.child_nodes-in-Err.ensures)))

@@ -4,11 +4,11 @@ use Rattle.std.proofs.lemmas.List.{nil_from_length}
 use Rattle.markdown_nodes.specs.declared.mdast.Node.{Node}
 use Rattle.markdown_nodes.specs.Access.{items_in, nodes_in}
 use Rattle.markdown_nodes.specs.View.{views}
-use Rattle.markdown_nodes.proofs.Comparing.{alone-same, nodes-same, same_length, same_parts}
+use Rattle.markdown_nodes.proofs.Comparing.{same_but_children-from_views, nodes-same, same_length, same_parts}
 use Rattle.markdown_nodes.proofs.mdast.comparing.same_trees.Goals as goal
 
 pub returns-then-not-same_but_children : goal.returns-then-not-same_but_children
-returns-then-not-same_but_children c = (λ e. absurd (true≢false (sym e)), λ e. c.if-not-same_but_children.ensures.1 (alone-same _ _ e))
+returns-then-not-same_but_children c = (λ e. absurd (true≢false (sym e)), λ e. c.if-not-same_but_children.ensures.1 (same_but_children-from_views _ _ e))
 
 pub returns-in-Some : goal.returns-in-Some
 returns-in-Some c =

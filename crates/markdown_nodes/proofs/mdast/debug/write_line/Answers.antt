@@ -1,6 +1,6 @@
 use Rattle.std.proofs.Common.{◌≡◌, ℕ, false, refl, true}
 use Rattle.std.proofs.Output.{has_written_of_eq}
-use Rattle.markdown_nodes.proofs.WritingLevels.{break_text}
+use Rattle.markdown_nodes.proofs.Showing.{break_text}
 use Rattle.markdown_nodes.proofs.mdast.debug.write_line.Goals as goal
 
 pub returns-in_default : goal.returns-in_default

@@ -5,14 +5,15 @@ use Rattle.std.proofs.lemmas.List.{nil_from_length}
 use Rattle.markdown_nodes.specs.Access.{label_of}
 use Rattle.markdown_nodes.specs.Shown.{opening}
 use Rattle.markdown_nodes.proofs.Levels.{walks_down, walks_up}
-use Rattle.markdown_nodes.proofs.WritingLevels.{close_of, writes_all, writes_down, writes_first, writes_up}
+use Rattle.markdown_nodes.proofs.Showing.{close_of, shown-is, showing}
+use Rattle.markdown_nodes.proofs.WritingLevels.{writes_all, writes_down, writes_first, writes_up}
 use Rattle.markdown_nodes.proofs.mdast.debug.write_tree.Goals as goal
 
 pub walk-init : goal.walk-init
 walk-init g c = λ plain. (
   opening (label_of c.args.node.now),
   c.in_ok-begin.ensures plain (search rules),
-  writes_first (contains nat_cmp c.args.escapes.now) _ _ c.args.node.now c.child_nodes-level.ensures c.new-frames.ensures.items,
+  writes_first (showing (contains nat_cmp c.args.escapes.now)) _ _ _ c.args.node.now refl c.child_nodes-level.ensures c.new-frames.ensures.items,
 )
 
 pub walk-smaller-in-Some : goal.walk-smaller-in-Some
@@ -24,7 +25,7 @@ walk-preserved-in-Some g c = λ plain.
     let lead = if c.walk.later then codes ", " else [] in (
       so_far.0 ++ (lead ++ opening (label_of c.in-Some.first.now)),
       has_written_append _ _ _ _ _ _ so_far.1 (c.in_ok-begin-2.ensures so_far.1.plain (search rules)),
-      writes_down (contains nat_cmp c.args.escapes.now) so_far.0 lead c.walk.level.now c.in-Some.rest.now _ c.walk.parent.now c.in-Some.first.now c.walk.frames.items _ _ c.args.node.now so_far.2 c.in-Some.ensures.cases.0 c.child_nodes-level-in-Some.ensures c.in-Ok.ensures.items refl refl,
+      writes_down (showing (contains nat_cmp c.args.escapes.now)) so_far.0 lead _ c.walk.level.now c.in-Some.rest.now _ c.walk.parent.now c.in-Some.first.now c.walk.frames.items _ _ c.args.node.now so_far.2 c.in-Some.ensures.cases.0 c.child_nodes-level-in-Some.ensures c.in-Ok.ensures.items refl refl refl,
     )
 
 pub walk-smaller : goal.walk-smaller
@@ -36,7 +37,7 @@ walk-preserved g c = λ plain.
     let so_far = c.walk.invariant plain in (
       so_far.0 ++ close_of set c.walk.parent.now,
       has_written_append _ _ _ _ _ _ so_far.1 (c.in_ok-close.ensures so_far.1.plain (search rules)),
-      writes_up set so_far.0 (if c.walk.later then codes ", " else []) c.walk.level.now c.walk.parent.now c.walk.frames.items _ c.in-Some-pop.frame c.args.node.now so_far.2 (nil_from_length _ c.in_default.ensures.cases) c.in-Some-pop.ensures.items,
+      writes_up (showing set) so_far.0 (if c.walk.later then codes ", " else []) _ c.walk.level.now c.walk.parent.now c.walk.frames.items _ c.in-Some-pop.frame c.args.node.now so_far.2 (nil_from_length _ c.in_default.ensures.cases) c.in-Some-pop.ensures.items refl,
     )
 
 pub returns-in_default-pop : goal.returns-in_default-pop
@@ -44,5 +45,6 @@ returns-in_default-pop g c = λ plain ok.
     let set = contains nat_cmp c.args.escapes.now in
     let so_far = c.walk.invariant plain in
     has_written_of_eq _ _ _ _ _
-    (writes_all set so_far.0 (if c.walk.later then codes ", " else []) c.walk.level.now c.walk.parent.now c.walk.frames.items c.args.node.now so_far.2 (nil_from_length _ c.in_default.ensures.cases) (nil_from_length _ (sym c.walk.frames.ok.0 ∙ c.in_default-pop.ensures.cases.0)))
+    (writes_all (showing set) so_far.0 (if c.walk.later then codes ", " else []) _ c.walk.level.now c.walk.parent.now c.walk.frames.items c.args.node.now so_far.2 (nil_from_length _ c.in_default.ensures.cases) (nil_from_length _ (sym c.walk.frames.ok.0 ∙ c.in_default-pop.ensures.cases.0)) refl
+    ∙ sym (shown-is set c.args.node.now))
     (has_written_append _ _ _ _ _ _ so_far.1 (c.in_ok-close.ensures so_far.1.plain (search rules)))

@@ -1,6 +1,6 @@
 use Rattle.std.proofs.Common.{◌<◌, length, refl, sym, ◌∙◌}
-use Rattle.markdown_context.proofs.Nesting.{last_read, last_written, some_within}
-use Rattle.markdown_context.proofs.nest.Nest.innermost_mut.Goals as goal
+use Rattle.nest.proofs.Nesting.{last_read, last_written, some_within}
+use Rattle.nest.proofs.Nest.innermost_mut.Goals as goal
 
 pub returns : goal.returns
 returns g c =

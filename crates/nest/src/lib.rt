@@ -1,15 +1,19 @@
 //! Values that stand in one another.
+#![tactic(auto)]
 
 ghost use Rattle.std.specs.Prelude.{◌≡◌};
 ghost use Rattle.std.specs.Borrow.{sem};
-ghost use Rattle.markdown_context.specs.Nest.{LendsInnermost, innermost};
+ghost use Rattle.nest.specs.Nest.{LendsInnermost, innermost};
 
 /// Values that stand in one another, of which there is always one. The innermost stays where it is
 /// when another is put into it, so that nothing is moved then.
+///
+/// Where `outermost` is `a` and `inner` is `b`, `c`, the innermost is `c`.
 #[derive(Drop)]
 pub struct Nest<T> {
     pub outermost: T,
-    /// Those in the outermost, the innermost last.
+    /// Those in the outermost, the innermost last. To put a value into the innermost one is to push it
+    /// here, so that it is moved once.
     pub inner: Vec<T>,
 }
 

@@ -3,8 +3,8 @@ use Rattle.std.proofs.Common.{◌≡◌, ◌<◌, ◌-◌, ◌==◌, ℕ, zero, 
 use Rattle.std.specs.Prelude.{slice_index_or, slice_set, vec_len}
 use Rattle.std.specs.Vec.{with_item}
 use Rattle.std.proofs.lemmas.List.{reverse-append}
-use Rattle.markdown_context.specs.declared.nest.Nest.{Nest}
-use Rattle.markdown_context.specs.Nest.{after_first, around_innermost, first_or, innermost, with_innermost, with_innermost_by}
+use Rattle.nest.specs.declared.Nest.{Nest}
+use Rattle.nest.specs.Nest.{IsPut, after_first, around_innermost, first_or, innermost, with_innermost, with_innermost_by}
 
 -- the last of some values is the first of them turned round
 pub turned : {T : Type 0} (xs : List T) (x : T) → reverse (xs ++ x ∷ []) ≡ x ∷ reverse xs
@@ -17,15 +17,15 @@ first_and_rest (x ∷ xs) other = refl
 -- ---- One more
 
 -- what was put in is the innermost
-pub put_innermost : {T : Type 0} (old new : Nest T) (x : T) → new.inner.items ≡ old.inner.items ++ x ∷ [] → innermost new ≡ x
-put_innermost {T} old new x at = ap (λ (xs : List T). first_or (reverse xs) new.outermost) at ∙ ap (λ (xs : List T). first_or xs new.outermost) (turned old.inner.items x)
+pub put_innermost : {T : Type 0} (old new : Nest T) (x : T) → IsPut x old new → innermost new ≡ x
+put_innermost {T} old new x put = ap (λ (xs : List T). first_or (reverse xs) new.outermost) put.inner ∙ ap (λ (xs : List T). first_or xs new.outermost) (turned old.inner.items x)
 
 -- and the others stand around it
-pub put_around : {T : Type 0} (old new : Nest T) (x : T) → new.inner.items ≡ old.inner.items ++ x ∷ [] → new.outermost ≡ old.outermost → around_innermost new ≡ innermost old ∷ around_innermost old
-put_around {T} old new x at same =
-    ap (λ (xs : List T). after_first (reverse xs) new.outermost) at
+pub put_around : {T : Type 0} (old new : Nest T) (x : T) → IsPut x old new → around_innermost new ≡ innermost old ∷ around_innermost old
+put_around {T} old new x put =
+    ap (λ (xs : List T). after_first (reverse xs) new.outermost) put.inner
     ∙ ap (λ (xs : List T). after_first xs new.outermost) (turned old.inner.items x)
-    ∙ ap (λ (other : T). reverse old.inner.items ++ other ∷ []) same
+    ∙ ap (λ (other : T). reverse old.inner.items ++ other ∷ []) put.outermost
     ∙ first_and_rest (reverse old.inner.items) old.outermost
 
 -- ---- Another in its place
