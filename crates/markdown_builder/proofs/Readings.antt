@@ -36,30 +36,30 @@ pub in_none : (node : Node) → None ≡ children_of node → [] ≡ nodes_in no
 in_none node none = ap items_in none
 
 -- the text of the levels on a stack
-abbrev pub text_behind : Form → List (Bor (List Node)) → List ℕ
-text_behind form [] = []
-text_behind form (x ∷ xs) = text_behind form xs ++ reading form (views x.now)
+abbrev pub text_left : Form → List (Bor (List Node)) → List ℕ
+text_left form [] = []
+text_left form (x ∷ xs) = text_left form xs ++ reading form (views x.now)
 
-text_behind-snoc : (form : Form) (xs : List (Bor (List Node))) (y : Bor (List Node)) → text_behind form (xs ++ y ∷ []) ≡ reading form (views y.now) ++ text_behind form xs
-text_behind-snoc form [] y = sym (append-nil (reading form (views y.now)))
-text_behind-snoc form (x ∷ xs) y = ap (λ (s : List ℕ). s ++ reading form (views x.now)) (text_behind-snoc form xs y) ∙ append_assoc (reading form (views y.now)) (text_behind form xs) (reading form (views x.now))
+text_left-snoc : (form : Form) (xs : List (Bor (List Node))) (y : Bor (List Node)) → text_left form (xs ++ y ∷ []) ≡ reading form (views y.now) ++ text_left form xs
+text_left-snoc form [] y = sym (append-nil (reading form (views y.now)))
+text_left-snoc form (x ∷ xs) y = ap (λ (s : List ℕ). s ++ reading form (views x.now)) (text_left-snoc form xs y) ∙ append_assoc (reading form (views y.now)) (text_left form xs) (reading form (views x.now))
 
 -- the nodes in the levels on a stack
-abbrev pub count_behind : List (Bor (List Node)) → ℕ
-count_behind [] = 0
-count_behind (x ∷ xs) = count_behind xs + node_count (views x.now)
+abbrev pub count_left : List (Bor (List Node)) → ℕ
+count_left [] = 0
+count_left (x ∷ xs) = count_left xs + node_count (views x.now)
 
-count_behind-snoc : (xs : List (Bor (List Node))) (y : Bor (List Node)) → count_behind (xs ++ y ∷ []) ≡ count_behind xs + node_count (views y.now)
-count_behind-snoc [] y = refl
-count_behind-snoc (x ∷ xs) y = omega (arith, count_behind-snoc xs y)
+count_left-snoc : (xs : List (Bor (List Node))) (y : Bor (List Node)) → count_left (xs ++ y ∷ []) ≡ count_left xs + node_count (views y.now)
+count_left-snoc [] y = refl
+count_left-snoc (x ∷ xs) y = omega (arith, count_left-snoc xs y)
 
 -- the whole text, as a walk has written a part of it
 abbrev pub Reads : Form → List ℕ → List Node → List (Bor (List Node)) → List ℕ → Type 0
-Reads form text level levels whole = text ++ (reading form (views level) ++ text_behind form levels) ≡ whole
+Reads form text level levels whole = text ++ (reading form (views level) ++ text_left form levels) ≡ whole
 
 -- the nodes that are left
 abbrev pub left : List Node → List (Bor (List Node)) → ℕ
-left level levels = node_count (views level) + count_behind levels
+left level levels = node_count (views level) + count_left levels
 
 -- the steps that are left: two for each node, and one for each level
 abbrev pub to_walk : List Node → List (Bor (List Node)) → ℕ
@@ -67,7 +67,7 @@ to_walk level levels = 2 * left level levels + length levels
 
 pub reads_first : (form : Form) (text : List ℕ) (level : List Node) (levels : List (Bor (List Node))) → levels ≡ [] → Reads form text level levels (text ++ reading form (views level))
 reads_first form text level levels none =
-    ap (λ (l : List (Bor (List Node))). text ++ (reading form (views level) ++ text_behind form l)) none
+    ap (λ (l : List (Bor (List Node))). text ++ (reading form (views level) ++ text_left form l)) none
     ∙ ap (λ (s : List ℕ). text ++ s) (append-nil (reading form (views level)))
 
 -- into the first node
@@ -77,9 +77,9 @@ reads_down form text new own here rest inner first levels after top whole so_far
     let inside = reading form (views (nodes_in first)) in
     let past = reading form (views rest) in
     let said = own_text form (label_of first) in
-    let below = text_behind form levels in
+    let below = text_left form levels in
     let begun : new ≡ text ++ said = wrote ∙ ap (λ (v : List ℕ). text ++ v) says in
-    let stacked : text_behind form after ≡ past ++ below = ap (λ (l : List (Bor (List Node))). text_behind form l) pushed ∙ text_behind-snoc form levels top ∙ ap (λ (l : List Node). reading form (views l) ++ below) holds in
+    let stacked : text_left form after ≡ past ++ below = ap (λ (l : List (Bor (List Node))). text_left form l) pushed ∙ text_left-snoc form levels top ∙ ap (λ (l : List Node). reading form (views l) ++ below) holds in
     let all : reading form (views here) ≡ (said ++ inside) ++ past = ap (λ (l : List Node). reading form (views l)) is ∙ reading-cons form first rest in
     ap (λ (s : List ℕ). new ++ (reading form (views inner) ++ s)) stacked
     ∙ ap (λ (l : List Node). new ++ (reading form (views l) ++ (past ++ below))) within
@@ -95,7 +95,7 @@ pub reads_past : (form : Form) (text new own : List ℕ) (here rest : List Node)
 reads_past form text new own here rest first levels whole so_far is wrote says bare =
     let past = reading form (views rest) in
     let said = own_text form (label_of first) in
-    let below = text_behind form levels in
+    let below = text_left form levels in
     let all : reading form (views here) ≡ said ++ past =
     ap (λ (l : List Node). reading form (views l)) is ∙ reading-cons form first rest
     ∙ ap (λ (l : List Node). (said ++ reading form (views l)) ++ past) (sym bare)
@@ -111,24 +111,24 @@ reads_past form text new own here rest first levels whole so_far is wrote says b
 pub reads_up : (form : Form) (text : List ℕ) (here rest : List Node) (levels after : List (Bor (List Node))) (top : Bor (List Node)) (whole : List ℕ)
     → Reads form text here levels whole → here ≡ [] → levels ≡ after ++ top ∷ [] → top.now ≡ rest → Reads form text rest after whole
 reads_up form text here rest levels after top whole so_far empty popped holds =
-    ap (λ (l : List Node). text ++ (reading form (views l) ++ text_behind form after)) (sym holds)
-    ∙ ap (λ (s : List ℕ). text ++ s) (sym (text_behind-snoc form after top))
-    ∙ ap (λ (l : List (Bor (List Node))). text ++ text_behind form l) (sym popped)
-    ∙ ap (λ (s : List ℕ). text ++ (s ++ text_behind form levels)) (sym (reading-nothing form))
-    ∙ ap (λ (l : List Node). text ++ (reading form (views l) ++ text_behind form levels)) (sym empty)
+    ap (λ (l : List Node). text ++ (reading form (views l) ++ text_left form after)) (sym holds)
+    ∙ ap (λ (s : List ℕ). text ++ s) (sym (text_left-snoc form after top))
+    ∙ ap (λ (l : List (Bor (List Node))). text ++ text_left form l) (sym popped)
+    ∙ ap (λ (s : List ℕ). text ++ (s ++ text_left form levels)) (sym (reading-nothing form))
+    ∙ ap (λ (l : List Node). text ++ (reading form (views l) ++ text_left form levels)) (sym empty)
     ∙ so_far
 
 pub reads_all : (form : Form) (text : List ℕ) (here : List Node) (levels : List (Bor (List Node))) (whole : List ℕ) → Reads form text here levels whole → here ≡ [] → levels ≡ [] → text ≡ whole
 reads_all form text here levels whole so_far empty none =
     sym (append-nil text)
-    ∙ ap (λ (l : List (Bor (List Node))). text ++ text_behind form l) (sym none)
-    ∙ ap (λ (s : List ℕ). text ++ (s ++ text_behind form levels)) (sym (reading-nothing form))
-    ∙ ap (λ (l : List Node). text ++ (reading form (views l) ++ text_behind form levels)) (sym empty)
+    ∙ ap (λ (l : List (Bor (List Node))). text ++ text_left form l) (sym none)
+    ∙ ap (λ (s : List ℕ). text ++ (s ++ text_left form levels)) (sym (reading-nothing form))
+    ∙ ap (λ (l : List Node). text ++ (reading form (views l) ++ text_left form levels)) (sym empty)
     ∙ so_far
 
 pub left_first : (level : List Node) (levels : List (Bor (List Node))) → levels ≡ [] → left level levels ≡ node_count (views level)
 left_first level levels none =
-    let b : count_behind levels ≡ 0 = ap (λ (l : List (Bor (List Node))). count_behind l) none in
+    let b : count_left levels ≡ 0 = ap (λ (l : List (Bor (List Node))). count_left l) none in
     omega (arith, b)
 
 -- a node less is left, inside of it or behind it
@@ -136,7 +136,7 @@ pub left_down : (here rest inner : List Node) (first : Node) (levels after : Lis
 left_down here rest inner first levels after top is within pushed holds =
     let a : node_count (views here) ≡ 1 + node_count (views (nodes_in first)) + node_count (views rest) = ap (λ (l : List Node). node_count (views l)) is ∙ count-cons first rest in
     let b : node_count (views inner) ≡ node_count (views (nodes_in first)) = ap (λ (l : List Node). node_count (views l)) within in
-    let c : count_behind after ≡ count_behind levels + node_count (views top.now) = ap (λ (l : List (Bor (List Node))). count_behind l) pushed ∙ count_behind-snoc levels top in
+    let c : count_left after ≡ count_left levels + node_count (views top.now) = ap (λ (l : List (Bor (List Node))). count_left l) pushed ∙ count_left-snoc levels top in
     let d : node_count (views top.now) ≡ node_count (views rest) = ap (λ (l : List Node). node_count (views l)) holds in
     omega (arith, a, b, c, d)
 
@@ -155,7 +155,7 @@ within here rest first levels now ticked total is one so_far =
 pub left_up : (here rest : List Node) (levels after : List (Bor (List Node))) (top : Bor (List Node)) → here ≡ [] → levels ≡ after ++ top ∷ [] → top.now ≡ rest → left here levels ≡ left rest after
 left_up here rest levels after top empty popped holds =
     let a : node_count (views here) ≡ 0 = ap (λ (l : List Node). node_count (views l)) empty in
-    let c : count_behind levels ≡ count_behind after + node_count (views top.now) = ap (λ (l : List (Bor (List Node))). count_behind l) popped ∙ count_behind-snoc after top in
+    let c : count_left levels ≡ count_left after + node_count (views top.now) = ap (λ (l : List (Bor (List Node))). count_left l) popped ∙ count_left-snoc after top in
     let d : node_count (views top.now) ≡ node_count (views rest) = ap (λ (l : List Node). node_count (views l)) holds in
     omega (arith, a, c, d)
 

@@ -38,9 +38,9 @@ use Rattle.markdown_grammar.specs.Refusals.{ErrorAt}
 use Rattle.markdown_steps.specs.Checks.{checked, passes, refused, ◌>>=◌}
 use Rattle.markdown_steps.specs.Siblings.{marks_with}
 use Rattle.markdown_grammar.specs.Document.{Source}
-use Rattle.nest.specs.Nest.{IsPut, around_innermost, first_or, innermost, with_innermost}
+use Rattle.nest.specs.Nest.{around_innermost, first_or, innermost, with_innermost}
 use Rattle.nest.specs.declared.Nest.{Nest}
-use Rattle.nest.proofs.Nesting.{put_around, put_innermost, turned, written_around, written_innermost}
+use Rattle.nest.proofs.Nesting.{IsPut, put_around, put_innermost, turned, written_around, written_innermost}
 use Rattle.markdown_context.specs.Takings.{TakesParent}
 use Rattle.markdown_context.specs.declared.container.Container.TheVariants as containers
 use Rattle.markdown_blocks.specs.Parents.{is_parent}

@@ -7,9 +7,10 @@ use Rattle.markdown_events.specs.declared.infer.AlignKind.TheVariants as aligns
 use Rattle.markdown_events.specs.declared.unist.Point.{Point}
 use Rattle.markdown_events.specs.declared.unist.Position.{Position}
 use Rattle.markdown_nodes.specs.Shown.{bool_text}
+use Rattle.markdown_nodes.specs.Written.{Notation, written}
 use Rattle.markdown_nodes.specs.declared.mdast.ReferenceKind.{ReferenceKind}
 use Rattle.markdown_nodes.specs.declared.mdast.ReferenceKind.TheVariants.{Shortcut, Collapsed, Full}
-use Rattle.markdown_nodes.specs.Tree.{Label, Tree, Trees, nothing, node, root, paragraph, blockquote, emphasis, strong, delete, table_row, table_cell, thematic_break, «break», text, html, inline_code, inline_math, yaml, toml, heading, list, list_item, table, code, math, link, image, link_reference, image_reference, footnote_reference, footnote_definition, definition}
+use Rattle.markdown_nodes.specs.Tree.{Label, Tree, root, paragraph, blockquote, emphasis, strong, delete, table_row, table_cell, thematic_break, «break», text, html, inline_code, inline_math, yaml, toml, heading, list, list_item, table, code, math, link, image, link_reference, image_reference, footnote_reference, footnote_definition, definition}
 use Rattle.markdown_json.specs.Strings.{string}
 
 -- the kind of a node
@@ -146,15 +147,13 @@ position_field counted (Some position) = field (codes "position") (position_valu
 abbrev pub closing : (Point → Point) → Label → Option Position → List ℕ
 closing counted label position = children_end label ++ position_field counted position ++ codes "}"
 
--- nodes in order, the first after `lead` and each other one after a comma
-abbrev pub nodes_json : (Point → Point) → List ℕ → Trees → List ℕ
-nodes_json counted lead nothing = []
-nodes_json counted lead (node label children position rest) =
-    lead ++ opening label ++ nodes_json counted [] children ++ closing counted label position ++ nodes_json counted (codes ",") rest
+-- how JSON is written of nodes whose points are counted so
+abbrev pub json_notation : (Point → Point) → Notation
+json_notation counted = record { opening = opening; closing = closing counted; comma = codes "," }
 
 -- one node, whose points are counted so
 abbrev pub json_counted : (Point → Point) → Tree → List ℕ
-json_counted counted tree = opening tree.label ++ nodes_json counted [] tree.children ++ closing counted tree.label tree.position
+json_counted counted tree = written (json_notation counted) tree
 
 -- one node, with its points as they are: in bytes
 abbrev pub json : Tree → List ℕ

@@ -6,6 +6,7 @@ pub mod Lends
 pub mod Freeing
 pub mod ReferenceKinds
 pub mod Quoted
+pub mod Written
 pub mod Shown
 pub mod Equality
 pub mod EqualityLaws

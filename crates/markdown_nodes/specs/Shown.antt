@@ -7,9 +7,10 @@ use Rattle.markdown_events.specs.declared.unist.Position.{Position}
 use Rattle.markdown_events.specs.Alignments.{alignment_name}
 use Rattle.markdown_events.specs.Places.{position_text}
 use Rattle.markdown_nodes.specs.Quoted.{quoted}
+use Rattle.markdown_nodes.specs.Written.{Notation, written}
 use Rattle.markdown_nodes.specs.declared.mdast.ReferenceKind.{ReferenceKind}
 use Rattle.markdown_nodes.specs.ReferenceKinds.{reference_kind_name}
-use Rattle.markdown_nodes.specs.Tree.{Label, Tree, Trees, nothing, node, root, paragraph, blockquote, emphasis, strong, delete, table_row, table_cell, thematic_break, «break», text, html, inline_code, inline_math, yaml, toml, heading, list, list_item, table, code, math, link, image, link_reference, image_reference, footnote_reference, footnote_definition, definition}
+use Rattle.markdown_nodes.specs.Tree.{Label, Tree, root, paragraph, blockquote, emphasis, strong, delete, table_row, table_cell, thematic_break, «break», text, html, inline_code, inline_math, yaml, toml, heading, list, list_item, table, code, math, link, image, link_reference, image_reference, footnote_reference, footnote_definition, definition}
 
 -- true or false
 abbrev pub bool_text : Bool → List ℕ
@@ -132,14 +133,13 @@ closing escapes label position = content_end escapes label ++ option_text positi
 abbrev pub position_alone : Label → Option Position → List ℕ
 position_alone label position = opening label ++ option_text position_text position ++ codes " }"
 
--- nodes in order, the first after `lead` and each other one after a comma
-abbrev pub nodes_text : (ℕ → Bool) → List ℕ → Trees → List ℕ
-nodes_text escapes lead nothing = []
-nodes_text escapes lead (node label children position rest) = lead ++ opening label ++ nodes_text escapes [] children ++ closing escapes label position ++ nodes_text escapes comma_space rest
+-- how Debug writes nodes
+abbrev pub debug_notation : (ℕ → Bool) → Notation
+debug_notation escapes = record { opening = opening; closing = closing escapes; comma = comma_space }
 
 -- one node
 abbrev pub shown : (ℕ → Bool) → Tree → List ℕ
-shown escapes tree = opening tree.label ++ nodes_text escapes [] tree.children ++ closing escapes tree.label tree.position
+shown escapes tree = written (debug_notation escapes) tree
 
 -- the fields of a resource with these texts
 abbrev pub resource_of : (ℕ → Bool) → String Global → Option (String Global) → List ℕ

@@ -3,8 +3,8 @@ use Rattle.std.proofs.lemmas.List.{nil_from_length}
 use Rattle.markdown_nodes.specs.Access.{label_of}
 use Rattle.markdown_nodes.proofs.Levels.{walks_down, walks_up}
 use Rattle.markdown_json.specs.Json.{opening}
-use Rattle.markdown_nodes.proofs.WritingLevels.{writes_all, writes_down, writes_first, writes_up}
-use Rattle.markdown_json.proofs.JsonWriting.{json-is, writing}
+use Rattle.markdown_nodes.proofs.WritingLevels.{writes_all, writes_down, writes_first, writes_up, written-is}
+use Rattle.markdown_json.proofs.JsonWriting.{writing}
 use Rattle.markdown_json.proofs.json.to_json_counted.Goals as goal
 
 pub walk-init : goal.walk-init
@@ -25,4 +25,4 @@ pub walk-preserved : goal.walk-preserved
 walk-preserved g c = writes_up (writing (g.P.Points.counted c.args.points.now)) _ _ _ c.walk.level.now c.walk.parent.now c.walk.frames.items _ c.in-Some-pop.frame c.args.tree.now c.walk.invariant (nil_from_length _ c.in_default.ensures.cases) c.in-Some-pop.ensures.items c.in_ok-push_closing.ensures
 
 pub returns-in_default-pop : goal.returns-in_default-pop
-returns-in_default-pop g c = writes_all (writing (g.P.Points.counted c.args.points.now)) _ _ _ c.walk.level.now c.walk.parent.now c.walk.frames.items c.args.tree.now c.walk.invariant (nil_from_length _ c.in_default.ensures.cases) (nil_from_length _ (sym c.walk.frames.ok.0 ∙ c.in_default-pop.ensures.cases.0)) c.in_ok-push_closing.ensures ∙ sym (json-is (g.P.Points.counted c.args.points.now) c.args.tree.now)
+returns-in_default-pop g c = writes_all (writing (g.P.Points.counted c.args.points.now)) _ _ _ c.walk.level.now c.walk.parent.now c.walk.frames.items c.args.tree.now c.walk.invariant (nil_from_length _ c.in_default.ensures.cases) (nil_from_length _ (sym c.walk.frames.ok.0 ∙ c.in_default-pop.ensures.cases.0)) c.in_ok-push_closing.ensures ∙ sym (written-is (writing (g.P.Points.counted c.args.points.now)) c.args.tree.now)

@@ -14,13 +14,14 @@ use Rattle.markdown_context.specs.States.{container_state_of, summary_of_contain
 use Rattle.markdown_blocks.specs.Columns.{columns_of}
 use Rattle.markdown_builder.specs.Marks.{marks_of}
 use Rattle.markdown_steps.specs.Visits.{visits_at_end}
+use Rattle.nest.proofs.Nesting.{taken_out}
 use Rattle.markdown_context.proofs.Endings.{closed_gives, closed_own, closed_so, closed_walks, columns_kept, content_row, part_row}
 use Rattle.markdown_context.proofs.Stopping.{always, gives_same, on_ok}
 use Rattle.markdown_context.proofs.context.Context.leave_any.Goals as goal
 
 pub take_content-requires-clause-initial_model : goal.take_content-requires-clause-initial_model
 take_content-requires-clause-initial_model c =
-    let same = closed_own c.args.what c.args.self.now (record c.args.self.now.containers { inner = c.pop.new.self }) c.in-Some.own c.innermost_mut-top.result.now c.requires.ends (record { outermost = refl; inner = c.in-Some.ensures.items }) c.innermost_mut-top.ensures.value in
+    let same = closed_own c.args.what c.args.self.now (record c.args.self.now.containers { inner = c.pop.new.self }) c.in-Some.own c.innermost_mut-top.result.now c.requires.ends (taken_out _ _ _ c.in-Some.ensures.items) c.innermost_mut-top.ensures.value in
     ap (λ (h : OpenContainer). initial_model_of h.container) (sym same.0) ∙ c.requires.ends.initial_model ∙ (λ t. model_of (current_model_of (same.1 t).container) (c.in-Content.is t))
 
 pub take_content-requires-clause-such : goal.take_content-requires-clause-such
@@ -28,7 +29,7 @@ take_content-requires-clause-such c = content_row c.in-Some.own.container (curre
 
 pub take_part-requires-clause-initial_model : goal.take_part-requires-clause-initial_model
 take_part-requires-clause-initial_model c =
-    let same = closed_own c.args.what c.args.self.now (record c.args.self.now.containers { inner = c.pop.new.self }) c.in-Some.own c.innermost_mut-top.result.now c.requires.ends (record { outermost = refl; inner = c.in-Some.ensures.items }) c.innermost_mut-top.ensures.value in
+    let same = closed_own c.args.what c.args.self.now (record c.args.self.now.containers { inner = c.pop.new.self }) c.in-Some.own c.innermost_mut-top.result.now c.requires.ends (taken_out _ _ _ c.in-Some.ensures.items) c.innermost_mut-top.ensures.value in
     ap (λ (h : OpenContainer). initial_model_of h.container) (sym same.0) ∙ c.requires.ends.initial_model ∙ (λ t. model_of (current_model_of (same.1 t).container) (c.in-Part.is t))
 
 pub take_part-requires-clause-such : goal.take_part-requires-clause-such
@@ -36,7 +37,7 @@ take_part-requires-clause-such c = part_row c.in-Some.own.container (current_mod
 
 pub take_part-requires-clause-fits : goal.take_part-requires-clause-fits
 take_part-requires-clause-fits c =
-    let same = closed_own c.args.what c.args.self.now (record c.args.self.now.containers { inner = c.pop.new.self }) c.in-Some.own c.innermost_mut-top.result.now c.requires.ends (record { outermost = refl; inner = c.in-Some.ensures.items }) c.innermost_mut-top.ensures.value in
+    let same = closed_own c.args.what c.args.self.now (record c.args.self.now.containers { inner = c.pop.new.self }) c.in-Some.own c.innermost_mut-top.result.now c.requires.ends (taken_out _ _ _ c.in-Some.ensures.items) c.innermost_mut-top.ensures.value in
     (λ t. misfit_of (sym same.1 t).container (sym c.in-Part.is t)) ∙ c.requires.ends.fits
 
 pub returns-in-Content-clause-closed : goal.returns-in-Content-clause-closed
@@ -44,7 +45,7 @@ returns-in-Content-clause-closed c =
     let rest : Nest OpenContainer = record c.args.self.now.containers { inner = c.pop.new.self } in
     on_ok c.take_content.result _ _
     (λ left. closed_so c.args.what c.args.self.now (record c.args.self.now { containers = with_innermost rest c.take_content.new.self; in_table = c.args.frame.in_table; columns = c.take_content.new.columns })
-    rest c.in-Some.own c.take_content.new.self c.requires.«open» (record { outermost = refl; inner = c.in-Some.ensures.items }) refl refl refl refl
+    rest c.in-Some.own c.take_content.new.self c.requires.«open» (taken_out _ _ _ c.in-Some.ensures.items) refl refl refl refl
     (left ∙ (λ t. columns_left (significant (sym c.in-Content.is t)) (marks_of c.args.self.now.interior.marks) (columns_of c.args.self.now.columns))))
     c.take_content.ensures.columns
 
@@ -53,7 +54,7 @@ returns-in-Part-clause-closed c =
     let rest : Nest OpenContainer = record c.args.self.now.containers { inner = c.pop.new.self } in
     let new : Context = record c.args.self.now { containers = with_innermost rest c.take_part.new.self; in_table = c.args.frame.in_table } in
     on_ok c.take_part.result (Unit {0}) _
-    (λ taken. closed_so c.args.what c.args.self.now new rest c.in-Some.own c.take_part.new.self c.requires.«open» (record { outermost = refl; inner = c.in-Some.ensures.items }) refl refl refl refl
+    (λ taken. closed_so c.args.what c.args.self.now new rest c.in-Some.own c.take_part.new.self c.requires.«open» (taken_out _ _ _ c.in-Some.ensures.items) refl refl refl refl
     (columns_kept c.args.what c.args.self.now new (ap is_table c.in-Part.is) refl))
     (always c.take_part.result)
 
@@ -63,7 +64,7 @@ returns-in-Part-clause-gives c s same =
     let rest : Nest OpenContainer = record c.args.self.now.containers { inner = c.pop.new.self } in
     closed_gives s c.args.what c.args.frame c.args.end.now c.args.self.now
     (record c.args.self.now { containers = with_innermost rest c.take_part.new.self; in_table = c.args.frame.in_table })
-    rest c.in-Some.own c.innermost_mut-top.result.now c.take_part.new.self c.take_part.result c.requires.«open» c.requires.settled (record { outermost = refl; inner = c.in-Some.ensures.items }) c.innermost_mut-top.ensures.value refl refl refl refl
+    rest c.in-Some.own c.innermost_mut-top.result.now c.take_part.new.self c.take_part.result c.requires.«open» c.requires.settled (taken_out _ _ _ c.in-Some.ensures.items) c.innermost_mut-top.ensures.value refl refl refl refl
     (gives_same (λ x. container_state_of c.args.frame.in_table None c.take_part.new.self) c.args.end.now c.take_part.result _ _
     (λ t. leave s (c.in-Part.is t) c.args.frame.start.now c.args.end.now children (container_state_of c.args.self.now.in_table None c.in-Some.own) (container_state_of c.args.frame.in_table None c.innermost_mut-top.result.now))
     (c.take_part.ensures.left children s c.args.self.now.in_table same))
@@ -74,7 +75,7 @@ returns-in-Content-clause-gives c s same =
     let rest : Nest OpenContainer = record c.args.self.now.containers { inner = c.pop.new.self } in
     closed_gives s c.args.what c.args.frame c.args.end.now c.args.self.now
     (record c.args.self.now { containers = with_innermost rest c.take_content.new.self; in_table = c.args.frame.in_table; columns = c.take_content.new.columns })
-    rest c.in-Some.own c.innermost_mut-top.result.now c.take_content.new.self c.take_content.result c.requires.«open» c.requires.settled (record { outermost = refl; inner = c.in-Some.ensures.items }) c.innermost_mut-top.ensures.value refl refl refl refl
+    rest c.in-Some.own c.innermost_mut-top.result.now c.take_content.new.self c.take_content.result c.requires.«open» c.requires.settled (taken_out _ _ _ c.in-Some.ensures.items) c.innermost_mut-top.ensures.value refl refl refl refl
     (gives_same (λ x. container_state_of c.args.frame.in_table None c.take_content.new.self) c.args.end.now c.take_content.result _ _
     (λ t. leave s (c.in-Content.is t) c.args.frame.start.now c.args.end.now children (container_state_of c.args.self.now.in_table None c.in-Some.own) (container_state_of c.args.frame.in_table None c.innermost_mut-top.result.now))
     (c.take_content.ensures.left s c.args.self.now.in_table same))
@@ -82,7 +83,7 @@ returns-in-Content-clause-gives c s same =
 pub returns-in-Content-clause-bound : goal.returns-in-Content-clause-bound
 returns-in-Content-clause-bound c =
     let rest : Nest OpenContainer = record c.args.self.now.containers { inner = c.pop.new.self } in
-    let same = closed_walks c.args.what c.args.frame c.args.self.now rest c.in-Some.own c.requires.«open» c.requires.settled (record { outermost = refl; inner = c.in-Some.ensures.items })
+    let same = closed_walks c.args.what c.args.frame c.args.self.now rest c.in-Some.own c.requires.«open» c.requires.settled (taken_out _ _ _ c.in-Some.ensures.items)
     ∙ (λ t. visits_at_end (c.in-Content.is t) (summary_of_container c.in-Some.own)) in
     let bound = c.take_content.ensures.bound in
     omega (arith, same, bound)
@@ -90,7 +91,7 @@ returns-in-Content-clause-bound c =
 pub returns-in-Part-clause-bound : goal.returns-in-Part-clause-bound
 returns-in-Part-clause-bound c =
     let rest : Nest OpenContainer = record c.args.self.now.containers { inner = c.pop.new.self } in
-    let same = closed_walks c.args.what c.args.frame c.args.self.now rest c.in-Some.own c.requires.«open» c.requires.settled (record { outermost = refl; inner = c.in-Some.ensures.items })
+    let same = closed_walks c.args.what c.args.frame c.args.self.now rest c.in-Some.own c.requires.«open» c.requires.settled (taken_out _ _ _ c.in-Some.ensures.items)
     ∙ (λ t. visits_at_end (c.in-Part.is t) (summary_of_container c.in-Some.own)) in
     let bound = c.take_part.ensures.bound in
     omega (arith, same, bound)

@@ -4,6 +4,7 @@ use Rattle.nest.specs.Nest.{with_innermost}
 use Rattle.markdown_context.specs.declared.context.Context.{Context}
 use Rattle.nest.specs.declared.Nest.{Nest}
 use Rattle.markdown_context.specs.declared.open_container.OpenContainer.{OpenContainer}
+use Rattle.nest.proofs.Nesting.{taken_out}
 use Rattle.markdown_context.proofs.Endings.{closed_so, columns_kept, parent_no_table, parent_taken}
 use Rattle.markdown_context.proofs.Stopping.{on_ok}
 use Rattle.markdown_context.proofs.context.Context.leave_parent.Goals as goal
@@ -14,7 +15,7 @@ returns-clause-gives c =
     let new : Context = record c.args.self.now { containers = with_innermost rest c.take_parent.new.self; in_table = c.args.frame.in_table } in
     on_ok c.take_parent.result _ _
     (λ takes s. parent_taken s c.args.content c.args.frame c.args.end.now c.args.self.now new rest c.in-Some.own c.innermost_mut.result.now c.take_parent.new.self
-    c.requires.«open» c.requires.settled c.requires.container (record { outermost = refl; inner = c.in-Some.ensures.items }) c.innermost_mut.ensures.value refl refl refl refl takes)
+    c.requires.«open» c.requires.settled c.requires.container (taken_out _ _ _ c.in-Some.ensures.items) c.innermost_mut.ensures.value refl refl refl refl takes)
     c.take_parent.ensures
 
 pub returns-clause-closed : goal.returns-clause-closed
@@ -22,6 +23,6 @@ returns-clause-closed c =
     let rest : Nest OpenContainer = record c.args.self.now.containers { inner = c.pop.new.self } in
     let new : Context = record c.args.self.now { containers = with_innermost rest c.take_parent.new.self; in_table = c.args.frame.in_table } in
     on_ok c.take_parent.result _ _
-    (λ takes. closed_so (content c.args.content) c.args.self.now new rest c.in-Some.own c.take_parent.new.self c.requires.«open» (record { outermost = refl; inner = c.in-Some.ensures.items }) refl refl refl refl
+    (λ takes. closed_so (content c.args.content) c.args.self.now new rest c.in-Some.own c.take_parent.new.self c.requires.«open» (taken_out _ _ _ c.in-Some.ensures.items) refl refl refl refl
     (columns_kept (content c.args.content) c.args.self.now new (parent_no_table c.args.content c.requires.such) refl))
     c.take_parent.ensures

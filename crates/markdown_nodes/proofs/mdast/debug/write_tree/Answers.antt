@@ -5,8 +5,8 @@ use Rattle.std.proofs.lemmas.List.{nil_from_length}
 use Rattle.markdown_nodes.specs.Access.{label_of}
 use Rattle.markdown_nodes.specs.Shown.{opening}
 use Rattle.markdown_nodes.proofs.Levels.{walks_down, walks_up}
-use Rattle.markdown_nodes.proofs.Showing.{close_of, shown-is, showing}
-use Rattle.markdown_nodes.proofs.WritingLevels.{writes_all, writes_down, writes_first, writes_up}
+use Rattle.markdown_nodes.proofs.Showing.{showing}
+use Rattle.markdown_nodes.proofs.WritingLevels.{close_of, writes_all, writes_down, writes_first, writes_up, written-is}
 use Rattle.markdown_nodes.proofs.mdast.debug.write_tree.Goals as goal
 
 pub walk-init : goal.walk-init
@@ -33,18 +33,18 @@ walk-smaller g c = walks_up (λ x. x.rest.now) c.walk.level.now _ c.walk.frames.
 
 pub walk-preserved : goal.walk-preserved
 walk-preserved g c = λ plain.
-    let set = contains nat_cmp c.args.escapes.now in
+    let walk = showing (contains nat_cmp c.args.escapes.now) in
     let so_far = c.walk.invariant plain in (
-      so_far.0 ++ close_of set c.walk.parent.now,
+      so_far.0 ++ close_of walk c.walk.parent.now,
       has_written_append _ _ _ _ _ _ so_far.1 (c.in_ok-close.ensures so_far.1.plain (search rules)),
-      writes_up (showing set) so_far.0 (if c.walk.later then codes ", " else []) _ c.walk.level.now c.walk.parent.now c.walk.frames.items _ c.in-Some-pop.frame c.args.node.now so_far.2 (nil_from_length _ c.in_default.ensures.cases) c.in-Some-pop.ensures.items refl,
+      writes_up walk so_far.0 (if c.walk.later then codes ", " else []) _ c.walk.level.now c.walk.parent.now c.walk.frames.items _ c.in-Some-pop.frame c.args.node.now so_far.2 (nil_from_length _ c.in_default.ensures.cases) c.in-Some-pop.ensures.items refl,
     )
 
 pub returns-in_default-pop : goal.returns-in_default-pop
 returns-in_default-pop g c = λ plain ok.
-    let set = contains nat_cmp c.args.escapes.now in
+    let walk = showing (contains nat_cmp c.args.escapes.now) in
     let so_far = c.walk.invariant plain in
     has_written_of_eq _ _ _ _ _
-    (writes_all (showing set) so_far.0 (if c.walk.later then codes ", " else []) _ c.walk.level.now c.walk.parent.now c.walk.frames.items c.args.node.now so_far.2 (nil_from_length _ c.in_default.ensures.cases) (nil_from_length _ (sym c.walk.frames.ok.0 ∙ c.in_default-pop.ensures.cases.0)) refl
-    ∙ sym (shown-is set c.args.node.now))
+    (writes_all walk so_far.0 (if c.walk.later then codes ", " else []) _ c.walk.level.now c.walk.parent.now c.walk.frames.items c.args.node.now so_far.2 (nil_from_length _ c.in_default.ensures.cases) (nil_from_length _ (sym c.walk.frames.ok.0 ∙ c.in_default-pop.ensures.cases.0)) refl
+    ∙ sym (written-is walk c.args.node.now))
     (has_written_append _ _ _ _ _ _ so_far.1 (c.in_ok-close.ensures so_far.1.plain (search rules)))
