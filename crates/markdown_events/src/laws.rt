@@ -7,7 +7,6 @@ ghost use Rattle.markdown_events.specs.Forest.{Forest, events_of};
 ///
 /// The four events of the document `Hi` are those of a `Paragraph` with a `Data` in it, and of no other
 /// forest.
-#[tactic(auto, using(crate::proofs::Unique::one_forest))]
 pub fn one_forest()
     ensures { (first second : Forest) → events_of first ≡ events_of second → first ≡ second }
 {}

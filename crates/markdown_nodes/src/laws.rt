@@ -18,7 +18,6 @@ pub use markdown_events::laws::one_forest;
 /// (ours).
 ///
 /// Lists of one Text each, `a`, `b` and `c`, give a list of the Text `abc` either way.
-#[tactic(auto, using(crate::proofs::Joining::join_assoc))]
 pub fn seam()
     ensures { (a b c : Trees) → join (join a b) c ≡ join a (join b c) }
 {}

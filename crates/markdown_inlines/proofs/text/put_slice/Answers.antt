@@ -1,0 +1,5 @@
+use Rattle.std.proofs.Common.{rules}
+use Rattle.markdown_inlines.proofs.text.put_slice.Goals as goal
+
+pub returns : goal.returns
+returns c = search rules
