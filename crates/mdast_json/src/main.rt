@@ -6,7 +6,7 @@
 #![tactic(auto)]
 
 use mdast_programs::document::{arguments, document};
-use mdast_programs::program::Program;
+use mdast_programs::program::{Program, Units};
 use mdast_programs::request::{DocumentError, json_request};
 use mdast_programs::run::{run_as, say};
 use std::io::{self, Write};
@@ -16,7 +16,7 @@ fn main(rt: HostRuntime) -> ExitCode {
     let mut output = io::writer(&rt);
     ExitCode::from(match answer(&rt, &mut output) {
         Ok(status) => status,
-        Err(error) => say(&mut output, error.line(Program::Json), 2),
+        Err(error) => say(&mut output, error.line(Program::Json(Units::Bytes)), 2),
     })
 }
 

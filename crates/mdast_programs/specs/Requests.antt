@@ -6,7 +6,8 @@ use Rattle.mdast_programs.specs.declared.request.DocumentError.{DocumentError}
 use Rattle.mdast_programs.specs.declared.request.DocumentError.TheVariants.{Unreadable, Usage}
 use Rattle.mdast_programs.specs.Programs.{unreadable_line, usage_line}
 use Rattle.mdast_programs.specs.declared.program.Program.{Program}
-use Rattle.mdast_programs.specs.declared.program.Program.TheVariants.{Json, JsonUtf16}
+use Rattle.mdast_programs.specs.declared.program.Program.TheVariants.{Json}
+use Rattle.mdast_programs.specs.declared.program.Units.TheVariants.{Bytes, Utf16}
 use Rattle.mdast_programs.specs.declared.request.Request.{Request}
 use Rattle.mdast_programs.specs.declared.request.Request.TheVariants.{Check, Show}
 
@@ -24,7 +25,7 @@ requested first second third =
 -- what `mdast_json` is asked for
 abbrev pub requested_json : Option (String Global) → Option (String Global) → Option (String Global) → Option (Program × String Global)
 requested_json first second third =
-    option_map (λ found. ((if found.0 then JsonUtf16 else Json), found.1)) (named (codes "--utf16") first second third)
+    option_map (λ found. (Json (if found.0 then Utf16 else Bytes), found.1)) (named (codes "--utf16") first second third)
 
 -- the line of a program for want of a document
 abbrev pub error_line : Program → DocumentError → List ℕ

@@ -17,7 +17,8 @@ use Rattle.character_references.specs.Decoder.{decoded}
 use Rattle.event_lines.specs.Lines.{lines, IsFirstUnread}
 use Rattle.mdast_programs.specs.Programs.{program_name}
 use Rattle.mdast_programs.specs.declared.program.Program.{Program}
-use Rattle.mdast_programs.specs.declared.program.Program.TheVariants.{Show, Json, JsonUtf16}
+use Rattle.mdast_programs.specs.declared.program.Program.TheVariants.{Show, Json}
+use Rattle.mdast_programs.specs.declared.program.Units.TheVariants.{Bytes, Utf16}
 use Rattle.markdown_json.specs.Json.{json}
 use Rattle.markdown_json.specs.Utf16.{json_utf16}
 
@@ -58,8 +59,8 @@ IsRefusedWith known doc Said =
 -- the text of a tree of a document, by the program; which characters beyond ASCII stand as their Unicode escape in that of Debug is left open
 abbrev pub IsTextOf : Program → List ℕ → Tree → List ℕ → Type 0
 IsTextOf Show doc tree text = (escapes : ℕ → Bool) × (text ≡ shown escapes tree)
-IsTextOf Json doc tree text = text ≡ json tree
-IsTextOf JsonUtf16 doc tree text = text ≡ json_utf16 doc tree
+IsTextOf (Json Bytes) doc tree text = text ≡ json tree
+IsTextOf (Json Utf16) doc tree text = text ≡ json_utf16 doc tree
 
 -- its line: the text, and a line feed
 abbrev pub IsLineOf : Program → List ℕ → Tree → List ℕ → Type 0

@@ -8,10 +8,17 @@ ghost use Rattle.mdast_programs.specs.Programs.{memory_line, program_name, unrea
 pub enum Program {
     /// `mdast_show`, which prints the tree as Debug does, or what is found in it.
     Show,
-    /// `mdast_json`, which prints the tree as JSON.
-    Json,
-    /// `mdast_json --utf16`, which prints it with columns and offsets in UTF-16 units.
-    JsonUtf16,
+    /// `mdast_json`, which prints the tree as JSON, with columns and offsets in these units.
+    Json(Units),
+}
+
+/// The units in which `mdast_json` counts columns and offsets.
+#[derive(Clone, Copy, PartialEq, Eq, Debug)]
+pub enum Units {
+    /// Bytes, as the tree has them.
+    Bytes,
+    /// UTF-16 units, as JavaScript counts them: `mdast_json --utf16`.
+    Utf16,
 }
 
 impl Program {
@@ -21,7 +28,7 @@ impl Program {
     {
         match self {
             Program::Show => "mdast_show",
-            Program::Json | Program::JsonUtf16 => "mdast_json",
+            Program::Json(_) => "mdast_json",
         }
     }
 
@@ -31,7 +38,7 @@ impl Program {
     {
         match self {
             Program::Show => "usage: mdast_show [--check] DOC\n",
-            Program::Json | Program::JsonUtf16 => "usage: mdast_json [--utf16] DOC\n",
+            Program::Json(_) => "usage: mdast_json [--utf16] DOC\n",
         }
     }
 
@@ -41,7 +48,7 @@ impl Program {
     {
         match self {
             Program::Show => "mdast_show: cannot read the document\n",
-            Program::Json | Program::JsonUtf16 => "mdast_json: cannot read the document\n",
+            Program::Json(_) => "mdast_json: cannot read the document\n",
         }
     }
 
@@ -51,7 +58,7 @@ impl Program {
     {
         match self {
             Program::Show => "mdast_show: out of memory\n",
-            Program::Json | Program::JsonUtf16 => "mdast_json: out of memory\n",
+            Program::Json(_) => "mdast_json: out of memory\n",
         }
     }
 }

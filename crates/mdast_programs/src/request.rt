@@ -4,7 +4,7 @@ ghost use Rattle.std.specs.Prelude.{◌≡◌};
 ghost use Rattle.mdast_programs.specs.Requests;
 ghost use Rattle.mdast_programs.specs.Requests.{error_line, requested, requested_json};
 
-use crate::program::Program;
+use crate::program::{Program, Units};
 
 /// What `mdast_show` is asked to do.
 #[derive(Debug, PartialEq, Eq, Drop)]
@@ -52,11 +52,11 @@ pub fn json_request(
 ) -> Option<(Program, String)>
     ensures { result ≡ requested_json first second third }
 {
-    let (in_units, document) = named("--utf16", first, second, third)?;
-    if in_units {
-        return Some((Program::JsonUtf16, document));
+    let (in_utf16, document) = named("--utf16", first, second, third)?;
+    if in_utf16 {
+        return Some((Program::Json(Units::Utf16), document));
     }
-    Some((Program::Json, document))
+    Some((Program::Json(Units::Bytes), document))
 }
 
 /// Whether an option stands before the name of a document, and that name.

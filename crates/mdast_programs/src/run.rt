@@ -7,11 +7,12 @@ ghost use Rattle.mdast_programs.specs.Run;
 ghost use Rattle.mdast_programs.specs.Programs.{memory_line};
 ghost use Rattle.mdast_programs.specs.Run.{IsAnswer, IsCompiled, IsLineOf, IsRefusedWith, IsTextOf, Means, Prints, status_of};
 ghost use Rattle.mdast_programs.specs.declared.program.Program.TheVariants as programs;
+ghost use Rattle.mdast_programs.specs.declared.program.Units.TheVariants as units;
 ghost use Rattle.mdast_programs.specs.declared.run.Answer.TheVariants as answers;
 ghost use Rattle.markdown_nodes.specs.View.{view};
 
 use crate::input::{ReadError, read_all};
-use crate::program::Program;
+use crate::program::{Program, Units};
 use character_references::decoder::Decoder;
 use event_lines::lines::{LinesError, events};
 use markdown_json::{to_json, to_json_utf16};
@@ -125,7 +126,7 @@ pub fn run_json<I: Read, O: Write>(alloc: Global, doc: &[u8], input: &mut I, out
 
     // They are events with a tree, and what is written is the line of that tree as JSON.
     ensures tree { result ≡ 0 → (tree : Node) × Means (I.remaining input.old) doc.now tree
-        × ((line : List ℕ) × IsLineOf programs.Json doc.now (view tree) line × Appends (O.contents output.old) (O.contents output.new) line) }
+        × ((line : List ℕ) × IsLineOf (programs.Json units.Bytes) doc.now (view tree) line × Appends (O.contents output.old) (O.contents output.new) line) }
 
     // They are events without one, and a message of the compiler is written.
     ensures refused { result ≡ 1 → IsRefusedWith (I.remaining input.old) doc.now (Appends (O.contents output.old) (O.contents output.new)) }
@@ -133,11 +134,11 @@ pub fn run_json<I: Read, O: Write>(alloc: Global, doc: &[u8], input: &mut I, out
     // The line says that memory ran out, and nothing else is written.
     ensures memory { result ≡ 3 → Appends (O.contents output.old) (O.contents output.new) (codes "mdast_json: out of memory\n") }
 {
-    run_as(Program::Json, alloc, doc, input, output).status
+    run_as(Program::Json(Units::Bytes), alloc, doc, input, output).status
 }
 
 /// One run of a program that prints the tree: as [`run`] or [`run_json`], and it hands the answer back.
-/// With [`Program::JsonUtf16`] the line is that of [`to_json_utf16`].
+/// With [`Units::Utf16`] the line is that of [`to_json_utf16`].
 ///
 /// A library lets the outcome go, and the tree is dropped. A program that ends here may
 /// [`forget`](Outcome::forget) it.
@@ -232,8 +233,8 @@ fn tree_text(program: Program, alloc: Global, doc: &[u8], tree: &Node) -> Result
 {
     match program {
         Program::Show => tree.to_debug_string(alloc),
-        Program::Json => to_json(alloc, tree),
-        Program::JsonUtf16 => to_json_utf16(alloc, doc, tree),
+        Program::Json(Units::Bytes) => to_json(alloc, tree),
+        Program::Json(Units::Utf16) => to_json_utf16(alloc, doc, tree),
     }
 }
 

@@ -6,7 +6,7 @@ use crate::expect::{holds, prints, same};
 use event_lines::lines::events;
 use markdown_nodes::event::{Event, Kind, Name, Point};
 use mdast_programs::check::run_check;
-use mdast_programs::program::Program;
+use mdast_programs::program::{Program, Units};
 use mdast_programs::request::{DocumentError, Request, json_request};
 use mdast_programs::run::{run, run_as, run_json};
 use std::alloc::{AllocError, Global};
@@ -139,10 +139,14 @@ fn expect_json_request<R: Abort + AllocGlobal>(
 #[test]
 fn takes_a_document_and_an_option(rt: HostRuntime) -> Result<(), AllocError> {
     let doc = Some("hi.md");
-    expect_json_request(&rt, [doc, None, None], "Some((Json, \"hi.md\"))")?;
+    expect_json_request(&rt, [doc, None, None], "Some((Json(Bytes), \"hi.md\"))")?;
     let option = Some("--utf16");
-    expect_json_request(&rt, [option, doc, None], "Some((JsonUtf16, \"hi.md\"))")?;
-    expect_json_request(&rt, [option, None, None], "Some((Json, \"--utf16\"))")?;
+    expect_json_request(&rt, [option, doc, None], "Some((Json(Utf16), \"hi.md\"))")?;
+    expect_json_request(
+        &rt,
+        [option, None, None],
+        "Some((Json(Bytes), \"--utf16\"))",
+    )?;
     expect_json_request(&rt, [doc, doc, None], "None")?;
     expect_json_request(&rt, [option, doc, doc], "None")?;
     expect_json_request(&rt, [None, None, None], "None")
@@ -154,11 +158,17 @@ fn prints_json_in_utf16_units(rt: HostRuntime) {
     let mut input: &[u8] = b"+Data 1:3:2\n-Data 1:4:3\n";
     let mut output = Vec::new(rt.alloc());
     let doc = "\u{E9}!".as_bytes();
-    let found = run_as(Program::JsonUtf16, rt.alloc(), doc, &mut input, &mut output);
+    let found = run_as(
+        Program::Json(Units::Utf16),
+        rt.alloc(),
+        doc,
+        &mut input,
+        &mut output,
+    );
     let line =
         "{\"type\":\"root\",\"children\":[{\"type\":\"text\",\"value\":\"!\",\"position\":{\"start\":{\"line\":1,\"column\":2,\"offset\":1},\"end\":{\"line\":1,\"column\":3,\"offset\":2}}}],\"position\":{\"start\":{\"line\":1,\"column\":2,\"offset\":1},\"end\":{\"line\":1,\"column\":3,\"offset\":2}}}\n";
     same(&rt, str::from_utf8(&output), Ok(line));
-    same(&rt, found.status, 0);
+    same(&rt, found.forget(), 0);
 }
 
 /// The events of `# Hi`, a line ending, and `[^A]`: a heading, and a paragraph with a call of a
@@ -257,7 +267,7 @@ fn says_why_there_is_no_document(rt: HostRuntime) {
     );
     same(
         &rt,
-        DocumentError::Unreadable.line(Program::Json),
+        DocumentError::Unreadable.line(Program::Json(Units::Bytes)),
         "mdast_json: cannot read the document\n",
     );
 }
