@@ -52,7 +52,7 @@ typedef struct mdast_outcome {
  * document     the bytes of the document.
  * event_lines  its events, one on a line: docs/EVENTS.md has their form.
  * references   a table of character references: lines of name=text, in UTF-8, without & and ; (copy=©). An empty table
- *              leaves the names amp, lt, gt, quot and NewLine, and numbers are always known.
+ *              leaves amp, lt, gt, quot, NewLine and numbers, which are always known.
  * outcome      what the call comes to. It is MDAST_OUTCOME_INIT, or what an earlier call left; each field is set anew, and
  *              nothing is freed, so that a text of an earlier call is to be freed before.
  *

@@ -40,7 +40,8 @@ impl References for NamedReferences<'_> {
 
 /// The text of a value after `&`, by a table, or that of `NewLine`.
 fn named<'a>(table: &'a str, value: &str, marker: u8) -> Option<&'a str>
-    ensures { option_copied result ≡ (if marker == byte "&" then option_or (Named.text_of value.now table.now) (new_line value.now) else None) }
+    ensures { option_copied result
+        ≡ (if marker == byte "&" then option_or (Named.text_of value.now table.now) (new_line value.now) else None) }
 {
     if marker != b'&' {
         return None;

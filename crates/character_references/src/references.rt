@@ -18,8 +18,8 @@ pub trait References {
 
     /// The text of a value after the marker `&`, `#` or `x`, or None where there is none.
     ///
-    /// For HTML's references `decode(alloc, "amp", b'&')` gives `&`. It errs only where memory
-    /// runs out.
+    /// For HTML's references `decode(alloc, "amp", b'&')` gives `&`. The only error is that memory ran
+    /// out.
     fn decode(&self, alloc: Global, value: &str, marker: u8) -> Result<Option<String>, AllocError>
         ensures { IfOk result (λ found. option_map string_bytes found ≡ text self.now value.now marker) };
 }

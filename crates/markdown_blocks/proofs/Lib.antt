@@ -1,3 +1,3 @@
-pub mod Digits
 pub mod Trims
 pub mod Headings
+pub mod Numbers

@@ -158,7 +158,7 @@ fn fenced_code(
 }
 
 /// The node of indented code. Its value is the text of the nodes made in it, without one line ending
-/// at its end, and is read by one step for each node. It errs only where memory runs out.
+/// at its end, and is read by one step for each node. The only error is that memory ran out.
 #[tactic(auto, unfolding(markdown_nodes::specs::View::view))]
 pub fn indented_code(
     alloc: Global,
@@ -181,7 +181,7 @@ pub fn indented_code(
 
 /// The node of a code span. Its value is the text of the nodes made in it, read by one step for each:
 /// line endings become spaces, and one space goes off each end, where both have one and not all is
-/// spaces; in a table `\|` is `|`. It errs only where memory runs out.
+/// spaces; in a table `\|` is `|`. The only error is that memory ran out.
 #[tactic(auto, unfolding(markdown_nodes::specs::View::view))]
 pub fn inline_code(
     alloc: Global,

@@ -19,7 +19,7 @@ use std::alloc::{AllocError, Global};
 
 /// The node of frontmatter: a Toml, as between fences of plus signs, or a Yaml. Its value is the text
 /// of the nodes made in it, without the line endings beside the fences, and is read by one step for
-/// each node. It errs only where memory runs out.
+/// each node. The only error is that memory ran out.
 #[tactic(auto, unfolding(markdown_nodes::specs::View::view))]
 pub fn frontmatter(
     alloc: Global,

@@ -15,8 +15,8 @@ use markdown_nodes::steps::Steps;
 use markdown_nodes::unist::Position;
 use std::alloc::{AllocError, Global};
 
-/// The node of HTML. Its value is the text of the nodes made in it, read by one step for each. It errs
-/// only where memory runs out.
+/// The node of HTML. Its value is the text of the nodes made in it, read by one step for each. The only
+/// error is that memory ran out.
 #[tactic(auto, unfolding(markdown_nodes::specs::View::view))]
 pub fn html(
     alloc: Global,

@@ -141,7 +141,7 @@ fn block_math(
 
 /// The node of inline math. Its value is the text of the nodes made in it, read by one step for each:
 /// line endings become spaces, and one space goes off each end, where both have one and not all is
-/// spaces; in a table `\|` is `|`. It errs only where memory runs out.
+/// spaces; in a table `\|` is `|`. The only error is that memory ran out.
 #[tactic(auto, unfolding(markdown_nodes::specs::View::view))]
 pub fn inline_math(
     alloc: Global,

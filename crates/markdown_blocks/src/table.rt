@@ -66,7 +66,7 @@ impl Columns {
     }
 
     /// Takes the exit of a transparent span, with what the spans in it said: a cell of the open row
-    /// gives an entry. It errs only where memory runs out.
+    /// gives an entry. The only error is that memory ran out.
     pub fn exit(&mut self, kind: TransparentKind, inner: Marks) -> Result<(), AllocError>
         ensures { OnOk result (columns_of self.new ≡ columns_left (roles.Transparent kind) (marks_of inner) (columns_of self.old)) }
     {

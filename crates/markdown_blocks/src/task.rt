@@ -5,7 +5,7 @@ ghost use Rattle.std.specs.Vec.{vec_len};
 ghost use Rattle.markdown_nodes.specs.Tree.{Trees};
 ghost use Rattle.markdown_nodes.specs.View.{views};
 ghost use Rattle.markdown_blocks.specs.TaskWalks.{first_cut, paragraph_before, text_cut};
-ghost use Rattle.markdown_grammar.specs.Tasks.{after_blank, from_point, on_next_line, one_on, task};
+ghost use Rattle.markdown_grammar.specs.Tasks.{after_blank, from_point, on_next_line, next_column, task};
 
 use markdown_builder::texts::remove_byte;
 use markdown_nodes::mdast::{Node, Paragraph, Text};
@@ -82,7 +82,7 @@ fn trim_front(value: &mut String, start: Point) -> Point
     match value.as_bytes() {
         [b'\t' | b' ', ..] => {
             remove_byte(value);
-            one_on(start)
+            next_column(start)
         }
         [b'\r', b'\n', ..] => {
             remove_byte(value);
@@ -98,8 +98,8 @@ fn trim_front(value: &mut String, start: Point) -> Point
 }
 
 /// The point after one byte that ends no line.
-fn one_on(point: Point) -> Point
-    ensures { result ≡ one_on point }
+fn next_column(point: Point) -> Point
+    ensures { result ≡ next_column point }
 {
     Point {
         line: point.line,

@@ -26,9 +26,9 @@ first_of firsts.Other = Some false
 -- what the children so far say
 abbrev pub marks_of : OpenMarks → Marks
 marks_of m = record {
-  near = sibling_in m.near;
-  far = sibling_in m.far;
-  item_blank = m.item_blank;
-  list_blank = m.list_blank;
+  last = sibling_in m.last;
+  last_but_one = sibling_in m.last_but_one;
+  is_loose_item = m.is_loose_item;
+  is_loose_list = m.is_loose_list;
   marked_first = first_of m.first;
 }

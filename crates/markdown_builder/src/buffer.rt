@@ -23,8 +23,8 @@ enum Form {
 }
 
 /// The text of nodes: the values of the literals among them and in them, in the order of the tree.
-/// Titles, destinations and blocks of code are read so. It takes one step for each node, and errs
-/// only where memory runs out.
+/// Titles, destinations and blocks of code are read so. It takes one step for each node. The only
+/// error is that memory ran out.
 ///
 /// The nodes are used up: a text that stands alone, as in most buffers, gives its characters away, and
 /// is not copied.

@@ -20,6 +20,9 @@ fn one_place(nodes: &mut Vec<Node>) -> Result<(), AllocError>
     Ok(())
 }
 
+/// How many cells of a row get room with the first one.
+const CELLS: usize = 4;
+
 /// Makes room for the first node where there is none, and for some more where it is a cell, which
 /// seldom stands alone in its row.
 fn first_place(nodes: &mut Vec<Node>, first: &Node) -> Result<(), AllocError>
@@ -27,7 +30,7 @@ fn first_place(nodes: &mut Vec<Node>, first: &Node) -> Result<(), AllocError>
 {
     if nodes.is_empty() {
         nodes.reserve_exact(if matches!(first, Node::TableCell(_)) {
-            4
+            CELLS
         } else {
             1
         })?;
@@ -35,7 +38,7 @@ fn first_place(nodes: &mut Vec<Node>, first: &Node) -> Result<(), AllocError>
     Ok(())
 }
 
-/// Adds a node that is no text. It errs only where memory runs out, as the others of this file do.
+/// Adds a node that is no text. The only error is that memory ran out, as for the others of this file.
 #[tactic(auto, using(crate::proofs::Views::views_put))]
 pub fn put(nodes: &mut Vec<Node>, node: Node) -> Result<(), AllocError>
     requires { is_text (view node).label ≡ false }
@@ -60,7 +63,7 @@ pub fn put_text(
 {
     if let Some(last) = nodes.last_mut() {
         if let Node::Text(text) = last {
-            go_on(text, value, position)?;
+            extend_text(text, value, position)?;
             return Ok(());
         }
     }
@@ -81,7 +84,7 @@ pub fn new_text(alloc: Global, value: &str, position: Position) -> Result<Node, 
 }
 
 /// Adds a part to a text: the position then ends where the part does.
-fn go_on(text: &mut Text, part: &str, position: Position) -> Result<(), AllocError>
+fn extend_text(text: &mut Text, part: &str, position: Position) -> Result<(), AllocError>
     ensures { OnOk result (text_node text.new ≡ join (text_node text.old) (one_text part.now position)) }
 {
     text.value.push_str(part)?;
@@ -105,19 +108,19 @@ pub fn append(nodes: &mut Vec<Node>, others: Vec<Node>) -> Result<(), AllocError
         return Ok(());
     }
     let mut rest = others;
-    put_first(nodes, rest.remove(0))?;
+    put_any(nodes, rest.remove(0))?;
     nodes.append(&mut rest)?;
     Ok(())
 }
 
 /// Adds any node: a text goes on with one that is the last node.
-fn put_first(nodes: &mut Vec<Node>, node: Node) -> Result<(), AllocError>
+fn put_any(nodes: &mut Vec<Node>, node: Node) -> Result<(), AllocError>
     ensures { OnOk result (views nodes.new.items ≡ join (views nodes.old.items) (only (view node))) }
 {
     if let Node::Text(text) = &node {
         if let Some(last) = nodes.last_mut() {
             if let Node::Text(before) = last {
-                lengthen(before, text)?;
+                join_text(before, text)?;
                 return Ok(());
             }
         }
@@ -128,7 +131,7 @@ fn put_first(nodes: &mut Vec<Node>, node: Node) -> Result<(), AllocError>
 }
 
 /// Lets a text go on with another, from the start of the one to the end of the other.
-fn lengthen(text: &mut Text, other: &Text) -> Result<(), AllocError>
+fn join_text(text: &mut Text, other: &Text) -> Result<(), AllocError>
     ensures { OnOk result (text_node text.new ≡ join (text_node text.old) (text_node other.now)) }
 {
     text.value.push_str(other.value.as_str())?;

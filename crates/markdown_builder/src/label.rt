@@ -24,8 +24,8 @@ pub struct Identified {
     pub label: String,
 }
 
-/// A label by its slice of the document and the nodes made in it, by one step for each node. It errs
-/// only where memory runs out.
+/// A label by its slice of the document and the nodes made in it, by one step for each node. The only
+/// error is that memory ran out.
 pub fn identify(
     alloc: Global,
     steps: &mut Steps<'_>,

@@ -40,14 +40,14 @@ pub enum First {
 #[derive(Clone, Copy)]
 pub struct Marks {
     /// The last child.
-    pub near: Sibling,
+    pub last: Sibling,
     /// The child before it.
-    pub far: Sibling,
+    pub last_but_one: Sibling,
     pub first: First,
     /// Whether the span is loose, if it is an item.
-    pub item_blank: bool,
+    pub is_loose_item: bool,
     /// Whether the span is loose, if it is a list.
-    pub list_blank: bool,
+    pub is_loose_list: bool,
 }
 
 impl Marks {
@@ -56,11 +56,11 @@ impl Marks {
         ensures { marks_of result ≡ no_marks }
     {
         Marks {
-            near: Sibling::Other,
-            far: Sibling::Other,
+            last: Sibling::Other,
+            last_but_one: Sibling::Other,
             first: First::Absent,
-            item_blank: false,
-            list_blank: false,
+            is_loose_item: false,
+            is_loose_list: false,
         }
     }
 
@@ -68,9 +68,9 @@ impl Marks {
     fn past_space(self) -> Sibling
         ensures { sibling_in result ≡ past_space (marks_of self) }
     {
-        match self.near {
-            Sibling::SpaceOrTab => self.far,
-            near => near,
+        match self.last {
+            Sibling::SpaceOrTab => self.last_but_one,
+            last => last,
         }
     }
 
@@ -89,17 +89,17 @@ impl Marks {
         }
     }
 
-    /// The same of a block quote.
+    /// What a block quote with these children is to its siblings.
     fn block_quote(self) -> Sibling
         ensures { sibling_in result ≡ sibling_of (roles.Significant (item_kinds.Content contents.BlockQuote)) (marks_of self) }
     {
-        match self.near {
+        match self.last {
             Sibling::BlockQuotePrefix => Sibling::BareBlockQuote,
             _ => Sibling::Other,
         }
     }
 
-    /// The same of an item.
+    /// What an item with these children is to its siblings.
     fn list_item(self) -> Sibling
         ensures { sibling_in result ≡ sibling_of (roles.Significant (item_kinds.Content contents.ListItem)) (marks_of self) }
     {
@@ -116,8 +116,8 @@ impl Marks {
         match role {
             Role::Transparent(TransparentKind::BlankLineEnding) => self.add_blank_line(),
             _ => {
-                self.far = self.near;
-                self.near = inner.sibling(role);
+                self.last_but_one = self.last;
+                self.last = inner.sibling(role);
                 self.first = self.first.or(role);
             }
         }
@@ -128,10 +128,11 @@ impl Marks {
     fn add_blank_line(&mut self)
         ensures { marks_of self.new ≡ marks_with (marks_of self.old) (roles.Transparent transparents.BlankLineEnding) no_marks }
     {
-        self.item_blank = self.item_blank || !matches!(self.past_space(), Sibling::ListItemPrefix);
-        self.list_blank = self.list_blank || !matches!(self.near, Sibling::BareListItem);
-        self.far = self.near;
-        self.near = Sibling::Other;
+        self.is_loose_item = self.is_loose_item
+            || !matches!(self.past_space(), Sibling::ListItemPrefix);
+        self.is_loose_list = self.is_loose_list || !matches!(self.last, Sibling::BareListItem);
+        self.last_but_one = self.last;
+        self.last = Sibling::Other;
         self.first = self
             .first
             .or(Role::Transparent(TransparentKind::BlankLineEnding));
@@ -143,7 +144,7 @@ impl Marks {
         ensures { result ≡ kind_by (marks_of self) }
     {
         let first = matches!(self.first, First::DelimiterMarker);
-        match (first, self.near) {
+        match (first, self.last) {
             (true, Sibling::DelimiterMarker) => AlignKind::Center,
             (true, _) => AlignKind::Left,
             (false, Sibling::DelimiterMarker) => AlignKind::Right,

@@ -62,7 +62,8 @@ impl<'a> Document<'a> {
         self.bytes.len()
     }
 
-    /// The bytes from one index to another as a part of the whole text, if there is one, and they are.
+    /// The bytes from one index to another as a part of the document's text, or `None` where the document
+    /// is not all UTF-8, or an index is outside it or inside a character.
     fn part(&self, from: usize, to: usize) -> Option<&'a str>
         ensures { IfSome result (λ part. Some part.now ≡ text_between self.now from to) }
     {
@@ -83,8 +84,7 @@ impl<'a> Document<'a> {
     }
 }
 
-/// The indexes of the bytes from which to which a span reaches, if they are in order and in the
-/// document.
+/// The range of bytes of a span, if its ends are in order and in the document.
 fn range_of(document: &Document<'_>, start: Point, end: Point) -> Option<(usize, usize)>
     ensures { SomeIff result ((edge start ≤ edge end) × (edge end ≤ length document.now)) (edge start, edge end) }
 {

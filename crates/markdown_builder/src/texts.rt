@@ -56,7 +56,7 @@ pub fn remove_byte(value: &mut String)
 
 /// The value of inline code or math: each line ending becomes a space, and then one space goes off
 /// each end, where both have one and not all is spaces (CommonMark, code spans). In a table `\|` is
-/// `|` (GFM, tables). A text that stays as it is is not copied. It errs only where memory runs out.
+/// `|` (GFM, tables). A text that stays as it is is not copied. The only error is that memory ran out.
 pub fn inline_value(alloc: Global, text: String, in_table: bool) -> Result<String, AllocError>
     ensures { IfOk result (λ value. string_bytes value ≡ raw (spaces (string_bytes text)) in_table) }
 {
@@ -86,7 +86,7 @@ fn is_kept_whole(text: &[u8]) -> bool
 }
 
 /// An address with its scheme before it: `mailto:` before an email address, `http://` before one
-/// that begins with `www.` (GFM, autolinks). It errs only where memory runs out.
+/// that begins with `www.` (GFM, autolinks). The only error is that memory ran out.
 pub fn address(alloc: Global, scheme: &str, value: &str) -> Result<String, AllocError>
     ensures { IfOk result (λ url. string_bytes url ≡ scheme.now ++ value.now) }
 {

@@ -18,7 +18,7 @@ use Rattle.markdown_context.specs.declared.context.Context.{Context}
 use Rattle.markdown_grammar.specs.declared.error_kind.ErrorKind.TheVariants.{InvalidSlice, Misplaced, UnfinishedBreak}
 use Rattle.markdown_grammar.specs.Document.{byte_at}
 use Rattle.markdown_grammar.specs.Document.{Source}
-use Rattle.nest.specs.Nest.{around_innermost, innermost}
+use Rattle.nest.specs.Nest.{innermost}
 use Rattle.markdown_context.specs.States.{kept_top, leaf_place, top_of}
 use Rattle.markdown_steps.specs.Summaries.{Summary}
 use Rattle.markdown_steps.specs.Checks.{passes}

@@ -1,10 +1,10 @@
 -- What an open span is to the items in it: what has stood in it so far, by its construct.
-use Rattle.std.specs.Prelude.{◌≢◌, List, None, Option, Result, false, true, Bool, ℕ}
+use Rattle.std.specs.Prelude.{◌≢◌, List, Option, Result, false, true, Bool, ℕ}
 use Rattle.markdown_blocks.specs.Definitions.{definition, footnote_definition}
 use Rattle.markdown_blocks.specs.Fences.{code_fence, code_fenced, math_fence, math_flow}
 use Rattle.markdown_blocks.specs.Headings.{atx, setext}
 use Rattle.markdown_blocks.specs.Lists.{list_item, marked_paragraph, numbered_item, ordered_list, task_paragraph}
-use Rattle.markdown_builder.specs.PartsSoFar.{Gains, GainsWords, IsFresh as IsFreshIn, Makes, PartsSoFar, misfit_in, place_with, summary_in}
+use Rattle.markdown_builder.specs.PartsSoFar.{Gains, GainsWords, IsFresh as IsFreshIn, Makes, PartsSoFar, misfit_in, place_with, summary_in, without_parts}
 use Rattle.markdown_context.specs.declared.container.Container.{Container}
 use Rattle.markdown_context.specs.declared.container.Container.TheVariants as containers
 use Rattle.markdown_events.specs.declared.event.Point.{Point}
@@ -31,7 +31,7 @@ use Rattle.markdown_steps.specs.Summaries.{PartSummary, Path, Summary}
 
 -- a span in which any content may stand, and no part
 abbrev pub any_content : PartsSoFar
-any_content = record { initial_model = models.any_content; current_model = models.any_content; marker = None; part = λ way. None; label = nothing; mark = None; value = None }
+any_content = without_parts models.any_content
 
 -- what has stood in a container, by its construct
 abbrev pub parts_of : Container → PartsSoFar

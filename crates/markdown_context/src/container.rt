@@ -24,7 +24,7 @@ ghost use Rattle.markdown_events.specs.declared.role.ItemKind.TheVariants as ite
 ghost use Rattle.markdown_events.specs.declared.role.Part.TheVariants as parts;
 ghost use Rattle.markdown_grammar.specs.Buffers.{node_count};
 ghost use Rattle.markdown_grammar.specs.Document.{source};
-ghost use Rattle.markdown_grammar.specs.Grammar as Models;
+ghost use Rattle.markdown_grammar.specs.Grammar as models;
 ghost use Rattle.markdown_grammar.specs.Grammar.{ContentModel};
 ghost use Rattle.markdown_nodes.specs.View.{views};
 ghost use Rattle.markdown_steps.specs.Compiler.{nothing_yet};
@@ -123,34 +123,34 @@ impl<'a> Container<'a> {
 }
 
 impl<'a> Container<'a> {
-    /// Whether a span is a leaf in this container: it takes no items, and is no container. A fence
-    /// after the first is one.
-    pub fn has_leaf(&self, what: ItemKind) -> bool
-        ensures leaf { result ≡ true → Models.model_of (current_model_of self.now) what ≡ Models.leaf }
-        ensures container { result ≡ false → Models.model_of (current_model_of self.now) what ≢ Models.leaf }
+    /// Whether this container takes a span as a leaf, in which no items stand. A fence after the first is
+    /// one.
+    pub fn takes_as_leaf(&self, what: ItemKind) -> bool
+        ensures leaf { result ≡ true → models.model_of (current_model_of self.now) what ≡ models.leaf }
+        ensures container { result ≡ false → models.model_of (current_model_of self.now) what ≢ models.leaf }
     {
         match what {
             ItemKind::Content(content) => is_leaf(content),
-            ItemKind::Part(part) => self.has_leaf_part(part),
+            ItemKind::Part(part) => self.takes_part_as_leaf(part),
         }
     }
 
-    /// Whether a part is a leaf in this container.
-    fn has_leaf_part(&self, part: Part) -> bool
-        ensures leaf { result ≡ true → Models.part_model (current_model_of self.now) part ≡ Models.leaf }
-        ensures container { result ≡ false → Models.part_model (current_model_of self.now) part ≢ Models.leaf }
+    /// Whether this container takes a part as a leaf.
+    fn takes_part_as_leaf(&self, part: Part) -> bool
+        ensures leaf { result ≡ true → models.part_model (current_model_of self.now) part ≡ models.leaf }
+        ensures container { result ≡ false → models.part_model (current_model_of self.now) part ≢ models.leaf }
     {
         match part {
-            Part::CodeFencedFence => !self.has_first_code_fence(),
-            Part::MathFlowFence => !self.has_first_math_fence(),
+            Part::CodeFencedFence => !self.awaits_code_fence(),
+            Part::MathFlowFence => !self.awaits_math_fence(),
             other => is_leaf_part(other),
         }
     }
 
-    /// Whether a fence is the first of this block of code.
-    fn has_first_code_fence(&self) -> bool
-        ensures leaf { result ≡ false → Models.part_model (current_model_of self.now) parts.CodeFencedFence ≡ Models.leaf }
-        ensures container { result ≡ true → Models.part_model (current_model_of self.now) parts.CodeFencedFence ≢ Models.leaf }
+    /// Whether this is fenced code without a fence so far, so that the next fence is the first.
+    fn awaits_code_fence(&self) -> bool
+        ensures leaf { result ≡ false → models.part_model (current_model_of self.now) parts.CodeFencedFence ≡ models.leaf }
+        ensures container { result ≡ true → models.part_model (current_model_of self.now) parts.CodeFencedFence ≢ models.leaf }
     {
         match self {
             Container::CodeFenced(parts) => parts.fence.is_none(),
@@ -158,10 +158,10 @@ impl<'a> Container<'a> {
         }
     }
 
-    /// Whether a fence is the first of this block of math.
-    fn has_first_math_fence(&self) -> bool
-        ensures leaf { result ≡ false → Models.part_model (current_model_of self.now) parts.MathFlowFence ≡ Models.leaf }
-        ensures container { result ≡ true → Models.part_model (current_model_of self.now) parts.MathFlowFence ≢ Models.leaf }
+    /// Whether this is a block of math without a fence so far, so that the next fence is the first.
+    fn awaits_math_fence(&self) -> bool
+        ensures leaf { result ≡ false → models.part_model (current_model_of self.now) parts.MathFlowFence ≡ models.leaf }
+        ensures container { result ≡ true → models.part_model (current_model_of self.now) parts.MathFlowFence ≢ models.leaf }
     {
         match self {
             Container::MathFlow(parts) => parts.fence.is_none(),
@@ -171,8 +171,8 @@ impl<'a> Container<'a> {
 
     /// What a span that is no leaf is to the items in it, at its enter in this container.
     pub fn opened(&self, what: ItemKind) -> Container<'a>
-        requires { Models.model_of (current_model_of self.now) what ≢ Models.leaf }
-        ensures { IsFresh result (Models.model_of (current_model_of self.now) what) }
+        requires { models.model_of (current_model_of self.now) what ≢ models.leaf }
+        ensures { IsFresh result (models.model_of (current_model_of self.now) what) }
     {
         match what {
             ItemKind::Content(content) => self.opened_by_content(content),
@@ -182,8 +182,8 @@ impl<'a> Container<'a> {
 
     /// The same of content.
     fn opened_by_content(&self, content: Content) -> Container<'a>
-        requires { Models.content_model (current_model_of self.now) content ≢ Models.leaf }
-        ensures { IsFresh result (Models.content_model (current_model_of self.now) content) }
+        requires { models.content_model (current_model_of self.now) content ≢ models.leaf }
+        ensures { IsFresh result (models.content_model (current_model_of self.now) content) }
     {
         match content {
             Content::CharacterReference => {
@@ -210,7 +210,7 @@ impl<'a> Container<'a> {
 
     /// An item, which has a number in an ordered list.
     fn opened_item(&self) -> Container<'a>
-        ensures { IsFresh result (Models.content_model (current_model_of self.now) contents.ListItem) }
+        ensures { IsFresh result (models.content_model (current_model_of self.now) contents.ListItem) }
     {
         match self {
             Container::ListOrdered(_) => Container::NumberedItem(NumberedItemParts::new()),
@@ -220,7 +220,7 @@ impl<'a> Container<'a> {
 
     /// A paragraph, which may have a mark in an item without one.
     fn opened_paragraph(&self) -> Container<'a>
-        ensures { IsFresh result (Models.content_model (current_model_of self.now) contents.Paragraph) }
+        ensures { IsFresh result (models.content_model (current_model_of self.now) contents.Paragraph) }
     {
         match self {
             Container::ListItem(ListItemParts { mark: None })
@@ -234,8 +234,8 @@ impl<'a> Container<'a> {
 
     /// The same of a part.
     fn opened_by_part(&self, part: Part) -> Container<'a>
-        requires { Models.part_model (current_model_of self.now) part ≢ Models.leaf }
-        ensures { IsFresh result (Models.part_model (current_model_of self.now) part) }
+        requires { models.part_model (current_model_of self.now) part ≢ models.leaf }
+        ensures { IsFresh result (models.part_model (current_model_of self.now) part) }
     {
         match part {
             Part::CodeFencedFence => Container::CodeFence(CodeFenceParts::new()),
@@ -259,7 +259,7 @@ impl<'a> Container<'a> {
         start: Point,
         end: Point,
     ) -> Result<(), Stop>
-        requires leaf { Models.part_model (current_model_of self.old) part ≡ Models.leaf }
+        requires leaf { models.part_model (current_model_of self.old) part ≡ models.leaf }
         requires fits { misfit_of self.old (item_kinds.Part part) ≡ None }
         ensures { KeepsPart (source document.now (R.text references.now)) part start end nothing_yet self.old self.new result }
     {
@@ -320,7 +320,7 @@ impl<'a> Container<'a> {
         start: Point,
         end: Point,
     ) -> Result<(), Stop>
-        requires such { is_part_model part Models.any_content ≡ true }
+        requires such { is_part_model part models.any_content ≡ true }
         requires heading { part ≢ parts.HeadingSetextText }
         requires fits { misfit_of self.old (item_kinds.Part part) ≡ None }
         ensures taken { KeepsNodes document.now part start end (views nodes.items) self.old self.new result }
@@ -429,7 +429,7 @@ impl<'a> Container<'a> {
     /// Takes a part with parts of its own: the resource or the reference of a link or an image, or the
     /// first fence of a block.
     pub fn take_part(&mut self, part: Part, inner: Container<'_>)
-        requires model { initial_model_of inner ≡ Models.part_model (current_model_of self.old) part }
+        requires model { initial_model_of inner ≡ models.part_model (current_model_of self.old) part }
         requires inner { inner ≢ containers.AnyContent }
         requires such { is_part_model part (initial_model_of inner) ≡ true }
         requires fits { misfit_of self.old (item_kinds.Part part) ≡ None }
@@ -456,7 +456,7 @@ impl<'a> Container<'a> {
 impl<'a> Container<'a> {
     /// Takes what content gives besides its node: a paragraph the mark in it, and an item its number.
     pub fn take_content(&mut self, content: Content, inner: &Container<'_>)
-        requires initial_model { initial_model_of inner.now ≡ Models.content_model (current_model_of self.old) content }
+        requires initial_model { initial_model_of inner.now ≡ models.content_model (current_model_of self.old) content }
         requires such { is_model_of content (initial_model_of inner.now) ≡ true }
         ensures { KeepsAnywhere (item_kinds.Content content) inner.now self.old self.new }
     {
@@ -469,7 +469,7 @@ impl<'a> Container<'a> {
 
     /// The mark of a paragraph is that of its item.
     fn take_paragraph(&mut self, inner: &Container<'_>)
-        requires initial_model { initial_model_of inner.now ≡ Models.content_model (current_model_of self.old) contents.Paragraph }
+        requires initial_model { initial_model_of inner.now ≡ models.content_model (current_model_of self.old) contents.Paragraph }
         requires such { is_model_of contents.Paragraph (initial_model_of inner.now) ≡ true }
         ensures { KeepsAnywhere (item_kinds.Content contents.Paragraph) inner.now self.old self.new }
     {
@@ -486,7 +486,7 @@ impl<'a> Container<'a> {
 
     /// The first number of an item is that of its list.
     fn take_item(&mut self, inner: &Container<'_>)
-        requires initial_model { initial_model_of inner.now ≡ Models.content_model (current_model_of self.old) contents.ListItem }
+        requires initial_model { initial_model_of inner.now ≡ models.content_model (current_model_of self.old) contents.ListItem }
         requires such { is_model_of contents.ListItem (initial_model_of inner.now) ≡ true }
         ensures { KeepsAnywhere (item_kinds.Content contents.ListItem) inner.now self.old self.new }
     {
@@ -503,8 +503,8 @@ impl<'a> Container<'a> {
 
 /// Whether content is a leaf, which it is in each container or in none.
 fn is_leaf(content: Content) -> bool
-    ensures leaf { result ≡ true → (h : ContentModel) → Models.content_model h content ≡ Models.leaf }
-    ensures container { result ≡ false → (h : ContentModel) → Models.content_model h content ≢ Models.leaf }
+    ensures leaf { result ≡ true → (h : ContentModel) → models.content_model h content ≡ models.leaf }
+    ensures container { result ≡ false → (h : ContentModel) → models.content_model h content ≢ models.leaf }
 {
     matches!(
         content,
@@ -520,7 +520,7 @@ fn is_leaf(content: Content) -> bool
 
 /// Whether a part is a leaf. Of a fence its container says that.
 fn is_leaf_part(part: Part) -> bool
-    ensures leaf { result ≡ true → (h : ContentModel) → Models.part_model h part ≡ Models.leaf }
+    ensures leaf { result ≡ true → (h : ContentModel) → models.part_model h part ≡ models.leaf }
     ensures container { result ≡ false → part ≢ parts.CodeFencedFence → part ≢ parts.MathFlowFence → IsNoLeaf part }
 {
     matches!(

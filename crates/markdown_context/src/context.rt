@@ -49,7 +49,8 @@ use markdown_nodes::unist::Position;
 use nest::Nest;
 use std::alloc::{AllocError, Global};
 
-/// What is so for the next span in the innermost open one.
+/// What the next span in the innermost open one finds there: what is around it, and what the spans
+/// before it say.
 #[derive(Clone, Copy)]
 pub struct Interior {
     pub around: Around,
@@ -57,12 +58,12 @@ pub struct Interior {
     pub marks: Marks,
 }
 
-/// An open span, with what was so around it.
+/// An open span, with what was around it at its enter.
 #[derive(Clone, Copy)]
 pub struct Frame<'e> {
     /// Where it begins: the point of its enter, which stays in the list of events.
     pub start: &'e Point,
-    /// What was so for it, in the span around it.
+    /// What it found in the span around it.
     pub outside: Interior,
     pub name: Name,
     /// Whether a table was around it.
@@ -125,7 +126,7 @@ impl<'a, 'e> Context<'a, 'e> {
         }
     }
 
-    /// Whether a break waits for its line ending, and the span is none.
+    /// Whether a break waits for its line ending, and this item is not one.
     fn interrupts_break(&self, what: ItemKind) -> bool
         ensures { result ≡ not (not (is_some self.now.pending) || Kinds.is_line_ending what) }
     {
@@ -146,9 +147,10 @@ impl<'a, 'e> Context<'a, 'e> {
         self.containers.innermost().container.misfit(what)
     }
 
-    /// Why a significant span may not begin here, if it may not.
+    /// The rule that a significant span violates by beginning here, or `None`.
     fn misfit(&self, document: &Document<'_>, what: ItemKind, point: &Point) -> Option<ErrorKind>
-        ensures { (s : Source) → s.bytes ≡ document.now → result ≡ first_failing (enter_checks s (state_of self.now).top what point.now) }
+        ensures { (s : Source) → s.bytes ≡ document.now
+            → result ≡ first_failing (enter_checks s (state_of self.now).top what point.now) }
     {
         if self.is_leaf {
             return Some(ErrorKind::Misplaced);
@@ -184,7 +186,7 @@ impl<'a, 'e> Context<'a, 'e> {
             return Err(Stop::Refused(error_kind));
         }
         let around = &self.containers.innermost().container;
-        if around.has_leaf(what) {
+        if around.takes_as_leaf(what) {
             return Ok(true);
         }
         let inner = OpenContainer {
@@ -217,8 +219,8 @@ impl<'a, 'e> Context<'a, 'e> {
         }
     }
 
-    /// What is wrong after the last event, if anything is: a span is open, or a break waits for its
-    /// line ending.
+    /// The rule that is violated at the end of the list, or `None`: a span is open, or a break waits for
+    /// its line ending.
     pub fn unfinished(&self) -> Option<ErrorKind>
         requires { self.now.frames.items ≡ [] → self.now.is_leaf ≡ false }
         ensures { result ≡ first_failing (last_checks (state_of self.now)) }
@@ -249,7 +251,8 @@ impl<'a, 'e> Context<'a, 'e> {
         name: Name,
         point: &'e Point,
     ) -> Result<(), Stop>
-        ensures { (s : Source) → s.bytes ≡ document.now → Reaches self.new point.now result (enter_step s name point.now (state_of self.old)) }
+        ensures { (s : Source) → s.bytes ≡ document.now
+            → Reaches self.new point.now result (enter_step s name point.now (state_of self.old)) }
     {
         let role = name.role();
         if !self.interior.around.allows(role) {
@@ -362,7 +365,8 @@ impl<'a, 'e> Context<'a, 'e> {
         Ok(())
     }
 
-    /// Puts what a span gives where it belongs.
+    /// Hands what a span gives, which ends, to where it belongs: a transparent one to the columns, a leaf
+    /// or a container to the container around it.
     fn leave<R: References>(
         &mut self,
         alloc: Global,
@@ -391,7 +395,7 @@ impl<'a, 'e> Context<'a, 'e> {
         }
     }
 
-    /// The same of a leaf, which goes into the innermost container.
+    /// Closes a leaf, which the innermost container takes.
     fn leave_leaf<R: References>(
         &mut self,
         alloc: Global,
@@ -425,7 +429,7 @@ impl<'a, 'e> Context<'a, 'e> {
         Ok(())
     }
 
-    /// The same of the innermost container, which goes into the one around it.
+    /// Closes the innermost container, which the one around it takes.
     fn leave_container(
         &mut self,
         alloc: Global,
@@ -454,8 +458,8 @@ impl<'a, 'e> Context<'a, 'e> {
         }
     }
 
-    /// The same of a parent of which nothing but nodes is kept, as most containers are. No other part of
-    /// its open container is moved.
+    /// Closes a parent of which nothing but nodes is kept, as most containers are. No other part of its
+    /// open container is moved.
     fn leave_parent(
         &mut self,
         content: Content,
@@ -481,7 +485,7 @@ impl<'a, 'e> Context<'a, 'e> {
             .take_parent(content, nodes, *frame.start, *end)
     }
 
-    /// The same of any container. It stays out of the loop over the events, which is quicker without it.
+    /// Closes any other container. It stays out of the loop over the events, which is quicker without it.
     #[inline(never)]
     fn leave_any(
         &mut self,

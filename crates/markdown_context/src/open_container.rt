@@ -33,7 +33,7 @@ ghost use Rattle.markdown_events.specs.declared.role.ItemKind.TheVariants as ite
 ghost use Rattle.markdown_events.specs.declared.role.Part.TheVariants as parts;
 ghost use Rattle.markdown_grammar.specs.Attributes.{line_ending_is_text, line_ending_is_text_after};
 ghost use Rattle.markdown_grammar.specs.Document.{Source, source};
-ghost use Rattle.markdown_grammar.specs.Grammar as Models;
+ghost use Rattle.markdown_grammar.specs.Grammar as models;
 ghost use Rattle.markdown_grammar.specs.Items.{is_line_ending};
 ghost use Rattle.markdown_inlines.specs.Autolinks.{is_literal};
 ghost use Rattle.markdown_nodes.specs.Tree.{join};
@@ -138,7 +138,7 @@ impl<'a> OpenContainer<'a> {
         what: ItemKind,
         ending: Ending,
     ) -> Result<(), Stop>
-        requires leaf { Models.model_of (current_model_of self.old.container) what ≡ Models.leaf }
+        requires leaf { models.model_of (current_model_of self.old.container) what ≡ models.leaf }
         requires fits { misfit_of self.old.container what ≡ None }
         requires waits { (not (is_some pending.old) || is_line_ending what) ≡ true }
         ensures { TakesLeaf (source document.now (R.text references.now)) what ending pending.old self.old pending.new self.new result }
@@ -160,7 +160,7 @@ impl<'a> OpenContainer<'a> {
         content: Content,
         ending: Ending,
     ) -> Result<(), Stop>
-        requires leaf { Models.content_model (current_model_of self.old.container) content ≡ Models.leaf }
+        requires leaf { models.content_model (current_model_of self.old.container) content ≡ models.leaf }
         requires waits { (not (is_some pending.old) || is_line_ending (item_kinds.Content content)) ≡ true }
         ensures { TakesAnyLeaf document.now (item_kinds.Content content) ending pending.old self.old pending.new self.new result }
     {
@@ -188,7 +188,7 @@ impl<'a> OpenContainer<'a> {
         part: Part,
         ending: Ending,
     ) -> Result<(), Stop>
-        requires leaf { Models.part_model (current_model_of self.old.container) part ≡ Models.leaf }
+        requires leaf { models.part_model (current_model_of self.old.container) part ≡ models.leaf }
         requires fits { misfit_of self.old.container (item_kinds.Part part) ≡ None }
         ensures { TakesLeaf (source document.now (R.text references.now)) (item_kinds.Part part) ending None self.old None self.new result }
     {
@@ -274,7 +274,7 @@ impl<'a> OpenContainer<'a> {
         own: OpenContainer<'a>,
         ending: Ending,
     ) -> Result<(), Stop>
-        requires initial_model { initial_model_of own.container ≡ Models.part_model (current_model_of self.old.container) part }
+        requires initial_model { initial_model_of own.container ≡ models.part_model (current_model_of self.old.container) part }
         requires such { is_part_model part (initial_model_of own.container) ≡ true }
         requires fits { misfit_of self.old.container (item_kinds.Part part) ≡ None }
         ensures left { TakesPart document.now part own.entry ending self.old self.new result }
@@ -321,7 +321,7 @@ impl<'a> OpenContainer<'a> {
         nodes: Vec<Node>,
         ending: Ending,
     ) -> Result<(), Stop>
-        requires such { is_part_model part Models.any_content ≡ true }
+        requires such { is_part_model part models.any_content ≡ true }
         requires heading { part ≢ parts.HeadingSetextText }
         requires fits { misfit_of self.old.container (item_kinds.Part part) ≡ None }
         ensures left { TakesText document.now part (views nodes.items) ending self.old self.new result }
@@ -341,7 +341,7 @@ impl<'a> OpenContainer<'a> {
 
     /// Takes a part with parts of its own. After a first fence line endings are text.
     fn take_parts(&mut self, part: Part, inner: Container<'_>)
-        requires model { initial_model_of inner ≡ Models.part_model (current_model_of self.old.container) part }
+        requires model { initial_model_of inner ≡ models.part_model (current_model_of self.old.container) part }
         requires inner { inner ≢ containers.AnyContent }
         requires such { is_part_model part (initial_model_of inner) ≡ true }
         requires fits { misfit_of self.old.container (item_kinds.Part part) ≡ None }
@@ -382,7 +382,7 @@ impl<'a> OpenContainer<'a> {
         own: OpenContainer<'_>,
         ending: Ending,
     ) -> Result<(), Stop>
-        requires initial_model { initial_model_of own.container ≡ Models.content_model (current_model_of self.old.container) content }
+        requires initial_model { initial_model_of own.container ≡ models.content_model (current_model_of self.old.container) content }
         requires such { is_model_of content (initial_model_of own.container) ≡ true }
         requires no_parent { own.container ≡ containers.AnyContent → is_parent content ≡ false }
         ensures left { TakesContent document.now content own.entry ending columns.old self.old self.new result }
@@ -459,12 +459,16 @@ impl<'a> OpenContainer<'a> {
             Container::TaskParagraph(_) | Container::MarkedParagraph => {
                 Ok(parent(Content::Paragraph, nodes, position))
             }
-            Container::ListOrdered(parts) => parts.node(nodes, position, ending.marks.list_blank),
+            Container::ListOrdered(parts) => parts.node(
+                nodes,
+                position,
+                ending.marks.is_loose_list,
+            ),
             Container::ListItem(ListItemParts { mark }) => {
-                Ok(list_item(steps, nodes, position, ending.marks.item_blank, mark))
+                Ok(list_item(steps, nodes, position, ending.marks.is_loose_item, mark))
             }
             Container::NumberedItem(NumberedItemParts { mark, .. }) => {
-                Ok(list_item(steps, nodes, position, ending.marks.item_blank, mark))
+                Ok(list_item(steps, nodes, position, ending.marks.is_loose_item, mark))
             }
             Container::FootnoteDefinition(parts) => Ok(parts.node(alloc, nodes, position)),
             Container::HeadingAtx(parts) => parts.node(nodes, position),
@@ -498,7 +502,7 @@ fn any_content_node(
     nodes: Vec<Node>,
     ending: Ending,
 ) -> Result<Node, AllocError>
-    requires such { is_model_of content Models.any_content ≡ true }
+    requires such { is_model_of content models.any_content ≡ true }
     requires no_parent { is_parent content ≡ false }
     ensures node { IfOk result (IsNodeOf document.now content ending columns.old (summary_of_nodes (views nodes.items))) }
     ensures columns { OnOk result (LeavesColumns content ending.marks columns.old columns.new) }
@@ -508,7 +512,7 @@ fn any_content_node(
     let position = position_of(ending.start, ending.end);
     match content {
         Content::Table => Ok(table(nodes, position, columns.take(alloc))),
-        Content::ListUnordered => Ok(unordered_list(nodes, position, ending.marks.list_blank)),
+        Content::ListUnordered => Ok(unordered_list(nodes, position, ending.marks.is_loose_list)),
         Content::CodeIndented => indented_code(alloc, steps, nodes, position),
         Content::CodeText => inline_code(alloc, steps, nodes, position, ending.in_table),
         Content::MathText => inline_math(alloc, steps, nodes, position, ending.in_table),

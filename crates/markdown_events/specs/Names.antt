@@ -11,9 +11,7 @@ use Rattle.markdown_events.specs.declared.role.Content.TheVariants as contents
 use Rattle.markdown_events.specs.declared.role.Part.TheVariants as parts
 use Rattle.markdown_events.specs.declared.role.TransparentKind.TheVariants as transparents
 
--- 73 names are significant, and 68 transparent. Of these no rule names the 61 of the kind Other, whose spans still count as
--- children: where one is the first or the last child of a delimiter cell value, no colon is, and where one comes directly before
--- a blank line ending, no prefix does.
+-- 73 names are significant, and 68 transparent; of these no rule names the 61 of the kind Other, whose spans still count as children
 abbrev pub role_of : Name → Role
 role_of name.Data = significant (content contents.Data)
 role_of name.CharacterEscapeValue = significant (content contents.Data)

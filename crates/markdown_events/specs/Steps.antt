@@ -7,6 +7,6 @@ abbrev pub steps_of : {X : Type 0} → Option X → ℕ
 steps_of None = 0
 steps_of (Some event) = 1
 
--- the list that is read
-abbrev pub events_in : List Event → ℕ
-events_in events = length events
+-- how many events a list has
+abbrev pub event_count : List Event → ℕ
+event_count events = length events

@@ -1,4 +1,5 @@
--- What the private functions of `event` and `infer` give on events, for the proofs of the public ones.
+-- What the private functions of `event::spans` and `infer` give on events: their loops as recursions, for the proofs of the public ones.
+-- No contract of a public function names them, so a reader of the rules can leave this page out.
 use Rattle.std.specs.Prelude.{ℕ, ◌+◌, ◌-◌, ◌==◌, List, [], ◌∷◌, Bool, true, false, Option, Some, None, if◌then◌else◌, ◌&&◌, ◌||◌, not}
 use Rattle.markdown_events.specs.declared.event.Kind.{Kind}
 use Rattle.markdown_events.specs.declared.event.Kind.TheVariants.{Enter, Exit}

@@ -13,7 +13,7 @@ pub(crate) const ROOM: usize = 127;
 /// A buffer for one such text.
 pub(crate) type Buffer = [u8; ROOM];
 
-/// Puts a number in decimal digits after a text. It takes no memory but for the text.
+/// Appends a number in decimal digits to a text. It takes no memory but for the text.
 ///
 /// After `a` the number 10 gives `a10`. The only error is that memory ran out.
 pub fn push_decimal(out: &mut String, number: usize) -> Result<(), AllocError>

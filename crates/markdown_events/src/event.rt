@@ -7,6 +7,7 @@ ghost use Rattle.markdown_events.specs.Names.{is_same_name};
 ghost use Rattle.markdown_events.specs.declared.event.Name.{Name};
 
 use crate::unist;
+use std::fmt;
 
 mod spans;
 
@@ -31,7 +32,7 @@ pub enum Kind {
 ///
 /// In the document `*a*` the whole is a `Name::Emphasis`, each star a `Name::EmphasisSequence`, and
 /// the `a` a `Name::EmphasisText` with a `Name::Data` in it.
-#[derive(Clone, Copy, PartialEq, Eq, Debug)]
+#[derive(Clone, Copy, PartialEq, Eq)]
 pub enum Name {
     // Data: a part of a text.
     Data,
@@ -121,9 +122,7 @@ pub enum Name {
     GfmTableDelimiterRow,
     GfmTableDelimiterCellValue,
     GfmTableDelimiterMarker,
-    // Transparent names that no rule names. Their spans still count as children: where one is the
-    // first or the last child of a delimiter cell value, no colon is, and where one comes directly
-    // before a blank line ending, no prefix does.
+    // Transparent names that no rule names: `TransparentKind::Other`.
     AttentionSequence,
     AutolinkMarker,
     BlockQuoteMarker,
@@ -374,6 +373,15 @@ static NAMES_BY_LENGTH: [&[Name]; 36] = [
     &[Name::DefinitionDestinationLiteralMarker],
     &[Name::CharacterReferenceMarkerHexadecimal],
 ];
+
+/// `{:?}` writes the name as it is written in an event line.
+impl fmt::Debug for Name {
+    ghost debug_output = { λ name. Some (spelling name) };
+
+    fn fmt<W: fmt::Write>(&self, f: &mut fmt::Formatter<W>) -> fmt::Result {
+        f.write_str(self.text())
+    }
+}
 
 impl Name {
     /// The name as it is written in an event line.

@@ -63,7 +63,9 @@ impl fmt::Debug for AlignKind {
 /// last child, one `SpaceOrTab` skipped, is its prefix, or a block quote that ends with its own
 /// prefix. With `include_items`, a loose item, as [`list_item_loose`] says, makes the list loose too:
 /// these are the loose lists of CommonMark, and mdast's `spread` of a list leaves the items out.
-/// Which blank lines do not count is a rule of markdown-rs. This cannot fail, and takes no memory.
+/// Which blank lines do not count is a rule of markdown-rs. This cannot fail, and takes no memory. A
+/// well-formed span of a list has to begin at the index: [`span_begins`](crate::event::span_begins)
+/// tells.
 ///
 /// A list of an item with a paragraph, a blank line ending and another item is loose. It is not
 /// where the first item has only its prefix.
@@ -81,7 +83,8 @@ pub fn list_loose(events: &[Event], index: usize, include_items: bool) -> bool
 /// It is loose where a blank line ending that is its direct child counts. Such a blank line ending
 /// counts unless the sibling before it, one `SpaceOrTab` skipped, is the item's prefix. This is
 /// mdast's `spread` of a list item; that an item may begin with a blank line is CommonMark's. This
-/// cannot fail, and takes no memory.
+/// cannot fail, and takes no memory. A well-formed span of a list item has to begin at the index:
+/// [`span_begins`](crate::event::span_begins) tells.
 ///
 /// An item of a prefix, a paragraph and a blank line ending is loose, and one of a prefix and a
 /// blank line ending is not.
@@ -100,7 +103,8 @@ pub fn list_item_loose(events: &[Event], index: usize) -> bool
 /// `Center` where its first and its last child are colons, even if they are one and the same, `Left`
 /// where only the first is, `Right` where only the last is, and otherwise `None` (GFM). A table
 /// without a delimiter row has no entries. The only error is that memory ran out, and a table
-/// without entries takes no memory.
+/// without entries takes no memory. A well-formed span of a table has to begin at the index:
+/// [`span_begins`](crate::event::span_begins) tells.
 ///
 /// A table with the delimiter row `| :-- | - |` gives `[AlignKind::Left, AlignKind::None]`.
 pub fn gfm_table_align(
@@ -118,8 +122,8 @@ pub fn gfm_table_align(
     table_align(alloc, &events[index + 1..])
 }
 
-/// What the last child was: whether it was of a kind, and whether it was with one `SpaceOrTab` at
-/// the end skipped.
+/// Whether the last child is of the kind that is asked for, and whether it is when one `SpaceOrTab` at
+/// the end is skipped.
 #[derive(Clone, Copy)]
 struct Child {
     direct: bool,
@@ -138,7 +142,7 @@ impl Child {
     }
 }
 
-/// The same after one child more, of this name, which is of the kind or not.
+/// What is so of the last child after one child more, of this name, which is of the kind or not.
 fn child_exited(before: Child, is_it: bool, name: Name) -> Child
     ensures { result ≡ child_exited before is_it name }
 {
@@ -222,7 +226,7 @@ fn counts_blank(ends: Ends, depth: usize) -> bool
     }
 }
 
-/// The same after the enter of a span that stands so deep in the list.
+/// The ends of the list after the enter of a span that stands so deep in it.
 fn list_entered(ends: Ends, depth: usize, include_items: bool, name: Name) -> Ends
     ensures { result ≡ list_entered ends depth include_items name }
 {
@@ -236,7 +240,7 @@ fn list_entered(ends: Ends, depth: usize, include_items: bool, name: Name) -> En
     }
 }
 
-/// The same after the exit of a span that stands so deep in the list.
+/// The ends of the list after the exit of a span that stands so deep in it.
 fn list_exited(ends: Ends, depth: usize, name: Name) -> Ends
     ensures { result ≡ list_exited ends depth name }
 {

@@ -32,8 +32,9 @@ pub enum TransparentKind {
     DelimiterCellValue,
     /// A colon in a delimiter cell value (GFM).
     DelimiterMarker,
-    /// Any other, which no rule names. Its span still counts as a child: where it is the first or
-    /// the last child of a delimiter cell value, no colon is.
+    /// Any other, which no rule names. Its span still counts as a child: where it is the first or the
+    /// last child of a delimiter cell value, no colon is; and where it comes directly before a blank
+    /// line ending, or last in an item or in the block quote at the end of one, no prefix does.
     Other,
 }
 
@@ -165,7 +166,9 @@ pub enum Part {
 /// container a label.
 #[derive(Clone, Copy, PartialEq, Eq, Debug)]
 pub enum ItemKind {
+    /// It stands for a node.
     Content(Content),
+    /// It says something of the container that it stands in.
     Part(Part),
 }
 
@@ -175,7 +178,9 @@ pub enum ItemKind {
 /// `Name::Paragraph` is `Role::Significant(ItemKind::Content(Content::Paragraph))`.
 #[derive(Clone, Copy, PartialEq, Eq, Debug)]
 pub enum Role {
+    /// It gives no node and no field: the spans in it count as those of the span around it.
     Transparent(TransparentKind),
+    /// It matters to the tree, as content or as a part.
     Significant(ItemKind),
 }
 

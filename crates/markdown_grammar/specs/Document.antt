@@ -2,8 +2,8 @@
 use Rattle.std.specs.Prelude.{Bool, List, None, Option, Some, [], false, if◌then◌else◌, length, nat_le, nat_lt, slice_get, unwrap_or, ℕ, ◌&&◌, ◌*◌, ◌+◌, ◌-◌, ◌==◌, ◌^◌, ◌∷◌}
 use Rattle.markdown_events.specs.Slices.{edge, slice}
 use Rattle.markdown_events.specs.declared.event.Point.{Point}
-use Rattle.std.specs.Char.{is_ascii_digit}
-use Rattle.std.specs.List.{fold as fold_list, list_all}
+use Rattle.std.specs.Str.{all_ascii_digits}
+use Rattle.std.specs.Str.Parse.{digits_value}
 
 -- the bytes of the document, and the text that a character reference's value and marker stand for
 pub record Source : Type 0 where
@@ -32,12 +32,11 @@ is_byte s b p = elim (byte_at s.bytes p) [ Some c ↦ b == c | None ↦ false ]
 
 -- one or more decimal digits
 abbrev pub is_number : List ℕ → Bool
-is_number [] = false
-is_number (d ∷ ds) = list_all is_ascii_digit (d ∷ ds)
+is_number digits = nat_lt 0 (length digits) && all_ascii_digits digits
 
 -- the number that decimal digits write
 abbrev pub number : List ℕ → ℕ
-number digits = fold_list (λ n d. 10 * n + (d - 48)) 0 digits
+number digits = digits_value 10 digits
 
 -- a range of one to six bytes
 abbrev pub is_depth : Option ℕ → Bool

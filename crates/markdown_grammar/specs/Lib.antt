@@ -11,7 +11,7 @@ pub mod Meaning
 pub mod Ordered
 pub mod Levels
 pub mod Refusals
-pub mod Spots
+pub mod Sites
 pub mod Reasons
 pub mod Correct
 pub mod Buffers

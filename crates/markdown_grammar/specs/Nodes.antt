@@ -80,7 +80,7 @@ autolink s x None None = literal x (tree.link [] None)
 abbrev pub character : Source → Decorated → Option (List ℕ)
 character s xs = option_and_then (λ (x : Found). decoded s x.place x.start x.end) (first parts.CharacterReferenceValue xs)
 
--- the depth of a heading: the length of its first sequence, or 2 where its underline begins with a dash
+-- the depth of a heading: the length of its first sequence, or 2 where its underline begins with a hyphen
 abbrev pub atx_depth : Source → Decorated → ℕ
 atx_depth s xs = unwrap_or (option_and_then (λ (x : Found). length_between s.bytes x.start x.end) (first parts.HeadingAtxSequence xs)) 0
 

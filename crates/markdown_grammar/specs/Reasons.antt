@@ -13,29 +13,29 @@ use Rattle.markdown_grammar.specs.Refusals.{ErrorAt, rule_error, missing_error, 
 use Rattle.markdown_grammar.specs.Items.{items, kinds, none}
 use Rattle.markdown_grammar.specs.Document.{Source}
 use Rattle.markdown_grammar.specs.Grammar.{ContentModel, Rule, model_of, keeps, rules, conforms}
-use Rattle.markdown_grammar.specs.Spots.{Ancestor, Site, around_of, occurrence, site_of, events_so_far}
+use Rattle.markdown_grammar.specs.Sites.{Ancestor, Site, around_of, occurrence, site_of, events_so_far}
 use Rattle.markdown_grammar.specs.declared.error_kind.ErrorKind.{ErrorKind}
 use Rattle.markdown_events.specs.declared.event.Kind.TheVariants.{Enter, Exit}
 use Rattle.markdown_events.specs.declared.role.Role.TheVariants.{Significant as significant}
 use Rattle.markdown_grammar.specs.declared.error_kind.ErrorKind.TheVariants.{Held, InvalidSlice, Misplaced, Unbalanced, UnfinishedBreak}
 
--- the first of the rules that the items break, and how its container says so
-abbrev pub BreaksFirst : ContentModel → List Rule → List ItemKind → ErrorKind → Type 0
-BreaksFirst h [] xs why = ⊥
-BreaksFirst h (rule ∷ rules) xs why = ((keeps rule xs ≡ false) × (why ≡ rule_error h rule)) ⊎ ((keeps rule xs ≡ true) × BreaksFirst h rules xs why)
+-- the first of the rules that the items violate, and how its container says so
+abbrev pub ViolatesFirst : ContentModel → List Rule → List ItemKind → ErrorKind → Type 0
+ViolatesFirst h [] xs why = ⊥
+ViolatesFirst h (rule ∷ rules) xs why = ((keeps rule xs ≡ false) × (why ≡ rule_error h rule)) ⊎ ((keeps rule xs ≡ true) × ViolatesFirst h rules xs why)
 
 -- an item that begins, of whose end and items nothing is known
 abbrev pub beginning : Site → ItemKind → Point → Occurrence
-beginning spot what start = occurrence spot what start start none
+beginning site what start = occurrence site what start start none
 
 -- what is wrong with an item where it begins: the first of these
-pub data IsWrongAtEnter (s : Source) (spot : Site) (what : ItemKind) (start : Point) (why : ErrorKind) : Type 0 where
-  after_a_break : ends_a_break (beginning spot what start) ≡ false → why ≡ UnfinishedBreak → IsWrongAtEnter s spot what start why
-  against_a_rule : ends_a_break (beginning spot what start) ≡ true → BreaksFirst spot.initial_model (rules spot.initial_model) (kinds spot.before ++ what ∷ []) why → IsWrongAtEnter s spot what start why
-  table_in_a_table : ends_a_break (beginning spot what start) ≡ true → conforms spot.initial_model (kinds spot.before ++ what ∷ []) ≡ true → is_no_inner_table (beginning spot what start) ≡ false → why ≡ Misplaced
-      → IsWrongAtEnter s spot what start why
-  without_its_byte : ends_a_break (beginning spot what start) ≡ true → conforms spot.initial_model (kinds spot.before ++ what ∷ []) ≡ true → is_no_inner_table (beginning spot what start) ≡ true
-      → has_its_byte s (beginning spot what start) ≡ false → why ≡ InvalidSlice → IsWrongAtEnter s spot what start why
+pub data IsWrongAtEnter (s : Source) (site : Site) (what : ItemKind) (start : Point) (why : ErrorKind) : Type 0 where
+  after_a_break : ends_a_break (beginning site what start) ≡ false → why ≡ UnfinishedBreak → IsWrongAtEnter s site what start why
+  against_a_rule : ends_a_break (beginning site what start) ≡ true → ViolatesFirst site.initial_model (rules site.initial_model) (kinds site.before ++ what ∷ []) why → IsWrongAtEnter s site what start why
+  table_in_a_table : ends_a_break (beginning site what start) ≡ true → conforms site.initial_model (kinds site.before ++ what ∷ []) ≡ true → is_no_inner_table (beginning site what start) ≡ false → why ≡ Misplaced
+      → IsWrongAtEnter s site what start why
+  without_its_byte : ends_a_break (beginning site what start) ≡ true → conforms site.initial_model (kinds site.before ++ what ∷ []) ≡ true → is_no_inner_table (beginning site what start) ≡ true
+      → has_its_byte s (beginning site what start) ≡ false → why ≡ InvalidSlice → IsWrongAtEnter s site what start why
 
 -- what is wrong with an item where it ends: the first of these
 pub data IsWrongAtExit (s : Source) (x : Occurrence) (why : ErrorKind) : Type 0 where

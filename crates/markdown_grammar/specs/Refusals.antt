@@ -48,7 +48,7 @@ reason_of UnfinishedBreak = codes "a hard break is not followed by its line endi
 
 -- ---- Which refusal belongs to what is wrong
 
--- why an item that breaks a rule of a container is refused
+-- why an item that violates a rule of a container is refused
 abbrev pub rule_error : ContentModel → Rule → ErrorKind
 rule_error h (at_most_one ps) = Repeated
 rule_error h (none_of ps) = Repeated

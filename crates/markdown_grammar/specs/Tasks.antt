@@ -9,8 +9,8 @@ abbrev pub capped_sum : ℕ → ℕ → ℕ
 capped_sum m n = min (m + n) (2 ^ 64 - 1)
 
 -- after one byte of the same line
-abbrev pub one_on : Point → Point
-one_on p = record p { column = capped_sum p.column 1; offset = capped_sum p.offset 1 }
+abbrev pub next_column : Point → Point
+next_column p = record p { column = capped_sum p.column 1; offset = capped_sum p.offset 1 }
 
 -- after a line ending of n bytes
 abbrev pub on_next_line : ℕ → Point → Point
@@ -19,9 +19,9 @@ on_next_line n p = record { line = capped_sum p.line 1; column = 1; offset = cap
 -- a text and the point at which it starts, without one tab, space or line ending at its beginning
 abbrev pub after_blank : List ℕ → Point → List ℕ × Point
 after_blank [] p = ([], p)
-after_blank (b ∷ []) p = if b == 9 || b == 32 then ([], one_on p) else (if b == 10 || b == 13 then ([], on_next_line 1 p) else (b ∷ [], p))
+after_blank (b ∷ []) p = if b == 9 || b == 32 then ([], next_column p) else (if b == 10 || b == 13 then ([], on_next_line 1 p) else (b ∷ [], p))
 after_blank (b ∷ c ∷ bs) p =
-    if b == 9 || b == 32 then (c ∷ bs, one_on p)
+    if b == 9 || b == 32 then (c ∷ bs, next_column p)
     else (if b == 13 && c == 10 then (bs, on_next_line 2 p)
     else (if b == 10 || b == 13 then (c ∷ bs, on_next_line 1 p) else (b ∷ c ∷ bs, p)))
 

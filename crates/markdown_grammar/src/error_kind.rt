@@ -32,9 +32,9 @@ pub enum ErrorKind {
     UnknownReference,
     /// `reference-incomplete`: a reference without a value, or a value without a marker before it.
     IncompleteReference,
-    /// `fence-missing`: a raw block without a fence.
+    /// `fence-missing`: fenced code or math without a fence.
     MissingFence,
-    /// `heading-depth`: a heading without a sequence, or with one of another length.
+    /// `heading-depth`: a heading without a sequence, or an ATX heading with one that is not 1 to 6 long.
     HeadingDepth,
     /// `break-unfinished`: a break without its line ending.
     UnfinishedBreak,

@@ -12,8 +12,8 @@ use markdown_nodes::mdast::Node;
 use markdown_nodes::unist::Position;
 use std::alloc::Global;
 
-/// Whether the nodes of a tree nest and stand in order, which a program may rely on that looks for the
-/// node at a byte, or cuts the document where nodes end.
+/// Whether the nodes of a tree nest and stand in order. A program that looks for the node at a byte, or
+/// cuts the document where nodes end, may rely on it.
 ///
 /// It is true exactly when every node has a position and, by the offsets, which count bytes from 0,
 /// each child starts and ends within its parent, does not end before it starts, and ends at or

@@ -10,7 +10,7 @@ use Rattle.markdown_nodes.specs.View.{view}
 use Rattle.markdown_nodes.specs.declared.mdast.Node.{Node}
 use Rattle.markdown_grammar.specs.Attributes.{Place}
 use Rattle.markdown_grammar.specs.Document.{Source, source, text_read}
-use Rattle.markdown_grammar.specs.Grammar as Models
+use Rattle.markdown_grammar.specs.Grammar as models
 use Rattle.markdown_grammar.specs.Nodes.{linked}
 use Rattle.markdown_steps.specs.ChildFacts.{ChildFacts}
 use Rattle.markdown_steps.specs.Summaries.{PartSummary, Path, Summary, address, into}
@@ -43,7 +43,7 @@ in_autolink x way = None
 
 -- an autolink, of which its parts are kept
 abbrev pub autolink : AutolinkParts → PartsSoFar
-autolink x = with_parts Models.autolink (in_autolink x)
+autolink x = with_parts models.autolink (in_autolink x)
 
 -- the nodes that it gives between two points
 abbrev pub autolink_nodes : AutolinkParts → Point → Point → Trees

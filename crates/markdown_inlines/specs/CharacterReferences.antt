@@ -5,7 +5,7 @@ use Rattle.markdown_events.specs.declared.role.Part.{Part}
 use Rattle.markdown_events.specs.declared.role.Part.TheVariants as parts
 use Rattle.markdown_grammar.specs.Attributes.{Place}
 use Rattle.markdown_grammar.specs.Document.{Source}
-use Rattle.markdown_grammar.specs.Grammar as Models
+use Rattle.markdown_grammar.specs.Grammar as models
 use Rattle.markdown_grammar.specs.declared.error_kind.Stop.{Stop}
 use Rattle.markdown_steps.specs.Compiler.{nothing_yet}
 use Rattle.markdown_steps.specs.Summaries.{PartSummary, Path, into, words}
@@ -77,7 +77,7 @@ in_character_reference x way = None
 
 -- a character reference, of which its parts and its last marker are kept
 abbrev pub character_reference : CharacterReferenceParts → PartsSoFar
-character_reference x = record (with_parts Models.character_reference (in_character_reference x)) {
+character_reference x = record (with_parts models.character_reference (in_character_reference x)) {
   marker = option_map (λ (m : Markers). byte_of m.last) x.markers;
 }
 

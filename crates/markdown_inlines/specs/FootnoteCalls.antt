@@ -1,7 +1,7 @@
 -- What has stood so far in a footnote call.
 use Rattle.std.specs.Prelude.{None, Option, Some}
 use Rattle.markdown_events.specs.declared.role.Part.TheVariants as parts
-use Rattle.markdown_grammar.specs.Grammar as Models
+use Rattle.markdown_grammar.specs.Grammar as models
 use Rattle.markdown_nodes.specs.Tree as tree
 use Rattle.markdown_nodes.specs.Tree.{Label as TreeLabel}
 use Rattle.markdown_steps.specs.Summaries.{PartSummary, Path, identifier_of, into, text_of}
@@ -16,7 +16,7 @@ in_footnote_call x way = None
 
 -- a footnote call, of which its part and the nodes of its label are kept
 abbrev pub footnote_call : FootnoteCallParts → PartsSoFar
-footnote_call x = record (with_parts Models.footnote_call (in_footnote_call x)) { label = label_nodes x.label }
+footnote_call x = record (with_parts models.footnote_call (in_footnote_call x)) { label = label_nodes x.label }
 
 -- the label of its node, which refers to what its label names
 abbrev pub call_label : FootnoteCallParts → TreeLabel

@@ -4,7 +4,7 @@ use Rattle.markdown_events.specs.declared.role.Part.TheVariants as parts
 use Rattle.markdown_nodes.specs.Tree as tree
 use Rattle.markdown_nodes.specs.Tree.{Label as TreeLabel, nothing}
 use Rattle.markdown_nodes.specs.declared.mdast.ReferenceKind.{ReferenceKind}
-use Rattle.markdown_grammar.specs.Grammar as Models
+use Rattle.markdown_grammar.specs.Grammar as models
 use Rattle.markdown_grammar.specs.Nodes.{image_label, link_label}
 use Rattle.markdown_steps.specs.Summaries.{PartSummary, Path, identifier_of, into, itself, stood, text_of}
 use Rattle.markdown_steps.specs.SummaryNodes.{media_of}
@@ -27,7 +27,7 @@ in_resource x way = None
 
 -- a resource, of which its parts are kept
 abbrev pub resource : ResourceParts → PartsSoFar
-resource x = with_parts Models.resource (in_resource x)
+resource x = with_parts models.resource (in_resource x)
 
 -- the part of a reference
 abbrev pub in_reference : ReferenceParts → Path → Option PartSummary
@@ -36,7 +36,7 @@ in_reference x way = None
 
 -- a reference, of which its part is kept
 abbrev pub reference : ReferenceParts → PartsSoFar
-reference x = with_parts Models.reference (in_reference x)
+reference x = with_parts models.reference (in_reference x)
 
 -- a resource where it leads, and its parts
 abbrev pub resource_of : Target → Path → Option PartSummary
@@ -59,7 +59,7 @@ in_media x way = None
 
 -- a link or an image, of which its parts and the nodes of its label are kept
 abbrev pub media : MediaParts → PartsSoFar
-media x = record (with_parts Models.media (in_media x)) { label = label_nodes x.label }
+media x = record (with_parts models.media (in_media x)) { label = label_nodes x.label }
 
 -- ---- The labels of their nodes
 

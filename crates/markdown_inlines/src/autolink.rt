@@ -11,7 +11,7 @@ ghost use Rattle.markdown_events.specs.declared.role.Part.TheVariants as parts;
 ghost use Rattle.markdown_nodes.specs.Tree as tree;
 ghost use Rattle.markdown_nodes.specs.Tree.{nothing, only};
 ghost use Rattle.markdown_nodes.specs.View.{view};
-ghost use Rattle.markdown_grammar.specs.Grammar as Models;
+ghost use Rattle.markdown_grammar.specs.Grammar as models;
 ghost use Rattle.markdown_grammar.specs.declared.error_kind.ErrorKind.TheVariants.{InvalidSlice};
 ghost use Rattle.markdown_builder.specs.PartsSoFar.{IsFresh, IsNode, Makes, Reads, misfit_in, placed};
 ghost use Rattle.markdown_inlines.specs.Autolinks.{IsLiteral, IsSchemeOf, autolink, autolink_nodes, is_literal};
@@ -50,7 +50,7 @@ pub enum AutolinkParts<'a> {
 impl<'a> AutolinkParts<'a> {
     /// An autolink at its enter, as at the `<` of `<a@b.c>`.
     pub fn new() -> AutolinkParts<'a>
-        ensures { IsFresh (autolink result) Models.autolink }
+        ensures { IsFresh (autolink result) models.autolink }
     {
         AutolinkParts::Empty
     }

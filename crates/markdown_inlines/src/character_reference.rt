@@ -8,7 +8,7 @@ ghost use Rattle.std.specs.Prelude.{◌≡◌, None, Some, is_some, string_bytes
 ghost use Rattle.markdown_events.specs.declared.role.ItemKind.TheVariants as item_kinds;
 ghost use Rattle.markdown_events.specs.declared.role.Part.TheVariants as parts;
 ghost use Rattle.markdown_grammar.specs.Document.{source};
-ghost use Rattle.markdown_grammar.specs.Grammar as Models;
+ghost use Rattle.markdown_grammar.specs.Grammar as models;
 ghost use Rattle.markdown_grammar.specs.declared.error_kind.ErrorKind.TheVariants.{IncompleteReference};
 ghost use Rattle.markdown_steps.specs.Summaries.{text_of as text_in};
 ghost use Rattle.markdown_builder.specs.PartsSoFar.{GainsSign, IsFresh, Makes, misfit_in};
@@ -61,7 +61,7 @@ pub struct CharacterReferenceParts {
 impl CharacterReferenceParts {
     /// A character reference at its enter, as before the `&` of `&amp;`.
     pub fn new() -> CharacterReferenceParts
-        ensures { IsFresh (character_reference result) Models.character_reference }
+        ensures { IsFresh (character_reference result) models.character_reference }
     {
         CharacterReferenceParts {
             markers: None,

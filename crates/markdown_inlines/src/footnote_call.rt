@@ -7,7 +7,7 @@ ghost use Rattle.markdown_events.specs.declared.role.ItemKind.TheVariants as ite
 ghost use Rattle.markdown_events.specs.declared.role.Part.TheVariants as parts;
 ghost use Rattle.markdown_nodes.specs.Tree.{nothing};
 ghost use Rattle.markdown_grammar.specs.Buffers.{node_count};
-ghost use Rattle.markdown_grammar.specs.Grammar as Models;
+ghost use Rattle.markdown_grammar.specs.Grammar as models;
 ghost use Rattle.markdown_builder.specs.PartsSoFar.{IsFresh, IsNode, misfit_in};
 ghost use Rattle.markdown_inlines.specs.Labels.{ReadsLabel};
 ghost use Rattle.markdown_inlines.specs.FootnoteCalls.{call_label, footnote_call};
@@ -35,7 +35,7 @@ pub struct FootnoteCallParts<'a> {
 impl<'a> FootnoteCallParts<'a> {
     /// A footnote call at its enter, as at the `[` of `[^a]`.
     pub fn new() -> FootnoteCallParts<'a>
-        ensures { IsFresh (footnote_call result) Models.footnote_call }
+        ensures { IsFresh (footnote_call result) models.footnote_call }
     {
         FootnoteCallParts { label: None }
     }

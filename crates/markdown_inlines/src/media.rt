@@ -10,7 +10,7 @@ ghost use Rattle.markdown_events.specs.declared.role.ItemKind.TheVariants as ite
 ghost use Rattle.markdown_events.specs.declared.role.Part.TheVariants as parts;
 ghost use Rattle.markdown_nodes.specs.View.{views};
 ghost use Rattle.markdown_grammar.specs.Buffers.{node_count};
-ghost use Rattle.markdown_grammar.specs.Grammar as Models;
+ghost use Rattle.markdown_grammar.specs.Grammar as models;
 ghost use Rattle.markdown_builder.specs.PartsSoFar.{GainsItem, GainsWords, IsFresh, ReadsText, misfit_in};
 ghost use Rattle.markdown_inlines.specs.Labels.{ReadsLabel};
 ghost use Rattle.markdown_inlines.specs.Media;
@@ -65,7 +65,7 @@ pub struct MediaParts<'a> {
 impl ResourceParts {
     /// A resource at its enter, as at the `(` of `[a](b "c")`.
     pub fn new() -> ResourceParts
-        ensures { IsFresh (resource result) Models.resource }
+        ensures { IsFresh (resource result) models.resource }
     {
         ResourceParts {
             destination: None,
@@ -109,7 +109,7 @@ impl ResourceParts {
 impl ReferenceParts {
     /// A reference at its enter, as at the second `[` of `[a][b]`.
     pub fn new() -> ReferenceParts
-        ensures { IsFresh (reference result) Models.reference }
+        ensures { IsFresh (reference result) models.reference }
     {
         ReferenceParts { string: None }
     }
@@ -153,7 +153,7 @@ impl ReferenceParts {
 impl<'a> MediaParts<'a> {
     /// A link or an image at its enter, as at the first `[` of `[a](b)`.
     pub fn new() -> MediaParts<'a>
-        ensures { IsFresh (media result) Models.media }
+        ensures { IsFresh (media result) models.media }
     {
         MediaParts {
             label: None,

@@ -52,7 +52,7 @@ use markdown_nodes::mdast::{
 use markdown_nodes::unist::{Point, Position};
 use std::alloc::AllocError;
 
-/// Puts the kind and the fields of a node after what is written, up to its children.
+/// Appends the kind and the fields of a node to what is written, up to its children.
 pub fn push_opening(out: &mut String, node: &Node) -> Result<(), AllocError>
     ensures { OnOk result (string_bytes out.new ≡ string_bytes out.old ++ opening (label_of node.now)) }
 {
@@ -89,9 +89,10 @@ pub fn push_opening(out: &mut String, node: &Node) -> Result<(), AllocError>
     }
 }
 
-/// Puts what stands after the children of a node after what is written.
+/// Appends what stands after the children of a node to what is written.
 pub fn push_closing<P: Points>(out: &mut String, points: &P, node: &Node) -> Result<(), AllocError>
-    ensures { OnOk result (string_bytes out.new ≡ string_bytes out.old ++ closing (P.counted points.now) (label_of node.now) (position_of node.now)) }
+    ensures { OnOk result (string_bytes out.new
+        ≡ string_bytes out.old ++ closing (P.counted points.now) (label_of node.now) (position_of node.now)) }
 {
     push(out, children_end(node))?;
     push_position(out, points, node)?;
@@ -121,7 +122,7 @@ fn children_end(node: &Node) -> &'static str
     }
 }
 
-/// Puts the position of a node after what is written, where it has one.
+/// Appends the position of a node to what is written, where it has one.
 fn push_position<P: Points>(out: &mut String, points: &P, node: &Node) -> Result<(), AllocError>
     ensures { OnOk result (string_bytes out.new ≡ string_bytes out.old ++ position_field (P.counted points.now) (position_of node.now)) }
 {
@@ -131,14 +132,15 @@ fn push_position<P: Points>(out: &mut String, points: &P, node: &Node) -> Result
     }
 }
 
-/// Puts the field of a position after what is written.
+/// Appends the field of a position to what is written.
 #[tactic(auto, unfolding(crate::specs::Json::field, crate::specs::Json::position_value))]
 fn push_position_field<P: Points>(
     out: &mut String,
     points: &P,
     position: Position,
 ) -> Result<(), AllocError>
-    ensures { OnOk result (string_bytes out.new ≡ string_bytes out.old ++ field (codes "position") (position_value (P.counted points.now) position)) }
+    ensures { OnOk result (string_bytes out.new
+        ≡ string_bytes out.old ++ field (codes "position") (position_value (P.counted points.now) position)) }
 {
     push_key(out, "position")?;
     push(out, "{\"start\":")?;
@@ -148,7 +150,7 @@ fn push_position_field<P: Points>(
     push(out, "}")
 }
 
-/// Puts a point after what is written.
+/// Appends a point to what is written.
 #[tactic(auto, unfolding(crate::specs::Json::point))]
 fn push_point(out: &mut String, place: Point) -> Result<(), AllocError>
     ensures { OnOk result (string_bytes out.new ≡ string_bytes out.old ++ point place) }
@@ -160,7 +162,7 @@ fn push_point(out: &mut String, place: Point) -> Result<(), AllocError>
     push(out, "}")
 }
 
-/// Puts the kind of a node after what is written.
+/// Appends the kind of a node to what is written.
 #[tactic(auto, unfolding(crate::specs::Json::kind))]
 fn push_kind(out: &mut String, name: &str) -> Result<(), AllocError>
     ensures { OnOk result (string_bytes out.new ≡ string_bytes out.old ++ kind name.now) }
@@ -170,7 +172,7 @@ fn push_kind(out: &mut String, name: &str) -> Result<(), AllocError>
     push(out, "\"")
 }
 
-/// Puts the name of a field after what is written.
+/// Appends the name of a field to what is written.
 #[tactic(auto, unfolding(crate::specs::Json::key))]
 fn push_key(out: &mut String, name: &str) -> Result<(), AllocError>
     ensures { OnOk result (string_bytes out.new ≡ string_bytes out.old ++ key name.now) }
@@ -180,7 +182,7 @@ fn push_key(out: &mut String, name: &str) -> Result<(), AllocError>
     push(out, "\":")
 }
 
-/// Puts the start of the children of a parent after what is written.
+/// Appends the start of the children of a parent to what is written.
 #[tactic(auto, unfolding(crate::specs::Json::children))]
 fn push_children(out: &mut String) -> Result<(), AllocError>
     ensures { OnOk result (string_bytes out.new ≡ string_bytes out.old ++ children) }
@@ -188,7 +190,7 @@ fn push_children(out: &mut String) -> Result<(), AllocError>
     push(out, ",\"children\":[")
 }
 
-/// Puts a parent that has no other fields than its children after what is written.
+/// Appends a parent that has no other fields than its children to what is written.
 fn push_parent(out: &mut String, name: &str) -> Result<(), AllocError>
     ensures { OnOk result (string_bytes out.new ≡ string_bytes out.old ++ (kind name.now ++ children)) }
 {
@@ -196,7 +198,7 @@ fn push_parent(out: &mut String, name: &str) -> Result<(), AllocError>
     push_children(out)
 }
 
-/// Puts a literal that has no other fields than its value after what is written.
+/// Appends a literal that has no other fields than its value to what is written.
 fn push_literal(out: &mut String, name: &str, value: &String) -> Result<(), AllocError>
     ensures { OnOk result (string_bytes out.new ≡ string_bytes out.old ++ literal name.now (string_bytes value.now)) }
 {
@@ -204,7 +206,7 @@ fn push_literal(out: &mut String, name: &str, value: &String) -> Result<(), Allo
     push_text(out, "value", value)
 }
 
-/// Puts a field that is a number after what is written.
+/// Appends a field that is a number to what is written.
 #[tactic(auto, unfolding(crate::specs::Json::field))]
 fn push_number(out: &mut String, name: &str, number: usize) -> Result<(), AllocError>
     ensures { OnOk result (string_bytes out.new ≡ string_bytes out.old ++ field name.now (decimal number)) }
@@ -213,7 +215,7 @@ fn push_number(out: &mut String, name: &str, number: usize) -> Result<(), AllocE
     push_decimal(out, number)
 }
 
-/// Puts a field with a value that is JSON already after what is written.
+/// Appends a field with a value that is JSON already to what is written.
 #[tactic(auto, unfolding(crate::specs::Json::field))]
 fn push_value(out: &mut String, name: &str, value: &str) -> Result<(), AllocError>
     ensures { OnOk result (string_bytes out.new ≡ string_bytes out.old ++ field name.now value.now) }
@@ -222,14 +224,14 @@ fn push_value(out: &mut String, name: &str, value: &str) -> Result<(), AllocErro
     push(out, value)
 }
 
-/// Puts a field that is true or false after what is written.
+/// Appends a field that is true or false to what is written.
 fn push_flag(out: &mut String, name: &str, flag: bool) -> Result<(), AllocError>
     ensures { OnOk result (string_bytes out.new ≡ string_bytes out.old ++ field name.now (bool_text flag)) }
 {
     push_value(out, name, if flag { "true" } else { "false" })
 }
 
-/// Puts a field that is a text after what is written.
+/// Appends a field that is a text to what is written.
 #[tactic(auto, unfolding(crate::specs::Json::field))]
 fn push_text(out: &mut String, name: &str, text: &String) -> Result<(), AllocError>
     ensures { OnOk result (string_bytes out.new ≡ string_bytes out.old ++ field name.now (string (string_bytes text.now))) }
@@ -238,7 +240,7 @@ fn push_text(out: &mut String, name: &str, text: &String) -> Result<(), AllocErr
     push_string(out, text.as_str())
 }
 
-/// Puts a field that is a text or null after what is written.
+/// Appends a field that is a text or null to what is written.
 fn push_option(out: &mut String, name: &str, text: &Option<String>) -> Result<(), AllocError>
     ensures { OnOk result (string_bytes out.new ≡ string_bytes out.old ++ field name.now (maybe (option_map string_bytes text.now))) }
 {
@@ -248,7 +250,7 @@ fn push_option(out: &mut String, name: &str, text: &Option<String>) -> Result<()
     }
 }
 
-/// Puts the fields of a resource after what is written.
+/// Appends the fields of a resource to what is written.
 #[tactic(auto, unfolding(crate::specs::Json::resource))]
 fn push_resource(out: &mut String, url: &String, title: &Option<String>) -> Result<(), AllocError>
     ensures { OnOk result (string_bytes out.new ≡ string_bytes out.old ++ resource_of url.now title.now) }
@@ -257,7 +259,7 @@ fn push_resource(out: &mut String, url: &String, title: &Option<String>) -> Resu
     push_text(out, "url", url)
 }
 
-/// Puts the fields of an association after what is written.
+/// Appends the fields of an association to what is written.
 #[tactic(auto, unfolding(crate::specs::Json::association))]
 fn push_association(
     out: &mut String,
@@ -270,7 +272,7 @@ fn push_association(
     push_option(out, "label", label)
 }
 
-/// Puts the fields of a reference after what is written.
+/// Appends the fields of a reference to what is written.
 #[tactic(auto, unfolding(crate::specs::Json::reference))]
 fn push_reference(
     out: &mut String,
@@ -284,7 +286,7 @@ fn push_reference(
     push_reference_type(out, kind)
 }
 
-/// Puts how a reference is written after what is written.
+/// Appends how a reference is written to what is written.
 fn push_reference_type(out: &mut String, kind: ReferenceKind) -> Result<(), AllocError>
     ensures { OnOk result (string_bytes out.new ≡ string_bytes out.old ++ field (codes "referenceType") (reference_type kind)) }
 {
@@ -295,7 +297,7 @@ fn push_reference_type(out: &mut String, kind: ReferenceKind) -> Result<(), Allo
     }
 }
 
-/// Puts a heading after what is written, up to its children.
+/// Appends a heading to what is written, up to its children.
 fn push_heading(out: &mut String, node: &Heading) -> Result<(), AllocError>
     ensures { OnOk result (string_bytes out.new ≡ string_bytes out.old ++ opening (heading node.now.depth)) }
 {
@@ -304,7 +306,7 @@ fn push_heading(out: &mut String, node: &Heading) -> Result<(), AllocError>
     push_children(out)
 }
 
-/// Puts a list after what is written, up to its children.
+/// Appends a list to what is written, up to its children.
 fn push_list(out: &mut String, node: &List) -> Result<(), AllocError>
     ensures { OnOk result (string_bytes out.new ≡ string_bytes out.old ++ opening (list_label node.now)) }
 {
@@ -315,7 +317,7 @@ fn push_list(out: &mut String, node: &List) -> Result<(), AllocError>
     push_children(out)
 }
 
-/// Puts the number that a list begins with after what is written, or null.
+/// Appends the number that a list begins with to what is written, or null.
 fn push_start(out: &mut String, start: Option<u32>) -> Result<(), AllocError>
     ensures { OnOk result (string_bytes out.new ≡ string_bytes out.old ++ field (codes "start") (or_null decimal start)) }
 {
@@ -325,7 +327,7 @@ fn push_start(out: &mut String, start: Option<u32>) -> Result<(), AllocError>
     }
 }
 
-/// Puts a list item after what is written, up to its children.
+/// Appends a list item to what is written, up to its children.
 fn push_list_item(out: &mut String, node: &ListItem) -> Result<(), AllocError>
     ensures { OnOk result (string_bytes out.new ≡ string_bytes out.old ++ opening (list_item_label node.now)) }
 {
@@ -335,7 +337,7 @@ fn push_list_item(out: &mut String, node: &ListItem) -> Result<(), AllocError>
     push_children(out)
 }
 
-/// Puts whether a task is done after what is written, or null where an item is no task.
+/// Appends whether a task is done to what is written, or null where an item is no task.
 fn push_checked(out: &mut String, checked: Option<bool>) -> Result<(), AllocError>
     ensures { OnOk result (string_bytes out.new ≡ string_bytes out.old ++ field (codes "checked") (or_null bool_text checked)) }
 {
@@ -345,7 +347,7 @@ fn push_checked(out: &mut String, checked: Option<bool>) -> Result<(), AllocErro
     }
 }
 
-/// Puts a table after what is written, up to its children.
+/// Appends a table to what is written, up to its children.
 fn push_table(out: &mut String, node: &Table) -> Result<(), AllocError>
     ensures { OnOk result (string_bytes out.new ≡ string_bytes out.old ++ opening (table node.now.align.items)) }
 {
@@ -354,7 +356,7 @@ fn push_table(out: &mut String, node: &Table) -> Result<(), AllocError>
     push_children(out)
 }
 
-/// Puts how the columns of a table are aligned after what is written.
+/// Appends how the columns of a table are aligned to what is written.
 #[tactic(auto, unfolding(crate::specs::Json::field))]
 fn push_align(out: &mut String, align: &[AlignKind]) -> Result<(), AllocError>
     ensures { OnOk result (string_bytes out.new ≡ string_bytes out.old ++ align_field align.now) }
@@ -365,7 +367,7 @@ fn push_align(out: &mut String, align: &[AlignKind]) -> Result<(), AllocError>
     push(out, "]")
 }
 
-/// Puts how columns are aligned after what is written, with commas between them.
+/// Appends how columns are aligned to what is written, with commas between them.
 fn push_alignments(out: &mut String, align: &[AlignKind]) -> Result<(), AllocError>
     ensures { OnOk result (string_bytes out.new ≡ string_bytes out.old ++ alignments [] align.now) }
 {
@@ -377,7 +379,7 @@ fn push_alignments(out: &mut String, align: &[AlignKind]) -> Result<(), AllocErr
     Ok(())
 }
 
-/// Puts how a column is aligned after what is written, after a comma where it is a later column.
+/// Appends how a column is aligned to what is written, after a comma where it is a later column.
 fn push_alignment(out: &mut String, kind: AlignKind, later: bool) -> Result<(), AllocError>
     ensures { OnOk result (string_bytes out.new ≡ string_bytes out.old ++ ((if later then codes "," else []) ++ alignment kind)) }
 {
@@ -399,7 +401,7 @@ fn alignment(kind: AlignKind) -> &'static str
     }
 }
 
-/// Puts a code block after what is written.
+/// Appends a code block to what is written.
 fn push_code(out: &mut String, node: &Code) -> Result<(), AllocError>
     ensures { OnOk result (string_bytes out.new ≡ string_bytes out.old ++ opening (code_label node.now)) }
 {
@@ -409,7 +411,7 @@ fn push_code(out: &mut String, node: &Code) -> Result<(), AllocError>
     push_text(out, "value", &node.value)
 }
 
-/// Puts a block of math after what is written.
+/// Appends a block of math to what is written.
 fn push_math(out: &mut String, node: &Math) -> Result<(), AllocError>
     ensures { OnOk result (string_bytes out.new ≡ string_bytes out.old ++ opening (math_label node.now)) }
 {
@@ -418,7 +420,7 @@ fn push_math(out: &mut String, node: &Math) -> Result<(), AllocError>
     push_text(out, "value", &node.value)
 }
 
-/// Puts a link after what is written, up to its children.
+/// Appends a link to what is written, up to its children.
 fn push_link(out: &mut String, node: &Link) -> Result<(), AllocError>
     ensures { OnOk result (string_bytes out.new ≡ string_bytes out.old ++ opening (link_label node.now)) }
 {
@@ -427,7 +429,7 @@ fn push_link(out: &mut String, node: &Link) -> Result<(), AllocError>
     push_children(out)
 }
 
-/// Puts an image after what is written.
+/// Appends an image to what is written.
 fn push_image(out: &mut String, node: &Image) -> Result<(), AllocError>
     ensures { OnOk result (string_bytes out.new ≡ string_bytes out.old ++ opening (image_label node.now)) }
 {
@@ -436,7 +438,7 @@ fn push_image(out: &mut String, node: &Image) -> Result<(), AllocError>
     push_text(out, "alt", &node.alt)
 }
 
-/// Puts a link by reference after what is written, up to its children.
+/// Appends a link by reference to what is written, up to its children.
 fn push_link_reference(out: &mut String, node: &LinkReference) -> Result<(), AllocError>
     ensures { OnOk result (string_bytes out.new ≡ string_bytes out.old ++ opening (link_reference_label node.now)) }
 {
@@ -445,7 +447,7 @@ fn push_link_reference(out: &mut String, node: &LinkReference) -> Result<(), All
     push_children(out)
 }
 
-/// Puts an image by reference after what is written.
+/// Appends an image by reference to what is written.
 fn push_image_reference(out: &mut String, node: &ImageReference) -> Result<(), AllocError>
     ensures { OnOk result (string_bytes out.new ≡ string_bytes out.old ++ opening (image_reference_label node.now)) }
 {
@@ -454,7 +456,7 @@ fn push_image_reference(out: &mut String, node: &ImageReference) -> Result<(), A
     push_text(out, "alt", &node.alt)
 }
 
-/// Puts a reference to a footnote after what is written.
+/// Appends a reference to a footnote to what is written.
 fn push_footnote_reference(out: &mut String, node: &FootnoteReference) -> Result<(), AllocError>
     ensures { OnOk result (string_bytes out.new ≡ string_bytes out.old ++ opening (footnote_reference_label node.now)) }
 {
@@ -462,7 +464,7 @@ fn push_footnote_reference(out: &mut String, node: &FootnoteReference) -> Result
     push_association(out, &node.identifier, &node.label)
 }
 
-/// Puts the definition of a footnote after what is written, up to its children.
+/// Appends the definition of a footnote to what is written, up to its children.
 fn push_footnote_definition(out: &mut String, node: &FootnoteDefinition) -> Result<(), AllocError>
     ensures { OnOk result (string_bytes out.new ≡ string_bytes out.old ++ opening (footnote_definition_label node.now)) }
 {
@@ -471,7 +473,7 @@ fn push_footnote_definition(out: &mut String, node: &FootnoteDefinition) -> Resu
     push_children(out)
 }
 
-/// Puts a definition after what is written.
+/// Appends a definition to what is written.
 fn push_definition(out: &mut String, node: &Definition) -> Result<(), AllocError>
     ensures { OnOk result (string_bytes out.new ≡ string_bytes out.old ++ opening (definition_label node.now)) }
 {

@@ -28,7 +28,7 @@ struct Frame<'a> {
 /// columns count from 1, and offsets count bytes from 0. In texts a quote, a backslash and control
 /// characters are escaped, and all other characters stand as they are.
 ///
-/// Fails where memory runs out, and else never.
+/// The only error is that memory ran out.
 ///
 /// A root that contains a thematic break, both without a position, gives
 /// `{"type":"root","children":[{"type":"thematicBreak"}]}`.
@@ -41,9 +41,9 @@ pub fn to_json(alloc: Global, tree: &Node) -> Result<String, AllocError>
 /// A tree as JSON, as [`to_json`] gives it, with its columns and offsets in UTF-16 code units.
 ///
 /// So JavaScript counts the characters of its strings: a character counts one, and one beyond U+FFFF
-/// two. `document` has the bytes that the tree was made of. A column counts from 1 and an offset from
-/// 0; what a tab adds to a column stays, and a point after the end of the document has the offset of
-/// the end. Fails where memory runs out, and else never: 24 bytes for each byte of the document.
+/// two. `document` has the bytes that the tree was made of, and the columns of the tree have to count
+/// bytes, as its offsets do. A column counts from 1 and an offset from 0; what a tab adds to a column
+/// stays, and a point after the end of the document has the offset of the end. The only error is that memory ran out: it takes 24 bytes for each byte of the document.
 ///
 /// In the document `é!`, whose first character takes two bytes, a text from `1:3 (2)` on has the start
 /// `{"line":1,"column":2,"offset":1}`.
@@ -83,7 +83,7 @@ fn to_json_counted<P: Points>(alloc: Global, points: &P, tree: &Node) -> Result<
     }
 }
 
-/// Puts what stands before the children of a node after what is written, after a comma where it is
+/// Appends what stands before the children of a node to what is written, after a comma where it is
 /// a later one in its parent.
 fn begin(out: &mut String, node: &Node, later: bool) -> Result<(), AllocError>
     ensures { OnOk result (string_bytes out.new ≡ string_bytes out.old ++ opening_after later (label_of node.now)) }

@@ -9,10 +9,10 @@ use markdown_nodes::unist::Point;
 ///
 /// What it means is `counted`. An implementation is proved to give that.
 pub trait Points {
-    /// The point that is written for one of a tree.
+    /// The point to write for a point of the tree.
     ghost counted: { Self → Point → Point };
 
-    /// The point that is written for one of a tree.
+    /// The point to write for a point of the tree.
     ///
     /// For [`Bytes`] it is that point itself.
     fn counted(&self, point: Point) -> Point

@@ -6,14 +6,14 @@ ghost use Rattle.markdown_json.specs.Strings.{escape, escaped, string};
 
 use std::alloc::AllocError;
 
-/// Puts a text after what is written, as it is.
+/// Appends a text to what is written, as it is: `push_str`, with a contract in bytes.
 pub fn push(out: &mut String, text: &str) -> Result<(), AllocError>
     ensures { OnOk result (string_bytes out.new ≡ string_bytes out.old ++ text.now) }
 {
     out.push_str(text)
 }
 
-/// Puts a text between quotes after what is written.
+/// Appends a text between quotes to what is written.
 #[tactic(auto, unfolding(crate::specs::Strings::string))]
 pub fn push_string(out: &mut String, text: &str) -> Result<(), AllocError>
     ensures { OnOk result (string_bytes out.new ≡ string_bytes out.old ++ string text.now) }
@@ -23,8 +23,8 @@ pub fn push_string(out: &mut String, text: &str) -> Result<(), AllocError>
     push(out, "\"")
 }
 
-/// Puts a text after what is written, as it stands between quotes. Bytes that need no
-/// escape are put as one fragment.
+/// Appends a text to what is written, as it stands between quotes. Bytes that need no escape are
+/// written as one fragment.
 fn push_escaped(out: &mut String, text: &str) -> Result<(), AllocError>
     ensures { OnOk result (string_bytes out.new ≡ string_bytes out.old ++ escaped text.now) }
 {
@@ -49,7 +49,7 @@ fn is_escaped(byte: u8) -> bool
     byte < b' ' || byte == b'"' || byte == b'\\'
 }
 
-/// Puts what stands for a byte between quotes after what is written.
+/// Appends what stands for a byte between quotes to what is written.
 #[tactic(auto, unfolding(crate::specs::Strings::escape))]
 fn push_escape(out: &mut String, byte: u8) -> Result<(), AllocError>
     requires { byte < 128 }
@@ -58,10 +58,10 @@ fn push_escape(out: &mut String, byte: u8) -> Result<(), AllocError>
     match byte {
         b'"' => push(out, "\\\""),
         b'\\' => push(out, "\\\\"),
-        8 => push(out, "\\b"),
+        b'\x08' => push(out, "\\b"),
         b'\t' => push(out, "\\t"),
         b'\n' => push(out, "\\n"),
-        12 => push(out, "\\f"),
+        b'\x0c' => push(out, "\\f"),
         b'\r' => push(out, "\\r"),
         0..32 => {
             push(out, "\\u00")?;

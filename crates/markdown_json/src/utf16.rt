@@ -53,7 +53,7 @@ impl Counts {
     }
 }
 
-/// How many units a byte begins.
+/// How many UTF-16 units the character takes that begins with this byte, and 0 for a byte within one.
 fn units_at(byte: u8) -> usize
     ensures value { result ≡ Utf16.units_at byte }
     ensures bound { result ≤ 2 }
@@ -66,9 +66,10 @@ fn units_at(byte: u8) -> usize
     }
 }
 
-/// The points of a document in UTF-16 code units: how JavaScript counts columns and offsets.
+/// The points of a document in UTF-16 code units: how JavaScript counts columns and offsets. The columns
+/// of the points that are looked up have to count bytes.
 ///
-/// It takes 24 bytes for each byte of the document, and a look for each point. A point after the end
+/// It takes 24 bytes for each byte of the document, and one lookup for each point. A point after the end
 /// of the document has the offset of its end.
 ///
 /// In the document `é!`, whose first character takes two bytes and one unit, the point before the
@@ -80,7 +81,7 @@ pub struct Utf16Points {
 }
 
 impl Utf16Points {
-    /// The points of a document. Fails where memory runs out, and else never.
+    /// The points of a document. The only error is that memory ran out.
     pub fn new(alloc: Global, document: &[u8]) -> Result<Utf16Points, AllocError>
         ensures { IfOk result (λ points. AreCountsOf points.counts.items document.now) }
     {

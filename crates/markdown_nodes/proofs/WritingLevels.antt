@@ -1,7 +1,7 @@
 -- What a walk that writes a tree still owes: the rest of each level on its stack.
 use Rattle.std.proofs.Common.{◌≡◌, ℕ, List, [], ◌∷◌, ◌++◌, sym, ap, ◌∙◌, append-nil, append_assoc}
 use Rattle.markdown_nodes.specs.declared.mdast.Node.{Node}
-use Rattle.markdown_nodes.specs.Access.{label_of, nodes_in, position_of}
+use Rattle.markdown_nodes.specs.Access.{label_of, nodes_in, position_of, tree_of}
 use Rattle.markdown_nodes.specs.Tree.{Tree}
 use Rattle.markdown_nodes.specs.View.{view, views}
 use Rattle.markdown_nodes.specs.Written.{Notation, nodes_written, written}
@@ -19,6 +19,7 @@ pub record Writing (F : Type 0) : Type 0 where
   -- the nodes that a frame still has to write, and their parent
   pub rest_of : F → List Node
   pub parent_of : F → Node
+  -- how nodes are written
   pub by : Notation
 
 module _ {F : Type 0} (w : Writing F) where
@@ -38,10 +39,10 @@ module _ {F : Type 0} (w : Writing F) where
 
   -- the text of a node
   abbrev pub whole : Node → List ℕ
-  whole node = begin_of node ++ text_of [] (nodes_in node) ++ close_of node
+  whole node = written w.by (tree_of node)
 
   pub written-is : (node : Node) → written w.by (view node) ≡ whole node
-  written-is node = ap (λ (t : Tree). written w.by t) (view-is node)
+  written-is node = ap (written w.by) (view-is node)
 
   -- the nodes of a level, and the end of their parent
   abbrev pub level_text : List ℕ → List Node → Node → List ℕ
@@ -74,8 +75,8 @@ module _ {F : Type 0} (w : Writing F) where
       ∙ ap (λ (s : List ℕ). begin ++ s) (append-nil (inner ++ close_of node))
       ∙ sym (append_assoc begin inner (close_of node))
 
-  pub writes_down : (done lead written : List ℕ) (here rest inner : List Node) (parent first : Node) (frames after : List F) (top : F) (root : Node) → Writes done lead here parent frames root → here ≡ first ∷ rest → inner ≡ nodes_in first → after ≡ frames ++ top ∷ [] → w.rest_of top ≡ rest → w.parent_of top ≡ parent → written ≡ done ++ (lead ++ begin_of first) → Writes written [] inner first after root
-  writes_down done lead written here rest inner parent first frames after top root so_far is within pushed holds belongs added =
+  pub writes_down : (done lead text : List ℕ) (here rest inner : List Node) (parent first : Node) (frames after : List F) (top : F) (root : Node) → Writes done lead here parent frames root → here ≡ first ∷ rest → inner ≡ nodes_in first → after ≡ frames ++ top ∷ [] → w.rest_of top ≡ rest → w.parent_of top ≡ parent → text ≡ done ++ (lead ++ begin_of first) → Writes text [] inner first after root
+  writes_down done lead text here rest inner parent first frames after top root so_far is within pushed holds belongs added =
       let begun = done ++ (lead ++ begin_of first) in
       let below = text_of [] (nodes_in first) ++ close_of first in
       let stacked : frames_text after ≡ level_text w.by.comma rest parent ++ frames_text frames =
@@ -97,14 +98,14 @@ module _ {F : Type 0} (w : Writing F) where
       ∙ ap (λ (s : List ℕ). done ++ ((s ++ close_of parent) ++ frames_text frames)) (sym (ap (λ (l : List Node). text_of lead l) empty))
       ∙ so_far
 
-  pub writes_up : (done lead written : List ℕ) (here : List Node) (parent : Node) (frames after : List F) (top : F) (root : Node) → Writes done lead here parent frames root → here ≡ [] → frames ≡ after ++ top ∷ [] → written ≡ done ++ close_of parent → Writes written w.by.comma (w.rest_of top) (w.parent_of top) after root
-  writes_up done lead written here parent frames after top root so_far empty popped added =
+  pub writes_up : (done lead text : List ℕ) (here : List Node) (parent : Node) (frames after : List F) (top : F) (root : Node) → Writes done lead here parent frames root → here ≡ [] → frames ≡ after ++ top ∷ [] → text ≡ done ++ close_of parent → Writes text w.by.comma (w.rest_of top) (w.parent_of top) after root
+  writes_up done lead text here parent frames after top root so_far empty popped added =
       ap (λ (s : List ℕ). s ++ (frame_text top ++ frames_text after)) added
       ∙ ap (λ (s : List ℕ). (done ++ close_of parent) ++ s) (sym (ap (λ (fs : List F). frames_text fs) popped ∙ frames_text-snoc after top))
       ∙ closes done lead here parent frames root so_far empty
 
-  pub writes_all : (done lead written : List ℕ) (here : List Node) (parent : Node) (frames : List F) (root : Node) → Writes done lead here parent frames root → here ≡ [] → frames ≡ [] → written ≡ done ++ close_of parent → written ≡ whole root
-  writes_all done lead written here parent frames root so_far empty none added =
+  pub writes_all : (done lead text : List ℕ) (here : List Node) (parent : Node) (frames : List F) (root : Node) → Writes done lead here parent frames root → here ≡ [] → frames ≡ [] → text ≡ done ++ close_of parent → text ≡ whole root
+  writes_all done lead text here parent frames root so_far empty none added =
       added
       ∙ sym (append-nil (done ++ close_of parent))
       ∙ ap (λ (fs : List F). (done ++ close_of parent) ++ frames_text fs) (sym none)

@@ -74,13 +74,13 @@ abbrev pub plain_text : Trees → List ℕ
 plain_text nothing = []
 plain_text (node label children _ rest) = value_of label ++ plain_text children ++ plain_text rest
 
--- the value of a literal, the alternative text of a picture, and nothing for any other kind
+-- the value of a literal, the alternative text of an image, and nothing for any other kind
 abbrev pub label_text_of : Label → List ℕ
 label_text_of (image alt _ _) = alt
 label_text_of (image_reference alt _ _ _) = alt
 label_text_of label = value_of label
 
--- the values of the literals and the alternative texts of the pictures in tree order: how a label reads
+-- the values of the literals and the alternative texts of the images in tree order: how a label reads
 abbrev pub plain_label : Trees → List ℕ
 plain_label nothing = []
 plain_label (node label children _ rest) = label_text_of label ++ plain_label children ++ plain_label rest

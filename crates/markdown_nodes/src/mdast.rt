@@ -330,6 +330,8 @@ impl Node {
     ///
     /// It is that of a derived Debug, with each position as `Some(1:1-1:3 (0-2))`. The only error is
     /// that memory ran out.
+    ///
+    /// A text `a` without a position gives `Text { value: "a", position: None }`.
     pub fn to_debug_string(&self, alloc: Global) -> Result<String, AllocError>
         ensures { IfOk result (λ text. (escapes : ℕ → Bool) × (string_bytes text ≡ shown escapes (view self.now))) }
     {
@@ -344,14 +346,15 @@ impl Node {
 
     /// A copy of the node and of everything in it.
     ///
-    /// The copy equals the node. The only error is that memory ran out.
+    /// The copy equals the node: `node.clone(alloc)? == node`. The only error is that memory ran out.
     pub fn clone(&self, alloc: Global) -> Result<Node, AllocError>
         ensures { IfOk result (λ copy. view copy ≡ view self.now) }
     {
         copying::copy(self, alloc)
     }
 
-    /// Exchanges the children for the nodes of a level, where there are children.
+    /// Exchanges the children for the nodes of a level, where there are children, and says whether it
+    /// did.
     fn swap_children(&mut self, level: &mut Vec<Node>) -> bool
         ensures some { IsTrue result → Exchanged self.old level.old.items self.new level.new.items }
         ensures none { IsFalse result → (nodes_in self.old ≡ []) × (self.new ≡ self.old) × (level.new ≡ level.old) }
@@ -375,7 +378,8 @@ impl Node {
         }
     }
 
-    /// Frees a node without children. Texts, which most nodes are, do not wait for the rest.
+    /// Frees a node without children: a text, as most nodes are, here, and the other kinds by a function
+    /// that is not inlined.
     fn drop_childless(self)
         requires { nodes_in self ≡ [] }
     {
@@ -391,139 +395,36 @@ impl Node {
         requires { nodes_in self ≡ [] }
     {
         match self {
-            Node::Root(node) => {
-                let Root {
-                    children,
-                    position: _,
-                } = node;
-                children.destroy_empty();
-            }
-            Node::Blockquote(node) => {
-                let Blockquote {
-                    children,
-                    position: _,
-                } = node;
-                children.destroy_empty();
-            }
-            Node::FootnoteDefinition(node) => {
-                let FootnoteDefinition {
-                    children,
-                    position: _,
-                    identifier: _,
-                    label: _,
-                } = node;
-                children.destroy_empty();
-            }
-            Node::List(node) => {
-                let List {
-                    children,
-                    position: _,
-                    ordered: _,
-                    start: _,
-                    spread: _,
-                } = node;
-                children.destroy_empty();
-            }
+            Node::Root(Root { children, .. }) => children.destroy_empty(),
+            Node::Blockquote(Blockquote { children, .. }) => children.destroy_empty(),
+            Node::FootnoteDefinition(FootnoteDefinition { children, .. }) =>
+                children.destroy_empty(),
+            Node::List(List { children, .. }) => children.destroy_empty(),
             Node::Toml(_) => {}
             Node::Yaml(_) => {}
             Node::Break(_) => {}
             Node::InlineCode(_) => {}
             Node::InlineMath(_) => {}
-            Node::Delete(node) => {
-                let Delete {
-                    children,
-                    position: _,
-                } = node;
-                children.destroy_empty();
-            }
-            Node::Emphasis(node) => {
-                let Emphasis {
-                    children,
-                    position: _,
-                } = node;
-                children.destroy_empty();
-            }
+            Node::Delete(Delete { children, .. }) => children.destroy_empty(),
+            Node::Emphasis(Emphasis { children, .. }) => children.destroy_empty(),
             Node::FootnoteReference(_) => {}
             Node::Html(_) => {}
             Node::Image(_) => {}
             Node::ImageReference(_) => {}
-            Node::Link(node) => {
-                let Link {
-                    children,
-                    position: _,
-                    url: _,
-                    title: _,
-                } = node;
-                children.destroy_empty();
-            }
-            Node::LinkReference(node) => {
-                let LinkReference {
-                    children,
-                    position: _,
-                    reference_kind: _,
-                    identifier: _,
-                    label: _,
-                } = node;
-                children.destroy_empty();
-            }
-            Node::Strong(node) => {
-                let Strong {
-                    children,
-                    position: _,
-                } = node;
-                children.destroy_empty();
-            }
+            Node::Link(Link { children, .. }) => children.destroy_empty(),
+            Node::LinkReference(LinkReference { children, .. }) => children.destroy_empty(),
+            Node::Strong(Strong { children, .. }) => children.destroy_empty(),
             Node::Text(_) => {}
             Node::Code(_) => {}
             Node::Math(_) => {}
-            Node::Heading(node) => {
-                let Heading {
-                    children,
-                    position: _,
-                    depth: _,
-                } = node;
-                children.destroy_empty();
-            }
-            Node::Table(node) => {
-                let Table {
-                    children,
-                    position: _,
-                    align: _,
-                } = node;
-                children.destroy_empty();
-            }
+            Node::Heading(Heading { children, .. }) => children.destroy_empty(),
+            Node::Table(Table { children, .. }) => children.destroy_empty(),
             Node::ThematicBreak(_) => {}
-            Node::TableRow(node) => {
-                let TableRow {
-                    children,
-                    position: _,
-                } = node;
-                children.destroy_empty();
-            }
-            Node::TableCell(node) => {
-                let TableCell {
-                    children,
-                    position: _,
-                } = node;
-                children.destroy_empty();
-            }
-            Node::ListItem(node) => {
-                let ListItem {
-                    children,
-                    position: _,
-                    spread: _,
-                    checked: _,
-                } = node;
-                children.destroy_empty();
-            }
+            Node::TableRow(TableRow { children, .. }) => children.destroy_empty(),
+            Node::TableCell(TableCell { children, .. }) => children.destroy_empty(),
+            Node::ListItem(ListItem { children, .. }) => children.destroy_empty(),
             Node::Definition(_) => {}
-            Node::Paragraph(node) => {
-                let Paragraph {
-                    children,
-                    position: _,
-                } = node;
-                children.destroy_empty();
-            }
+            Node::Paragraph(Paragraph { children, .. }) => children.destroy_empty(),
         }
     }
 }
@@ -543,9 +444,9 @@ fn drop_leaves(nodes: &mut Vec<Node>)
     }
 }
 
-/// Frees a tree of any depth, in a loop and without memory: on the way down the nodes beside a node
-/// take the place of those in it, and it takes the place of the first of those. Leaves at the end of
-/// a list are freed where they stand.
+/// Frees a tree of any depth, in a loop, and asks for no memory. On the way down a node and its
+/// children change places: the nodes beside it become its children, and it waits in the place of its
+/// first child. Leaves at the end of a list are freed where they stand.
 impl Drop for Node {
     fn drop(self) {
         let mut node = self;
@@ -641,7 +542,8 @@ pub struct List {
     pub position: Option<Position>,
     /// Whether the list is ordered: its items are numbered.
     pub ordered: bool,
-    /// The number that an ordered list starts with, which is that of the first item that has one.
+    /// The number that an ordered list starts with, which is that of the first item that has one, and
+    /// `None` for an unordered list.
     pub start: Option<u32>,
     /// Whether a blank line is directly in the list: between items, or after the last one
     /// (mdast; which ones count is from markdown-rs). One directly after an item without content at
@@ -652,7 +554,7 @@ pub struct List {
 /// TOML frontmatter: metadata at the start of a document (mdast, the extension for frontmatter).
 ///
 /// The lines `+++`, `a = 1` and `+++` are frontmatter with the value `a = 1`.
-#[derive(PartialEq, Eq, Debug, Drop)]
+#[derive(Clone, PartialEq, Eq, Debug, Drop)]
 pub struct Toml {
     /// The value.
     pub value: String,
@@ -663,7 +565,7 @@ pub struct Toml {
 /// YAML frontmatter: metadata at the start of a document (mdast, the extension for frontmatter).
 ///
 /// The lines `---`, `a: b` and `---` are frontmatter with the value `a: b`.
-#[derive(PartialEq, Eq, Debug, Drop)]
+#[derive(Clone, PartialEq, Eq, Debug, Drop)]
 pub struct Yaml {
     /// The value.
     pub value: String,
@@ -674,7 +576,7 @@ pub struct Yaml {
 /// A hard line break (CommonMark, hard line breaks).
 ///
 /// A backslash at the end of a line gives one, and so do two spaces there.
-#[derive(PartialEq, Eq, Debug, Drop)]
+#[derive(Clone, PartialEq, Eq, Debug, Drop)]
 pub struct Break {
     /// The position in the document, or none for a generated node.
     pub position: Option<Position>,
@@ -683,7 +585,7 @@ pub struct Break {
 /// Inline code (CommonMark, code spans).
 ///
 /// `` `a` `` is inline code with the value `a`.
-#[derive(PartialEq, Eq, Debug, Drop)]
+#[derive(Clone, PartialEq, Eq, Debug, Drop)]
 pub struct InlineCode {
     /// The value.
     pub value: String,
@@ -694,7 +596,7 @@ pub struct InlineCode {
 /// Inline math (mdast, the extension for math).
 ///
 /// `$a$` is inline math with the value `a`.
-#[derive(PartialEq, Eq, Debug, Drop)]
+#[derive(Clone, PartialEq, Eq, Debug, Drop)]
 pub struct InlineMath {
     /// The value.
     pub value: String,
@@ -729,7 +631,7 @@ pub struct Emphasis {
 /// A reference to a footnote (GFM, footnotes).
 ///
 /// `[^a]` refers to the definition of the footnote `a`.
-#[derive(PartialEq, Eq, Debug, Drop)]
+#[derive(Clone, PartialEq, Eq, Debug, Drop)]
 pub struct FootnoteReference {
     /// The position in the document, or none for a generated node.
     pub position: Option<Position>,
@@ -743,7 +645,7 @@ pub struct FootnoteReference {
 /// HTML as it is written, block or inline (CommonMark, HTML blocks and raw HTML).
 ///
 /// `<a>` gives one with the value `<a>`; HTML is not parsed.
-#[derive(PartialEq, Eq, Debug, Drop)]
+#[derive(Clone, PartialEq, Eq, Debug, Drop)]
 pub struct Html {
     /// The value.
     pub value: String,
@@ -754,7 +656,7 @@ pub struct Html {
 /// An image with an inline URL (CommonMark, images).
 ///
 /// `![a](b "c")` is an image of the URL `b`, with the alternative text `a` and the title `c`.
-#[derive(PartialEq, Eq, Debug, Drop)]
+#[derive(Clone, PartialEq, Eq, Debug, Drop)]
 pub struct Image {
     /// The position in the document, or none for a generated node.
     pub position: Option<Position>,
@@ -769,7 +671,7 @@ pub struct Image {
 /// An image that refers to a definition (CommonMark, images).
 ///
 /// `![a][b]` refers to the definition `b`.
-#[derive(PartialEq, Eq, Debug, Drop)]
+#[derive(Clone, PartialEq, Eq, Debug, Drop)]
 pub struct ImageReference {
     /// The position in the document, or none for a generated node.
     pub position: Option<Position>,
@@ -834,7 +736,7 @@ pub struct Strong {
 /// Text (CommonMark, textual content).
 ///
 /// The line `a` gives the text `a`.
-#[derive(PartialEq, Eq, Debug, Drop)]
+#[derive(Clone, PartialEq, Eq, Debug, Drop)]
 pub struct Text {
     /// The value.
     pub value: String,
@@ -845,7 +747,7 @@ pub struct Text {
 /// A code block, fenced or indented (CommonMark, fenced code blocks and indented code blocks).
 ///
 /// A fence followed by `rust ignore` gives the language `rust` and the meta `ignore`.
-#[derive(PartialEq, Eq, Debug, Drop)]
+#[derive(Clone, PartialEq, Eq, Debug, Drop)]
 pub struct Code {
     /// The value.
     pub value: String,
@@ -860,7 +762,7 @@ pub struct Code {
 /// A block of math (mdast, the extension for math).
 ///
 /// The lines `$$`, `a` and `$$` are a block of math with the value `a`.
-#[derive(PartialEq, Eq, Debug, Drop)]
+#[derive(Clone, PartialEq, Eq, Debug, Drop)]
 pub struct Math {
     /// The value.
     pub value: String,
@@ -901,7 +803,7 @@ pub struct Table {
 /// A thematic break (CommonMark, thematic breaks).
 ///
 /// `***` alone on a line is one.
-#[derive(PartialEq, Eq, Debug, Drop)]
+#[derive(Clone, PartialEq, Eq, Debug, Drop)]
 pub struct ThematicBreak {
     /// The position in the document, or none for a generated node.
     pub position: Option<Position>,
@@ -952,7 +854,7 @@ pub struct ListItem {
 /// A definition that links and images refer to (CommonMark, link reference definitions).
 ///
 /// `[a]: b "c"` gives the label `a` the URL `b` and the title `c`.
-#[derive(PartialEq, Eq, Debug, Drop)]
+#[derive(Clone, PartialEq, Eq, Debug, Drop)]
 pub struct Definition {
     /// The position in the document, or none for a generated node.
     pub position: Option<Position>,

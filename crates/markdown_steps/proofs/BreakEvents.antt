@@ -1,5 +1,5 @@
 -- The last item before an event is a hard break where the last event of a significant span before it is the exit of one.
-use Rattle.std.proofs.Common.{◌≡◌, ◌++◌, ◌∷◌, [], Bool, List, false, refl, sym, ap, subst, true, ◌∙◌}
+use Rattle.std.proofs.Common.{◌≡◌, ◌++◌, ◌∷◌, [], Bool, List, false, refl, sym, ap, true, ◌∙◌}
 use Rattle.markdown_events.specs.Forest.{Forest, empty, events_of, span}
 use Rattle.markdown_events.specs.Names.{role_of}
 use Rattle.markdown_events.specs.declared.event.Event.{Event}
@@ -13,9 +13,9 @@ use Rattle.markdown_events.specs.declared.role.ItemKind.TheVariants.{Content as 
 use Rattle.markdown_events.specs.declared.role.Content.TheVariants as contents
 use Rattle.markdown_grammar.specs.Accepted.{ends_with_break}
 use Rattle.markdown_grammar.specs.Document.{Source}
-use Rattle.markdown_grammar.specs.Items.{Items, is_hard_break, is_line_ending, item, items, none, place_items, ◌then◌}
+use Rattle.markdown_grammar.specs.Items.{Items, is_hard_break, item, items, none, place_items, ◌then◌}
 use Rattle.markdown_grammar.specs.Reasons.{IsWrong, enters, exits, held, unmatched}
-use Rattle.markdown_grammar.specs.Spots.{Ancestor, Site, events_so_far, site_in, site_of}
+use Rattle.markdown_grammar.specs.Sites.{Ancestor, Site, events_so_far, site_in, site_of}
 use Rattle.markdown_grammar.specs.declared.error_kind.ErrorKind.TheVariants.{UnfinishedBreak}
 use Rattle.markdown_steps.proofs.Sayings.{enter_says, exit_says}
 use Rattle.markdown_steps.specs.Consequences.{FollowsBreak, ends_with_break_exit, exits_break, exits_break_last}
@@ -74,9 +74,9 @@ site-break f (e ∷ path) =
     ∙ ap (λ (z : Bool). break_last (items e.inside) (exits_break Enter (role_of e.name) z)) (site-break f path)
     ∙ by-role (role_of e.name) (items e.inside) (site_of f path)
   where
-    by-role : (role : Role) (xs : Items) (spot : Site) → break_last xs (exits_break Enter role (break_last spot.before false)) ≡ break_last (site_in role xs spot).before false
-    by-role (transparent k) xs spot = sym (break_last-then spot.before xs false)
-    by-role (significant what) xs spot = refl
+    by-role : (role : Role) (xs : Items) (site : Site) → break_last xs (exits_break Enter role (break_last site.before false)) ≡ break_last (site_in role xs site).before false
+    by-role (transparent k) xs site = sym (break_last-then site.before xs false)
+    by-role (significant what) xs site = refl
 
 break-before : (f : Forest) (path : List Ancestor) → ends_with_break (site_of f path).before ≡ true → ends_with_break_exit (events_so_far f path) ≡ true
 break-before f path h = site-break f path ∙ sym (ends-break (site_of f path).before) ∙ h

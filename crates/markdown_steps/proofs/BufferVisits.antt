@@ -41,7 +41,7 @@ use Rattle.markdown_grammar.specs.Refusals.{ErrorAt}
 use Rattle.markdown_steps.specs.Checks.{checked, passes, ◌>>=◌}
 use Rattle.markdown_steps.specs.Siblings.{Marks, marks_with, no_marks}
 use Rattle.markdown_grammar.specs.Document.{Source}
-use Rattle.markdown_grammar.specs.Spots.{inherited_after_all}
+use Rattle.markdown_grammar.specs.Sites.{inherited_after_all}
 use Rattle.markdown_steps.specs.Visits.{run_visits, visits_by_owner}
 use Rattle.markdown_events.specs.declared.around.Around.{Around}
 use Rattle.markdown_grammar.specs.declared.error_kind.ErrorKind.{ErrorKind}

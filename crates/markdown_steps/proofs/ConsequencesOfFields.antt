@@ -5,7 +5,7 @@ use Rattle.std.specs.Prelude.{is_some, nat_le, nat_lt, option_map, unwrap_or, if
 use Rattle.markdown_events.specs.Forest.{Forest}
 use Rattle.markdown_events.specs.Slices.{between}
 use Rattle.markdown_steps.specs.ChildFacts.{ChildFacts, child_facts_of}
-use Rattle.markdown_nodes.specs.Tree.{Label, Trees, only}
+use Rattle.markdown_nodes.specs.Tree.{Label, only}
 use Rattle.markdown_events.specs.declared.role.ItemKind.{ItemKind}
 use Rattle.markdown_events.specs.declared.unist.Position.{Position}
 use Rattle.markdown_steps.proofs.Allowed.{stood-is}

@@ -2,7 +2,7 @@
 use Rattle.std.proofs.Common.{◌≡◌, true, [], ◌++◌, Option, None, Some, refl}
 use Rattle.std.specs.Prelude.{codes}
 use Rattle.markdown_events.specs.Forest.{Forest}
-use Rattle.markdown_nodes.specs.Tree.{Trees, join, node, nothing}
+use Rattle.markdown_nodes.specs.Tree.{Trees, join, nothing}
 use Rattle.markdown_events.specs.declared.event.Point.{Point}
 use Rattle.markdown_events.specs.declared.role.ItemKind.{ItemKind}
 use Rattle.markdown_steps.proofs.Decorating.{span_at}

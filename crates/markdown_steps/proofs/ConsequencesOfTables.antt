@@ -7,7 +7,7 @@ use Rattle.markdown_events.specs.Names.{role_of}
 use Rattle.markdown_events.specs.Slices.{between}
 use Rattle.markdown_events.specs.Spread.{align, align_kind_of, begins_with, entries, first_row, last_first, is_delimiter_marker}
 use Rattle.markdown_steps.specs.ChildFacts.{child_facts_of}
-use Rattle.markdown_nodes.specs.Tree.{Label, Trees, only}
+use Rattle.markdown_nodes.specs.Tree.{Label, only}
 use Rattle.markdown_events.specs.declared.event.Point.{Point}
 use Rattle.markdown_events.specs.declared.infer.AlignKind.{AlignKind}
 use Rattle.markdown_events.specs.declared.role.ItemKind.{ItemKind}

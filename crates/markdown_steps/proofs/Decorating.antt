@@ -15,7 +15,6 @@ use Rattle.markdown_grammar.specs.Attributes.{decoded, mark, value}
 use Rattle.markdown_grammar.specs.Document.{text_read}
 use Rattle.markdown_grammar.specs.Items.{Items, item, none, same_part}
 use Rattle.markdown_grammar.specs.Items.{is_part, marker_of}
-use Rattle.markdown_grammar.specs.Nodes.{Media}
 use Rattle.markdown_steps.specs.SummaryNodes.{media_of, reference_kind_of}
 use Rattle.markdown_grammar.specs.Decorated.{node_at}
 use Rattle.markdown_grammar.specs.Nodes.{Span, decorate}

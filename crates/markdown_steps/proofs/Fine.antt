@@ -17,7 +17,7 @@ use Rattle.markdown_events.specs.declared.role.Role.TheVariants.{Significant as 
 use Rattle.markdown_steps.proofs.Allowed.{complete-is, lets-is}
 use Rattle.markdown_steps.proofs.Booleans.{and-both, and-left, and-right, not-both}
 use Rattle.markdown_steps.proofs.SummaryLaws.{inner_at}
-use Rattle.markdown_steps.proofs.Known.{AreOpen, Stands, kept_at_spot, outer_by, stands}
+use Rattle.markdown_steps.proofs.Known.{AreOpen, Stands, kept_at_site, outer_by, stands}
 use Rattle.markdown_steps.proofs.Outcomes.{bind_ok, checked_passes, done, one_ok}
 use Rattle.markdown_steps.proofs.Refused.{run-append}
 use Rattle.markdown_steps.proofs.RuleLists.{keeps-snoc}
@@ -33,7 +33,7 @@ use Rattle.markdown_grammar.specs.Reasons.{IsHeld, IsWrong, IsWrongAtEnter, IsWr
 use Rattle.markdown_steps.specs.Checks.{passes, ◌>>=◌}
 use Rattle.markdown_grammar.specs.Grammar.{Rule, keeps}
 use Rattle.markdown_grammar.specs.Document.{Source}
-use Rattle.markdown_grammar.specs.Spots.{Ancestor, Site, around_of, occurrence, site_in, site_of, events_so_far}
+use Rattle.markdown_grammar.specs.Sites.{Ancestor, Site, around_of, occurrence, site_in, site_of, events_so_far}
 use Rattle.markdown_grammar.specs.declared.error_kind.ErrorKind.{ErrorKind}
 use Rattle.markdown_grammar.specs.declared.error_kind.ErrorKind.TheVariants.{Held, InvalidSlice, Misplaced, Unbalanced}
 
@@ -53,28 +53,28 @@ rules-pass s h p xs (r ∷ rs) what cs taken pass =
     let rest = rules-pass s h p xs rs what cs (and-right (keeps r (kinds xs)) others taken) (and-right (allows r (inner_at s p xs) what) later pass) in
     (and-both (keeps r (kinds xs ++ what ∷ [])) (list_all (λ r'. keeps r' (kinds xs ++ what ∷ [])) rs) now rest.0, rest.1)
 
-enter-fine : (s : Source) (spot : Site) (what : ItemKind) (p : Point) (why : ErrorKind) → conforms spot.initial_model (kinds spot.before) ≡ true → passes (enter_checks s (kept_at_spot s spot) what p) ≡ true → IsWrongAtEnter s spot what p why → ⊥
-enter-fine s spot what p why taken pass wrong =
-    let x : Occurrence = beginning spot what p in
+enter-fine : (s : Source) (site : Site) (what : ItemKind) (p : Point) (why : ErrorKind) → conforms site.initial_model (kinds site.before) ≡ true → passes (enter_checks s (kept_at_site s site) what p) ≡ true → IsWrongAtEnter s site what p why → ⊥
+enter-fine s site what p why taken pass wrong =
+    let x : Occurrence = beginning site what p in
     let last : List (Bool × ErrorKind) = (is_no_inner_table x, Misplaced) ∷ (has_its_byte s x, InvalidSlice) ∷ [] in
-    let ruled : Bool = passes (rule_checks spot.initial_model (rules spot.initial_model) (inner_at s spot.place spot.before) what last) in
+    let ruled : Bool = passes (rule_checks site.initial_model (rules site.initial_model) (inner_at s site.place site.before) what last) in
     let a : ends_a_break x ≡ true = and-left (ends_a_break x) ruled pass in
-    let r = rules-pass s spot.initial_model spot.place spot.before (rules spot.initial_model) what last taken (and-right (ends_a_break x) ruled pass) in
+    let r = rules-pass s site.initial_model site.place site.before (rules site.initial_model) what last taken (and-right (ends_a_break x) ruled pass) in
     let t : is_no_inner_table x ≡ true = and-left (is_no_inner_table x) (has_its_byte s x && true) r.1 in
     let b : has_its_byte s x ≡ true = and-left (has_its_byte s x) true (and-right (is_no_inner_table x) (has_its_byte s x && true) r.1) in
     elim wrong [
       | after_a_break e w ↦ not-both a e
-      | against_a_rule e f ↦ not-both r.0 (breaks-takes spot.initial_model (rules spot.initial_model) (kinds spot.before ++ what ∷ []) why f)
+      | against_a_rule e f ↦ not-both r.0 (breaks-takes site.initial_model (rules site.initial_model) (kinds site.before ++ what ∷ []) why f)
       | table_in_a_table e k f w ↦ not-both t f
       | without_its_byte e k n f w ↦ not-both b f
     ]
 
-enter-as-fine : (s : Source) (role : Role) (n : Name) (p : Point) (st z : State) (spot : Site) (what : ItemKind) (why : ErrorKind) → st.top ≡ kept_at_spot s spot → conforms spot.initial_model (kinds spot.before) ≡ true
-    → enter_as s role n p st ≡ Ok z → role ≡ significant what → IsWrongAtEnter s spot what p why → ⊥
-enter-as-fine s role n p st z spot what why top taken h is wrong =
+enter-as-fine : (s : Source) (role : Role) (n : Name) (p : Point) (st z : State) (site : Site) (what : ItemKind) (why : ErrorKind) → st.top ≡ kept_at_site s site → conforms site.initial_model (kinds site.before) ≡ true
+    → enter_as s role n p st ≡ Ok z → role ≡ significant what → IsWrongAtEnter s site what p why → ⊥
+enter-as-fine s role n p st z site what why top taken h is wrong =
     let is_significant : enter_as s (significant what) n p st ≡ Ok z = ap (λ (r : Role). enter_as s r n p st) (sym is) ∙ h in
     let pass : passes (enter_checks s st.top what p) ≡ true = checked_passes (enter_checks s st.top what p) p (done (push n p st (Some (what, st.top)) (entered st.top what))) z is_significant in
-    enter-fine s spot what p why taken (ap (λ (t : ContainerState). passes (enter_checks s t what p)) (sym top) ∙ pass) wrong
+    enter-fine s site what p why taken (ap (λ (t : ContainerState). passes (enter_checks s t what p)) (sym top) ∙ pass) wrong
 
 held-bools : (h y x : Bool) → h ≡ true → ((not h && y) && x) ≡ false
 held-bools true y x e = refl
@@ -107,10 +107,10 @@ held-may-not role path (in_a_sealed_span e outer is h none_in) =
 
 -- ---- Exits
 
-exit-fine : (s : Source) (spot : Site) (what : ItemKind) (a p : Point) (inside : Items) (why : ErrorKind) → passes (exit_checks s (kept_at_spot s spot) what a p (kept_at_spot s (site_in (significant what) inside spot))) ≡ true
-    → IsWrongAtExit s (occurrence spot what a p inside) why → ⊥
-exit-fine s spot what a p inside why pass wrong =
-    let x : Occurrence = occurrence spot what a p inside in
+exit-fine : (s : Source) (site : Site) (what : ItemKind) (a p : Point) (inside : Items) (why : ErrorKind) → passes (exit_checks s (kept_at_site s site) what a p (kept_at_site s (site_in (significant what) inside site))) ≡ true
+    → IsWrongAtExit s (occurrence site what a p inside) why → ⊥
+exit-fine s site what a p inside why pass wrong =
+    let x : Occurrence = occurrence site what a p inside in
     let initial_model : ContentModel = model_of x.model what in
     let within : Place = inherited_in what x.place in
     let stood : Bool = all_stood initial_model (inner_at s within inside) in
@@ -124,15 +124,15 @@ exit-fine s spot what a p inside why pass wrong =
       | without_its_value c d e w ↦ not-both v e
     ]
 
-leave-fine : (s : Source) (role : Role) (spot : Site) (a p : Point) (c : ChildFacts) (own z : ContainerState) (inside : Items) (what : ItemKind) (why : ErrorKind) → own ≡ kept_at_spot s (site_in role inside spot)
-    → leave_to s a p c own (outer_by s role spot) ≡ Ok z → role ≡ significant what → IsWrongAtExit s (occurrence spot what a p inside) why → ⊥
+leave-fine : (s : Source) (role : Role) (site : Site) (a p : Point) (c : ChildFacts) (own z : ContainerState) (inside : Items) (what : ItemKind) (why : ErrorKind) → own ≡ kept_at_site s (site_in role inside site)
+    → leave_to s a p c own (outer_by s role site) ≡ Ok z → role ≡ significant what → IsWrongAtExit s (occurrence site what a p inside) why → ⊥
 unfolding leave
-leave-fine s role spot a p c own z inside what why top h is wrong =
-    let outer : ContainerState = kept_at_spot s spot in
-    let kept : own ≡ kept_at_spot s (site_in (significant what) inside spot) = top ∙ ap (λ (r : Role). kept_at_spot s (site_in r inside spot)) is in
-    let left : leave_to s a p c own (outer_by s (significant what) spot) ≡ Ok z = ap (λ (r : Role). leave_to s a p c own (outer_by s r spot)) (sym is) ∙ h in
+leave-fine s role site a p c own z inside what why top h is wrong =
+    let outer : ContainerState = kept_at_site s site in
+    let kept : own ≡ kept_at_site s (site_in (significant what) inside site) = top ∙ ap (λ (r : Role). kept_at_site s (site_in r inside site)) is in
+    let left : leave_to s a p c own (outer_by s (significant what) site) ≡ Ok z = ap (λ (r : Role). leave_to s a p c own (outer_by s r site)) (sym is) ∙ h in
     let pass : passes (exit_checks s outer what a p own) ≡ true = checked_passes (exit_checks s outer what a p own) p (done (with_child s outer what a p c own.inner)) z left in
-    exit-fine s spot what a p inside why (ap (λ (t : ContainerState). passes (exit_checks s outer what a p t)) (sym kept) ∙ pass) wrong
+    exit-fine s site what a p inside why (ap (λ (t : ContainerState). passes (exit_checks s outer what a p t)) (sym kept) ∙ pass) wrong
 
 -- an exit that is taken ends the innermost open span
 exit-closes : (s : Source) (n : Name) (p : Point) (st z : State) (fs : List OpenSpan) (forest : Forest) (path : List Ancestor) → AreOpen s fs forest path → exit_from s n p fs st ≡ Ok z → closes path n ≡ false → ⊥
@@ -144,7 +144,7 @@ exit-closes s n p st z [] forest (e ∷ path) open_spans h c = absurd open_spans
 exit-closes s n p st z (f ∷ fs) forest [] open_spans h c = absurd open_spans
 
 exit-open-fine : (s : Source) (n : Name) (p : Point) (st z : State) (fs : List OpenSpan) (forest : Forest) (e : Ancestor) (outer : List Ancestor) (what : ItemKind) (why : ErrorKind) → AreOpen s fs forest (e ∷ outer)
-    → st.top ≡ kept_at_spot s (site_of forest (e ∷ outer)) → exit_from s n p fs st ≡ Ok z → role_of e.name ≡ significant what → IsWrongAtExit s (occurrence (site_of forest outer) what e.start p (items e.inside)) why → ⊥
+    → st.top ≡ kept_at_site s (site_of forest (e ∷ outer)) → exit_from s n p fs st ≡ Ok z → role_of e.name ≡ significant what → IsWrongAtExit s (occurrence (site_of forest outer) what e.start p (items e.inside)) why → ⊥
 exit-open-fine s n p st z [] forest e outer what why open_spans top h is wrong = absurd open_spans
 exit-open-fine s n p st z (f ∷ fs) forest e outer what why open_spans top h is wrong =
     let c : ChildFacts = child_facts st.marks st.columns in

@@ -20,7 +20,7 @@ use Rattle.markdown_steps.specs.SummaryNodes.{node_of, nodes}
 use Rattle.markdown_steps.specs.Summaries.{Path, FoundPart, first_part, summary_of, into, itself}
 use Rattle.markdown_grammar.specs.Attributes.{Place, inherited_after, inherited_in}
 use Rattle.markdown_grammar.specs.Document.{Source}
-use Rattle.markdown_grammar.specs.Spots.{inherited_after_all}
+use Rattle.markdown_grammar.specs.Sites.{inherited_after_all}
 use Rattle.markdown_nodes.specs.Tree as tree
 use Rattle.markdown_events.specs.declared.role.Content.TheVariants as contents
 use Rattle.markdown_events.specs.declared.role.ItemKind.TheVariants.{Content as content, Part as part}

@@ -25,7 +25,7 @@ use Rattle.markdown_grammar.specs.Values.{is_read}
 use Rattle.markdown_steps.specs.Checks.{passes}
 use Rattle.markdown_grammar.specs.Grammar.{Rule}
 use Rattle.markdown_grammar.specs.Document.{Source}
-use Rattle.markdown_grammar.specs.Spots.{model_after_all, inherited_after_all}
+use Rattle.markdown_grammar.specs.Sites.{model_after_all, inherited_after_all}
 use Rattle.markdown_grammar.specs.declared.error_kind.ErrorKind.{ErrorKind}
 
 -- the steps over items, without what is refused by

@@ -22,18 +22,18 @@ use Rattle.markdown_grammar.specs.Grammar.{ContentModel, any_content}
 use Rattle.markdown_grammar.specs.Items.{Items, items, kinds, none, ◌then◌}
 use Rattle.markdown_grammar.specs.Attributes.{Place, inherited_at_root}
 use Rattle.markdown_grammar.specs.Document.{Source}
-use Rattle.markdown_grammar.specs.Spots.{Ancestor, Site, around_of, site_in, site_of, events_so_far}
+use Rattle.markdown_grammar.specs.Sites.{Ancestor, Site, around_of, site_in, site_of, events_so_far}
 use Rattle.markdown_events.specs.declared.around.Around.{Around}
 use Rattle.markdown_events.specs.declared.role.Role.TheVariants.{Transparent as transparent, Significant as significant}
 
--- what the container of a spot keeps
-abbrev pub kept_at_spot : Source → Site → ContainerState
-kept_at_spot s spot = container_state s spot.initial_model spot.place spot.before
+-- what the container of a site keeps
+abbrev pub kept_at_site : Source → Site → ContainerState
+kept_at_site s site = container_state s site.initial_model site.place site.before
 
--- what a span of a spot keeps of the container around it
+-- what a span of a site keeps of the container around it
 abbrev pub outer_by : Source → Role → Site → Option (ItemKind × ContainerState)
-outer_by s (transparent k) spot = None
-outer_by s (significant what) spot = Some (what, kept_at_spot s spot)
+outer_by s (transparent k) site = None
+outer_by s (significant what) site = Some (what, kept_at_site s site)
 
 -- the frames are those of the open spans
 abbrev pub AreOpen : Source → List OpenSpan → Forest → List Ancestor → Type 0
@@ -51,7 +51,7 @@ AreWellFormed (e ∷ path) = (is_well_formed_in (around_of (e ∷ path)) e.insid
 pub record Stands (s : Source) (forest : Forest) (path : List Ancestor) (st : State) : Type 0 where
   pub frames : AreOpen s st.frames forest path
   pub around : st.around ≡ around_of path
-  pub top : st.top ≡ kept_at_spot s (site_of forest path)
+  pub top : st.top ≡ kept_at_site s (site_of forest path)
   pub well_formed : AreWellFormed path
   pub taken : conforms (site_of forest path).initial_model (kinds (site_of forest path).before) ≡ true
 
@@ -69,16 +69,16 @@ stands-root s f st h =
       taken = r.1;
     }
 
-outer-known : (s : Source) (role : Role) (out : State) (spot : Site) → out.top ≡ kept_at_spot s spot → opened_by role out ≡ outer_by s role spot
-outer-known s (transparent k) out spot h = refl
-outer-known s (significant what) out spot h = ap (λ (x : ContainerState). Some (what, x)) h
+outer-known : (s : Source) (role : Role) (out : State) (site : Site) → out.top ≡ kept_at_site s site → opened_by role out ≡ outer_by s role site
+outer-known s (transparent k) out site h = refl
+outer-known s (significant what) out site h = ap (λ (x : ContainerState). Some (what, x)) h
 
-top-known : (s : Source) (role : Role) (out : State) (spot : Site) (top : ContainerState) (f : Forest) → out.top ≡ kept_at_spot s spot → conforms spot.initial_model (kinds spot.before) ≡ true
+top-known : (s : Source) (role : Role) (out : State) (site : Site) (top : ContainerState) (f : Forest) → out.top ≡ kept_at_site s site → conforms site.initial_model (kinds site.before) ≡ true
     → ((h : ContentModel) (p : Place) (xs : Items) → top_by role out ≡ container_state s h p xs → conforms h (kinds xs) ≡ true → (top ≡ container_state s h p (xs then items f)) × (conforms h (kinds (xs then items f)) ≡ true) × (is_well_formed_in (under out.around role) f ≡ true))
-    → (top ≡ kept_at_spot s (site_in role (items f) spot)) × (conforms (site_in role (items f) spot).initial_model (kinds (site_in role (items f) spot).before) ≡ true) × (is_well_formed_in (under out.around role) f ≡ true)
-top-known s (transparent k) out spot top f h t g = g spot.initial_model spot.place spot.before h t
-top-known s (significant what) out spot top f h t g =
-    let inside : Site = site_in (significant what) none spot in
+    → (top ≡ kept_at_site s (site_in role (items f) site)) × (conforms (site_in role (items f) site).initial_model (kinds (site_in role (items f) site).before) ≡ true) × (is_well_formed_in (under out.around role) f ≡ true)
+top-known s (transparent k) out site top f h t g = g site.initial_model site.place site.before h t
+top-known s (significant what) out site top f h t g =
+    let inside : Site = site_in (significant what) none site in
     g inside.initial_model inside.place none (ap (λ (x : ContainerState). entered x what) h ∙ fresh-is s inside.initial_model inside.place) (takes-none inside.initial_model)
 
 -- where a run over their events ends
@@ -89,10 +89,10 @@ stands s f (e ∷ path) st h =
     let i = in-span s (events_so_far f path) e.name e.start e.inside st h in
     let out : State = i.outer in
     let k : Stands s f path out = stands s f path out i.ran_before in
-    let spot : Site = site_of f path in
-    let r = top-known s role out spot st.top e.inside k.top k.taken (λ h' p xs g taken. i.top h' p xs g taken) in
+    let site : Site = site_of f path in
+    let r = top-known s role out site st.top e.inside k.top k.taken (λ h' p xs g taken. i.top h' p xs g taken) in
     record {
-      frames = subst (λ (x : List OpenSpan). AreOpen s x f (e ∷ path)) (sym i.frames) (refl, refl, outer-known s role out spot k.top, k.frames);
+      frames = subst (λ (x : List OpenSpan). AreOpen s x f (e ∷ path)) (sym i.frames) (refl, refl, outer-known s role out site k.top, k.frames);
       around = i.around ∙ ap (λ (x : Around). under x role) k.around;
       top = r.0;
       well_formed = (ap (λ (x : Around). is_well_formed_in (under x role) e.inside) (sym k.around) ∙ r.2, k.well_formed);

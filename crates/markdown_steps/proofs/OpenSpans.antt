@@ -25,7 +25,7 @@ use Rattle.markdown_grammar.specs.Accepted.{ends_with_break}
 use Rattle.markdown_steps.specs.OneTest.{fits}
 use Rattle.markdown_grammar.specs.Grammar.{conforms}
 use Rattle.markdown_grammar.specs.Items.{Items, items, kinds, ◌then◌}
-use Rattle.markdown_grammar.specs.Spots.{model_after_all, inherited_after_all}
+use Rattle.markdown_grammar.specs.Sites.{model_after_all, inherited_after_all}
 use Rattle.markdown_steps.proofs.Booleans.{and-both, and-left}
 use Rattle.markdown_grammar.specs.Attributes.{Place}
 use Rattle.markdown_grammar.specs.Refusals.{ErrorAt}

@@ -14,7 +14,7 @@ use Rattle.markdown_events.specs.declared.role.Role.{Role}
 use Rattle.markdown_steps.proofs.Allowed.{complete-is}
 use Rattle.markdown_steps.proofs.Booleans.{and-both, and-left, and-right}
 use Rattle.markdown_steps.proofs.SummaryLaws.{inner_at}
-use Rattle.markdown_steps.proofs.Known.{AreOpen, AreWellFormed, Stands, kept_at_spot, known, outer_by}
+use Rattle.markdown_steps.proofs.Known.{AreOpen, AreWellFormed, Stands, kept_at_site, known, outer_by}
 use Rattle.markdown_steps.proofs.OpenSpans.{FailsFirst, checked_why, no_err}
 use Rattle.markdown_steps.proofs.Outcomes.{done, err_is, same_name_is}
 use Rattle.markdown_steps.proofs.Refused.{none-begins, step_point, stopped, stops-last}
@@ -29,12 +29,12 @@ use Rattle.markdown_grammar.specs.Grammar.{has_required, rules, conforms}
 use Rattle.markdown_grammar.specs.Grammar.{ContentModel, model_of}
 use Rattle.markdown_grammar.specs.Items.{Items, items, kinds}
 use Rattle.markdown_grammar.specs.Attributes.{Place, inherited_in}
-use Rattle.markdown_grammar.specs.Reasons.{BreaksFirst, EndsOpen, IsHeld, IsWrong, IsWrongAtEnter, IsWrongAtExit, NothingIsWrong, StopsAtFirstError, against_a_rule, beginning, after_a_break, break_is_last, enters, exits, held, in_a_sealed_span, row_in_a_row, table_in_a_table, unmatched, value_in_a_value, without_its_byte, without_its_parts, without_its_value}
+use Rattle.markdown_grammar.specs.Reasons.{ViolatesFirst, EndsOpen, IsHeld, IsWrong, IsWrongAtEnter, IsWrongAtExit, NothingIsWrong, StopsAtFirstError, against_a_rule, beginning, after_a_break, break_is_last, enters, exits, held, in_a_sealed_span, row_in_a_row, table_in_a_table, unmatched, value_in_a_value, without_its_byte, without_its_parts, without_its_value}
 use Rattle.markdown_grammar.specs.Refusals.{ErrorAt}
 use Rattle.markdown_steps.specs.Checks.{checked, refused, ◌>>=◌}
 use Rattle.markdown_grammar.specs.Grammar.{Rule, keeps}
 use Rattle.markdown_grammar.specs.Document.{Source}
-use Rattle.markdown_grammar.specs.Spots.{Ancestor, Site, around_of, model_after_all, occurrence, inherited_after_all, site_in, site_of}
+use Rattle.markdown_grammar.specs.Sites.{Ancestor, Site, around_of, model_after_all, occurrence, inherited_after_all, site_in, site_of}
 use Rattle.markdown_events.specs.declared.around.Around.{Around}
 use Rattle.markdown_grammar.specs.declared.error_kind.ErrorKind.{ErrorKind}
 use Rattle.markdown_events.specs.declared.event.Kind.TheVariants.{Enter, Exit}
@@ -44,7 +44,7 @@ use Rattle.markdown_grammar.specs.declared.error_kind.ErrorKind.TheVariants.{Hel
 -- ---- Enters
 
 rules-fail : (s : Source) (h : ContentModel) (p : Place) (xs : Items) (rs : List Rule) (what : ItemKind) (cs : List (Bool × ErrorKind)) (why : ErrorKind) → list_all (λ r. keeps r (kinds xs)) rs ≡ true
-    → FailsFirst (rule_checks h rs (inner_at s p xs) what cs) why → BreaksFirst h rs (kinds xs ++ what ∷ []) why ⊎ ((list_all (λ r. keeps r (kinds xs ++ what ∷ [])) rs ≡ true) × FailsFirst cs why)
+    → FailsFirst (rule_checks h rs (inner_at s p xs) what cs) why → ViolatesFirst h rs (kinds xs ++ what ∷ []) why ⊎ ((list_all (λ r. keeps r (kinds xs ++ what ∷ [])) rs ≡ true) × FailsFirst cs why)
 unfolding FailsFirst
 rules-fail s h p xs [] what cs why taken f = inr (refl, f)
 rules-fail s h p xs (r ∷ rs) what cs why taken (inl f) =
@@ -56,12 +56,12 @@ rules-fail s h p xs (r ∷ rs) what cs why taken (inr f) =
       | inr g ↦ inr (and-both (keeps r (kinds xs ++ what ∷ [])) (list_all (λ r'. keeps r' (kinds xs ++ what ∷ [])) rs) now g.0, g.1)
     ]
 
-enter-wrong : (s : Source) (spot : Site) (what : ItemKind) (p : Point) (why : ErrorKind) → conforms spot.initial_model (kinds spot.before) ≡ true → FailsFirst (enter_checks s (kept_at_spot s spot) what p) why → IsWrongAtEnter s spot what p why
+enter-wrong : (s : Source) (site : Site) (what : ItemKind) (p : Point) (why : ErrorKind) → conforms site.initial_model (kinds site.before) ≡ true → FailsFirst (enter_checks s (kept_at_site s site) what p) why → IsWrongAtEnter s site what p why
 unfolding FailsFirst
-enter-wrong s spot what p why taken (inl f) = after_a_break f.0 (sym f.1)
-enter-wrong s spot what p why taken (inr f) =
-    let x : Occurrence = beginning spot what p in
-    elim (rules-fail s spot.initial_model spot.place spot.before (rules spot.initial_model) what ((is_no_inner_table x, Misplaced) ∷ (has_its_byte s x, InvalidSlice) ∷ []) why taken f.1) [
+enter-wrong s site what p why taken (inl f) = after_a_break f.0 (sym f.1)
+enter-wrong s site what p why taken (inr f) =
+    let x : Occurrence = beginning site what p in
+    elim (rules-fail s site.initial_model site.place site.before (rules site.initial_model) what ((is_no_inner_table x, Misplaced) ∷ (has_its_byte s x, InvalidSlice) ∷ []) why taken f.1) [
       | inl b ↦ against_a_rule f.0 b
       | inr (k, inl g) ↦ table_in_a_table f.0 k g.0 (sym g.1)
       | inr (k, inr (n, inl g)) ↦ without_its_byte f.0 k n g.0 (sym g.1)
@@ -69,14 +69,14 @@ enter-wrong s spot what p why taken (inr f) =
     ]
 
 -- the reason of an enter that is refused
-enter-as-wrong : (s : Source) (role : Role) (n : Name) (p : Point) (st : State) (m : ErrorAt) (spot : Site) → st.top ≡ kept_at_spot s spot → conforms spot.initial_model (kinds spot.before) ≡ true → enter_as s role n p st ≡ Err m
-    → (what : ItemKind) × (role ≡ significant what) × IsWrongAtEnter s spot what p m.error_kind
-enter-as-wrong s (transparent k) n p st m spot top taken h = absurd (no_err (push n p st None st.top) m h)
-enter-as-wrong s (significant what) n p st m spot top taken h =
+enter-as-wrong : (s : Source) (role : Role) (n : Name) (p : Point) (st : State) (m : ErrorAt) (site : Site) → st.top ≡ kept_at_site s site → conforms site.initial_model (kinds site.before) ≡ true → enter_as s role n p st ≡ Err m
+    → (what : ItemKind) × (role ≡ significant what) × IsWrongAtEnter s site what p m.error_kind
+enter-as-wrong s (transparent k) n p st m site top taken h = absurd (no_err (push n p st None st.top) m h)
+enter-as-wrong s (significant what) n p st m site top taken h =
     let out : State = push n p st (Some (what, st.top)) (entered st.top what) in
     elim (checked_why (enter_checks s st.top what p) p (done out) m h) [
       | inl e ↦ absurd (no_err out m e.1)
-      | inr f ↦ (what, refl, enter-wrong s spot what p m.error_kind taken (subst (λ (x : ContainerState). FailsFirst (enter_checks s x what p) m.error_kind) top f))
+      | inr f ↦ (what, refl, enter-wrong s site what p m.error_kind taken (subst (λ (x : ContainerState). FailsFirst (enter_checks s x what p) m.error_kind) top f))
     ]
 
 begin-bools : (h r d v c : Bool) → ((not h && not (r && d)) && not (v && c)) ≡ false → (h ≡ true) ⊎ (((r ≡ true) × (d ≡ true)) ⊎ ((v ≡ true) × (c ≡ true)))
@@ -124,29 +124,29 @@ enter-reason s n p st m forest path k h =
 
 -- ---- Exits
 
--- what must stand in a span of a spot
-whole-is : (s : Source) (spot : Site) (what : ItemKind) (inside : Items) → all_stood (model_of (model_after_all spot.before spot.initial_model) what) (inner_at s (inherited_in what (inherited_after_all spot.before spot.place)) inside)
-    ≡ has_required s (model_of (model_after_all spot.before spot.initial_model) what) inside
-whole-is s spot what inside = complete-is (model_of (model_after_all spot.before spot.initial_model) what) s (inherited_in what (inherited_after_all spot.before spot.place)) inside
+-- what must stand in a span of a site
+whole-is : (s : Source) (site : Site) (what : ItemKind) (inside : Items) → all_stood (model_of (model_after_all site.before site.initial_model) what) (inner_at s (inherited_in what (inherited_after_all site.before site.place)) inside)
+    ≡ has_required s (model_of (model_after_all site.before site.initial_model) what) inside
+whole-is s site what inside = complete-is (model_of (model_after_all site.before site.initial_model) what) s (inherited_in what (inherited_after_all site.before site.place)) inside
 
-exit-wrong : (s : Source) (spot : Site) (what : ItemKind) (a p : Point) (inside : Items) (why : ErrorKind) → FailsFirst (exit_checks s (kept_at_spot s spot) what a p (kept_at_spot s (site_in (significant what) inside spot))) why
-    → IsWrongAtExit s (occurrence spot what a p inside) why
+exit-wrong : (s : Source) (site : Site) (what : ItemKind) (a p : Point) (inside : Items) (why : ErrorKind) → FailsFirst (exit_checks s (kept_at_site s site) what a p (kept_at_site s (site_in (significant what) inside site))) why
+    → IsWrongAtExit s (occurrence site what a p inside) why
 unfolding FailsFirst
-exit-wrong s spot what a p inside why (inl f) = break_is_last f.0 (sym f.1)
-exit-wrong s spot what a p inside why (inr (b, inl f)) = without_its_parts b (sym (whole-is s spot what inside) ∙ f.0) (sym f.1)
-exit-wrong s spot what a p inside why (inr (b, inr (c, inl f))) = without_its_value b (sym (whole-is s spot what inside) ∙ c) f.0 (sym f.1)
-exit-wrong s spot what a p inside why (inr (b, inr (c, inr f))) = absurd f.1
+exit-wrong s site what a p inside why (inl f) = break_is_last f.0 (sym f.1)
+exit-wrong s site what a p inside why (inr (b, inl f)) = without_its_parts b (sym (whole-is s site what inside) ∙ f.0) (sym f.1)
+exit-wrong s site what a p inside why (inr (b, inr (c, inl f))) = without_its_value b (sym (whole-is s site what inside) ∙ c) f.0 (sym f.1)
+exit-wrong s site what a p inside why (inr (b, inr (c, inr f))) = absurd f.1
 
-leave-wrong : (s : Source) (role : Role) (spot : Site) (a p : Point) (c : ChildFacts) (own : ContainerState) (inside : Items) (m : ErrorAt) → own ≡ kept_at_spot s (site_in role inside spot) → leave_to s a p c own (outer_by s role spot) ≡ Err m
-    → (what : ItemKind) × (role ≡ significant what) × IsWrongAtExit s (occurrence spot what a p inside) m.error_kind
+leave-wrong : (s : Source) (role : Role) (site : Site) (a p : Point) (c : ChildFacts) (own : ContainerState) (inside : Items) (m : ErrorAt) → own ≡ kept_at_site s (site_in role inside site) → leave_to s a p c own (outer_by s role site) ≡ Err m
+    → (what : ItemKind) × (role ≡ significant what) × IsWrongAtExit s (occurrence site what a p inside) m.error_kind
 unfolding leave
-leave-wrong s (transparent k) spot a p c own inside m top h = absurd (no_err own m h)
-leave-wrong s (significant what) spot a p c own inside m top h =
-    let outer : ContainerState = kept_at_spot s spot in
+leave-wrong s (transparent k) site a p c own inside m top h = absurd (no_err own m h)
+leave-wrong s (significant what) site a p c own inside m top h =
+    let outer : ContainerState = kept_at_site s site in
     let made : ContainerState = with_child s outer what a p c own.inner in
     elim (checked_why (exit_checks s outer what a p own) p (done made) m h) [
       | inl e ↦ absurd (no_err made m e.1)
-      | inr f ↦ (what, refl, exit-wrong s spot what a p inside m.error_kind (subst (λ (x : ContainerState). FailsFirst (exit_checks s outer what a p x) m.error_kind) top f))
+      | inr f ↦ (what, refl, exit-wrong s site what a p inside m.error_kind (subst (λ (x : ContainerState). FailsFirst (exit_checks s outer what a p x) m.error_kind) top f))
     ]
 
 bind_err : {A B : Type 0} (r : Result A ErrorAt) (f : A → B) (m : ErrorAt) → (r >>= λ x. done (f x)) ≡ Err m → r ≡ Err m
@@ -159,7 +159,7 @@ unless-same false x p m h = inl (refl, ap (λ (k : ErrorAt). k.error_kind) (sym 
 
 -- the innermost open span and its exit
 exit-open : (s : Source) (n : Name) (p : Point) (st : State) (m : ErrorAt) (f : OpenSpan) (fs : List OpenSpan) (forest : Forest) (e : Ancestor) (outer : List Ancestor)
-    → AreOpen s (f ∷ fs) forest (e ∷ outer) → st.top ≡ kept_at_spot s (site_of forest (e ∷ outer)) → exit_from s n p (f ∷ fs) st ≡ Err m → IsWrong s forest (e ∷ outer) (record { kind = Exit; name = n; point = p }) m.error_kind
+    → AreOpen s (f ∷ fs) forest (e ∷ outer) → st.top ≡ kept_at_site s (site_of forest (e ∷ outer)) → exit_from s n p (f ∷ fs) st ≡ Err m → IsWrong s forest (e ∷ outer) (record { kind = Exit; name = n; point = p }) m.error_kind
 exit-open s n p st m f fs forest e outer open_spans top h =
     let out = leave_to s f.start p (child_facts st.marks st.columns) st.top f.outer in
     let name : is_same_name e.name n ≡ is_same_name f.name n = ap (λ (k : Name). is_same_name k n) (sym open_spans.0) in
@@ -173,7 +173,7 @@ exit-open s n p st m f fs forest e outer open_spans top h =
     ]
 
 exit-by : (s : Source) (n : Name) (p : Point) (st : State) (m : ErrorAt) (fs : List OpenSpan) (forest : Forest) (path : List Ancestor)
-    → AreOpen s fs forest path → st.top ≡ kept_at_spot s (site_of forest path) → exit_from s n p fs st ≡ Err m → IsWrong s forest path (record { kind = Exit; name = n; point = p }) m.error_kind
+    → AreOpen s fs forest path → st.top ≡ kept_at_site s (site_of forest path) → exit_from s n p fs st ≡ Err m → IsWrong s forest path (record { kind = Exit; name = n; point = p }) m.error_kind
 exit-by s n p st m [] forest [] open_spans top h = unmatched refl refl (ap (λ (k : ErrorAt). k.error_kind) (sym (err_is {A = State} (record { error_kind = Unbalanced; point = p }) m h)))
 exit-by s n p st m (f ∷ fs) forest (e ∷ outer) open_spans top h = exit-open s n p st m f fs forest e outer open_spans top h
 exit-by s n p st m [] forest (e ∷ outer) open_spans top h = absurd open_spans
@@ -193,7 +193,7 @@ last-wrong false b p t m h = inl (refl, ap (λ (k : ErrorAt). k.error_kind) (sym
 last-wrong true true p t m h = inr (refl, refl, ap (λ (k : ErrorAt). k.error_kind) (sym (err_is {A = Tree} (record { error_kind = UnfinishedBreak; point = p }) m h)))
 last-wrong true false p t m h = absurd cc
 
-ends-by : (s : Source) (fs : List OpenSpan) (forest : Forest) (path : List Ancestor) (top : ContainerState) (why : ErrorKind) → AreOpen s fs forest path → top ≡ kept_at_spot s (site_of forest path)
+ends-by : (s : Source) (fs : List OpenSpan) (forest : Forest) (path : List Ancestor) (top : ContainerState) (why : ErrorKind) → AreOpen s fs forest path → top ≡ kept_at_site s (site_of forest path)
     → ((no_open_span fs ≡ false) × (why ≡ Unbalanced)) ⊎ ((no_open_span fs ≡ true) × (top.after_break ≡ true) × (why ≡ UnfinishedBreak))
     → ((path ≢ []) × (why ≡ Unbalanced)) ⊎ ((path ≡ []) × (ends_with_break (items forest) ≡ true) × (why ≡ UnfinishedBreak))
 ends-by s [] forest [] top why open_spans is (inl w) = absurd cc

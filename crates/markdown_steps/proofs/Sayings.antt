@@ -20,11 +20,11 @@ use Rattle.markdown_grammar.specs.Document.{is_depth, is_item_number}
 use Rattle.markdown_grammar.specs.Attributes.{Place}
 use Rattle.markdown_grammar.specs.Document.{byte_at, length_between}
 use Rattle.markdown_grammar.specs.Values.{is_read}
-use Rattle.markdown_grammar.specs.Reasons.{BreaksFirst, IsWrongAtEnter, IsWrongAtExit, against_a_rule, after_a_break, break_is_last, table_in_a_table, without_its_byte, without_its_parts, without_its_value}
+use Rattle.markdown_grammar.specs.Reasons.{ViolatesFirst, IsWrongAtEnter, IsWrongAtExit, against_a_rule, after_a_break, break_is_last, table_in_a_table, without_its_byte, without_its_parts, without_its_value}
 use Rattle.markdown_steps.specs.Consequences.{EnterSays, ExitSays}
 use Rattle.markdown_grammar.specs.Grammar.{Rule, any_item, keeps, none_of, at_most_one, only, only_before, only_after}
 use Rattle.markdown_grammar.specs.Document.{Source}
-use Rattle.markdown_grammar.specs.Spots.{Site}
+use Rattle.markdown_grammar.specs.Sites.{Site}
 use Rattle.markdown_grammar.specs.declared.error_kind.ErrorKind.{ErrorKind}
 use Rattle.markdown_events.specs.declared.role.ItemKind.TheVariants.{Content as content, Part as part}
 use Rattle.markdown_events.specs.declared.role.Content.TheVariants as contents
@@ -126,7 +126,7 @@ exit_says s x why (without_its_value b k e w) = subst (λ (r : ErrorKind). ExitS
 -- ---- Enters
 
 -- a rule that is broken is one of the content model's
-pub breaks-takes : (h : ContentModel) (rs : List Rule) (xs : List ItemKind) (why : ErrorKind) → BreaksFirst h rs xs why → list_all (λ r. keeps r xs) rs ≡ false
+pub breaks-takes : (h : ContentModel) (rs : List Rule) (xs : List ItemKind) (why : ErrorKind) → ViolatesFirst h rs xs why → list_all (λ r. keeps r xs) rs ≡ false
 breaks-takes h [] xs why b = absurd b
 breaks-takes h (r ∷ rs) xs why (inl b) = ap (λ k. k && list_all (λ r'. keeps r' xs) rs) b.0
 breaks-takes h (r ∷ rs) xs why (inr b) = (λ t. b.0 t && breaks-takes h rs xs why b.1 t)
@@ -145,13 +145,13 @@ rule-says h (only_before ps test) = misplaced refl
 rule-says h (only_after ps test) = misplaced refl
 rule-says h (only test) = misplaced refl
 
-breaks-say : (h : ContentModel) (rs : List Rule) (xs : List ItemKind) (why : ErrorKind) → BreaksFirst h rs xs why → OfRules h why
+breaks-say : (h : ContentModel) (rs : List Rule) (xs : List ItemKind) (why : ErrorKind) → ViolatesFirst h rs xs why → OfRules h why
 breaks-say h [] xs why b = absurd b
 breaks-say h (r ∷ rs) xs why (inl b) = subst (λ (w : ErrorKind). OfRules h w) (sym b.1) (rule-says h r)
 breaks-say h (r ∷ rs) xs why (inr b) = breaks-say h rs xs why b.1
 
 -- one more item of a reference, which its marker rule alone refuses, is a value
-value-alone : (xs : List ItemKind) (what : ItemKind) → conforms character_reference xs ≡ true → BreaksFirst character_reference (rules character_reference) (xs ++ what ∷ []) IncompleteReference → what ≡ part parts.CharacterReferenceValue
+value-alone : (xs : List ItemKind) (what : ItemKind) → conforms character_reference xs ≡ true → ViolatesFirst character_reference (rules character_reference) (xs ++ what ∷ []) IncompleteReference → what ≡ part parts.CharacterReferenceValue
 value-alone xs what taken (inl b) = absurd (let z : IncompleteReference ≡ Repeated = b.1 in cc)
 value-alone xs what taken (inr (k, inl b)) = absurd (let z : IncompleteReference ≡ Misplaced = b.1 in cc)
 value-alone xs what taken (inr (k, inr (l, inl b))) = absurd (let z : IncompleteReference ≡ Misplaced = b.1 in cc)
@@ -176,13 +176,13 @@ value-alone xs what taken (inr (k, inr (l, inr (m, inl b)))) =
     fourth-of a b c d h = and-left d true (and-right c (d && true) (and-right b (c && (d && true)) (and-right a (b && (c && (d && true))) h)))
 value-alone xs what taken (inr (k, inr (l, inr (m, inr b)))) = absurd b.1
 
-breaks-enter : (s : Source) (spot : Site) (what : ItemKind) (a : Point) (why : ErrorKind) → conforms spot.initial_model (kinds spot.before) ≡ true → BreaksFirst spot.initial_model (rules spot.initial_model) (kinds spot.before ++ what ∷ []) why → OfRules spot.initial_model why → EnterSays s spot what a why
-breaks-enter s spot what a why taken b (repeated w) = subst (λ (r : ErrorKind). EnterSays s spot what a r) (sym w) (breaks-takes spot.initial_model (rules spot.initial_model) (kinds spot.before ++ what ∷ []) why b)
-breaks-enter s spot what a why taken b (misplaced w) = subst (λ (r : ErrorKind). EnterSays s spot what a r) (sym w) (inl (breaks-takes spot.initial_model (rules spot.initial_model) (kinds spot.before ++ what ∷ []) why b))
-breaks-enter s spot what a why taken b (incomplete w h) =
-    subst (λ (r : ErrorKind). EnterSays s spot what a r) (sym w)
-    (value-alone (kinds spot.before) what (ap (λ (r : ContentModel). conforms r (kinds spot.before)) (sym h) ∙ taken)
-    (subst (λ (r : ErrorKind). BreaksFirst character_reference (rules character_reference) (kinds spot.before ++ what ∷ []) r) w (subst (λ (r : ContentModel). BreaksFirst r (rules r) (kinds spot.before ++ what ∷ []) why) h b)))
+breaks-enter : (s : Source) (site : Site) (what : ItemKind) (a : Point) (why : ErrorKind) → conforms site.initial_model (kinds site.before) ≡ true → ViolatesFirst site.initial_model (rules site.initial_model) (kinds site.before ++ what ∷ []) why → OfRules site.initial_model why → EnterSays s site what a why
+breaks-enter s site what a why taken b (repeated w) = subst (λ (r : ErrorKind). EnterSays s site what a r) (sym w) (breaks-takes site.initial_model (rules site.initial_model) (kinds site.before ++ what ∷ []) why b)
+breaks-enter s site what a why taken b (misplaced w) = subst (λ (r : ErrorKind). EnterSays s site what a r) (sym w) (inl (breaks-takes site.initial_model (rules site.initial_model) (kinds site.before ++ what ∷ []) why b))
+breaks-enter s site what a why taken b (incomplete w h) =
+    subst (λ (r : ErrorKind). EnterSays s site what a r) (sym w)
+    (value-alone (kinds site.before) what (ap (λ (r : ContentModel). conforms r (kinds site.before)) (sym h) ∙ taken)
+    (subst (λ (r : ErrorKind). ViolatesFirst character_reference (rules character_reference) (kinds site.before ++ what ∷ []) r) w (subst (λ (r : ContentModel). ViolatesFirst r (rules r) (kinds site.before ++ what ∷ []) why) h b)))
 
 break-bools : (w l : Bool) → (not w || l) ≡ false → (w ≡ true) × (l ≡ false)
 break-bools true l h = (refl, h)
@@ -194,8 +194,8 @@ byte-says s (content c) a h = absurd cc
 byte-says s (part q) a h = absurd cc
 
 -- what is wrong at an enter is what the refusal says
-pub enter_says : (s : Source) (spot : Site) (what : ItemKind) (a : Point) (why : ErrorKind) → conforms spot.initial_model (kinds spot.before) ≡ true → IsWrongAtEnter s spot what a why → EnterSays s spot what a why
-enter_says s spot what a why taken (after_a_break e w) = subst (λ (r : ErrorKind). EnterSays s spot what a r) (sym w) (break-bools (ends_with_break spot.before) (is_line_ending what) e)
-enter_says s spot what a why taken (against_a_rule k b) = breaks-enter s spot what a why taken b (breaks-say spot.initial_model (rules spot.initial_model) (kinds spot.before ++ what ∷ []) why b)
-enter_says s spot what a why taken (table_in_a_table k l e w) = subst (λ (r : ErrorKind). EnterSays s spot what a r) (sym w) (inr e)
-enter_says s spot what a why taken (without_its_byte k l m e w) = subst (λ (r : ErrorKind). EnterSays s spot what a r) (sym w) (byte-says s what a e)
+pub enter_says : (s : Source) (site : Site) (what : ItemKind) (a : Point) (why : ErrorKind) → conforms site.initial_model (kinds site.before) ≡ true → IsWrongAtEnter s site what a why → EnterSays s site what a why
+enter_says s site what a why taken (after_a_break e w) = subst (λ (r : ErrorKind). EnterSays s site what a r) (sym w) (break-bools (ends_with_break site.before) (is_line_ending what) e)
+enter_says s site what a why taken (against_a_rule k b) = breaks-enter s site what a why taken b (breaks-say site.initial_model (rules site.initial_model) (kinds site.before ++ what ∷ []) why b)
+enter_says s site what a why taken (table_in_a_table k l e w) = subst (λ (r : ErrorKind). EnterSays s site what a r) (sym w) (inr e)
+enter_says s site what a why taken (without_its_byte k l m e w) = subst (λ (r : ErrorKind). EnterSays s site what a r) (sym w) (byte-says s what a e)

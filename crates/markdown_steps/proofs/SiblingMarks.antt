@@ -36,14 +36,14 @@ abbrev nearest : Sibling → Sibling → Sibling
 nearest near far = cond near.space far near
 
 -- the marks see the children last first
-near-is : (f before : Forest) (m : Marks) → head before ≡ m.near → second before ≡ m.far → (head (reversed_onto before f) ≡ (marks_onto m f).near) × (second (reversed_onto before f) ≡ (marks_onto m f).far)
+near-is : (f before : Forest) (m : Marks) → head before ≡ m.last → second before ≡ m.last_but_one → (head (reversed_onto before f) ≡ (marks_onto m f).last) × (second (reversed_onto before f) ≡ (marks_onto m f).last_but_one)
 near-is empty before m h k = (h, k)
 near-is (span n a b c r) before m h k = near-is r (span n a b c before) (marks_with m (role_of n) (marks c)) refl h
 
-after-near : (f : Forest) → head (last_first f) ≡ (marks f).near
+after-near : (f : Forest) → head (last_first f) ≡ (marks f).last
 after-near f = (near-is f empty no_marks refl refl).0
 
-after-far : (f : Forest) → second (last_first f) ≡ (marks f).far
+after-far : (f : Forest) → second (last_first f) ≡ (marks f).last_but_one
 after-far f = (near-is f empty no_marks refl refl).1
 
 begins-quote : (f : Forest) → begins_with is_quote_prefix f ≡ (head f).quote_prefix
@@ -54,7 +54,7 @@ begins-prefix : (f : Forest) → begins_with is_item_prefix f ≡ (head f).item_
 begins-prefix empty = refl
 begins-prefix (span n a b c r) = refl
 
-bare-is : (role : Role) (c : Forest) → is_bare_end role c ≡ bare_by role (marks c).near.quote_prefix
+bare-is : (role : Role) (c : Forest) → is_bare_end role c ≡ bare_by role (marks c).last.quote_prefix
 bare-is (transparent transparents.ListItemPrefix) c = refl
 bare-is (significant (content contents.BlockQuote)) c = begins-quote (last_first c) ∙ ap (λ (x : Sibling). x.quote_prefix) (after-near c)
 bare-is role c = refl
@@ -68,7 +68,7 @@ skipped empty B g k h = h empty
 skipped (span n a b c r) B g k h =
     elim (is_space_or_tab (role_of n)) as (λ t. g (elim t [ true ↦ r | false ↦ span n a b c r ]) ≡ k (cond t (head r) (sibling_of (role_of n) (marks c)))) [ true ↦ h r | false ↦ h (span n a b c r) ]
 
-item-bare : (role : Role) (c : Forest) → elim role [ significant (content contents.ListItem) ↦ ends_bare (skip_space (last_first c)) | _ ↦ false ] ≡ item_by role (nearest (marks c).near (marks c).far).bare_end
+item-bare : (role : Role) (c : Forest) → elim role [ significant (content contents.ListItem) ↦ ends_bare (skip_space (last_first c)) | _ ↦ false ] ≡ item_by role (nearest (marks c).last (marks c).last_but_one).bare_end
 item-bare (significant (content contents.ListItem)) c =
     skipped (last_first c) Bool ends_bare (λ x. x.bare_end) ends-is ∙ (λ t. (nearest (after-near c t) (after-far c t)).bare_end)
 item-bare (significant (content contents.Data)) c = refl
@@ -87,8 +87,8 @@ or-assoc : (a b c : Bool) → ((a || b) || c) ≡ (a || (b || c))
 or-assoc true b c = refl
 or-assoc false b c = refl
 
-blank-is : (f before : Forest) (m : Marks) (counts : Forest → Bool) (said : Marks → Bool) (k : Sibling → Sibling → Bool) → head before ≡ m.near → second before ≡ m.far
-    → ((x : Forest) → counts x ≡ k (head x) (second x)) → ((y : Marks) (role : Role) (inner : Marks) → said (marks_with y role inner) ≡ (said y || (is_blank_line role && k y.near y.far)))
+blank-is : (f before : Forest) (m : Marks) (counts : Forest → Bool) (said : Marks → Bool) (k : Sibling → Sibling → Bool) → head before ≡ m.last → second before ≡ m.last_but_one
+    → ((x : Forest) → counts x ≡ k (head x) (second x)) → ((y : Marks) (role : Role) (inner : Marks) → said (marks_with y role inner) ≡ (said y || (is_blank_line role && k y.last y.last_but_one)))
     → said (marks_onto m f) ≡ (said m || some_blank_line counts before f)
 blank-is empty before m counts said k h j c a = sym (or-false (said m))
 blank-is (span n p q kids r) before m counts said k h j c a =
@@ -97,14 +97,14 @@ blank-is (span n p q kids r) before m counts said k h j c a =
     ∙ or-assoc (said m) (is_blank_line (role_of n) && counts before) (some_blank_line counts (span n p q kids before) r)
 
 -- whether an item is loose
-pub loose_item-is : (f : Forest) → loose_item f ≡ (marks f).item_blank
-loose_item-is f = sym (blank-is f empty no_marks (λ before. not (begins_with is_item_prefix (skip_space before))) (λ m. m.item_blank) (λ near far. not (nearest near far).item_prefix) refl refl
+pub loose_item-is : (f : Forest) → loose_item f ≡ (marks f).is_loose_item
+loose_item-is f = sym (blank-is f empty no_marks (λ before. not (begins_with is_item_prefix (skip_space before))) (λ m. m.is_loose_item) (λ near far. not (nearest near far).item_prefix) refl refl
     (λ x. ap not (skipped x Bool (begins_with is_item_prefix) (λ y. y.item_prefix) begins-prefix)) (λ y role inner. refl))
 
 -- whether a list is, by its own blank lines
-pub loose-is : (f : Forest) → loose f false ≡ (marks f).list_blank
+pub loose-is : (f : Forest) → loose f false ≡ (marks f).is_loose_list
 loose-is f = or-false (some_blank_line (λ before. not (follows_bare_item before)) empty f)
-    ∙ sym (blank-is f empty no_marks (λ before. not (follows_bare_item before)) (λ m. m.list_blank) (λ near far. not near.bare_item) refl refl (λ x. ap not (follows-is x)) (λ y role inner. refl))
+    ∙ sym (blank-is f empty no_marks (λ before. not (follows_bare_item before)) (λ m. m.is_loose_list) (λ near far. not near.bare_item) refl refl (λ x. ap not (follows-is x)) (λ y role inner. refl))
 
 -- ---- The entry of a delimiter cell value
 

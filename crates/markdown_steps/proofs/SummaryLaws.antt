@@ -24,7 +24,7 @@ use Rattle.markdown_steps.specs.SummaryNodes.{node_of, nodes}
 use Rattle.markdown_steps.specs.Summaries.{Summary, PartSummary, Path, FoundPart, first_part, summary_of, into, itself, kept_at, path_to, stretch_at}
 use Rattle.markdown_grammar.specs.Attributes.{Place, inherited_after, inherited_in}
 use Rattle.markdown_grammar.specs.Document.{Source}
-use Rattle.markdown_grammar.specs.Spots.{model_after_all, inherited_after_all}
+use Rattle.markdown_grammar.specs.Sites.{model_after_all, inherited_after_all}
 use Rattle.markdown_events.specs.declared.role.ItemKind.TheVariants.{Content as content, Part as part}
 use Rattle.markdown_events.specs.declared.role.Content.TheVariants as contents
 use Rattle.markdown_events.specs.declared.role.Part.TheVariants as parts

@@ -48,4 +48,4 @@ columns_left role inner columns = columns
 
 -- what the node of a span wants to know of its children
 abbrev pub child_facts : Marks → Columns → ChildFacts
-child_facts m columns = record { loose_list = m.list_blank; loose_item = m.item_blank; align = columns.kinds }
+child_facts m columns = record { loose_list = m.is_loose_list; loose_item = m.is_loose_item; align = columns.kinds }

@@ -23,7 +23,7 @@ use Rattle.markdown_grammar.specs.Attributes.{decoded, value}
 use Rattle.markdown_grammar.specs.Items.{is_hard_break, is_line_ending, kinds}
 use Rattle.markdown_grammar.specs.Document.{Source, byte_at, is_depth, is_item_number, length_between}
 use Rattle.markdown_grammar.specs.Grammar.{has_part, heading_atx, conforms}
-use Rattle.markdown_grammar.specs.Spots.{Site}
+use Rattle.markdown_grammar.specs.Sites.{Site}
 use Rattle.markdown_grammar.specs.declared.error_kind.ErrorKind.{ErrorKind}
 use Rattle.markdown_grammar.specs.declared.error_kind.ErrorKind.TheVariants.{HeadingDepth, IncompleteReference, InvalidListValue, InvalidSlice, Misplaced, MissingFence, MissingListValue, Repeated, UnfinishedBreak, UnknownReference}
 use Rattle.markdown_events.specs.declared.role.Part.TheVariants as parts
@@ -116,12 +116,12 @@ pub record IsLinkBefore (nodes : Trees) (start end : Point) (others : Trees) : T
 
 -- what a refusal says of an item that begins
 abbrev pub EnterSays : Source → Site → ItemKind → Point → ErrorKind → Type 0
-EnterSays s spot what start UnfinishedBreak = (ends_with_break spot.before ≡ true) × (is_line_ending what ≡ false)
-EnterSays s spot what start Repeated = conforms spot.initial_model (kinds spot.before ++ what ∷ []) ≡ false
-EnterSays s spot what start Misplaced = (conforms spot.initial_model (kinds spot.before ++ what ∷ []) ≡ false) ⊎ (is_no_inner_table (beginning spot what start) ≡ false)
-EnterSays s spot what start IncompleteReference = what ≡ part parts.CharacterReferenceValue
-EnterSays s spot what start InvalidSlice = (what ≡ content contents.Frontmatter) × (byte_at s.bytes start ≡ None)
-EnterSays s spot what start _ = ⊥
+EnterSays s site what start UnfinishedBreak = (ends_with_break site.before ≡ true) × (is_line_ending what ≡ false)
+EnterSays s site what start Repeated = conforms site.initial_model (kinds site.before ++ what ∷ []) ≡ false
+EnterSays s site what start Misplaced = (conforms site.initial_model (kinds site.before ++ what ∷ []) ≡ false) ⊎ (is_no_inner_table (beginning site what start) ≡ false)
+EnterSays s site what start IncompleteReference = what ≡ part parts.CharacterReferenceValue
+EnterSays s site what start InvalidSlice = (what ≡ content contents.Frontmatter) × (byte_at s.bytes start ≡ None)
+EnterSays s site what start _ = ⊥
 
 -- a part so named does not stand in it
 abbrev pub Lacks : Occurrence → Part → Type 0

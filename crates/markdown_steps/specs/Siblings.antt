@@ -26,21 +26,21 @@ no_sibling = record { space = false; item_prefix = false; quote_prefix = false; 
 -- what the children so far say
 pub record Marks : Type 0 where
   -- the last child, and the one before it
-  pub near : Sibling
-  pub far : Sibling
+  pub last : Sibling
+  pub last_but_one : Sibling
   -- whether a blank line makes an item loose, and a list
-  pub item_blank : Bool
-  pub list_blank : Bool
+  pub is_loose_item : Bool
+  pub is_loose_list : Bool
   -- whether the first child is a delimiter's marker
   pub marked_first : Option Bool
 
 -- before the first child
 abbrev pub no_marks : Marks
-no_marks = record { near = no_sibling; far = no_sibling; item_blank = false; list_blank = false; marked_first = None }
+no_marks = record { last = no_sibling; last_but_one = no_sibling; is_loose_item = false; is_loose_list = false; marked_first = None }
 
 -- the last child, or the one before it where the last is a SpaceOrTab
 abbrev pub past_space : Marks → Sibling
-past_space m = cond m.near.space m.far m.near
+past_space m = cond m.last.space m.last_but_one m.last
 
 -- whether a child leaves an item that it ends without content, by whether its own last child is a quote's prefix
 abbrev pub bare_by : Role → Bool → Bool
@@ -59,7 +59,7 @@ sibling_of role inner = record {
   space = is_space_or_tab role;
   item_prefix = is_item_prefix role;
   quote_prefix = is_quote_prefix role;
-  bare_end = bare_by role inner.near.quote_prefix;
+  bare_end = bare_by role inner.last.quote_prefix;
   bare_item = item_by role (past_space inner).bare_end;
   marker = is_delimiter_marker role;
 }
@@ -67,13 +67,13 @@ sibling_of role inner = record {
 -- the children with one more, at its exit
 abbrev pub marks_with : Marks → Role → Marks → Marks
 marks_with m role inner = record {
-  near = sibling_of role inner;
-  far = m.near;
-  item_blank = m.item_blank || (is_blank_line role && not (past_space m).item_prefix);
-  list_blank = m.list_blank || (is_blank_line role && not m.near.bare_item);
+  last = sibling_of role inner;
+  last_but_one = m.last;
+  is_loose_item = m.is_loose_item || (is_blank_line role && not (past_space m).item_prefix);
+  is_loose_list = m.is_loose_list || (is_blank_line role && not m.last.bare_item);
   marked_first = option_or m.marked_first (Some (is_delimiter_marker role));
 }
 
 -- the entry of a delimiter cell value with these children
 abbrev pub kind_by : Marks → AlignKind
-kind_by m = align_kind_of (unwrap_or m.marked_first false) m.near.marker
+kind_by m = align_kind_of (unwrap_or m.marked_first false) m.last.marker

@@ -31,7 +31,7 @@ ghost use Rattle.markdown_grammar.specs.Attributes.{Place, inherited_after};
 ghost use Rattle.markdown_grammar.specs.Reasons.{IsWrong, IsWrongAtEnter, IsWrongAtExit};
 ghost use Rattle.markdown_steps.specs.Consequences.{EnterSays, ExitSays, FollowsBreak, ends_with_break_exit};
 ghost use Rattle.markdown_grammar.specs.Document.{Source};
-ghost use Rattle.markdown_grammar.specs.Spots.{Ancestor, Site, events_so_far};
+ghost use Rattle.markdown_grammar.specs.Sites.{Ancestor, Site, events_so_far};
 ghost use Rattle.markdown_grammar.specs.declared.error_kind.ErrorKind.{ErrorKind};
 ghost use Rattle.markdown_grammar.specs.declared.error_kind.ErrorKind.TheVariants.{UnfinishedBreak};
 
@@ -66,7 +66,7 @@ pub fn every_node_has_a_position()
 /// Every Heading has a depth from 1 to 6.
 ///
 /// CommonMark has six levels of headings: one to six number signs open a heading, and an underline
-/// of equals signs or dashes makes one of level 1 or 2. mdast takes the level for the `depth`.
+/// of equals signs or hyphens makes one of level 1 or 2. mdast takes the level for the `depth`.
 /// Only an accepted forest is sure to have the signs or the underline.
 ///
 /// `### a` gives a Heading of depth 3, and `a` above `---` one of depth 2.
@@ -91,8 +91,8 @@ pub fn lists_have_a_start_when_ordered()
 /// Every Table lies where a table of the events lies, and has one alignment for each cell value of
 /// the first delimiter row in that table.
 ///
-/// In GFM the delimiter row, the second line of a table, has a cell of dashes for each column, and
-/// the colons beside the dashes say how the column is aligned. In mdast `align` lists that, column
+/// In GFM the delimiter row, the second line of a table, has a cell of hyphens for each column, and
+/// the colons beside the hyphens say how the column is aligned. In mdast `align` lists that, column
 /// by column; in HTML the alignment goes to each cell of the column.
 ///
 /// The delimiter row `| :-- | - |` gives `AlignKind::Left` and `AlignKind::None`.
@@ -130,9 +130,9 @@ pub fn autolinks_give_links()
 /// A second `LabelText` in a Link is refused by `part-repeated`.
 #[tactic(auto, using(crate::proofs::Sayings::enter_says))]
 pub fn refused_enters_are_as_said()
-    ensures { (s : Source) (spot : Site) (what : ItemKind) (start : Point) (why : ErrorKind)
-        → conforms spot.initial_model (kinds spot.before) ≡ true
-        → IsWrongAtEnter s spot what start why → EnterSays s spot what start why }
+    ensures { (s : Source) (site : Site) (what : ItemKind) (start : Point) (why : ErrorKind)
+        → conforms site.initial_model (kinds site.before) ≡ true
+        → IsWrongAtEnter s site what start why → EnterSays s site what start why }
 {}
 
 /// A significant span that is refused where it ends has what the refusal's reason says.

@@ -11,7 +11,7 @@ ghost use Rattle.markdown_steps.specs.Extents.{extent_of, last_event};
 ghost use Rattle.markdown_grammar.specs.Ordered.{IsOrdered, NeverGoesBack};
 ghost use Rattle.markdown_grammar.specs.Document.{source};
 ghost use Rattle.markdown_context.specs.States.{Completes, state_of};
-ghost use Rattle.markdown_events.specs.Steps.{events_in};
+ghost use Rattle.markdown_events.specs.Steps.{event_count};
 ghost use Rattle.markdown_steps.specs.Visits.{run_visits};
 
 pub use character_references::references::References;
@@ -25,7 +25,10 @@ pub use markdown_nodes::steps::Steps;
 use markdown_nodes::unist::Position;
 use std::alloc::Global;
 
-/// The tree that a list of events stands for, over the bytes of the document.
+/// Builds the mdast tree of a document from the events of its tokenizer.
+///
+/// `bytes` are the document, to which the points of the events refer, and `references` says what its
+/// character references stand for.
 ///
 /// A tree comes exactly when the events are those of a forest that the grammar accepts over the bytes
 /// and the meaning of `references`, and it is that forest's meaning. Where the offsets of the events
@@ -39,7 +42,8 @@ use std::alloc::Global;
 ///   value in another;
 /// - `name-misplaced`: the container does not take the name there;
 /// - `part-repeated`: a part stands again that may stand once;
-/// - `slice-invalid`: a value that is read is no text of the document;
+/// - `slice-invalid`: a value that is read is no text of the document, or a byte that is read is not
+///   there;
 /// - `list-value-invalid`: the value of an item is no number up to 4294967295;
 /// - `list-value-missing`: no item of an ordered list has a value;
 /// - `reference-unknown`: `references` has no text for a character reference;
@@ -72,9 +76,10 @@ pub fn compile<R: References>(
     compile_counted(alloc, &mut Steps::new(events), bytes, references)
 }
 
-/// The same for the list in `steps`, which is read through `steps` alone, with its steps added.
+/// Does what [`compile`] does for the list in `steps`, which it reads through `steps` alone, and adds
+/// its steps to the count.
 ///
-/// It answers as [`compile`] does. It adds at most four steps for each event, and at a tree one for
+/// It adds at most four steps for each event, and at a tree one for
 /// each node in each buffer: a span whose nodes are collected for a text, as those of code, of a
 /// label or of a title. Where there is no tree, it adds at most one more for each event inside a
 /// span with such a name. The bound is ours.
@@ -109,7 +114,7 @@ pub fn compile_counted<R: References>(
     compile_list(alloc, steps, bytes, references)
 }
 
-/// The same, as the compilation on values gives it.
+/// Does what [`compile_counted`] does; its contract says it by the compilation on values.
 fn compile_list<R: References>(
     alloc: Global,
     steps: &mut Steps<'_>,
@@ -129,7 +134,7 @@ fn compile_list<R: References>(
     }
     Ok(Node::Root(Root {
         children: context.into_nodes(),
-        position: Some(whole(steps, length)),
+        position: Some(root_position(steps, length)),
     }))
 }
 
@@ -172,7 +177,7 @@ fn take_all<'a, 'e, R: References>(
 
 /// The point of the last event, where there is one.
 fn last_point(steps: &mut Steps<'_>, length: usize) -> Point
-    requires length { length ≡ events_in steps.old.events }
+    requires length { length ≡ event_count steps.old.events }
     requires some { 0 < length }
     ensures point { result ≡ point_of (last_event steps.old.events) }
     ensures list { steps.new.events ≡ steps.old.events }
@@ -185,8 +190,8 @@ fn last_point(steps: &mut Steps<'_>, length: usize) -> Point
 }
 
 /// From the first event to the last, or the first place of a document where there is none.
-fn whole(steps: &mut Steps<'_>, length: usize) -> Position
-    requires { length ≡ events_in steps.old.events }
+fn root_position(steps: &mut Steps<'_>, length: usize) -> Position
+    requires { length ≡ event_count steps.old.events }
     ensures position { result ≡ extent_of steps.old.events }
     ensures fits { result.end.offset < 2 ^ 64 }
     ensures list { steps.new.events ≡ steps.old.events }

@@ -28,7 +28,7 @@ const REFUSED: u32 = 1;
 /// The status of event lines that cannot be read.
 const UNREAD: u32 = 2;
 
-/// The status of want of memory.
+/// The status where memory ran out.
 const MEMORY: u32 = 3;
 
 /// The status of a table of references that is no text.
@@ -155,7 +155,7 @@ fn unread(number: usize) -> Outcome
     outcome
 }
 
-/// A tree as JSON, which is the caller's from now on, or want of memory.
+/// A tree as JSON, which is the caller's from now on, or that memory ran out.
 fn compiled(alloc: Global, tree: &Node) -> Outcome
     ensures status { (result.status ≡ 0) ⊎ (result.status ≡ 3) }
     ensures tree { result.status ≡ 0 → result.text.now ≡ json (view tree.now) }

@@ -9,13 +9,13 @@ use Rattle.mdast_check.specs.References.{Reference, answers, reference}
 
 -- whether what was gathered answers a reference of a kind to an identifier
 abbrev pub answered : Known → OpenKind → List ℕ → Bool
-answered known Link text = has known.places text
-answered known Image text = has known.places text
+answered known Link text = has known.definitions text
+answered known Image text = has known.definitions text
 answered known Footnote text = has known.footnotes text
 
 -- what was gathered are the identifiers of these nodes
 abbrev pub IsKnown : Known → List Tree → Type 0
-IsKnown known nodes = HasAll known.places (answers Link nodes) × HasAll known.footnotes (answers Footnote nodes)
+IsKnown known nodes = HasAll known.definitions (answers Link nodes) × HasAll known.footnotes (answers Footnote nodes)
 
 -- a reference, unless it is answered
 abbrev pub unless : (OpenKind → List ℕ → Bool) → Option Reference → Option Reference

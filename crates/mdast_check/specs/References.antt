@@ -23,20 +23,20 @@ refers_to (footnote_reference identifier _) = Some (Footnote, identifier)
 refers_to _ = None
 
 -- the identifier that a definition defines
-abbrev pub place_of : Label → Option (List ℕ)
-place_of (definition _ _ identifier _) = Some identifier
-place_of _ = None
+abbrev pub definition_identifier_of : Label → Option (List ℕ)
+definition_identifier_of (definition _ _ identifier _) = Some identifier
+definition_identifier_of _ = None
 
 -- the identifier that a footnote definition defines
-abbrev pub footnote_of : Label → Option (List ℕ)
-footnote_of (footnote_definition identifier _) = Some identifier
-footnote_of _ = None
+abbrev pub footnote_identifier_of : Label → Option (List ℕ)
+footnote_identifier_of (footnote_definition identifier _) = Some identifier
+footnote_identifier_of _ = None
 
 -- the identifiers in a list of nodes that answer a reference of a kind
 abbrev pub answers : OpenKind → List Tree → List (List ℕ)
-answers Link nodes = filter_map (λ node. place_of node.label) nodes
-answers Image nodes = filter_map (λ node. place_of node.label) nodes
-answers Footnote nodes = filter_map (λ node. footnote_of node.label) nodes
+answers Link nodes = filter_map (λ node. definition_identifier_of node.label) nodes
+answers Image nodes = filter_map (λ node. definition_identifier_of node.label) nodes
+answers Footnote nodes = filter_map (λ node. footnote_identifier_of node.label) nodes
 
 -- a node as a reference
 abbrev pub reference : Tree → Option Reference

@@ -20,8 +20,8 @@ pub struct Title {
 
 /// The headings of a tree in its order, also those in other nodes, as in a block quote.
 ///
-/// `AllocError` comes where memory runs out, and there is no other error. What a heading is, and its
-/// depth, are mdast's; what its text is, [`Node::to_string`] says.
+/// The only error is that memory ran out. What a heading is, and its depth, are mdast's; what its text
+/// is, [`Node::to_string`] says.
 ///
 /// The tree of `# Hi *Earth*!` gives one title, of the depth 1 and the text `Hi Earth!`.
 pub fn headings(alloc: Global, tree: &Node) -> Result<Vec<Title>, AllocError>

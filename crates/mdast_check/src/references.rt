@@ -5,7 +5,7 @@ ghost use Rattle.markdown_nodes.specs.Access.{label_of};
 ghost use Rattle.markdown_nodes.specs.View.{view};
 ghost use Rattle.mdast_check.specs.Walk.{walk};
 ghost use Rattle.mdast_check.specs.Known.{HasAll, has, with_one};
-ghost use Rattle.mdast_check.specs.References.{answers, footnote_of, open_in, place_of, refers_to, told};
+ghost use Rattle.mdast_check.specs.References.{answers, footnote_identifier_of, open_in, definition_identifier_of, refers_to, told};
 ghost use Rattle.mdast_check.specs.Asking.{IsKnown, answered, open_node};
 
 use crate::walk::Walk;
@@ -17,9 +17,9 @@ use std::collections::BTreeSet;
 /// What a reference refers to.
 #[derive(Clone, Copy, PartialEq, Eq, Debug)]
 pub enum OpenKind {
-    /// A link, `[a]`, to a place that a definition names.
+    /// A link, `[a]`, whose URL a definition gives.
     Link,
-    /// An image, `![a]`, whose place a definition names.
+    /// An image, `![a]`, whose URL a definition gives.
     Image,
     /// A footnote, `[^a]`.
     Footnote,
@@ -32,7 +32,7 @@ pub struct Open {
     pub kind: OpenKind,
     /// The identifier that no definition has.
     pub identifier: String,
-    /// Where the reference stands, and `None` where its node has no place. Lines and columns count
+    /// Where the reference stands, and `None` where its node has no position. Lines and columns count
     /// from 1; an offset counts bytes from 0.
     pub position: Option<Position>,
 }
@@ -41,12 +41,12 @@ pub struct Open {
 ///
 /// A link or an image by reference needs a Definition with its identifier, and a reference to a
 /// footnote a FootnoteDefinition; it may stand anywhere in the tree, also after the reference. Each
-/// reference is told, so two to one missing identifier are two. Identifiers are compared byte by
+/// open reference is listed: two to one missing identifier give two. Identifiers are compared byte by
 /// byte, since those of mdast are normalized already.
 ///
 /// That a reference needs a definition whose label matches is CommonMark's rule, and for footnotes
-/// GitHub's. A tokenizer that keeps it makes no others; a tree that was edited, or put together from
-/// parts, may have some. `AllocError` comes where memory runs out, and there is no other error.
+/// GitHub's. The tree of a tokenizer that keeps it has no open references; one that was edited, or put
+/// together from parts, may have some. The only error is that memory ran out.
 ///
 /// A root of a LinkReference `a`, a FootnoteReference `c` and then a Definition `a` gives one: a
 /// Footnote, with the identifier `c` and the position of that node.
@@ -68,7 +68,7 @@ pub fn open_references(alloc: Global, tree: &Node) -> Result<Vec<Open>, AllocErr
 #[derive(Drop)]
 struct Known<'a> {
     /// Those of its Definitions, which links and images refer to.
-    places: BTreeSet<&'a str>,
+    definitions: BTreeSet<&'a str>,
     /// Those of its FootnoteDefinitions.
     footnotes: BTreeSet<&'a str>,
 }
@@ -77,14 +77,17 @@ struct Known<'a> {
 fn known_in<'a>(alloc: Global, tree: &'a Node) -> Result<Known<'a>, AllocError>
     ensures { IfOk result (λ known. IsKnown known (walk (view tree.now))) }
 {
-    let mut places = BTreeSet::new(alloc);
+    let mut definitions = BTreeSet::new(alloc);
     let mut footnotes = BTreeSet::new(alloc);
     let mut walk = Walk::new(alloc, tree)?;
     'nodes: while let Some(node) = walk.next()? {
-        put(&mut places, place(node))?;
-        put(&mut footnotes, footnote(node))?;
+        put(&mut definitions, definition_identifier(node))?;
+        put(&mut footnotes, footnote_identifier(node))?;
     }
-    Ok(Known { places, footnotes })
+    Ok(Known {
+        definitions,
+        footnotes,
+    })
 }
 
 /// Puts a text, where there is one, into a set.
@@ -98,8 +101,8 @@ fn put<'a>(set: &mut BTreeSet<&'a str>, text: Option<&'a str>) -> Result<(), All
 }
 
 /// The identifier that a definition defines, and `None` for any other node.
-fn place(node: &Node) -> Option<&str>
-    ensures { option_map (λ text. text.now) result ≡ place_of (label_of node.now) }
+fn definition_identifier(node: &Node) -> Option<&str>
+    ensures { option_map (λ text. text.now) result ≡ definition_identifier_of (label_of node.now) }
 {
     match node {
         Node::Definition(node) => Some(node.identifier.as_str()),
@@ -108,8 +111,8 @@ fn place(node: &Node) -> Option<&str>
 }
 
 /// The identifier that a footnote definition defines, and `None` for any other node.
-fn footnote(node: &Node) -> Option<&str>
-    ensures { option_map (λ text. text.now) result ≡ footnote_of (label_of node.now) }
+fn footnote_identifier(node: &Node) -> Option<&str>
+    ensures { option_map (λ text. text.now) result ≡ footnote_identifier_of (label_of node.now) }
 {
     match node {
         Node::FootnoteDefinition(node) => Some(node.identifier.as_str()),
@@ -153,7 +156,7 @@ fn is_known<'a>(known: &Known<'a>, kind: OpenKind, identifier: &'a str) -> bool
     ensures { result ≡ answered known.now kind identifier.now }
 {
     match kind {
-        OpenKind::Link | OpenKind::Image => known.places.contains(&identifier),
+        OpenKind::Link | OpenKind::Image => known.definitions.contains(&identifier),
         OpenKind::Footnote => known.footnotes.contains(&identifier),
     }
 }

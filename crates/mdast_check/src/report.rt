@@ -35,9 +35,9 @@ pub struct Report {
 ///
 /// The lines are `heading DEPTH TEXT` and `open KIND IDENTIFIER POSITION`. The kinds are `link`,
 /// `image` and `footnote`. The text and the identifier stand between quotes, as `{:?}` writes them,
-/// the position as in `2:1-2:5 (4-8)`: lines and columns from 1, and bytes from 0. A reference that
-/// has no position is told without. `AllocError` comes where memory runs out, and there is no other
-/// error. The form of the lines is ours.
+/// the position as in `2:1-2:5 (4-8)`: lines and columns from 1, and bytes from 0. Where a reference
+/// has no position, its line ends after the identifier. The only error is that memory ran out. The
+/// form of the lines is ours.
 ///
 /// For a heading of depth 1 with the text `Hi` the text is `heading 1 "Hi"` and a line feed.
 pub fn report_of(alloc: Global, tree: &Node) -> Result<Report, AllocError>

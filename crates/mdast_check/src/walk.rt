@@ -26,7 +26,8 @@ impl<'a> Walk<'a> {
         Ok(Walk { levels })
     }
 
-    /// The next node, or `None` after the last. After an error the walk is not to be gone on with.
+    /// The next node, or `None` after the last. After an error it is not to be
+    /// called again.
     pub fn next(&mut self) -> Result<Option<&'a Node>, AllocError>
         ensures { IfOk result (Yields self.old.levels.items self.new.levels.items) }
     {

@@ -2,7 +2,8 @@
 //!
 //! `mdast_json DOC < EVENTS` reads the document from the file `DOC`, and event lines from standard
 //! input. It prints one line: the tree as JSON, with the names and fields of mdast, or what is wrong.
-//! Offsets and columns count bytes, and with `mdast_json --utf16 DOC` the UTF-16 units of JavaScript.
+//! Offsets count bytes, and columns are those of the events. With `mdast_json --utf16 DOC` both count the
+//! UTF-16 units of JavaScript, for events whose columns count bytes.
 #![tactic(auto)]
 
 use mdast_programs::document::{arguments, document};
@@ -16,7 +17,11 @@ fn main(rt: HostRuntime) -> ExitCode {
     let mut output = io::writer(&rt);
     ExitCode::from(match answer(&rt, &mut output) {
         Ok(status) => status,
-        Err(error) => say(&mut output, error.line(Program::Json(Units::Bytes)), 2),
+        Err(error) => say(
+            &mut output,
+            error.line(Program::Json(Units::Bytes)),
+            error.status(),
+        ),
     })
 }
 

@@ -3,8 +3,8 @@ use Rattle.std.specs.Prelude.{Bool, List, None, Option, Some, String, codes, fal
 use Rattle.std.specs.Str.{bytes_eq}
 use Rattle.std.specs.declared.alloc.Global.{Global}
 use Rattle.mdast_programs.specs.declared.request.DocumentError.{DocumentError}
-use Rattle.mdast_programs.specs.declared.request.DocumentError.TheVariants.{Unreadable, Usage}
-use Rattle.mdast_programs.specs.Programs.{unreadable_line, usage_line}
+use Rattle.mdast_programs.specs.declared.request.DocumentError.TheVariants.{Memory, Unreadable, Usage}
+use Rattle.mdast_programs.specs.Programs.{memory_line, unreadable_line, usage_line}
 use Rattle.mdast_programs.specs.declared.program.Program.{Program}
 use Rattle.mdast_programs.specs.declared.program.Program.TheVariants.{Json}
 use Rattle.mdast_programs.specs.declared.program.Units.TheVariants.{Bytes, Utf16}
@@ -27,7 +27,14 @@ abbrev pub requested_json : Option (String Global) → Option (String Global) �
 requested_json first second third =
     option_map (λ found. (Json (if found.0 then Utf16 else Bytes), found.1)) (named (codes "--utf16") first second third)
 
--- the line of a program for want of a document
+-- the line of a program that has no document
 abbrev pub error_line : Program → DocumentError → List ℕ
 error_line program Usage = usage_line program
 error_line program Unreadable = unreadable_line program
+error_line program Memory = memory_line program
+
+-- its exit status
+abbrev pub error_status : DocumentError → ℕ
+error_status Usage = 2
+error_status Unreadable = 2
+error_status Memory = 3

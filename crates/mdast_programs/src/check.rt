@@ -42,7 +42,8 @@ pub fn run_check<I: Read, O: Write>(alloc: Global, doc: &[u8], input: &mut I, ou
         × ((text : List ℕ) × IsReport (view tree) text × Appends (O.contents output.old) (O.contents output.new) text) }
 
     // They are events without one, and a message of the compiler is written.
-    ensures refused { result ≡ 1 → IsRefusedWith (I.remaining input.old) doc.now (Appends (O.contents output.old) (O.contents output.new)) }
+    ensures refused { result ≡ 1
+        → IsRefusedWith (I.remaining input.old) doc.now (Appends (O.contents output.old) (O.contents output.new)) }
 
     // The line says that memory ran out, and nothing else is written.
     ensures memory { result ≡ 3 → Appends (O.contents output.old) (O.contents output.new) (codes "mdast_show: out of memory\n") }

@@ -1,6 +1,6 @@
 //! The arguments of a program, and the document that one of them names.
 
-use crate::input::read_all;
+use crate::input::{ReadError, read_all};
 use crate::request::DocumentError;
 use std::env;
 use std::fs::File;
@@ -8,13 +8,13 @@ use std::io::ErrorKind;
 
 /// The first three arguments after the name of the program.
 ///
-/// Fails with `DocumentError::Usage` where an argument is not UTF-8, and with
-/// `DocumentError::Unreadable` where memory runs out.
+/// Fails with `DocumentError::Usage` where an argument is not UTF-8, and with `DocumentError::Memory`
+/// where memory runs out.
 pub fn arguments(rt: &HostRuntime) -> Result<[Option<String>; 3], DocumentError> {
     let mut arguments = match env::args(rt) {
         Ok(arguments) => arguments,
         Err(error) if error.kind() == ErrorKind::OutOfMemory => {
-            return Err(DocumentError::Unreadable);
+            return Err(DocumentError::Memory);
         }
         Err(_) => return Err(DocumentError::Usage),
     };
@@ -26,13 +26,17 @@ pub fn arguments(rt: &HostRuntime) -> Result<[Option<String>; 3], DocumentError>
 
 /// The bytes of the file of this name.
 ///
-/// Fails with `DocumentError::Unreadable` where the file cannot be read, or memory runs out.
+/// Fails with `DocumentError::Unreadable` where the file cannot be read, and with
+/// `DocumentError::Memory` where memory runs out.
 pub fn document(rt: &HostRuntime, name: &str) -> Result<Vec<u8>, DocumentError> {
-    match File::open(rt, name) {
-        Ok(mut file) => match read_all(rt.alloc(), &mut file) {
-            Ok(bytes) => Ok(bytes),
-            Err(_) => Err(DocumentError::Unreadable),
-        },
-        Err(_) => Err(DocumentError::Unreadable),
+    let mut file = match File::open(rt, name) {
+        Ok(file) => file,
+        Err(error) if error.kind() == ErrorKind::OutOfMemory => return Err(DocumentError::Memory),
+        Err(_) => return Err(DocumentError::Unreadable),
+    };
+    match read_all(rt.alloc(), &mut file) {
+        Ok(bytes) => Ok(bytes),
+        Err(ReadError::Failed) => Err(DocumentError::Unreadable),
+        Err(ReadError::Memory(_)) => Err(DocumentError::Memory),
     }
 }

@@ -52,7 +52,7 @@ impl Program {
         }
     }
 
-    /// The line for want of memory, which takes none: `mdast_json: out of memory`.
+    /// The line where memory ran out, which takes none: `mdast_json: out of memory`.
     pub fn out_of_memory(self) -> &'static str
         ensures { result.now ≡ memory_line self }
     {

@@ -2,7 +2,7 @@
 
 ghost use Rattle.std.specs.Prelude.{◌≡◌};
 ghost use Rattle.mdast_programs.specs.Requests;
-ghost use Rattle.mdast_programs.specs.Requests.{error_line, requested, requested_json};
+ghost use Rattle.mdast_programs.specs.Requests.{error_line, error_status, requested, requested_json};
 
 use crate::program::{Program, Units};
 
@@ -16,8 +16,8 @@ pub enum Request {
 }
 
 impl Request {
-    /// What the first three arguments after the name of the program ask for. Gives `None` where they
-    /// ask for nothing that there is.
+    /// What the first three arguments after the name of the program ask for, or `None` where they are not
+    /// those of the usage line.
     ///
     /// One argument names a document, whatever it is. Of two the first has to be `--check`, and the
     /// second names the document. The form is ours.
@@ -39,7 +39,7 @@ impl Request {
 }
 
 /// What the first three arguments of `mdast_json` ask for: in which form, and the name of the document.
-/// Gives `None` where they ask for nothing that there is.
+/// Gives `None` where they are not those of the usage line.
 ///
 /// One argument names a document, whatever it is. Of two the first has to be `--utf16`, and the second
 /// names the document. The form is ours.
@@ -81,10 +81,12 @@ fn named(
 /// Why there is no document.
 #[derive(Debug, Drop)]
 pub enum DocumentError {
-    /// The arguments ask for nothing that there is.
+    /// The arguments are not those of the usage line.
     Usage,
-    /// The file cannot be read, or memory ran out.
+    /// The file cannot be read.
     Unreadable,
+    /// Memory ran out.
+    Memory,
 }
 
 impl DocumentError {
@@ -97,6 +99,19 @@ impl DocumentError {
         match self {
             DocumentError::Usage => program.usage(),
             DocumentError::Unreadable => program.unreadable(),
+            DocumentError::Memory => program.out_of_memory(),
+        }
+    }
+
+    /// The exit status of the program: 3 where memory ran out, and else 2.
+    ///
+    /// A document that is not there gives 2.
+    pub fn status(&self) -> u8
+        ensures { result ≡ error_status self.now }
+    {
+        match self {
+            DocumentError::Usage | DocumentError::Unreadable => 2,
+            DocumentError::Memory => 3,
         }
     }
 }

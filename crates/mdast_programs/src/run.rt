@@ -33,7 +33,8 @@ pub enum Answer {
     Refused(Message),
     /// This line of the events, counted from 1, cannot be read.
     UnreadLine(usize),
-    /// The events cannot be read.
+    /// The events cannot be read: a read failed, or none of those that
+    /// [`read_all`](crate::input::read_all) makes met the end.
     UnreadEvents,
 }
 
@@ -93,7 +94,11 @@ impl Outcome {
 /// wrong, and gives the exit status.
 ///
 /// The status is 0 for a tree, 1 where the events are refused, 2 where they cannot be read or the
-/// line cannot be written, and 3 where memory ran out.
+/// line cannot be written, and 3 where memory ran out. What the contract says of the bytes of `input`
+/// and `output` it says where their types name them, as a slice and a `Vec` do.
+///
+/// Over the document `Hi` and the four event lines of a paragraph with one data span it prints the line
+/// of a root with a paragraph with a text, and gives 0.
 pub fn run<I: Read, O: Write>(alloc: Global, doc: &[u8], input: &mut I, output: &mut O) -> u8
     ensures bound { result ≤ 3 }
 
@@ -102,10 +107,12 @@ pub fn run<I: Read, O: Write>(alloc: Global, doc: &[u8], input: &mut I, output: 
 
     // They are events with a tree, and what is written is the line of that tree.
     ensures tree { result ≡ 0 → (tree : Node) × Means (I.remaining input.old) doc.now tree
-        × ((line : List ℕ) × IsLineOf programs.Show doc.now (view tree) line × Appends (O.contents output.old) (O.contents output.new) line) }
+        × ((line : List ℕ) × IsLineOf programs.Show doc.now (view tree) line
+        × Appends (O.contents output.old) (O.contents output.new) line) }
 
     // They are events without one, and a message of the compiler is written.
-    ensures refused { result ≡ 1 → IsRefusedWith (I.remaining input.old) doc.now (Appends (O.contents output.old) (O.contents output.new)) }
+    ensures refused { result ≡ 1
+        → IsRefusedWith (I.remaining input.old) doc.now (Appends (O.contents output.old) (O.contents output.new)) }
 
     // The line says that memory ran out, and nothing else is written.
     ensures memory { result ≡ 3 → Appends (O.contents output.old) (O.contents output.new) (codes "mdast_show: out of memory\n") }
@@ -118,6 +125,9 @@ pub fn run<I: Read, O: Write>(alloc: Global, doc: &[u8], input: &mut I, output: 
 ///
 /// The line of a tree is that of [`to_json`](markdown_json::to_json). The statuses, and all other
 /// lines, are those of [`run`], under the name of the program `mdast_json`.
+///
+/// Without events it prints the line of an empty root, which begins with
+/// `{"type":"root","children":[]`, and gives 0.
 pub fn run_json<I: Read, O: Write>(alloc: Global, doc: &[u8], input: &mut I, output: &mut O) -> u8
     ensures bound { result ≤ 3 }
 
@@ -126,10 +136,12 @@ pub fn run_json<I: Read, O: Write>(alloc: Global, doc: &[u8], input: &mut I, out
 
     // They are events with a tree, and what is written is the line of that tree as JSON.
     ensures tree { result ≡ 0 → (tree : Node) × Means (I.remaining input.old) doc.now tree
-        × ((line : List ℕ) × IsLineOf (programs.Json units.Bytes) doc.now (view tree) line × Appends (O.contents output.old) (O.contents output.new) line) }
+        × ((line : List ℕ) × IsLineOf (programs.Json units.Bytes) doc.now (view tree) line
+        × Appends (O.contents output.old) (O.contents output.new) line) }
 
     // They are events without one, and a message of the compiler is written.
-    ensures refused { result ≡ 1 → IsRefusedWith (I.remaining input.old) doc.now (Appends (O.contents output.old) (O.contents output.new)) }
+    ensures refused { result ≡ 1
+        → IsRefusedWith (I.remaining input.old) doc.now (Appends (O.contents output.old) (O.contents output.new)) }
 
     // The line says that memory ran out, and nothing else is written.
     ensures memory { result ≡ 3 → Appends (O.contents output.old) (O.contents output.new) (codes "mdast_json: out of memory\n") }
@@ -152,8 +164,10 @@ pub fn run_as<I: Read, O: Write>(
     ensures bound { result.status ≤ 3 }
     ensures end { result.status ≤ 1 → IsAtEnd (I.remaining input.new) }
     ensures tree { result.status ≡ 0 → (tree : Node) × Means (I.remaining input.old) doc.now tree
-        × ((line : List ℕ) × IsLineOf program doc.now (view tree) line × Appends (O.contents output.old) (O.contents output.new) line) }
-    ensures refused { result.status ≡ 1 → IsRefusedWith (I.remaining input.old) doc.now (Appends (O.contents output.old) (O.contents output.new)) }
+        × ((line : List ℕ) × IsLineOf program doc.now (view tree) line
+        × Appends (O.contents output.old) (O.contents output.new) line) }
+    ensures refused { result.status ≡ 1
+        → IsRefusedWith (I.remaining input.old) doc.now (Appends (O.contents output.old) (O.contents output.new)) }
     ensures memory { result.status ≡ 3 → Appends (O.contents output.old) (O.contents output.new) (memory_line program) }
 
     // The answer is one of the events, and there is one where a tree or a refusal was written.

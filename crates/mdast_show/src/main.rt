@@ -18,7 +18,7 @@ fn main(rt: HostRuntime) -> ExitCode {
     let mut output = io::writer(&rt);
     ExitCode::from(match answer(&rt, &mut output) {
         Ok(status) => status,
-        Err(error) => say(&mut output, error.line(Program::Show), 2),
+        Err(error) => say(&mut output, error.line(Program::Show), error.status()),
     })
 }
 

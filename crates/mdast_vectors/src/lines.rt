@@ -270,6 +270,13 @@ fn says_why_there_is_no_document(rt: HostRuntime) {
         DocumentError::Unreadable.line(Program::Json(Units::Bytes)),
         "mdast_json: cannot read the document\n",
     );
+    same(
+        &rt,
+        DocumentError::Memory.line(Program::Show),
+        "mdast_show: out of memory\n",
+    );
+    same(&rt, DocumentError::Unreadable.status(), 2);
+    same(&rt, DocumentError::Memory.status(), 3);
 }
 
 #[test]

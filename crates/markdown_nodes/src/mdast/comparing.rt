@@ -125,7 +125,7 @@ fn same_code(x: &Code, y: &Code) -> bool
     x.value == y.value && x.lang == y.lang && x.meta == y.meta
 }
 
-/// Whether two blocks of mathematics have the same fields but for position.
+/// Whether two blocks of math have the same fields but for position.
 fn same_math(x: &Math, y: &Math) -> bool
     ensures { IsTrue result ↔ (math_label x.now ≡ math_label y.now) }
 {

@@ -64,13 +64,11 @@ fn remake(node: &Node, children: Vec<Node>) -> Result<Node, AllocError>
             start: node.start,
             spread: node.spread,
         })),
-        Node::Toml(node) => copy_toml(node),
-        Node::Yaml(node) => copy_yaml(node),
-        Node::Break(node) => Ok(Node::Break(Break {
-            position: node.position,
-        })),
-        Node::InlineCode(node) => copy_inline_code(node),
-        Node::InlineMath(node) => copy_inline_math(node),
+        Node::Toml(node) => node.clone().map(Node::Toml),
+        Node::Yaml(node) => node.clone().map(Node::Yaml),
+        Node::Break(node) => node.clone().map(Node::Break),
+        Node::InlineCode(node) => node.clone().map(Node::InlineCode),
+        Node::InlineMath(node) => node.clone().map(Node::InlineMath),
         Node::Delete(node) => Ok(Node::Delete(Delete {
             children,
             position: node.position,
@@ -79,28 +77,26 @@ fn remake(node: &Node, children: Vec<Node>) -> Result<Node, AllocError>
             children,
             position: node.position,
         })),
-        Node::FootnoteReference(node) => copy_footnote_reference(node),
-        Node::Html(node) => copy_html(node),
-        Node::Image(node) => copy_image(node),
-        Node::ImageReference(node) => copy_image_reference(node),
+        Node::FootnoteReference(node) => node.clone().map(Node::FootnoteReference),
+        Node::Html(node) => node.clone().map(Node::Html),
+        Node::Image(node) => node.clone().map(Node::Image),
+        Node::ImageReference(node) => node.clone().map(Node::ImageReference),
         Node::Link(node) => copy_link(node, children),
         Node::LinkReference(node) => copy_link_reference(node, children),
         Node::Strong(node) => Ok(Node::Strong(Strong {
             children,
             position: node.position,
         })),
-        Node::Text(node) => copy_text(node),
-        Node::Code(node) => copy_code(node),
-        Node::Math(node) => copy_math(node),
+        Node::Text(node) => node.clone().map(Node::Text),
+        Node::Code(node) => node.clone().map(Node::Code),
+        Node::Math(node) => node.clone().map(Node::Math),
         Node::Heading(node) => Ok(Node::Heading(Heading {
             children,
             position: node.position,
             depth: node.depth,
         })),
         Node::Table(node) => copy_table(node, children),
-        Node::ThematicBreak(node) => Ok(Node::ThematicBreak(ThematicBreak {
-            position: node.position,
-        })),
+        Node::ThematicBreak(node) => node.clone().map(Node::ThematicBreak),
         Node::TableRow(node) => Ok(Node::TableRow(TableRow {
             children,
             position: node.position,
@@ -115,7 +111,7 @@ fn remake(node: &Node, children: Vec<Node>) -> Result<Node, AllocError>
             spread: node.spread,
             checked: node.checked,
         })),
-        Node::Definition(node) => copy_definition(node),
+        Node::Definition(node) => node.clone().map(Node::Definition),
         Node::Paragraph(node) => Ok(Node::Paragraph(Paragraph {
             children,
             position: node.position,
@@ -134,100 +130,6 @@ fn copy_footnote_definition(
     Ok(Node::FootnoteDefinition(FootnoteDefinition {
         children,
         position: node.position,
-        identifier: node.identifier.clone()?,
-        label: copy_optional(&node.label)?,
-    }))
-}
-
-/// A copy of a Toml.
-#[tactic(auto, using(crate::proofs::Views::tree_rules))]
-fn copy_toml(node: &Toml) -> Result<Node, AllocError>
-    ensures { IfOk result (λ copy. view copy ≡ view (nodes.Toml node.now)) }
-{
-    Ok(Node::Toml(Toml {
-        value: node.value.clone()?,
-        position: node.position,
-    }))
-}
-
-/// A copy of a Yaml.
-#[tactic(auto, using(crate::proofs::Views::tree_rules))]
-fn copy_yaml(node: &Yaml) -> Result<Node, AllocError>
-    ensures { IfOk result (λ copy. view copy ≡ view (nodes.Yaml node.now)) }
-{
-    Ok(Node::Yaml(Yaml {
-        value: node.value.clone()?,
-        position: node.position,
-    }))
-}
-
-/// A copy of an InlineCode.
-#[tactic(auto, using(crate::proofs::Views::tree_rules))]
-fn copy_inline_code(node: &InlineCode) -> Result<Node, AllocError>
-    ensures { IfOk result (λ copy. view copy ≡ view (nodes.InlineCode node.now)) }
-{
-    Ok(Node::InlineCode(InlineCode {
-        value: node.value.clone()?,
-        position: node.position,
-    }))
-}
-
-/// A copy of an InlineMath.
-#[tactic(auto, using(crate::proofs::Views::tree_rules))]
-fn copy_inline_math(node: &InlineMath) -> Result<Node, AllocError>
-    ensures { IfOk result (λ copy. view copy ≡ view (nodes.InlineMath node.now)) }
-{
-    Ok(Node::InlineMath(InlineMath {
-        value: node.value.clone()?,
-        position: node.position,
-    }))
-}
-
-/// A copy of a FootnoteReference.
-#[tactic(auto, using(crate::proofs::Views::tree_rules))]
-fn copy_footnote_reference(node: &FootnoteReference) -> Result<Node, AllocError>
-    ensures { IfOk result (λ copy. view copy ≡ view (nodes.FootnoteReference node.now)) }
-{
-    Ok(Node::FootnoteReference(FootnoteReference {
-        position: node.position,
-        identifier: node.identifier.clone()?,
-        label: copy_optional(&node.label)?,
-    }))
-}
-
-/// A copy of a Html.
-#[tactic(auto, using(crate::proofs::Views::tree_rules))]
-fn copy_html(node: &Html) -> Result<Node, AllocError>
-    ensures { IfOk result (λ copy. view copy ≡ view (nodes.Html node.now)) }
-{
-    Ok(Node::Html(Html {
-        value: node.value.clone()?,
-        position: node.position,
-    }))
-}
-
-/// A copy of an Image.
-#[tactic(auto, using(crate::proofs::Views::tree_rules))]
-fn copy_image(node: &Image) -> Result<Node, AllocError>
-    ensures { IfOk result (λ copy. view copy ≡ view (nodes.Image node.now)) }
-{
-    Ok(Node::Image(Image {
-        position: node.position,
-        alt: node.alt.clone()?,
-        url: node.url.clone()?,
-        title: copy_optional(&node.title)?,
-    }))
-}
-
-/// A copy of an ImageReference.
-#[tactic(auto, using(crate::proofs::Views::tree_rules))]
-fn copy_image_reference(node: &ImageReference) -> Result<Node, AllocError>
-    ensures { IfOk result (λ copy. view copy ≡ view (nodes.ImageReference node.now)) }
-{
-    Ok(Node::ImageReference(ImageReference {
-        position: node.position,
-        alt: node.alt.clone()?,
-        reference_kind: node.reference_kind,
         identifier: node.identifier.clone()?,
         label: copy_optional(&node.label)?,
     }))
@@ -260,42 +162,6 @@ fn copy_link_reference(node: &LinkReference, children: Vec<Node>) -> Result<Node
     }))
 }
 
-/// A copy of a Text.
-#[tactic(auto, using(crate::proofs::Views::tree_rules))]
-fn copy_text(node: &Text) -> Result<Node, AllocError>
-    ensures { IfOk result (λ copy. view copy ≡ view (nodes.Text node.now)) }
-{
-    Ok(Node::Text(Text {
-        value: node.value.clone()?,
-        position: node.position,
-    }))
-}
-
-/// A copy of a Code.
-#[tactic(auto, using(crate::proofs::Views::tree_rules))]
-fn copy_code(node: &Code) -> Result<Node, AllocError>
-    ensures { IfOk result (λ copy. view copy ≡ view (nodes.Code node.now)) }
-{
-    Ok(Node::Code(Code {
-        value: node.value.clone()?,
-        position: node.position,
-        lang: copy_optional(&node.lang)?,
-        meta: copy_optional(&node.meta)?,
-    }))
-}
-
-/// A copy of a Math.
-#[tactic(auto, using(crate::proofs::Views::tree_rules))]
-fn copy_math(node: &Math) -> Result<Node, AllocError>
-    ensures { IfOk result (λ copy. view copy ≡ view (nodes.Math node.now)) }
-{
-    Ok(Node::Math(Math {
-        value: node.value.clone()?,
-        position: node.position,
-        meta: copy_optional(&node.meta)?,
-    }))
-}
-
 /// A copy of a Table with these children.
 fn copy_table(node: &Table, children: Vec<Node>) -> Result<Node, AllocError>
     ensures { views children.items ≡ views (nodes_in (nodes.Table node.now))
@@ -305,20 +171,6 @@ fn copy_table(node: &Table, children: Vec<Node>) -> Result<Node, AllocError>
         children,
         position: node.position,
         align: copy_align(&node.align)?,
-    }))
-}
-
-/// A copy of a Definition.
-#[tactic(auto, using(crate::proofs::Views::tree_rules))]
-fn copy_definition(node: &Definition) -> Result<Node, AllocError>
-    ensures { IfOk result (λ copy. view copy ≡ view (nodes.Definition node.now)) }
-{
-    Ok(Node::Definition(Definition {
-        position: node.position,
-        url: node.url.clone()?,
-        title: copy_optional(&node.title)?,
-        identifier: node.identifier.clone()?,
-        label: copy_optional(&node.label)?,
     }))
 }
 

@@ -7,7 +7,8 @@ use std::collections::BTreeSet;
 /// The characters beyond ASCII in the texts of a node, and of all that is in it, that `{:?}` writes
 /// as their Unicode escape.
 ///
-/// Fails where memory runs out, and else never. Which they are is std's to say.
+/// Which they are is std's to say, as its Debug of a string writes them. The only error is that memory
+/// ran out.
 pub fn escapes_of(node: &Node, alloc: Global) -> Result<BTreeSet<char>, AllocError> {
     let mut escapes = BTreeSet::new(alloc);
     add_node(node, &mut escapes)?;

@@ -28,8 +28,8 @@ impl fmt::Debug for EscapedText<'_> {
 /// A text between quotes, as `{:?}` writes it.
 ///
 /// `escapes` are the characters beyond ASCII that stand as their Unicode escape: those that
-/// [`escapes_of`](crate::mdast::escapes_of) gives for the tree that the text is from. Fails where
-/// memory runs out, and else never.
+/// [`escapes_of`](crate::mdast::escapes_of) gives for the tree that the text is from. The only error
+/// is that memory ran out.
 ///
 /// A line feed is written as a backslash and an `n`, so the text stands on one line.
 pub fn quote(text: &str, escapes: &BTreeSet<char>, alloc: Global) -> Result<String, AllocError>

@@ -25,7 +25,7 @@ fn value(node: &Node) -> &str
     }
 }
 
-/// Puts the plain text of a node after a text. After an error an unknown part of it stands there.
+/// Appends the plain text of a node to a text. After an error an unknown part of it stands there.
 pub fn add_text(node: &Node, text: &mut String, alloc: Global) -> Result<(), AllocError>
     ensures { OnOk result (string_bytes text.new ≡ string_bytes text.old ++ plain_text (only (view node.now))) }
 {

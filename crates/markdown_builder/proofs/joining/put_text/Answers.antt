@@ -13,7 +13,7 @@ unfolding out-Node denote.Hole.Carrier.out
 returns-in-Text c =
     let v = c.args.nodes.now in
     let some : 0 < vec_len v = c.in-Some.ensures.variant.0 refl in
-    rw c.in-Text.is (text_grown v.items (vec_len v) c.in-Some.last.now c.in-Text.text _ c.go_on.new.text (one_text c.args.value.now c.args.position) v.ok.0 some c.in-Some.ensures.value c.in-Text.is c.in-Text.text-is c.in_ok-go_on.ensures)
+    rw c.in-Text.is (text_grown v.items (vec_len v) c.in-Some.last.now c.in-Text.text _ c.extend_text.new.text (one_text c.args.value.now c.args.position) v.ok.0 some c.in-Some.ensures.value c.in-Text.is c.in-Text.text-is c.in_ok-extend_text.ensures)
 
 pub returns : goal.returns
 returns c =

@@ -52,6 +52,6 @@ returns-clause-gives g c =
     let ran = ap (λ (b : List ℕ). run (source b (g.R.References.text c.args.references.now)) c.args.steps.now.events opening) (sym c.new.ensures) ∙ c.in_ok-context.ensures.gives in
     let none = sym c.unfinished.ensures ∙ c.in_default.is in
     tree_gives (source c.args.bytes.now (g.R.References.text c.args.references.now)) c.args.steps.now.events (state_of c.in_ok-context.field-0.context)
-    (record { children = c.into_nodes.result; position = Some c.whole.result }) ran none
+    (record { children = c.into_nodes.result; position = Some c.root_position.result }) ran none
     (ap (λ (v : Vec Node Global). views v.items) c.into_nodes.ensures ∙ root_nodes (source c.args.bytes.now (g.R.References.text c.args.references.now)) c.args.steps.now.events c.in_ok-context.field-0.context ran none)
-    (ap (λ (p : Position). Some p) (c.whole.ensures.position ∙ ap extent_of c.take_all.ensures.list))
+    (ap (λ (p : Position). Some p) (c.root_position.ensures.position ∙ ap extent_of c.take_all.ensures.list))

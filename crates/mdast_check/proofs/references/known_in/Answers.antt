@@ -3,7 +3,7 @@ use Rattle.std.specs.Str.{bytes_eq}
 use Rattle.markdown_nodes.specs.View.{view}
 use Rattle.mdast_check.specs.Known.{has}
 use Rattle.mdast_check.specs.Levels.{to_come}
-use Rattle.mdast_check.specs.References.{answers, footnote_of, place_of}
+use Rattle.mdast_check.specs.References.{answers, footnote_identifier_of, definition_identifier_of}
 use Rattle.mdast_check.specs.Walk.{walk}
 use Rattle.mdast_check.specs.declared.references.OpenKind.TheVariants.{Link, Footnote}
 use Rattle.mdast_check.proofs.Gathering.{gathers}
@@ -17,6 +17,6 @@ nodes-preserved c =
     let all = walk (view c.args.tree.now) in
     let next = next_is c.in_ok-node.field-0 c.in-Some.node before after c.in_ok-node.ensures c.in-Some.is in
     record {
-      places = gathers place_of c.in-Some.node.now c.place.result before after (has c.nodes.places) (has c.put.new.set) (λ text. list_any (bytes_eq text) (answers Link all)) next c.place.ensures c.in_ok-put.ensures c.nodes.invariant.places;
-      footnotes = gathers footnote_of c.in-Some.node.now c.footnote.result before after (has c.nodes.footnotes) (has c.put-in-Some.new.set) (λ text. list_any (bytes_eq text) (answers Footnote all)) next c.footnote.ensures c.in_ok-put-2.ensures c.nodes.invariant.footnotes;
+      definitions = gathers definition_identifier_of c.in-Some.node.now c.definition_identifier.result before after (has c.nodes.definitions) (has c.put.new.set) (λ text. list_any (bytes_eq text) (answers Link all)) next c.definition_identifier.ensures c.in_ok-put.ensures c.nodes.invariant.definitions;
+      footnotes = gathers footnote_identifier_of c.in-Some.node.now c.footnote_identifier.result before after (has c.nodes.footnotes) (has c.put-in-Some.new.set) (λ text. list_any (bytes_eq text) (answers Footnote all)) next c.footnote_identifier.ensures c.in_ok-put-2.ensures c.nodes.invariant.footnotes;
     }

@@ -11,7 +11,7 @@ use Rattle.mdast_check.proofs.references.known_in.Given as goal
 
 abbrev pub invariant-nodes : goal.invariant-nodes
 invariant-nodes l = record {
-  places : (text : List ℕ) → (has l.places text || list_any (bytes_eq text) (answers Link (to_come l.walk.levels.items))) ≡ list_any (bytes_eq text) (answers Link (walk (view l.fn.tree)));
+  definitions : (text : List ℕ) → (has l.definitions text || list_any (bytes_eq text) (answers Link (to_come l.walk.levels.items))) ≡ list_any (bytes_eq text) (answers Link (walk (view l.fn.tree)));
   footnotes : (text : List ℕ) → (has l.footnotes text || list_any (bytes_eq text) (answers Footnote (to_come l.walk.levels.items))) ≡ list_any (bytes_eq text) (answers Footnote (walk (view l.fn.tree)));
 }
 

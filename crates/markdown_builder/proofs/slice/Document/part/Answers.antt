@@ -1,4 +1,4 @@
-use Rattle.std.proofs.Common.{◌≡◌, ◌≤◌, List, ℕ, length, sym, subst, ap, ◌∙◌}
+use Rattle.std.proofs.Common.{◌≡◌, ◌≤◌, List, ℕ, length, subst, ap, ◌∙◌}
 use Rattle.std.specs.Prelude.{IfSome, slice_range}
 use Rattle.std.specs.Str.{IsUtf8}
 use Rattle.markdown_builder.proofs.SliceReads.{part_is}

@@ -1,4 +1,4 @@
-use Rattle.std.proofs.Common.{arith, Bool, None, refl, sym, ap, ◌∙◌}
+use Rattle.std.proofs.Common.{arith, None, refl, sym, ap, ◌∙◌}
 use Rattle.markdown_steps.specs.ChildFacts.{ChildFacts}
 use Rattle.nest.specs.declared.Nest.{Nest}
 use Rattle.markdown_context.specs.declared.open_container.OpenContainer.{OpenContainer}

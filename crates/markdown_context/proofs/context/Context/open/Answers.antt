@@ -4,7 +4,7 @@ use Rattle.markdown_context.specs.Containers.{IsFresh, current_model_of}
 use Rattle.nest.specs.Nest.{innermost}
 use Rattle.nest.specs.declared.Nest.{Nest}
 use Rattle.markdown_context.specs.declared.open_container.OpenContainer.{OpenContainer}
-use Rattle.nest.proofs.Nesting.{put_around, put_innermost}
+use Rattle.nest.proofs.Nesting.{IsPut, put_around, put_innermost}
 use Rattle.markdown_context.proofs.context.Context.open.Goals as goal
 
 pub returns : goal.returns
@@ -12,13 +12,14 @@ returns c s same =
     let old : Nest OpenContainer = c.args.self.now.containers in
     let new : Nest OpenContainer = record old { inner = c.push.new.self } in
     let inner : OpenContainer = record { container = c.opened.result; line_endings = c.has_line_endings.result; nodes = c.new.result } in
-    let top : innermost new ≡ inner = put_innermost old new inner (record { outermost = refl; inner = c.in_ok-push.ensures.items }) in
+    let put : IsPut inner old new = record { outermost = refl; inner = c.in_ok-push.ensures.items } in
+    let top : innermost new ≡ inner = put_innermost old new inner put in
     let begun : IsFresh inner.container (model_of (current_model_of (innermost old).container) c.args.what) =
     subst (λ (h : OpenContainer). IsFresh inner.container (model_of (current_model_of h.container) c.args.what)) c.innermost.ensures c.opened.ensures in record {
       taken = sym (c.misfit.ensures s same) ∙ c.in_default.is;
       fresh_container = subst (λ (h : OpenContainer). IsFresh h.container (model_of (current_model_of (innermost old).container) c.args.what)) (sym top) begun;
       line_endings = ap (λ (h : OpenContainer). h.line_endings) top ∙ c.has_line_endings.ensures;
       nodes = ap (λ (h : OpenContainer). h.nodes.items) top ∙ c.new.ensures.items;
-      outer = put_around old new inner (record { outermost = refl; inner = c.in_ok-push.ensures.items });
+      outer = put_around old new inner put;
       others = refl;
     }

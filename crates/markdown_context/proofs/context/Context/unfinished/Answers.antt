@@ -1,5 +1,5 @@
-use Rattle.std.proofs.Common.{false, refl, reverse, sym, ◌∙◌}
-use Rattle.nest.specs.Nest.{around_innermost, innermost}
+use Rattle.std.proofs.Common.{false, refl, sym, ◌∙◌}
+use Rattle.nest.specs.Nest.{around_innermost}
 use Rattle.markdown_context.specs.States.{leaf_container, top_of}
 use Rattle.markdown_context.proofs.Unfinished.{is_open_so, left_by}
 use Rattle.markdown_context.proofs.context.Context.unfinished.Goals as goal

@@ -1,7 +1,7 @@
 use Rattle.std.proofs.Common.{false, refl}
 use Rattle.markdown_events.specs.declared.role.Part.TheVariants as parts
 use Rattle.markdown_nodes.specs.View.{views}
-use Rattle.markdown_grammar.specs.Grammar as Models
+use Rattle.markdown_grammar.specs.Grammar as models
 use Rattle.markdown_context.specs.Containers.{summary_with}
 use Rattle.markdown_context.specs.declared.container.Container.TheVariants as containers
 use Rattle.markdown_context.specs.States.{place_of}
@@ -11,5 +11,5 @@ use Rattle.markdown_context.proofs.open_container.OpenContainer.take_heading_tex
 pub returns : goal.returns
 returns c s a b in_table place children =
     part_left s in_table c.args.self.now (record { container = c.take_heading_text.new.self; line_endings = false; nodes = c.append.new.nodes })
-    Models.any_content place (summary_with containers.AnyContent (views c.args.nodes.items)) parts.HeadingSetextText a b children
+    models.any_content place (summary_with containers.AnyContent (views c.args.nodes.items)) parts.HeadingSetextText a b children
     refl refl (c.take_heading_text.ensures s (place_of in_table c.args.self.now) a b (views c.args.nodes.items)) refl c.in_ok-append.ensures

@@ -1,5 +1,6 @@
-use Rattle.std.proofs.Common.{sym, ap}
+use Rattle.std.proofs.Common.{rules}
 use Rattle.markdown_nodes.proofs.Copying.{like-Root, like-Blockquote, like-List, like-Delete, like-Emphasis, like-Strong, like-Heading, like-TableRow, like-TableCell, like-ListItem, like-Paragraph}
+use Rattle.markdown_nodes.specs.declared.mdast.Node.TheViews.{out-Node}
 use Rattle.markdown_nodes.specs.View.{view}
 use Rattle.markdown_nodes.proofs.mdast.copying.remake.Goals as goal
 
@@ -37,43 +38,57 @@ pub returns-in-Paragraph : goal.returns-in-Paragraph
 returns-in-Paragraph c = λ like. like-Paragraph c.args.node.now c.in-Paragraph.node c.args.children c.in-Paragraph.is like
 
 pub returns-in-Toml : goal.returns-in-Toml
-returns-in-Toml c = λ _. rw c.in-Toml.is c.copy_toml.ensures
+unfolding out-Node view
+returns-in-Toml c = search rules
 
 pub returns-in-Yaml : goal.returns-in-Yaml
-returns-in-Yaml c = λ _. rw c.in-Yaml.is c.copy_yaml.ensures
-
-pub returns-in-InlineCode : goal.returns-in-InlineCode
-returns-in-InlineCode c = λ _. rw c.in-InlineCode.is c.copy_inline_code.ensures
-
-pub returns-in-InlineMath : goal.returns-in-InlineMath
-returns-in-InlineMath c = λ _. rw c.in-InlineMath.is c.copy_inline_math.ensures
-
-pub returns-in-FootnoteReference : goal.returns-in-FootnoteReference
-returns-in-FootnoteReference c = λ _. rw c.in-FootnoteReference.is c.copy_footnote_reference.ensures
-
-pub returns-in-Html : goal.returns-in-Html
-returns-in-Html c = λ _. rw c.in-Html.is c.copy_html.ensures
-
-pub returns-in-Image : goal.returns-in-Image
-returns-in-Image c = λ _. rw c.in-Image.is c.copy_image.ensures
-
-pub returns-in-ImageReference : goal.returns-in-ImageReference
-returns-in-ImageReference c = λ _. rw c.in-ImageReference.is c.copy_image_reference.ensures
-
-pub returns-in-Text : goal.returns-in-Text
-returns-in-Text c = λ _. rw c.in-Text.is c.copy_text.ensures
-
-pub returns-in-Code : goal.returns-in-Code
-returns-in-Code c = λ _. rw c.in-Code.is c.copy_code.ensures
-
-pub returns-in-Math : goal.returns-in-Math
-returns-in-Math c = λ _. rw c.in-Math.is c.copy_math.ensures
-
-pub returns-in-Definition : goal.returns-in-Definition
-returns-in-Definition c = λ _. rw c.in-Definition.is c.copy_definition.ensures
+unfolding out-Node view
+returns-in-Yaml c = search rules
 
 pub returns-in-Break : goal.returns-in-Break
-returns-in-Break c = λ _. sym (ap view c.in-Break.is)
+unfolding out-Node view
+returns-in-Break c = search rules
+
+pub returns-in-InlineCode : goal.returns-in-InlineCode
+unfolding out-Node view
+returns-in-InlineCode c = search rules
+
+pub returns-in-InlineMath : goal.returns-in-InlineMath
+unfolding out-Node view
+returns-in-InlineMath c = search rules
+
+pub returns-in-FootnoteReference : goal.returns-in-FootnoteReference
+unfolding out-Node view
+returns-in-FootnoteReference c = search rules
+
+pub returns-in-Html : goal.returns-in-Html
+unfolding out-Node view
+returns-in-Html c = search rules
+
+pub returns-in-Image : goal.returns-in-Image
+unfolding out-Node view
+returns-in-Image c = search rules
+
+pub returns-in-ImageReference : goal.returns-in-ImageReference
+unfolding out-Node view
+returns-in-ImageReference c = search rules
+
+pub returns-in-Text : goal.returns-in-Text
+unfolding out-Node view
+returns-in-Text c = search rules
+
+pub returns-in-Code : goal.returns-in-Code
+unfolding out-Node view
+returns-in-Code c = search rules
+
+pub returns-in-Math : goal.returns-in-Math
+unfolding out-Node view
+returns-in-Math c = search rules
 
 pub returns-in-ThematicBreak : goal.returns-in-ThematicBreak
-returns-in-ThematicBreak c = λ _. sym (ap view c.in-ThematicBreak.is)
+unfolding out-Node view
+returns-in-ThematicBreak c = search rules
+
+pub returns-in-Definition : goal.returns-in-Definition
+unfolding out-Node view
+returns-in-Definition c = search rules

@@ -61,22 +61,22 @@ pub record Site : Type 0 where
   pub place : Place
   pub before : Items
 
--- inside a span of a spot, after these items: a transparent span is no container
+-- inside a span of a site, after these items: a transparent span is no container
 abbrev pub site_in : Role → Items → Site → Site
-site_in (transparent _) xs spot = record { initial_model = spot.initial_model; place = spot.place; before = spot.before then xs }
-site_in (significant what) xs spot = record { initial_model = model_of (model_after_all spot.before spot.initial_model) what; place = inherited_in what (inherited_after_all spot.before spot.place); before = xs }
+site_in (transparent _) xs site = record { initial_model = site.initial_model; place = site.place; before = site.before then xs }
+site_in (significant what) xs site = record { initial_model = model_of (model_after_all site.before site.initial_model) what; place = inherited_in what (inherited_after_all site.before site.place); before = xs }
 
--- the spot after closed spans, and open ones after them
+-- the site after closed spans, and open ones after them
 abbrev pub site_of : Forest → List Ancestor → Site
 site_of forest [] = record { initial_model = any_content; place = inherited_at_root; before = items forest }
 site_of forest (e ∷ path) = site_in (role_of e.name) (items e.inside) (site_of forest path)
 
--- an item at a spot
+-- an item at a site
 abbrev pub occurrence : Site → ItemKind → Point → Point → Items → Occurrence
-occurrence spot what start end inner = record {
-  model = model_after_all spot.before spot.initial_model;
-  place = inherited_after_all spot.before spot.place;
-  after_break = ends_with_break spot.before;
+occurrence site what start end inner = record {
+  model = model_after_all site.before site.initial_model;
+  place = inherited_after_all site.before site.place;
+  after_break = ends_with_break site.before;
   what = what;
   start = start;
   end = end;

@@ -9,15 +9,15 @@ use Rattle.markdown_builder.proofs.Views.{no_text, views_put}
 use Rattle.markdown_steps.specs.TextNodes.{text_node}
 use denote.Hole.Carrier
 use Rattle.markdown_nodes.specs.declared.mdast.Node.TheViews.{out-Node}
-use Rattle.markdown_builder.proofs.joining.put_first.Goals.{in-Text+in-Some+in_default-last, in-Text+in_default-last_mut, in_default}
-use Rattle.markdown_builder.proofs.joining.put_first.Goals as goal
+use Rattle.markdown_builder.proofs.joining.put_any.Goals.{in-Text+in-Some+in_default-last, in-Text+in_default-last_mut, in_default}
+use Rattle.markdown_builder.proofs.joining.put_any.Goals as goal
 
 pub returns-in-Text-last : goal.returns-in-Text-last
 unfolding out-Node denote.Hole.Carrier.out
 returns-in-Text-last c =
     let v = c.args.nodes.now in
     let some : 0 < vec_len v = c.in-Some.ensures.variant.0 refl in
-    (rw c.in-Text-last.is (text_grown v.items (vec_len v) c.in-Some.last.now c.in-Text-last.before _ c.lengthen.new.text (text_node c.in-Text.text) v.ok.0 some c.in-Some.ensures.value c.in-Text-last.is c.in-Text-last.before-is c.in_ok-lengthen.ensures))
+    (rw c.in-Text-last.is (text_grown v.items (vec_len v) c.in-Some.last.now c.in-Text-last.before _ c.join_text.new.text (text_node c.in-Text.text) v.ok.0 some c.in-Some.ensures.value c.in-Text-last.is c.in-Text-last.before-is c.in_ok-join_text.ensures))
     ∙ ap (λ (x : Tree). join (views v.items) (only x)) (sym (ap view c.in-Text.is ∙ view-Text c.in-Text.text))
 
 pub returns : goal.returns
