@@ -42,15 +42,16 @@ fn what_holds_the_byte_is_refused(rt: HostRuntime) -> Result<(), AllocError> {
     for (start, end) in &NO_TEXTS {
         let events = data(rt.alloc(), *start, *end)?;
         let found = compiled(rt.alloc(), DOCUMENT, events.as_slice());
-        holds(&rt, is_refused(&found));
+        holds(&rt, is_refused(found)?);
     }
     Ok(())
 }
 
-/// Whether a slice is refused.
-fn is_refused<T>(found: &Result<T, Fault>) -> bool {
+/// Whether a slice is refused, where memory does not run out.
+fn is_refused<T: Drop>(found: Result<T, Fault>) -> Result<bool, AllocError> {
     match found {
-        Err(Fault::Message(message)) => message.rule_id == "slice-invalid",
-        _ => false,
+        Ok(_) => Ok(false),
+        Err(Fault::Message(message)) => Ok(message.rule_id == "slice-invalid"),
+        Err(Fault::Memory(error)) => Err(error),
     }
 }
