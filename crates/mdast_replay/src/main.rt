@@ -8,10 +8,10 @@
 #![tactic(auto)]
 
 use mdast_cases::run::{Input, RunError, run, status};
-use mdast_programs::input::{ReadError, read_all};
+use mdast_programs::document::document;
+use mdast_programs::request::DocumentError;
 use std::alloc::AllocError;
 use std::env;
-use std::fs::File;
 use std::io::{self, ErrorKind};
 use std::process::ExitCode;
 
@@ -28,7 +28,10 @@ fn main(rt: HostRuntime) -> ExitCode {
 fn inputs(rt: &HostRuntime) -> Result<Vec<Input>, RunError> {
     let mut arguments = match env::args(rt) {
         Ok(arguments) => arguments,
-        Err(error) => return Err(without_memory_or(&error, RunError::Usage)),
+        Err(error) if error.kind() == ErrorKind::OutOfMemory => {
+            return Err(RunError::Memory(AllocError));
+        }
+        Err(_) => return Err(RunError::Usage),
     };
     let _program = arguments.next();
     let mut inputs = Vec::new(rt.alloc());
@@ -43,22 +46,9 @@ fn inputs(rt: &HostRuntime) -> Result<Vec<Input>, RunError> {
 
 /// The file of this name.
 fn input(rt: &HostRuntime, name: String) -> Result<Input, RunError> {
-    let mut file = match File::open(rt, name.as_str()) {
-        Ok(file) => file,
-        Err(error) => return Err(without_memory_or(&error, RunError::UnreadFile(name))),
-    };
-    match read_all(rt.alloc(), &mut file) {
+    match document(rt, name.as_str()) {
         Ok(bytes) => Ok(Input { name, bytes }),
-        Err(ReadError::Failed) => Err(RunError::UnreadFile(name)),
-        Err(ReadError::Memory(error)) => Err(RunError::Memory(error)),
-    }
-}
-
-/// What an error of the system means to a run: that memory ran out, or else this.
-fn without_memory_or(error: &io::Error, other: RunError) -> RunError {
-    if error.kind() == ErrorKind::OutOfMemory {
-        RunError::Memory(AllocError)
-    } else {
-        other
+        Err(DocumentError::Memory) => Err(RunError::Memory(AllocError)),
+        Err(DocumentError::Usage | DocumentError::Unreadable) => Err(RunError::UnreadFile(name)),
     }
 }
