@@ -3,7 +3,7 @@
 use crate::expect::{holds, prints, same};
 use markdown_nodes::event::{Name, Point};
 use markdown_nodes::unist;
-use std::alloc::AllocError;
+use std::alloc::{AllocError, Global};
 use std::process::Abort;
 
 /// Names, and how they are written.
@@ -17,19 +17,21 @@ static WRITTEN: [(Name, &str); 4] = [
     ),
 ];
 
-/// A name is written so, and is found by that.
-fn is_written(rt: &impl Abort, name: Name, text: &str) {
+/// A name is written so, also by Debug, and is found by that.
+fn is_written(rt: &impl Abort, alloc: Global, name: Name, text: &str) -> Result<(), AllocError> {
     same(rt, name.text(), text);
     holds(rt, Name::find(text) == Some(name));
     holds(rt, Name::find_bytes(text.as_bytes()) == Some(name));
     holds(rt, name.is(name));
+    prints(rt, alloc, &name, text)
 }
 
 #[test]
-fn names_are_written_as_they_are_called(rt: HostRuntime) {
+fn names_are_written_as_they_are_called(rt: HostRuntime) -> Result<(), AllocError> {
     for (name, text) in &WRITTEN {
-        is_written(&rt, *name, text);
+        is_written(&rt, rt.alloc(), *name, text)?;
     }
+    Ok(())
 }
 
 #[test]
