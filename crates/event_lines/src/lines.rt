@@ -48,7 +48,8 @@ impl<T: Drop> From<AllocFailed<T>> for LinesError {
 /// A line is `+Name line:column:index` where a span begins, or the same with `-` where it ends,
 /// and `:vs` may come after the index. Lines end with a line feed, which the last may lack.
 /// Empty lines say nothing, and numbers have to fit 64 bits. The error is `Unread` with the number of
-/// the first other line, and `Memory` where memory runs out. The form of the lines is ours.
+/// the first line that is neither empty nor such a line, and `Memory` where memory runs out. The form
+/// of the lines is ours.
 ///
 /// `b"+Data 1:1:0\n-Data 1:3:2\n"` gives two events.
 pub fn events(alloc: Global, bytes: &[u8]) -> Result<Vec<Event>, LinesError>

@@ -1,11 +1,11 @@
 //! What a check mark takes off the text after it.
 
-ghost use Rattle.std.specs.Prelude.{◌≡◌, ◌<◌, IfNone, MatchOption, drop, length, option_map, slice_index, string_bytes};
+ghost use Rattle.std.specs.Prelude.{◌≡◌, ◌<◌, IfNone, MatchOption, drop, option_map, string_bytes};
 ghost use Rattle.std.specs.Vec.{vec_len};
 ghost use Rattle.markdown_nodes.specs.Tree.{Trees};
 ghost use Rattle.markdown_nodes.specs.View.{views};
 ghost use Rattle.markdown_blocks.specs.TaskWalks.{first_cut, paragraph_before, text_cut};
-ghost use Rattle.markdown_grammar.specs.Tasks.{after_blank, from_point, on_next_line, next_column, task};
+ghost use Rattle.markdown_grammar.specs.Tasks.{after_blank, from_point, next_column, on_next_line, task};
 
 use markdown_builder::texts::remove_byte;
 use markdown_nodes::mdast::{Node, Paragraph, Text};
@@ -26,7 +26,7 @@ pub fn trim(nodes: &mut Vec<Node>)
     }
 }
 
-/// The same of a paragraph.
+/// Takes the blank after a check mark off a paragraph.
 fn trim_paragraph(paragraph: &mut Paragraph)
     ensures { (rest : Trees) → paragraph_before paragraph.new rest ≡ task (paragraph_before paragraph.old rest) }
 {

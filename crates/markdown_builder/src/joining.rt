@@ -20,7 +20,7 @@ fn one_place(nodes: &mut Vec<Node>) -> Result<(), AllocError>
     Ok(())
 }
 
-/// How many cells of a row get room with the first one.
+/// For how many cells room is made with the first cell of a row.
 const CELLS: usize = 4;
 
 /// Makes room for the first node where there is none, and for some more where it is a cell, which

@@ -1,6 +1,6 @@
 //! A document, what stands in it between two points, and the position from one to the other.
 
-ghost use Rattle.std.specs.Prelude.{◌≡◌, ◌^◌, ◌<◌, ◌≤◌, IfErr, Some, SomeIff, IfSome, is_some, length, option_copied};
+ghost use Rattle.std.specs.Prelude.{◌≡◌, ◌^◌, ◌<◌, ◌≤◌, IfErr, Some, SomeIff, IfSome, length, option_copied};
 ghost use Rattle.std.specs.Result.{result_ok};
 ghost use Rattle.markdown_events.specs.Slices.{between, edge, slice, text_between};
 ghost use Rattle.markdown_grammar.specs.Document.{byte_at, length_between};

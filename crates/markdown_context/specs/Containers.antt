@@ -26,7 +26,7 @@ use Rattle.markdown_inlines.specs.Autolinks.{autolink}
 use Rattle.markdown_inlines.specs.CharacterReferences.{character_reference}
 use Rattle.markdown_inlines.specs.FootnoteCalls.{footnote_call}
 use Rattle.markdown_inlines.specs.Media.{media, reference, resource}
-use Rattle.markdown_nodes.specs.Tree.{Trees, nothing}
+use Rattle.markdown_nodes.specs.Tree.{Trees}
 use Rattle.markdown_steps.specs.Summaries.{PartSummary, Path, Summary}
 
 -- a span in which any content may stand, and no part

@@ -180,7 +180,7 @@ impl<'a> Container<'a> {
         }
     }
 
-    /// The same of content.
+    /// What a span of content that is no leaf is to the items in it.
     fn opened_by_content(&self, content: Content) -> Container<'a>
         requires { models.content_model (current_model_of self.now) content ≢ models.leaf }
         ensures { IsFresh result (models.content_model (current_model_of self.now) content) }
@@ -232,7 +232,7 @@ impl<'a> Container<'a> {
         }
     }
 
-    /// The same of a part.
+    /// What a part that is no leaf is to the items in it.
     fn opened_by_part(&self, part: Part) -> Container<'a>
         requires { models.part_model (current_model_of self.now) part ≢ models.leaf }
         ensures { IsFresh result (models.part_model (current_model_of self.now) part) }

@@ -126,7 +126,7 @@ impl<'a, 'e> Context<'a, 'e> {
         }
     }
 
-    /// Whether a break waits for its line ending, and this item is not one.
+    /// Whether a break waits for its line ending, and this item is no line ending.
     fn interrupts_break(&self, what: ItemKind) -> bool
         ensures { result ≡ not (not (is_some self.now.pending) || Kinds.is_line_ending what) }
     {

@@ -15,7 +15,6 @@ ghost use Rattle.markdown_context.specs.Takings.{
   IsNodeOf,
   LeavesColumns,
   MakesOf,
-  Takes,
   TakesAnyLeaf,
   TakesContent,
   TakesKept,

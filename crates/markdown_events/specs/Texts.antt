@@ -22,7 +22,7 @@ without_first_line_ending [] = []
 without_first_line_ending (b ∷ []) = if is_line_ending b then [] else b ∷ []
 without_first_line_ending (b ∷ c ∷ bs) = if b == 13 && c == 10 then bs else (if is_line_ending b then c ∷ bs else b ∷ c ∷ bs)
 
--- the same of a text that is reversed, its last byte first
+-- without one CRLF, CR or LF at the end, of a text in reverse, its last byte first
 abbrev pub without_line_ending_reversed : List ℕ → List ℕ
 without_line_ending_reversed [] = []
 without_line_ending_reversed (b ∷ []) = if is_line_ending b then [] else b ∷ []

@@ -1,8 +1,8 @@
 //! Fields of nodes that are read off the events of a whole span: whether a list or an item is spread,
 //! and how the columns of a table are aligned.
 //!
-//! Each function asks that a well-formed span begins at the index, which
-//! [`span_begins`](crate::event::span_begins) finds out.
+//! Each function asks that the event at the index is the enter of what it is about, and that a
+//! well-formed span begins there, which [`span_begins`](crate::event::span_begins) finds out.
 
 ghost use Rattle.std.specs.Prelude.{◌≡◌, IsOk, IfOk, false, []};
 ghost use Rattle.markdown_events.specs.declared.event.Name.TheVariants as names;
@@ -63,9 +63,9 @@ impl fmt::Debug for AlignKind {
 /// last child, one `SpaceOrTab` skipped, is its prefix, or a block quote that ends with its own
 /// prefix. With `include_items`, a loose item, as [`list_item_loose`] says, makes the list loose too:
 /// these are the loose lists of CommonMark, and mdast's `spread` of a list leaves the items out.
-/// Which blank lines do not count is a rule of markdown-rs. This cannot fail, and takes no memory. A
-/// well-formed span of a list has to begin at the index: [`span_begins`](crate::event::span_begins)
-/// tells.
+/// Which blank lines do not count is a rule of markdown-rs. This cannot fail, and takes no memory. The
+/// event at the index has to be the enter of a list, and a well-formed span has to begin there, as
+/// [`span_begins`](crate::event::span_begins) tells.
 ///
 /// A list of an item with a paragraph, a blank line ending and another item is loose. It is not
 /// where the first item has only its prefix.
@@ -83,8 +83,8 @@ pub fn list_loose(events: &[Event], index: usize, include_items: bool) -> bool
 /// It is loose where a blank line ending that is its direct child counts. Such a blank line ending
 /// counts unless the sibling before it, one `SpaceOrTab` skipped, is the item's prefix. This is
 /// mdast's `spread` of a list item; that an item may begin with a blank line is CommonMark's. This
-/// cannot fail, and takes no memory. A well-formed span of a list item has to begin at the index:
-/// [`span_begins`](crate::event::span_begins) tells.
+/// cannot fail, and takes no memory. The event at the index has to be the enter of a list item, and a
+/// well-formed span has to begin there, as [`span_begins`](crate::event::span_begins) tells.
 ///
 /// An item of a prefix, a paragraph and a blank line ending is loose, and one of a prefix and a
 /// blank line ending is not.
@@ -103,8 +103,8 @@ pub fn list_item_loose(events: &[Event], index: usize) -> bool
 /// `Center` where its first and its last child are colons, even if they are one and the same, `Left`
 /// where only the first is, `Right` where only the last is, and otherwise `None` (GFM). A table
 /// without a delimiter row has no entries. The only error is that memory ran out, and a table
-/// without entries takes no memory. A well-formed span of a table has to begin at the index:
-/// [`span_begins`](crate::event::span_begins) tells.
+/// without entries takes no memory. The event at the index has to be the enter of a table, and a
+/// well-formed span has to begin there, as [`span_begins`](crate::event::span_begins) tells.
 ///
 /// A table with the delimiter row `| :-- | - |` gives `[AlignKind::Left, AlignKind::None]`.
 pub fn gfm_table_align(
@@ -142,7 +142,7 @@ impl Child {
     }
 }
 
-/// What is so of the last child after one child more, of this name, which is of the kind or not.
+/// What is known of the last child after one more child, which has this name and is of the kind or not.
 fn child_exited(before: Child, is_it: bool, name: Name) -> Child
     ensures { result ≡ child_exited before is_it name }
 {

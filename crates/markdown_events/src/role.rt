@@ -11,8 +11,8 @@ ghost use Rattle.markdown_events.specs.Walks.{is_list_item, is_block_quote};
 
 use crate::event::Name;
 
-/// A transparent name: its span gives no node and no field, and the spans in it count as if they were
-/// in the span around it (ours).
+/// A transparent name: its span gives no node, and the spans in it count as if they were in the span
+/// around it. Some kinds say whether a list is loose and how a table is aligned (ours).
 ///
 /// `Name::EmphasisText.role()` is `Role::Transparent(TransparentKind::Other)`: the spans in it count as
 /// if they were directly in the emphasis.

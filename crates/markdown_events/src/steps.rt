@@ -1,6 +1,6 @@
 //! A reader of a list of events that counts what `compile` does, for its contract.
 
-ghost use Rattle.std.specs.Prelude.{◌≡◌, ℕ, ◌+◌, ◌^◌, ◌<◌, slice_get, IfSome, option_map};
+ghost use Rattle.std.specs.Prelude.{◌≡◌, ◌+◌, ◌^◌, ◌<◌, slice_get, IfSome, option_map};
 ghost use Rattle.markdown_events.specs.Steps.{steps_of};
 
 use crate::count::Count;

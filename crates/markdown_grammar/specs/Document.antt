@@ -1,5 +1,5 @@
 -- What is read of a document: texts, ranges, single bytes and numbers.
-use Rattle.std.specs.Prelude.{Bool, List, None, Option, Some, [], false, if◌then◌else◌, length, nat_le, nat_lt, slice_get, unwrap_or, ℕ, ◌&&◌, ◌*◌, ◌+◌, ◌-◌, ◌==◌, ◌^◌, ◌∷◌}
+use Rattle.std.specs.Prelude.{Bool, List, None, Option, Some, [], false, if◌then◌else◌, length, nat_le, nat_lt, slice_get, unwrap_or, ℕ, ◌&&◌, ◌-◌, ◌==◌, ◌^◌}
 use Rattle.markdown_events.specs.Slices.{edge, slice}
 use Rattle.markdown_events.specs.declared.event.Point.{Point}
 use Rattle.std.specs.Str.{all_ascii_digits}

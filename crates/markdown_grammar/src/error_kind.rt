@@ -1,6 +1,6 @@
 //! Why a list of events is refused.
 
-ghost use Rattle.std.specs.Prelude.{◌≡◌, codes, alloc_error};
+ghost use Rattle.std.specs.Prelude.{◌≡◌, alloc_error};
 ghost use Rattle.markdown_grammar.specs.Refusals.{IsFaultOf, reason_of, rule_of};
 ghost use Rattle.markdown_grammar.specs.declared.error_kind.Stop.TheVariants.{Memory};
 
@@ -22,7 +22,8 @@ pub enum ErrorKind {
     Repeated,
     /// `span-held`: a span stands inside one that may not contain it.
     Held,
-    /// `slice-invalid`: a value is no text of the document, or a byte that is read is not there.
+    /// `slice-invalid`: a value that is read is no text of the document, or a sequence or a byte that
+    /// is read is not in it.
     InvalidSlice,
     /// `list-value-invalid`: a list value is no number, or too great.
     InvalidListValue,
@@ -34,7 +35,8 @@ pub enum ErrorKind {
     IncompleteReference,
     /// `fence-missing`: fenced code or math without a fence.
     MissingFence,
-    /// `heading-depth`: a heading without a sequence, or an ATX heading with one that is not 1 to 6 long.
+    /// `heading-depth`: a heading without a sequence, or an ATX heading whose first is not one to six
+    /// bytes long.
     HeadingDepth,
     /// `break-unfinished`: a break without its line ending.
     UnfinishedBreak,

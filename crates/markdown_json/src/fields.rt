@@ -286,7 +286,7 @@ fn push_reference(
     push_reference_type(out, kind)
 }
 
-/// Appends how a reference is written to what is written.
+/// Appends the field that tells how a reference is written.
 fn push_reference_type(out: &mut String, kind: ReferenceKind) -> Result<(), AllocError>
     ensures { OnOk result (string_bytes out.new ≡ string_bytes out.old ++ field (codes "referenceType") (reference_type kind)) }
 {
@@ -317,7 +317,7 @@ fn push_list(out: &mut String, node: &List) -> Result<(), AllocError>
     push_children(out)
 }
 
-/// Appends the number that a list begins with to what is written, or null.
+/// Appends the field with the number that a list begins with, which may be null.
 fn push_start(out: &mut String, start: Option<u32>) -> Result<(), AllocError>
     ensures { OnOk result (string_bytes out.new ≡ string_bytes out.old ++ field (codes "start") (or_null decimal start)) }
 {
@@ -337,7 +337,7 @@ fn push_list_item(out: &mut String, node: &ListItem) -> Result<(), AllocError>
     push_children(out)
 }
 
-/// Appends whether a task is done to what is written, or null where an item is no task.
+/// Appends the field that tells whether a task is done: null where the item is no task.
 fn push_checked(out: &mut String, checked: Option<bool>) -> Result<(), AllocError>
     ensures { OnOk result (string_bytes out.new ≡ string_bytes out.old ++ field (codes "checked") (or_null bool_text checked)) }
 {
@@ -356,7 +356,7 @@ fn push_table(out: &mut String, node: &Table) -> Result<(), AllocError>
     push_children(out)
 }
 
-/// Appends how the columns of a table are aligned to what is written.
+/// Appends the field that tells how the columns of a table are aligned.
 #[tactic(auto, unfolding(crate::specs::Json::field))]
 fn push_align(out: &mut String, align: &[AlignKind]) -> Result<(), AllocError>
     ensures { OnOk result (string_bytes out.new ≡ string_bytes out.old ++ align_field align.now) }
@@ -367,7 +367,7 @@ fn push_align(out: &mut String, align: &[AlignKind]) -> Result<(), AllocError>
     push(out, "]")
 }
 
-/// Appends how columns are aligned to what is written, with commas between them.
+/// Appends the alignments of columns, with commas between them.
 fn push_alignments(out: &mut String, align: &[AlignKind]) -> Result<(), AllocError>
     ensures { OnOk result (string_bytes out.new ≡ string_bytes out.old ++ alignments [] align.now) }
 {
@@ -379,7 +379,7 @@ fn push_alignments(out: &mut String, align: &[AlignKind]) -> Result<(), AllocErr
     Ok(())
 }
 
-/// Appends how a column is aligned to what is written, after a comma where it is a later column.
+/// Appends the alignment of a column, after a comma where it is not the first column.
 fn push_alignment(out: &mut String, kind: AlignKind, later: bool) -> Result<(), AllocError>
     ensures { OnOk result (string_bytes out.new ≡ string_bytes out.old ++ ((if later then codes "," else []) ++ alignment kind)) }
 {

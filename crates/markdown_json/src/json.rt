@@ -43,7 +43,8 @@ pub fn to_json(alloc: Global, tree: &Node) -> Result<String, AllocError>
 /// So JavaScript counts the characters of its strings: a character counts one, and one beyond U+FFFF
 /// two. `document` has the bytes that the tree was made of, and the columns of the tree have to count
 /// bytes, as its offsets do. A column counts from 1 and an offset from 0; what a tab adds to a column
-/// stays, and a point after the end of the document has the offset of the end. The only error is that memory ran out: it takes 24 bytes for each byte of the document.
+/// stays, and a point after the end of the document has the offset of the end. The only error is that
+/// memory ran out: it takes 24 bytes for each byte of the document.
 ///
 /// In the document `é!`, whose first character takes two bytes, a text from `1:3 (2)` on has the start
 /// `{"line":1,"column":2,"offset":1}`.

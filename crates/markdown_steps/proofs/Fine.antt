@@ -21,7 +21,7 @@ use Rattle.markdown_steps.proofs.Known.{AreOpen, Stands, kept_at_site, outer_by,
 use Rattle.markdown_steps.proofs.Outcomes.{bind_ok, checked_passes, done, one_ok}
 use Rattle.markdown_steps.proofs.Refused.{run-append}
 use Rattle.markdown_steps.proofs.RuleLists.{keeps-snoc}
-use Rattle.markdown_steps.proofs.Sayings.{breaks-takes}
+use Rattle.markdown_steps.proofs.Sayings.{violation-fails}
 use Rattle.markdown_grammar.specs.Accepted.{Occurrence, ends_a_break, has_its_byte, has_its_parts, has_its_value, contains_no_open_break, is_no_inner_table}
 use Rattle.markdown_steps.specs.Columns.{child_facts}
 use Rattle.markdown_steps.specs.Compiler.{ContainerState, OpenSpan, State, all_stood, allows, with_child, enter_as, enter_checks, enter_step, entered, exit_checks, exit_from, exit_step, leave, leave_to, push, opening, rule_checks, run, pop, step, step_by}
@@ -64,7 +64,7 @@ enter-fine s site what p why taken pass wrong =
     let b : has_its_byte s x ≡ true = and-left (has_its_byte s x) true (and-right (is_no_inner_table x) (has_its_byte s x && true) r.1) in
     elim wrong [
       | after_a_break e w ↦ not-both a e
-      | against_a_rule e f ↦ not-both r.0 (breaks-takes site.initial_model (rules site.initial_model) (kinds site.before ++ what ∷ []) why f)
+      | against_a_rule e f ↦ not-both r.0 (violation-fails site.initial_model (rules site.initial_model) (kinds site.before ++ what ∷ []) why f)
       | table_in_a_table e k f w ↦ not-both t f
       | without_its_byte e k n f w ↦ not-both b f
     ]

@@ -29,7 +29,7 @@ use Rattle.markdown_grammar.specs.Grammar.{has_required, rules, conforms}
 use Rattle.markdown_grammar.specs.Grammar.{ContentModel, model_of}
 use Rattle.markdown_grammar.specs.Items.{Items, items, kinds}
 use Rattle.markdown_grammar.specs.Attributes.{Place, inherited_in}
-use Rattle.markdown_grammar.specs.Reasons.{ViolatesFirst, EndsOpen, IsHeld, IsWrong, IsWrongAtEnter, IsWrongAtExit, NothingIsWrong, StopsAtFirstError, against_a_rule, beginning, after_a_break, break_is_last, enters, exits, held, in_a_sealed_span, row_in_a_row, table_in_a_table, unmatched, value_in_a_value, without_its_byte, without_its_parts, without_its_value}
+use Rattle.markdown_grammar.specs.Reasons.{EndsOpen, IsHeld, IsWrong, IsWrongAtEnter, IsWrongAtExit, NothingIsWrong, StopsAtFirstError, ViolatesFirst, after_a_break, against_a_rule, beginning, break_is_last, enters, exits, held, in_a_sealed_span, row_in_a_row, table_in_a_table, unmatched, value_in_a_value, without_its_byte, without_its_parts, without_its_value}
 use Rattle.markdown_grammar.specs.Refusals.{ErrorAt}
 use Rattle.markdown_steps.specs.Checks.{checked, refused, ◌>>=◌}
 use Rattle.markdown_grammar.specs.Grammar.{Rule, keeps}

@@ -125,11 +125,11 @@ exit_says s x why (without_its_value b k e w) = subst (λ (r : ErrorKind). ExitS
 
 -- ---- Enters
 
--- a rule that is broken is one of the content model's
-pub breaks-takes : (h : ContentModel) (rs : List Rule) (xs : List ItemKind) (why : ErrorKind) → ViolatesFirst h rs xs why → list_all (λ r. keeps r xs) rs ≡ false
-breaks-takes h [] xs why b = absurd b
-breaks-takes h (r ∷ rs) xs why (inl b) = ap (λ k. k && list_all (λ r'. keeps r' xs) rs) b.0
-breaks-takes h (r ∷ rs) xs why (inr b) = (λ t. b.0 t && breaks-takes h rs xs why b.1 t)
+-- where a rule is violated, not all are kept
+pub violation-fails : (h : ContentModel) (rs : List Rule) (xs : List ItemKind) (why : ErrorKind) → ViolatesFirst h rs xs why → list_all (λ r. keeps r xs) rs ≡ false
+violation-fails h [] xs why b = absurd b
+violation-fails h (r ∷ rs) xs why (inl b) = ap (λ k. k && list_all (λ r'. keeps r' xs) rs) b.0
+violation-fails h (r ∷ rs) xs why (inr b) = (λ t. b.0 t && violation-fails h rs xs why b.1 t)
 
 -- the refusals that rules give
 data OfRules (h : ContentModel) (why : ErrorKind) : Type 0 where
@@ -145,10 +145,10 @@ rule-says h (only_before ps test) = misplaced refl
 rule-says h (only_after ps test) = misplaced refl
 rule-says h (only test) = misplaced refl
 
-breaks-say : (h : ContentModel) (rs : List Rule) (xs : List ItemKind) (why : ErrorKind) → ViolatesFirst h rs xs why → OfRules h why
-breaks-say h [] xs why b = absurd b
-breaks-say h (r ∷ rs) xs why (inl b) = subst (λ (w : ErrorKind). OfRules h w) (sym b.1) (rule-says h r)
-breaks-say h (r ∷ rs) xs why (inr b) = breaks-say h rs xs why b.1
+violation-says : (h : ContentModel) (rs : List Rule) (xs : List ItemKind) (why : ErrorKind) → ViolatesFirst h rs xs why → OfRules h why
+violation-says h [] xs why b = absurd b
+violation-says h (r ∷ rs) xs why (inl b) = subst (λ (w : ErrorKind). OfRules h w) (sym b.1) (rule-says h r)
+violation-says h (r ∷ rs) xs why (inr b) = violation-says h rs xs why b.1
 
 -- one more item of a reference, which its marker rule alone refuses, is a value
 value-alone : (xs : List ItemKind) (what : ItemKind) → conforms character_reference xs ≡ true → ViolatesFirst character_reference (rules character_reference) (xs ++ what ∷ []) IncompleteReference → what ≡ part parts.CharacterReferenceValue
@@ -176,17 +176,17 @@ value-alone xs what taken (inr (k, inr (l, inr (m, inl b)))) =
     fourth-of a b c d h = and-left d true (and-right c (d && true) (and-right b (c && (d && true)) (and-right a (b && (c && (d && true))) h)))
 value-alone xs what taken (inr (k, inr (l, inr (m, inr b)))) = absurd b.1
 
-breaks-enter : (s : Source) (site : Site) (what : ItemKind) (a : Point) (why : ErrorKind) → conforms site.initial_model (kinds site.before) ≡ true → ViolatesFirst site.initial_model (rules site.initial_model) (kinds site.before ++ what ∷ []) why → OfRules site.initial_model why → EnterSays s site what a why
-breaks-enter s site what a why taken b (repeated w) = subst (λ (r : ErrorKind). EnterSays s site what a r) (sym w) (breaks-takes site.initial_model (rules site.initial_model) (kinds site.before ++ what ∷ []) why b)
-breaks-enter s site what a why taken b (misplaced w) = subst (λ (r : ErrorKind). EnterSays s site what a r) (sym w) (inl (breaks-takes site.initial_model (rules site.initial_model) (kinds site.before ++ what ∷ []) why b))
-breaks-enter s site what a why taken b (incomplete w h) =
+violation-at-enter : (s : Source) (site : Site) (what : ItemKind) (a : Point) (why : ErrorKind) → conforms site.initial_model (kinds site.before) ≡ true → ViolatesFirst site.initial_model (rules site.initial_model) (kinds site.before ++ what ∷ []) why → OfRules site.initial_model why → EnterSays s site what a why
+violation-at-enter s site what a why taken b (repeated w) = subst (λ (r : ErrorKind). EnterSays s site what a r) (sym w) (violation-fails site.initial_model (rules site.initial_model) (kinds site.before ++ what ∷ []) why b)
+violation-at-enter s site what a why taken b (misplaced w) = subst (λ (r : ErrorKind). EnterSays s site what a r) (sym w) (inl (violation-fails site.initial_model (rules site.initial_model) (kinds site.before ++ what ∷ []) why b))
+violation-at-enter s site what a why taken b (incomplete w h) =
     subst (λ (r : ErrorKind). EnterSays s site what a r) (sym w)
     (value-alone (kinds site.before) what (ap (λ (r : ContentModel). conforms r (kinds site.before)) (sym h) ∙ taken)
     (subst (λ (r : ErrorKind). ViolatesFirst character_reference (rules character_reference) (kinds site.before ++ what ∷ []) r) w (subst (λ (r : ContentModel). ViolatesFirst r (rules r) (kinds site.before ++ what ∷ []) why) h b)))
 
-break-bools : (w l : Bool) → (not w || l) ≡ false → (w ≡ true) × (l ≡ false)
-break-bools true l h = (refl, h)
-break-bools false l h = absurd cc
+break-flags : (w l : Bool) → (not w || l) ≡ false → (w ≡ true) × (l ≡ false)
+break-flags true l h = (refl, h)
+break-flags false l h = absurd cc
 
 byte-says : (s : Source) (what : ItemKind) (a : Point) → (not (is_frontmatter what) || is_some (byte_at s.bytes a)) ≡ false → (what ≡ content contents.Frontmatter) × (byte_at s.bytes a ≡ None)
 byte-says s (content contents.Frontmatter) a h = (refl, is-none (byte_at s.bytes a) h)
@@ -195,7 +195,7 @@ byte-says s (part q) a h = absurd cc
 
 -- what is wrong at an enter is what the refusal says
 pub enter_says : (s : Source) (site : Site) (what : ItemKind) (a : Point) (why : ErrorKind) → conforms site.initial_model (kinds site.before) ≡ true → IsWrongAtEnter s site what a why → EnterSays s site what a why
-enter_says s site what a why taken (after_a_break e w) = subst (λ (r : ErrorKind). EnterSays s site what a r) (sym w) (break-bools (ends_with_break site.before) (is_line_ending what) e)
-enter_says s site what a why taken (against_a_rule k b) = breaks-enter s site what a why taken b (breaks-say site.initial_model (rules site.initial_model) (kinds site.before ++ what ∷ []) why b)
+enter_says s site what a why taken (after_a_break e w) = subst (λ (r : ErrorKind). EnterSays s site what a r) (sym w) (break-flags (ends_with_break site.before) (is_line_ending what) e)
+enter_says s site what a why taken (against_a_rule k b) = violation-at-enter s site what a why taken b (violation-says site.initial_model (rules site.initial_model) (kinds site.before ++ what ∷ []) why b)
 enter_says s site what a why taken (table_in_a_table k l e w) = subst (λ (r : ErrorKind). EnterSays s site what a r) (sym w) (inr e)
 enter_says s site what a why taken (without_its_byte k l m e w) = subst (λ (r : ErrorKind). EnterSays s site what a r) (sym w) (byte-says s what a e)

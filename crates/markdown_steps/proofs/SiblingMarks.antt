@@ -33,18 +33,18 @@ second (span n a b c r) = head r
 
 -- the first of two, or the second where the first is a SpaceOrTab
 abbrev nearest : Sibling → Sibling → Sibling
-nearest near far = cond near.space far near
+nearest last last_but_one = cond last.space last_but_one last
 
 -- the marks see the children last first
-near-is : (f before : Forest) (m : Marks) → head before ≡ m.last → second before ≡ m.last_but_one → (head (reversed_onto before f) ≡ (marks_onto m f).last) × (second (reversed_onto before f) ≡ (marks_onto m f).last_but_one)
-near-is empty before m h k = (h, k)
-near-is (span n a b c r) before m h k = near-is r (span n a b c before) (marks_with m (role_of n) (marks c)) refl h
+marks-are : (f before : Forest) (m : Marks) → head before ≡ m.last → second before ≡ m.last_but_one → (head (reversed_onto before f) ≡ (marks_onto m f).last) × (second (reversed_onto before f) ≡ (marks_onto m f).last_but_one)
+marks-are empty before m h k = (h, k)
+marks-are (span n a b c r) before m h k = marks-are r (span n a b c before) (marks_with m (role_of n) (marks c)) refl h
 
-after-near : (f : Forest) → head (last_first f) ≡ (marks f).last
-after-near f = (near-is f empty no_marks refl refl).0
+last-is : (f : Forest) → head (last_first f) ≡ (marks f).last
+last-is f = (marks-are f empty no_marks refl refl).0
 
-after-far : (f : Forest) → second (last_first f) ≡ (marks f).last_but_one
-after-far f = (near-is f empty no_marks refl refl).1
+last-but-one-is : (f : Forest) → second (last_first f) ≡ (marks f).last_but_one
+last-but-one-is f = (marks-are f empty no_marks refl refl).1
 
 begins-quote : (f : Forest) → begins_with is_quote_prefix f ≡ (head f).quote_prefix
 begins-quote empty = refl
@@ -56,7 +56,7 @@ begins-prefix (span n a b c r) = refl
 
 bare-is : (role : Role) (c : Forest) → is_bare_end role c ≡ bare_by role (marks c).last.quote_prefix
 bare-is (transparent transparents.ListItemPrefix) c = refl
-bare-is (significant (content contents.BlockQuote)) c = begins-quote (last_first c) ∙ ap (λ (x : Sibling). x.quote_prefix) (after-near c)
+bare-is (significant (content contents.BlockQuote)) c = begins-quote (last_first c) ∙ ap (λ (x : Sibling). x.quote_prefix) (last-is c)
 bare-is role c = refl
 
 ends-is : (f : Forest) → ends_bare f ≡ (head f).bare_end
@@ -70,7 +70,7 @@ skipped (span n a b c r) B g k h =
 
 item-bare : (role : Role) (c : Forest) → elim role [ significant (content contents.ListItem) ↦ ends_bare (skip_space (last_first c)) | _ ↦ false ] ≡ item_by role (nearest (marks c).last (marks c).last_but_one).bare_end
 item-bare (significant (content contents.ListItem)) c =
-    skipped (last_first c) Bool ends_bare (λ x. x.bare_end) ends-is ∙ (λ t. (nearest (after-near c t) (after-far c t)).bare_end)
+    skipped (last_first c) Bool ends_bare (λ x. x.bare_end) ends-is ∙ (λ t. (nearest (last-is c t) (last-but-one-is c t)).bare_end)
 item-bare (significant (content contents.Data)) c = refl
 item-bare (transparent transparents.BlankLineEnding) c = refl
 item-bare role c = refl
@@ -98,13 +98,13 @@ blank-is (span n p q kids r) before m counts said k h j c a =
 
 -- whether an item is loose
 pub loose_item-is : (f : Forest) → loose_item f ≡ (marks f).is_loose_item
-loose_item-is f = sym (blank-is f empty no_marks (λ before. not (begins_with is_item_prefix (skip_space before))) (λ m. m.is_loose_item) (λ near far. not (nearest near far).item_prefix) refl refl
+loose_item-is f = sym (blank-is f empty no_marks (λ before. not (begins_with is_item_prefix (skip_space before))) (λ m. m.is_loose_item) (λ last last_but_one. not (nearest last last_but_one).item_prefix) refl refl
     (λ x. ap not (skipped x Bool (begins_with is_item_prefix) (λ y. y.item_prefix) begins-prefix)) (λ y role inner. refl))
 
 -- whether a list is, by its own blank lines
 pub loose-is : (f : Forest) → loose f false ≡ (marks f).is_loose_list
 loose-is f = or-false (some_blank_line (λ before. not (follows_bare_item before)) empty f)
-    ∙ sym (blank-is f empty no_marks (λ before. not (follows_bare_item before)) (λ m. m.is_loose_list) (λ near far. not near.bare_item) refl refl (λ x. ap not (follows-is x)) (λ y role inner. refl))
+    ∙ sym (blank-is f empty no_marks (λ before. not (follows_bare_item before)) (λ m. m.is_loose_list) (λ last last_but_one. not last.bare_item) refl refl (λ x. ap not (follows-is x)) (λ y role inner. refl))
 
 -- ---- The entry of a delimiter cell value
 
@@ -132,4 +132,4 @@ begins-marker empty = refl
 begins-marker (span n a b c r) = refl
 
 pub kind-is : (c : Forest) → align_kind_of (begins_with is_delimiter_marker c) (begins_with is_delimiter_marker (last_first c)) ≡ kind_by (marks c)
-kind-is c = λ t. align_kind_of (begins-first c t) ((begins-marker (last_first c) ∙ ap (λ (x : Sibling). x.marker) (after-near c)) t)
+kind-is c = λ t. align_kind_of (begins-first c t) ((begins-marker (last_first c) ∙ ap (λ (x : Sibling). x.marker) (last-is c)) t)

@@ -5,7 +5,7 @@
 //! a message something is wrong at an event, or left open at the last. So each law here is one about
 //! what it answers.
 
-ghost use Rattle.std.specs.Prelude.{List, ◌≡◌, ◌++◌, ◌∷◌, [], true};
+ghost use Rattle.std.specs.Prelude.{List, ◌≡◌, true};
 ghost use Rattle.markdown_events.specs.Forest.{Forest, events_of};
 ghost use Rattle.markdown_events.specs.declared.event.Event.{Event};
 ghost use Rattle.markdown_events.specs.declared.event.Point.{Point};

@@ -42,14 +42,15 @@ use std::alloc::Global;
 ///   value in another;
 /// - `name-misplaced`: the container does not take the name there;
 /// - `part-repeated`: a part stands again that may stand once;
-/// - `slice-invalid`: a value that is read is no text of the document, or a byte that is read is not
-///   there;
+/// - `slice-invalid`: a value that is read is no text of the document, or a sequence or a byte that is
+///   read is not in it;
 /// - `list-value-invalid`: the value of an item is no number up to 4294967295;
 /// - `list-value-missing`: no item of an ordered list has a value;
 /// - `reference-unknown`: `references` has no text for a character reference;
 /// - `reference-incomplete`: a character reference has no value, or no marker before it;
 /// - `fence-missing`: fenced code or math has no fence;
-/// - `heading-depth`: a heading has no sequence, or an ATX heading one that is not 1 to 6 long;
+/// - `heading-depth`: a heading has no sequence, or an ATX heading has one that is not one to six
+///   bytes long;
 /// - `break-unfinished`: a hard break is not followed by its line ending.
 ///
 /// `Fault::Memory` comes only where the allocator or the decoder had no memory. A refusal hands out

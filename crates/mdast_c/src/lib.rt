@@ -155,7 +155,7 @@ fn unread(number: usize) -> Outcome
     outcome
 }
 
-/// A tree as JSON, which is the caller's from now on, or that memory ran out.
+/// A tree as JSON, whose text is the caller's from now on, or that memory ran out.
 fn compiled(alloc: Global, tree: &Node) -> Outcome
     ensures status { (result.status ≡ 0) ⊎ (result.status ≡ 3) }
     ensures tree { result.status ≡ 0 → result.text.now ≡ json (view tree.now) }

@@ -4,8 +4,8 @@ ghost use Rattle.std.specs.Prelude.{◌≡◌, ℕ, List, IfOk, OnOk, map, optio
 ghost use Rattle.markdown_nodes.specs.Access.{label_of};
 ghost use Rattle.markdown_nodes.specs.View.{view};
 ghost use Rattle.mdast_check.specs.Walk.{walk};
-ghost use Rattle.mdast_check.specs.Known.{HasAll, has, with_one};
-ghost use Rattle.mdast_check.specs.References.{answers, footnote_identifier_of, open_in, definition_identifier_of, refers_to, told};
+ghost use Rattle.mdast_check.specs.Known.{has, with_one};
+ghost use Rattle.mdast_check.specs.References.{definition_identifier_of, footnote_identifier_of, open_in, refers_to, told};
 ghost use Rattle.mdast_check.specs.Asking.{IsKnown, answered, open_node};
 
 use crate::walk::Walk;
@@ -17,9 +17,9 @@ use std::collections::BTreeSet;
 /// What a reference refers to.
 #[derive(Clone, Copy, PartialEq, Eq, Debug)]
 pub enum OpenKind {
-    /// A link, `[a]`, whose URL a definition gives.
+    /// A link, `[a]`, which takes its URL from a definition.
     Link,
-    /// An image, `![a]`, whose URL a definition gives.
+    /// An image, `![a]`, which takes its URL from a definition.
     Image,
     /// A footnote, `[^a]`.
     Footnote,

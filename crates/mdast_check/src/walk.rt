@@ -26,8 +26,7 @@ impl<'a> Walk<'a> {
         Ok(Walk { levels })
     }
 
-    /// The next node, or `None` after the last. After an error it is not to be
-    /// called again.
+    /// The next node, or `None` after the last. After an error it is not to be called again.
     pub fn next(&mut self) -> Result<Option<&'a Node>, AllocError>
         ensures { IfOk result (Yields self.old.levels.items self.new.levels.items) }
     {

@@ -1,5 +1,5 @@
 -- What a run with status 0 wrote.
-use Rattle.std.proofs.Common.{◌≡◌, ℕ, List, ◌++◌, Option, inl, inr, sym, ◌∙◌}
+use Rattle.std.proofs.Common.{◌≡◌, ℕ, List, Option, inl, inr, sym, ◌∙◌}
 use Rattle.std.specs.Prelude.{IfSome, IsSomeAnd, ◌⊎◌}
 use Rattle.std.specs.Io.KnownBytes.{Appends}
 use Rattle.markdown_nodes.specs.View.{view}

@@ -1,12 +1,11 @@
 //! One run of a program that checks a tree.
 
-ghost use Rattle.std.specs.Prelude.{◌≡◌, ◌≢◌, ◌≤◌, List, [], ℕ, codes, IfOk, IfSome, IsSomeAnd, string_bytes};
+ghost use Rattle.std.specs.Prelude.{◌≡◌, ◌≢◌, ◌≤◌, List, [], ℕ, codes, IfOk, string_bytes};
 ghost use Rattle.std.specs.Io.KnownBytes.{IsAtEnd, Appends};
 ghost use Rattle.markdown_nodes.specs.declared.mdast.Node.{Node};
 ghost use Rattle.mdast_check.specs.References.{open_in};
 ghost use Rattle.mdast_check.specs.Report.{IsReport};
 ghost use Rattle.mdast_programs.specs.Check.{IsChecked};
-ghost use Rattle.mdast_programs.specs.Run;
 ghost use Rattle.mdast_programs.specs.Run.{IsRefusedWith, Means};
 ghost use Rattle.mdast_programs.specs.declared.run.Answer.TheVariants as answers;
 ghost use Rattle.markdown_nodes.specs.View.{view};

@@ -52,7 +52,7 @@ impl Program {
         }
     }
 
-    /// The line where memory ran out, which takes none: `mdast_json: out of memory`.
+    /// The line for memory that ran out, which needs no memory: `mdast_json: out of memory`.
     pub fn out_of_memory(self) -> &'static str
         ensures { result.now ≡ memory_line self }
     {

@@ -1,6 +1,6 @@
 //! One run of the program.
 
-ghost use Rattle.std.specs.Prelude.{◌≡◌, ◌≢◌, ◌⊎◌, ◌≤◌, [], List, ℕ, codes, IfOk, IfSome, IsSome, IsSomeAnd, string_bytes};
+ghost use Rattle.std.specs.Prelude.{◌≡◌, ◌≢◌, ◌⊎◌, ◌≤◌, [], List, ℕ, codes, IfOk, IfSome, IsSome, string_bytes};
 ghost use Rattle.std.specs.Io.KnownBytes.{IsAtEnd, Appends};
 ghost use Rattle.markdown_nodes.specs.declared.mdast.Node.{Node};
 ghost use Rattle.mdast_programs.specs.Run;

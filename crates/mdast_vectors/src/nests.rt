@@ -1,4 +1,4 @@
-//! Values that stand in one another.
+//! A stack that is never empty.
 
 use crate::expect::same;
 use nest::Nest;

@@ -6,10 +6,8 @@ ghost use Rattle.markdown_nodes.specs.declared.mdast.Node.TheVariants as nodes;
 ghost use Rattle.markdown_nodes.specs.View.{view, views};
 
 use crate::mdast::{
-    AlignKind, Blockquote, Break, Code, Definition, Delete, Emphasis, FootnoteDefinition,
-    FootnoteReference, Heading, Html, Image, ImageReference, InlineCode, InlineMath, Link,
-    LinkReference, List, ListItem, Math, Node, Paragraph, Root, Strong, Table, TableCell, TableRow,
-    Text, ThematicBreak, Toml, Yaml,
+    AlignKind, Blockquote, Delete, Emphasis, FootnoteDefinition, Heading, Link, LinkReference,
+    List, ListItem, Node, Paragraph, Root, Strong, Table, TableCell, TableRow,
 };
 use std::alloc::{AllocError, Global};
 

@@ -3,7 +3,7 @@ use Rattle.std.specs.Str.{bytes_eq}
 use Rattle.markdown_nodes.specs.View.{view}
 use Rattle.mdast_check.specs.Known.{has}
 use Rattle.mdast_check.specs.Levels.{to_come}
-use Rattle.mdast_check.specs.References.{answers, footnote_identifier_of, definition_identifier_of}
+use Rattle.mdast_check.specs.References.{answers, definition_identifier_of, footnote_identifier_of}
 use Rattle.mdast_check.specs.Walk.{walk}
 use Rattle.mdast_check.specs.declared.references.OpenKind.TheVariants.{Link, Footnote}
 use Rattle.mdast_check.proofs.Gathering.{gathers}
