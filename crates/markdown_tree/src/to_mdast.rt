@@ -130,11 +130,13 @@ fn compile_list<R: References>(
         + run_visits (source bytes.now (R.text references.now)) steps.old.events opening }
 {
     let Taken { context, length } = take_all(alloc, steps, &Document::new(bytes), references)?;
-    if let Some(error_kind) = context.unfinished() {
+    let violated = context.unfinished();
+    let children = context.into_nodes();
+    if let Some(error_kind) = violated {
         return Err(Stop::Refused(error_kind).at(last_point(steps, length)));
     }
     Ok(Node::Root(Root {
-        children: context.into_nodes(),
+        children,
         position: Some(root_position(steps, length)),
     }))
 }
@@ -166,6 +168,8 @@ fn take_all<'a, 'e, R: References>(
     let mut index = 0;
     while let Some(event) = steps.read(index) {
         if let Err(stop) = context.step(alloc, steps, document, references, event) {
+            // The prover takes a drop that is not written apart, field by field.
+            drop(context);
             return Err(stop.at(event.point));
         }
         index += 1;

@@ -11,15 +11,15 @@ use Rattle.markdown_context.specs.States.{state_of}
 use Rattle.markdown_tree.proofs.Answered.{left_fails, no_leaf_open, root_nodes, some_event, tree_gives}
 use Rattle.markdown_tree.proofs.to_mdast.compile_list.Goals as goal
 
-pub unfinished-requires : goal.unfinished-requires
-unfinished-requires g c none =
+pub unfinished-violated-requires : goal.unfinished-violated-requires
+unfinished-violated-requires g c none =
     let ran = ap (λ (b : List ℕ). run (source b (g.R.References.text c.args.references.now)) c.args.steps.now.events opening) (sym c.new.ensures) ∙ c.in_ok-context.ensures.gives in
     no_leaf_open (source c.args.bytes.now (g.R.References.text c.args.references.now)) c.args.steps.now.events c.in_ok-context.field-0.context ran none
 
 pub last_point-requires-clause-some : goal.last_point-requires-clause-some
 last_point-requires-clause-some g c =
     let ran = ap (λ (b : List ℕ). run (source b (g.R.References.text c.args.references.now)) c.args.steps.now.events opening) (sym c.new.ensures) ∙ c.in_ok-context.ensures.gives in
-    let some = some_event (source c.args.bytes.now (g.R.References.text c.args.references.now)) c.args.steps.now.events (state_of c.in_ok-context.field-0.context) c.in-Some.error_kind ran (sym c.unfinished.ensures ∙ c.in-Some.is) in
+    let some = some_event (source c.args.bytes.now (g.R.References.text c.args.references.now)) c.args.steps.now.events (state_of c.in_ok-context.field-0.context) c.in-Some.error_kind ran (sym c.unfinished-violated.ensures ∙ c.in-Some.is) in
     let count = c.in_ok-context.ensures.length in
     omega (arith, some, count)
 
@@ -27,13 +27,13 @@ pub returns-in-Some-clause-gives : goal.returns-in-Some-clause-gives
 returns-in-Some-clause-gives g c =
     let ran = ap (λ (b : List ℕ). run (source b (g.R.References.text c.args.references.now)) c.args.steps.now.events opening) (sym c.new.ensures) ∙ c.in_ok-context.ensures.gives in
     left_fails c.at.result (source c.args.bytes.now (g.R.References.text c.args.references.now)) c.args.steps.now.events (state_of c.in_ok-context.field-0.context) c.in-Some.error_kind c.last_point.result
-    ran (sym c.unfinished.ensures ∙ c.in-Some.is)
+    ran (sym c.unfinished-violated.ensures ∙ c.in-Some.is)
     (c.last_point.ensures.point ∙ ap (λ (es : List Event). point_of (last_event es)) c.take_all.ensures.list) c.at.ensures
 
 pub returns-in-Some-clause-empty : goal.returns-in-Some-clause-empty
 returns-in-Some-clause-empty g c none =
     let ran = ap (λ (b : List ℕ). run (source b (g.R.References.text c.args.references.now)) c.args.steps.now.events opening) (sym c.new.ensures) ∙ c.in_ok-context.ensures.gives in
-    let some = some_event (source c.args.bytes.now (g.R.References.text c.args.references.now)) c.args.steps.now.events (state_of c.in_ok-context.field-0.context) c.in-Some.error_kind ran (sym c.unfinished.ensures ∙ c.in-Some.is) in
+    let some = some_event (source c.args.bytes.now (g.R.References.text c.args.references.now)) c.args.steps.now.events (state_of c.in_ok-context.field-0.context) c.in-Some.error_kind ran (sym c.unfinished-violated.ensures ∙ c.in-Some.is) in
     let gone = ap (λ (es : List Event). length es) none in
     let z : ⊥ = omega (arith, some, gone) in
     absurd z
@@ -41,7 +41,7 @@ returns-in-Some-clause-empty g c none =
 pub returns-in-Some-clause-bound : goal.returns-in-Some-clause-bound
 returns-in-Some-clause-bound g c =
     let ran = ap (λ (b : List ℕ). run (source b (g.R.References.text c.args.references.now)) c.args.steps.now.events opening) (sym c.new.ensures) ∙ c.in_ok-context.ensures.gives in
-    let some = some_event (source c.args.bytes.now (g.R.References.text c.args.references.now)) c.args.steps.now.events (state_of c.in_ok-context.field-0.context) c.in-Some.error_kind ran (sym c.unfinished.ensures ∙ c.in-Some.is) in
+    let some = some_event (source c.args.bytes.now (g.R.References.text c.args.references.now)) c.args.steps.now.events (state_of c.in_ok-context.field-0.context) c.in-Some.error_kind ran (sym c.unfinished-violated.ensures ∙ c.in-Some.is) in
     let same = ap (λ (b : List ℕ). run_visits (source b (g.R.References.text c.args.references.now)) c.args.steps.now.events opening) c.new.ensures in
     let taken = c.take_all.ensures.bound in
     let last = c.last_point.ensures.count in
@@ -50,8 +50,8 @@ returns-in-Some-clause-bound g c =
 pub returns-clause-gives : goal.returns-clause-gives
 returns-clause-gives g c =
     let ran = ap (λ (b : List ℕ). run (source b (g.R.References.text c.args.references.now)) c.args.steps.now.events opening) (sym c.new.ensures) ∙ c.in_ok-context.ensures.gives in
-    let none = sym c.unfinished.ensures ∙ c.in_default.is in
+    let none = sym c.unfinished-violated.ensures ∙ c.in_default.is in
     tree_gives (source c.args.bytes.now (g.R.References.text c.args.references.now)) c.args.steps.now.events (state_of c.in_ok-context.field-0.context)
-    (record { children = c.into_nodes.result; position = Some c.root_position.result }) ran none
-    (ap (λ (v : Vec Node Global). views v.items) c.into_nodes.ensures ∙ root_nodes (source c.args.bytes.now (g.R.References.text c.args.references.now)) c.args.steps.now.events c.in_ok-context.field-0.context ran none)
+    (record { children = c.into_nodes-children.result; position = Some c.root_position.result }) ran none
+    (ap (λ (v : Vec Node Global). views v.items) c.into_nodes-children.ensures ∙ root_nodes (source c.args.bytes.now (g.R.References.text c.args.references.now)) c.args.steps.now.events c.in_ok-context.field-0.context ran none)
     (ap (λ (p : Position). Some p) (c.root_position.ensures.position ∙ ap extent_of c.take_all.ensures.list))
