@@ -168,8 +168,6 @@ fn take_all<'a, 'e, R: References>(
     let mut index = 0;
     while let Some(event) = steps.read(index) {
         if let Err(stop) = context.step(alloc, steps, document, references, event) {
-            // The prover takes a drop that is not written apart, field by field.
-            drop(context);
             return Err(stop.at(event.point));
         }
         index += 1;
