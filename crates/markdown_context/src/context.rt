@@ -239,8 +239,7 @@ impl<'a, 'e> Context<'a, 'e> {
         ensures { result ≡ (innermost self.entry.containers).nodes }
     {
         let Context { containers, .. } = self;
-        let OpenContainer { nodes, .. } = containers.into_innermost();
-        nodes
+        containers.into_innermost().into_nodes()
     }
 
     /// Opens a span.
@@ -478,7 +477,7 @@ impl<'a, 'e> Context<'a, 'e> {
         let Some(own) = self.containers.inner.pop() else {
             unreachable!()
         };
-        let OpenContainer { nodes, .. } = own;
+        let nodes = own.into_nodes();
         self.in_table = frame.in_table;
         self.containers
             .innermost_mut()

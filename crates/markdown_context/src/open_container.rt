@@ -352,6 +352,14 @@ impl<'a> OpenContainer<'a> {
 }
 
 impl OpenContainer<'_> {
+    /// The nodes made in it, once the span has ended.
+    pub fn into_nodes(self) -> Vec<Node>
+        ensures { result ≡ self.entry.nodes }
+    {
+        let OpenContainer { nodes, .. } = self;
+        nodes
+    }
+
     /// Takes a parent that has ended, of which nothing but nodes is kept.
     pub fn take_parent(
         &mut self,

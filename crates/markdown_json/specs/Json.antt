@@ -8,8 +8,8 @@ use Rattle.markdown_events.specs.declared.unist.Point.{Point}
 use Rattle.markdown_events.specs.declared.unist.Position.{Position}
 use Rattle.markdown_nodes.specs.Shown.{bool_text}
 use Rattle.markdown_nodes.specs.Written.{Notation, written}
-use Rattle.markdown_nodes.specs.declared.mdast.ReferenceKind.{ReferenceKind}
-use Rattle.markdown_nodes.specs.declared.mdast.ReferenceKind.TheVariants.{Shortcut, Collapsed, Full}
+use Rattle.markdown_leaves.specs.declared.ReferenceKind.{ReferenceKind}
+use Rattle.markdown_leaves.specs.declared.ReferenceKind.TheVariants.{Shortcut, Collapsed, Full}
 use Rattle.markdown_nodes.specs.Tree.{Label, Tree, root, paragraph, blockquote, emphasis, strong, delete, table_row, table_cell, thematic_break, «break», text, html, inline_code, inline_math, yaml, toml, heading, list, list_item, table, code, math, link, image, link_reference, image_reference, footnote_reference, footnote_definition, definition}
 use Rattle.markdown_json.specs.Strings.{string}
 

@@ -3,7 +3,6 @@ mod CopyingLevels
 mod Dropping
 pub mod Levels
 mod Items
-mod Quoting
 mod ReadingLevels
 mod Sizes
 pub mod WritingLevels

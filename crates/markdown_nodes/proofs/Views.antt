@@ -11,30 +11,30 @@ use Rattle.markdown_nodes.specs.declared.mdast.Root.{Root}
 use Rattle.markdown_nodes.specs.declared.mdast.Blockquote.{Blockquote}
 use Rattle.markdown_nodes.specs.declared.mdast.FootnoteDefinition.{FootnoteDefinition}
 use Rattle.markdown_nodes.specs.declared.mdast.List.{List as ListNode}
-use Rattle.markdown_nodes.specs.declared.mdast.Toml.{Toml}
-use Rattle.markdown_nodes.specs.declared.mdast.Yaml.{Yaml}
-use Rattle.markdown_nodes.specs.declared.mdast.Break.{Break}
-use Rattle.markdown_nodes.specs.declared.mdast.InlineCode.{InlineCode}
-use Rattle.markdown_nodes.specs.declared.mdast.InlineMath.{InlineMath}
+use Rattle.markdown_leaves.specs.declared.Toml.{Toml}
+use Rattle.markdown_leaves.specs.declared.Yaml.{Yaml}
+use Rattle.markdown_leaves.specs.declared.Break.{Break}
+use Rattle.markdown_leaves.specs.declared.InlineCode.{InlineCode}
+use Rattle.markdown_leaves.specs.declared.InlineMath.{InlineMath}
 use Rattle.markdown_nodes.specs.declared.mdast.Delete.{Delete}
 use Rattle.markdown_nodes.specs.declared.mdast.Emphasis.{Emphasis}
-use Rattle.markdown_nodes.specs.declared.mdast.FootnoteReference.{FootnoteReference}
-use Rattle.markdown_nodes.specs.declared.mdast.Html.{Html}
-use Rattle.markdown_nodes.specs.declared.mdast.Image.{Image}
-use Rattle.markdown_nodes.specs.declared.mdast.ImageReference.{ImageReference}
+use Rattle.markdown_leaves.specs.declared.FootnoteReference.{FootnoteReference}
+use Rattle.markdown_leaves.specs.declared.Html.{Html}
+use Rattle.markdown_leaves.specs.declared.Image.{Image}
+use Rattle.markdown_leaves.specs.declared.ImageReference.{ImageReference}
 use Rattle.markdown_nodes.specs.declared.mdast.Link.{Link}
 use Rattle.markdown_nodes.specs.declared.mdast.LinkReference.{LinkReference}
 use Rattle.markdown_nodes.specs.declared.mdast.Strong.{Strong}
-use Rattle.markdown_nodes.specs.declared.mdast.Text.{Text}
-use Rattle.markdown_nodes.specs.declared.mdast.Code.{Code}
-use Rattle.markdown_nodes.specs.declared.mdast.Math.{Math}
+use Rattle.markdown_leaves.specs.declared.Text.{Text}
+use Rattle.markdown_leaves.specs.declared.Code.{Code}
+use Rattle.markdown_leaves.specs.declared.Math.{Math}
 use Rattle.markdown_nodes.specs.declared.mdast.Heading.{Heading}
 use Rattle.markdown_nodes.specs.declared.mdast.Table.{Table}
-use Rattle.markdown_nodes.specs.declared.mdast.ThematicBreak.{ThematicBreak}
+use Rattle.markdown_leaves.specs.declared.ThematicBreak.{ThematicBreak}
 use Rattle.markdown_nodes.specs.declared.mdast.TableRow.{TableRow}
 use Rattle.markdown_nodes.specs.declared.mdast.TableCell.{TableCell}
 use Rattle.markdown_nodes.specs.declared.mdast.ListItem.{ListItem}
-use Rattle.markdown_nodes.specs.declared.mdast.Definition.{Definition}
+use Rattle.markdown_leaves.specs.declared.Definition.{Definition}
 use Rattle.markdown_nodes.specs.declared.mdast.Paragraph.{Paragraph}
 use Rattle.markdown_nodes.specs.Tree.{Trees, nothing, before, root, paragraph, blockquote, emphasis, strong, delete, table_row, table_cell, thematic_break, «break», text, html, inline_code, inline_math, yaml, toml, heading, list, list_item, table, code, math, link, image, link_reference, image_reference, footnote_reference, footnote_definition, definition}
 use Rattle.markdown_nodes.specs.View.{view, row_view, views}

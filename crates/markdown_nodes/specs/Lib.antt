@@ -4,8 +4,6 @@ pub mod Labels
 pub mod Access
 pub mod Lends
 pub mod Freeing
-pub mod ReferenceKinds
-pub mod Quoted
 pub mod Written
 pub mod Shown
 pub mod Equality

@@ -6,10 +6,10 @@ use Rattle.markdown_events.specs.declared.infer.AlignKind.{AlignKind}
 use Rattle.markdown_events.specs.declared.unist.Position.{Position}
 use Rattle.markdown_events.specs.Alignments.{alignment_name}
 use Rattle.markdown_events.specs.Places.{position_text}
-use Rattle.markdown_nodes.specs.Quoted.{quoted}
+use Rattle.quoted.specs.Quoted.{quoted}
 use Rattle.markdown_nodes.specs.Written.{Notation, written}
-use Rattle.markdown_nodes.specs.declared.mdast.ReferenceKind.{ReferenceKind}
-use Rattle.markdown_nodes.specs.ReferenceKinds.{reference_kind_name}
+use Rattle.markdown_leaves.specs.declared.ReferenceKind.{ReferenceKind}
+use Rattle.markdown_leaves.specs.ReferenceKinds.{reference_kind_name}
 use Rattle.markdown_nodes.specs.Tree.{Label, Tree, root, paragraph, blockquote, emphasis, strong, delete, table_row, table_cell, thematic_break, «break», text, html, inline_code, inline_math, yaml, toml, heading, list, list_item, table, code, math, link, image, link_reference, image_reference, footnote_reference, footnote_definition, definition}
 
 -- true or false

@@ -4,7 +4,7 @@ use Rattle.std.specs.Fmt.{decimal}
 use Rattle.std.specs.List.{flat_map}
 use Rattle.markdown_events.specs.declared.unist.Position.{Position}
 use Rattle.markdown_events.specs.Places.{position_text}
-use Rattle.markdown_nodes.specs.Quoted.{quoted}
+use Rattle.quoted.specs.Quoted.{quoted}
 use Rattle.markdown_nodes.specs.Tree.{Tree}
 use Rattle.mdast_check.specs.declared.references.OpenKind.{OpenKind}
 use Rattle.mdast_check.specs.declared.references.OpenKind.TheVariants.{Link, Image, Footnote}

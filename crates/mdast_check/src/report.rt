@@ -1,7 +1,7 @@
 //! What is found in a tree, as lines of text.
 
 ghost use Rattle.std.specs.Prelude.{◌≡◌, ◌++◌, ◌↔◌, [], IfOk, IsFalse, OnOk, map, string_bytes};
-ghost use Rattle.markdown_nodes.specs.Quoted.{members};
+ghost use Rattle.quoted.specs.Quoted.{members};
 ghost use Rattle.markdown_nodes.specs.View.{view};
 ghost use Rattle.mdast_check.specs.References.{open_in, told};
 ghost use Rattle.mdast_check.specs.Report.{

@@ -5,7 +5,6 @@ ghost use Rattle.std.specs.Prelude.{◌≡◌, ◌⊎◌, ◌++◌, ℕ, Bool, [
 ghost use Rattle.markdown_events.specs.Places.{position_text};
 ghost use Rattle.markdown_nodes.specs.Access.{label_of, nodes_in, position_of};
 ghost use Rattle.markdown_nodes.specs.Labels.{code_label, definition_label, image_label, image_reference_label};
-ghost use Rattle.markdown_nodes.specs.Quoted.{members, quoted};
 ghost use Rattle.markdown_nodes.specs.Shown.{
   align_field,
   association_of,
@@ -26,12 +25,13 @@ ghost use Rattle.markdown_nodes.specs.Shown.{
 };
 ghost use Rattle.markdown_nodes.specs.Tree.{«break», thematic_break};
 ghost use Rattle.markdown_nodes.specs.View.{view};
+ghost use Rattle.quoted.specs.Quoted.{members, quoted};
 
 use crate::mdast::escapes::escapes_of;
-use crate::mdast::quoted::write_quoted;
 use crate::mdast::{
     AlignKind, Code, Definition, Image, ImageReference, List, ListItem, Node, ReferenceKind,
 };
+use quoted::write_quoted;
 use std::alloc::Global;
 use std::collections::BTreeSet;
 use std::fmt;

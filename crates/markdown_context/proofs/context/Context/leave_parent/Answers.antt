@@ -1,7 +1,9 @@
-use Rattle.std.proofs.Common.{refl}
+use Rattle.std.proofs.Common.{Global, Vec, refl, subst}
 use Rattle.markdown_events.specs.declared.role.ItemKind.TheVariants.{Content as content}
 use Rattle.nest.specs.Nest.{with_innermost}
 use Rattle.markdown_context.specs.declared.context.Context.{Context}
+use Rattle.markdown_context.specs.Takings.{TakesParent}
+use Rattle.markdown_nodes.specs.declared.mdast.Node.{Node}
 use Rattle.nest.specs.declared.Nest.{Nest}
 use Rattle.markdown_context.specs.declared.open_container.OpenContainer.{OpenContainer}
 use Rattle.nest.proofs.Nesting.{taken_out}
@@ -15,7 +17,8 @@ returns-clause-gives c =
     let new : Context = record c.args.self.now { containers = with_innermost rest c.take_parent.new.self; in_table = c.args.frame.in_table } in
     on_ok c.take_parent.result _ _
     (λ takes s. parent_taken s c.args.content c.args.frame c.args.end.now c.args.self.now new rest c.in-Some.own c.innermost_mut.result.now c.take_parent.new.self
-    c.requires.«open» c.requires.settled c.requires.container (taken_out _ _ _ c.in-Some.ensures.items) c.innermost_mut.ensures.value refl refl refl refl takes)
+    c.requires.«open» c.requires.settled c.requires.container (taken_out _ _ _ c.in-Some.ensures.items) c.innermost_mut.ensures.value refl refl refl refl
+    (subst (λ (nodes : Vec Node Global). TakesParent c.args.content c.args.frame.start.now c.args.end.now nodes c.innermost_mut.result.now c.take_parent.new.self) c.into_nodes-nodes.ensures takes))
     c.take_parent.ensures
 
 pub returns-clause-closed : goal.returns-clause-closed

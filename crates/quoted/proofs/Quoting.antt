@@ -7,7 +7,7 @@ use Rattle.std.specs.Char.{is_ascii}
 use Rattle.std.specs.List.{list_all}
 use Rattle.std.proofs.lemmas.Bool.Decides.{nat_tests}
 use Rattle.std.proofs.lemmas.Bool.{and_parts}
-use Rattle.markdown_nodes.specs.Quoted.{escaped, is_plain, quoted, unicode_escape}
+use Rattle.quoted.specs.Quoted.{escaped, is_plain, quoted, unicode_escape}
 
 module _ (escapes : ℕ → Bool) where
   pub escaped_ascii : (c : ℕ) → c < 128 → escaped escapes c ≡ debug_escape 34 c

@@ -4,9 +4,9 @@ use Rattle.std.proofs.lemmas.Grind.{flat_map-append}
 use Rattle.std.proofs.lemmas.Iterator.{YieldsList-from_chars}
 use Rattle.std.proofs.lemmas.Iterator.Consumers.{YieldsList-end}
 use Rattle.std.proofs.Output.{has_written_append, has_written_of_eq}
-use Rattle.markdown_nodes.specs.Quoted.{escaped}
-use Rattle.markdown_nodes.proofs.Quoting.{quoted_ascii, quoted_plain}
-use Rattle.markdown_nodes.proofs.mdast.quoted.write_quoted.Goals as goal
+use Rattle.quoted.specs.Quoted.{escaped}
+use Rattle.quoted.proofs.Quoting.{quoted_ascii, quoted_plain}
+use Rattle.quoted.proofs.write_quoted.Goals as goal
 
 pub returns-then-is_plain : goal.returns-then-is_plain
 returns-then-is_plain g c = rw (quoted_plain (contains nat_cmp c.args.escapes.now) c.args.text.now (sym c.is_plain.ensures ∙ c.if-is_plain.true)) at c.write_plain.ensures

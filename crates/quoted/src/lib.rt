@@ -1,10 +1,11 @@
 //! Texts between quotes, as Debug writes them.
+#![tactic(auto)]
 
 ghost use Rattle.std.specs.Fmt.{WritesOnOk};
 ghost use Rattle.std.specs.Prelude.{◌≡◌, ◌<◌, ◌≤◌, ◌++◌, ◌||◌, ◌==◌, IfOk, Some, codes, nat_lt, string_bytes};
 ghost use Rattle.std.specs.List.{list_all};
-ghost use Rattle.markdown_nodes.specs.Quoted;
-ghost use Rattle.markdown_nodes.specs.Quoted.{escaped, members, quoted};
+ghost use Rattle.quoted.specs.Quoted;
+ghost use Rattle.quoted.specs.Quoted.{escaped, members, quoted};
 
 use std::alloc::{AllocError, Global};
 use std::collections::BTreeSet;
@@ -27,9 +28,9 @@ impl fmt::Debug for EscapedText<'_> {
 
 /// A text between quotes, as `{:?}` writes it.
 ///
-/// `escapes` are the characters beyond ASCII that stand as their Unicode escape: those that
-/// [`escapes_of`](crate::mdast::escapes_of) gives for the tree that the text is from. The only error
-/// is that memory ran out.
+/// `escapes` are the characters beyond ASCII that stand as their Unicode escape, which std's Debug
+/// chooses, and its contract leaves open: for the texts of a syntax tree, `escapes_of` of
+/// `markdown_nodes` gives them. The only error is that memory ran out.
 ///
 /// A line feed is written as a backslash and an `n`, so the text stands on one line.
 pub fn quote(text: &str, escapes: &BTreeSet<char>, alloc: Global) -> Result<String, AllocError>
@@ -39,8 +40,10 @@ pub fn quote(text: &str, escapes: &BTreeSet<char>, alloc: Global) -> Result<Stri
     format!(in alloc; "{whole:?}")
 }
 
-/// Writes a text between quotes. `escapes` are the characters beyond ASCII that stand as their
-/// Unicode escape.
+/// Writes a text between quotes, as [`quote`] gives it. `escapes` are the characters beyond ASCII that
+/// stand as their Unicode escape. The only error is that of the writer.
+///
+/// For the text `a` it writes `"a"`.
 pub fn write_quoted<W: fmt::Write>(
     text: &str,
     escapes: &BTreeSet<char>,

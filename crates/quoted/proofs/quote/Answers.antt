@@ -1,5 +1,5 @@
 use Rattle.std.proofs.Common.{rules}
-use Rattle.markdown_nodes.proofs.mdast.quoted.quote.Goals as goal
+use Rattle.quoted.proofs.quote.Goals as goal
 
 pub returns : goal.returns
 returns c = search rules

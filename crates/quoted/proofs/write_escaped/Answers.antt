@@ -2,9 +2,9 @@ use Rattle.std.proofs.Common.{sym, ap, ◌∙◌, true, false, nat_cmp, arith}
 use Rattle.std.specs.BTreeSet.{contains}
 use Rattle.std.proofs.Output.{has_written_of_eq}
 use Rattle.std.specs.Fmt.{debug_escape}
-use Rattle.markdown_nodes.specs.Quoted.{escaped}
-use Rattle.markdown_nodes.proofs.Quoting.{escaped_plain}
-use Rattle.markdown_nodes.proofs.mdast.quoted.write_escaped.Goals as goal
+use Rattle.quoted.specs.Quoted.{escaped}
+use Rattle.quoted.proofs.Quoting.{escaped_plain}
+use Rattle.quoted.proofs.write_escaped.Goals as goal
 
 pub returns-then-is_unicode_escaped : goal.returns-then-is_unicode_escaped
 returns-then-is_unicode_escaped g c = λ plain ok. has_written_of_eq _ _ _ _ _ (sym (escaped_plain (contains nat_cmp c.args.escapes.now) c.args.c true (λ e. omega arith) (λ e. omega arith) (λ e. omega arith) (λ e. omega arith) (λ e. omega arith) (λ e. omega arith) (λ low. sym c.if-is_unicode_escaped.true ∙ c.is_unicode_escaped.ensures.ascii low) (λ high. sym c.if-is_unicode_escaped.true ∙ c.is_unicode_escaped.ensures.other high))) ((rw c.in_radix.ensures at c.write.ensures.writes) plain ok)
