@@ -129,7 +129,20 @@ fn compile_list<R: References>(
     ensures bound { steps.new.count ≤ steps.old.count + 4 * length steps.old.events
         + run_visits (source bytes.now (R.text references.now)) steps.old.events opening }
 {
-    let Taken { context, length } = take_all(alloc, steps, &Document::new(bytes), references)?;
+    let mut context = Context::new(alloc);
+    let length = match take_all(
+        &mut context,
+        alloc,
+        steps,
+        &Document::new(bytes),
+        references,
+    ) {
+        Ok(length) => length,
+        Err(fault) => {
+            drop(context);
+            return Err(fault);
+        }
+    };
     let violated = context.unfinished();
     let children = context.into_nodes();
     if let Some(error_kind) = violated {
@@ -141,30 +154,25 @@ fn compile_list<R: References>(
     }))
 }
 
-/// What all events made, and how many there are.
-#[derive(Drop)]
-struct Taken<'a, 'e> {
-    context: Context<'a, 'e>,
-    length: usize,
-}
-
-/// Takes all events, one after the other. It stays out of its callers, whose code would crowd the loop.
+/// Takes all events, one after the other, and says how many there are. It stays out of its callers, whose
+/// code would crowd the loop.
 #[inline(never)]
 fn take_all<'a, 'e, R: References>(
+    context: &mut Context<'a, 'e>,
     alloc: Global,
     steps: &mut Steps<'e>,
     document: &Document<'a>,
     references: &R,
-) -> Result<Taken<'a, 'e>, Fault>
-    ensures gives { Completes (λ taken. state_of taken.context) result
+) -> Result<usize, Fault>
+    requires { state_of context.old ≡ opening }
+    ensures gives { Completes (λ _. state_of context.new) result
         (run (source document.now (R.text references.now)) steps.old.events opening) }
     ensures empty { steps.old.events ≡ [] → IsOk result }
-    ensures length { IfOk result (λ taken. taken.length ≡ length steps.old.events) }
+    ensures length { IfOk result (λ count. count ≡ length steps.old.events) }
     ensures list { steps.new.events ≡ steps.old.events }
     ensures bound { steps.new.count ≤ steps.old.count + 2 * length steps.old.events
         + run_visits (source document.now (R.text references.now)) steps.old.events opening }
 {
-    let mut context = Context::new(alloc);
     let mut index = 0;
     while let Some(event) = steps.read(index) {
         if let Err(stop) = context.step(alloc, steps, document, references, event) {
@@ -172,10 +180,7 @@ fn take_all<'a, 'e, R: References>(
         }
         index += 1;
     }
-    Ok(Taken {
-        context,
-        length: index,
-    })
+    Ok(index)
 }
 
 /// The point of the last event, where there is one.
