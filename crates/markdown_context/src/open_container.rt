@@ -353,6 +353,7 @@ impl<'a> OpenContainer<'a> {
 
 impl OpenContainer<'_> {
     /// The nodes made in it, once the span has ended.
+    #[inline(always)]
     pub fn into_nodes(self) -> Vec<Node>
         ensures { result ≡ self.entry.nodes }
     {

@@ -129,14 +129,8 @@ fn compile_list<R: References>(
     ensures bound { steps.new.count ≤ steps.old.count + 4 * length steps.old.events
         + run_visits (source bytes.now (R.text references.now)) steps.old.events opening }
 {
-    let mut context = Context::new(alloc);
-    let length = match take_all(
-        &mut context,
-        alloc,
-        steps,
-        &Document::new(bytes),
-        references,
-    ) {
+    let Taken { context, length } = take_all(alloc, steps, &Document::new(bytes), references);
+    let length = match length {
         Ok(length) => length,
         Err(fault) => {
             drop(context);
@@ -154,33 +148,45 @@ fn compile_list<R: References>(
     }))
 }
 
-/// Takes all events, one after the other, and says how many there are. It stays out of its callers, whose
-/// code would crowd the loop.
+/// What the events came to that were taken, and how many they are, where none was refused.
+#[derive(Drop)]
+struct Taken<'a, 'e> {
+    context: Context<'a, 'e>,
+    length: Result<usize, Fault>,
+}
+
+/// Takes all events, one after the other. It stays out of its callers, whose code would crowd the loop, and
+/// hands the context out in any case, so that the loop has nothing to drop.
 #[inline(never)]
 fn take_all<'a, 'e, R: References>(
-    context: &mut Context<'a, 'e>,
     alloc: Global,
     steps: &mut Steps<'e>,
     document: &Document<'a>,
     references: &R,
-) -> Result<usize, Fault>
-    requires { state_of context.old ≡ opening }
-    ensures gives { Completes (λ _. state_of context.new) result
+) -> Taken<'a, 'e>
+    ensures gives { Completes (λ _. state_of result.context) result.length
         (run (source document.now (R.text references.now)) steps.old.events opening) }
-    ensures empty { steps.old.events ≡ [] → IsOk result }
-    ensures length { IfOk result (λ count. count ≡ length steps.old.events) }
+    ensures empty { steps.old.events ≡ [] → IsOk result.length }
+    ensures length { IfOk result.length (λ count. count ≡ length steps.old.events) }
     ensures list { steps.new.events ≡ steps.old.events }
     ensures bound { steps.new.count ≤ steps.old.count + 2 * length steps.old.events
         + run_visits (source document.now (R.text references.now)) steps.old.events opening }
 {
+    let mut context = Context::new(alloc);
     let mut index = 0;
     while let Some(event) = steps.read(index) {
         if let Err(stop) = context.step(alloc, steps, document, references, event) {
-            return Err(stop.at(event.point));
+            return Taken {
+                context,
+                length: Err(stop.at(event.point)),
+            };
         }
         index += 1;
     }
-    Ok(index)
+    Taken {
+        context,
+        length: Ok(index),
+    }
 }
 
 /// The point of the last event, where there is one.
