@@ -74,14 +74,33 @@ not_false : (b c : Bool) → c ≡ not b → c ≡ false → b ≡ true
 not_false true c e h = refl
 not_false false c e h = let wrong : true ≡ false = sym e ∙ h in absurd cc
 
--- where no leaf is open and no break is in the way, the first misfit is that of the container
-pub misfit_of_context : (s : Source) (c : Context) (what : ItemKind) (point : Point) (cut : Bool) (r : ErrorKind)
-    → c.is_leaf ≡ false → cut ≡ not (not (is_some c.pending) || is_line_ending what) → cut ≡ false → Some r ≡ misfit_of (innermost c.containers).container what
-    → Some r ≡ first_failing (enter_checks s (top_of c) what point)
-misfit_of_context s c what point cut r no_leaf is_cut uncut found =
-    let others : List (Bool × ErrorKind) = (not (c.in_table && is_table what), Misplaced) ∷ (not (is_frontmatter what) || is_some (byte_at s.bytes point), InvalidSlice) ∷ [] in
-    let waits : Bool = not (is_some c.pending) || is_line_ending what in
-    sym ((λ t. first_failing (enter_checks s (cond (no_leaf t) (fresh leaf (leaf_place c.in_table)) (kept_top c)) what point))
-    ∙ ap (λ (b : Bool). cond b (first_failing (rule_checks (initial_model_of (innermost c.containers).container) (rules (initial_model_of (innermost c.containers).container)) (kept_top c).inner what others)) (Some UnfinishedBreak)) (not_false waits cut is_cut uncut)
-    ∙ misfit_first (innermost c.containers).container (kept_top c).inner what others refl
-    ∙ ap (λ (o : Option ErrorKind). option_or o (first_failing others)) (sym found))
+not_true : (b c : Bool) → c ≡ not b → c ≡ true → b ≡ false
+not_true false c e h = refl
+not_true true c e h = let wrong : true ≡ false = sym h ∙ e in absurd cc
+
+-- the tests of an item after those of its container
+abbrev pub checks_after : Source → Bool → ItemKind → Point → List (Bool × ErrorKind)
+checks_after s in_table what point = (not (in_table && is_table what), Misplaced) ∷ (not (is_frontmatter what) || is_some (byte_at s.bytes point), InvalidSlice) ∷ []
+
+-- in a leaf nothing may stand
+pub misfit_of_leaf : (s : Source) (c : Context) (what : ItemKind) (point : Point) → c.is_leaf ≡ true → Some Misplaced ≡ first_failing (enter_checks s (top_of c) what point)
+misfit_of_leaf s c what point is_leaf = λ t. first_failing (enter_checks s (cond (sym is_leaf t) (fresh leaf (leaf_place c.in_table)) (kept_top c)) what point)
+
+-- where no leaf is open, a break in the way comes first, then the container, and then what is around it
+without_leaf : (s : Source) (c : Context) (what : ItemKind) (point : Point) (waits : Bool) → c.is_leaf ≡ false → (not (is_some c.pending) || is_line_ending what) ≡ waits
+    → first_failing (enter_checks s (top_of c) what point) ≡ cond waits (option_or (misfit_of (innermost c.containers).container what) (first_failing (checks_after s c.in_table what point))) (Some UnfinishedBreak)
+without_leaf s c what point waits no_leaf same =
+    (λ t. first_failing (enter_checks s (cond (no_leaf t) (fresh leaf (leaf_place c.in_table)) (kept_top c)) what point))
+    ∙ ap (λ (o : Option ErrorKind). cond (not (is_some c.pending) || is_line_ending what) o (Some UnfinishedBreak)) (misfit_first (innermost c.containers).container (kept_top c).inner what (checks_after s c.in_table what point) refl)
+    ∙ ap (λ (b : Bool). cond b (option_or (misfit_of (innermost c.containers).container what) (first_failing (checks_after s c.in_table what point))) (Some UnfinishedBreak)) same
+
+pub misfit_of_break : (s : Source) (c : Context) (what : ItemKind) (point : Point) (cut : Bool)
+    → c.is_leaf ≡ false → cut ≡ not (not (is_some c.pending) || is_line_ending what) → cut ≡ true → Some UnfinishedBreak ≡ first_failing (enter_checks s (top_of c) what point)
+misfit_of_break s c what point cut no_leaf is_cut cuts = sym (without_leaf s c what point false no_leaf (not_true (not (is_some c.pending) || is_line_ending what) cut is_cut cuts))
+
+pub misfit_of_context : (s : Source) (c : Context) (what : ItemKind) (point : Point) (cut : Bool) (found : Option ErrorKind)
+    → c.is_leaf ≡ false → cut ≡ not (not (is_some c.pending) || is_line_ending what) → cut ≡ false → found ≡ misfit_of (innermost c.containers).container what
+    → option_or found (first_failing (checks_after s c.in_table what point)) ≡ first_failing (enter_checks s (top_of c) what point)
+misfit_of_context s c what point cut found no_leaf is_cut uncut same =
+    ap (λ (o : Option ErrorKind). option_or o (first_failing (checks_after s c.in_table what point))) same
+    ∙ sym (without_leaf s c what point true no_leaf (not_false (not (is_some c.pending) || is_line_ending what) cut is_cut uncut))

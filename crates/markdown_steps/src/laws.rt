@@ -45,7 +45,6 @@ ghost use Rattle.markdown_grammar.specs.declared.error_kind.ErrorKind.TheVariant
 /// is `a*b`.
 ///
 /// It holds of every forest, accepted or not.
-#[tactic(auto, using(crate::proofs::Merged::no_text_after_text))]
 pub fn no_text_after_text()
     ensures { (s : Source) (f : Forest) → NoTextAfterText (only (meaning s f)) }
 {}
@@ -58,7 +57,6 @@ pub fn no_text_after_text()
 /// The Text of the document `Hi` has a position that is printed as `1:1-1:3 (0-2)`.
 ///
 /// It holds of every forest, accepted or not.
-#[tactic(auto, using(crate::proofs::ConsequencesOfFields::positions))]
 pub fn every_node_has_a_position()
     ensures { (s : Source) (f : Forest) → Everywhere HasPosition (only (meaning s f)) }
 {}
@@ -70,7 +68,6 @@ pub fn every_node_has_a_position()
 /// Only an accepted forest is sure to have the signs or the underline.
 ///
 /// `### a` gives a Heading of depth 3, and `a` above `---` one of depth 2.
-#[tactic(auto, using(crate::proofs::ConsequencesOfFields::depths))]
 pub fn heading_depths_are_one_to_six()
     ensures { (s : Source) (f : Forest) → Accepted s f → Everywhere HasDepthToSix (only (meaning s f)) }
 {}
@@ -83,7 +80,6 @@ pub fn heading_depths_are_one_to_six()
 /// number.
 ///
 /// `3. a` gives a List with the `start` 3, and `* a` one without.
-#[tactic(auto, using(crate::proofs::ConsequencesOfFields::starts))]
 pub fn lists_have_a_start_when_ordered()
     ensures { (s : Source) (f : Forest) → Accepted s f → Everywhere HasStartIfOrdered (only (meaning s f)) }
 {}
@@ -98,7 +94,6 @@ pub fn lists_have_a_start_when_ordered()
 /// The delimiter row `| :-- | - |` gives `AlignKind::Left` and `AlignKind::None`.
 ///
 /// In a forest that is not accepted a cell value may stand in another, and has no entry there.
-#[tactic(auto, using(crate::proofs::ConsequencesOfTables::columns))]
 pub fn tables_have_an_alignment_for_each_column()
     ensures { (s : Source) (f : Forest) → Accepted s f → Everywhere (HasColumnsOf f) (only (meaning s f)) }
 {}
@@ -111,7 +106,6 @@ pub fn tables_have_an_alignment_for_each_column()
 /// `<https://a.b>` gives a Link to `https://a.b` with that address as its one Text.
 ///
 /// It holds of every item of a forest, accepted or not, wherever it stands.
-#[tactic(auto, using(crate::proofs::ConsequencesOfLinks::links))]
 pub fn autolinks_give_links()
     ensures { (s : Source) (p : Place) (what : ItemKind) (start end : Point) (children : Forest) (inner rest : Items)
         → is_autolink what ≡ true
@@ -128,7 +122,6 @@ pub fn autolinks_give_links()
 /// other refusal comes there. The reasons are ours.
 ///
 /// A second `LabelText` in a Link is refused by `part-repeated`.
-#[tactic(auto, using(crate::proofs::Sayings::enter_says))]
 pub fn refused_enters_are_as_said()
     ensures { (s : Source) (site : Site) (what : ItemKind) (start : Point) (why : ErrorKind)
         → conforms site.initial_model (kinds site.before) ≡ true
@@ -145,7 +138,6 @@ pub fn refused_enters_are_as_said()
 /// ours.
 ///
 /// An ordered list in which no item has a value is refused by `list-value-missing`.
-#[tactic(auto, using(crate::proofs::Sayings::exit_says))]
 pub fn refused_exits_are_as_said()
     ensures { (s : Source) (x : Occurrence) (why : ErrorKind) → IsWrongAtExit s x why → ExitSays s x why }
 {}
