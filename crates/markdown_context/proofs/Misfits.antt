@@ -70,13 +70,10 @@ pub left_none : (x y : Option ErrorKind) → option_or x y ≡ None → x ≡ No
 left_none None y h = refl
 left_none (Some w) y h = let z : ⊥ = cc in absurd z
 
-not_false : (b c : Bool) → c ≡ not b → c ≡ false → b ≡ true
-not_false true c e h = refl
-not_false false c e h = let wrong : true ≡ false = sym e ∙ h in absurd cc
-
-not_true : (b c : Bool) → c ≡ not b → c ≡ true → b ≡ false
-not_true false c e h = refl
-not_true true c e h = let wrong : true ≡ false = sym h ∙ e in absurd cc
+-- what does not fail, passes
+not_not : (b : Bool) → b ≡ not (not b)
+not_not true = refl
+not_not false = refl
 
 -- the tests of an item after those of its container
 abbrev pub checks_after : Source → Bool → ItemKind → Point → List (Bool × ErrorKind)
@@ -86,21 +83,46 @@ checks_after s in_table what point = (not (in_table && is_table what), Misplaced
 pub misfit_of_leaf : (s : Source) (c : Context) (what : ItemKind) (point : Point) → c.is_leaf ≡ true → Some Misplaced ≡ first_failing (enter_checks s (top_of c) what point)
 misfit_of_leaf s c what point is_leaf = λ t. first_failing (enter_checks s (cond (sym is_leaf t) (fresh leaf (leaf_place c.in_table)) (kept_top c)) what point)
 
--- where no leaf is open, a break in the way comes first, then the container, and then what is around it
-without_leaf : (s : Source) (c : Context) (what : ItemKind) (point : Point) (waits : Bool) → c.is_leaf ≡ false → (not (is_some c.pending) || is_line_ending what) ≡ waits
-    → first_failing (enter_checks s (top_of c) what point) ≡ cond waits (option_or (misfit_of (innermost c.containers).container what) (first_failing (checks_after s c.in_table what point))) (Some UnfinishedBreak)
-without_leaf s c what point waits no_leaf same =
+-- where no leaf is open, a break that is cut off comes first, then the container, and then what is around it
+without_leaf : (s : Source) (c : Context) (what : ItemKind) (point : Point) (cut : Bool) → c.is_leaf ≡ false → cut ≡ not (not (is_some c.pending) || is_line_ending what)
+    → first_failing (enter_checks s (top_of c) what point) ≡ cond (not cut) (option_or (misfit_of (innermost c.containers).container what) (first_failing (checks_after s c.in_table what point))) (Some UnfinishedBreak)
+without_leaf s c what point cut no_leaf is_cut =
     (λ t. first_failing (enter_checks s (cond (no_leaf t) (fresh leaf (leaf_place c.in_table)) (kept_top c)) what point))
     ∙ ap (λ (o : Option ErrorKind). cond (not (is_some c.pending) || is_line_ending what) o (Some UnfinishedBreak)) (misfit_first (innermost c.containers).container (kept_top c).inner what (checks_after s c.in_table what point) refl)
-    ∙ ap (λ (b : Bool). cond b (option_or (misfit_of (innermost c.containers).container what) (first_failing (checks_after s c.in_table what point))) (Some UnfinishedBreak)) same
+    ∙ ap (λ (b : Bool). cond b (option_or (misfit_of (innermost c.containers).container what) (first_failing (checks_after s c.in_table what point))) (Some UnfinishedBreak)) (not_not _ ∙ ap not (sym is_cut))
 
+-- a break that is cut off comes first
 pub misfit_of_break : (s : Source) (c : Context) (what : ItemKind) (point : Point) (cut : Bool)
     → c.is_leaf ≡ false → cut ≡ not (not (is_some c.pending) || is_line_ending what) → cut ≡ true → Some UnfinishedBreak ≡ first_failing (enter_checks s (top_of c) what point)
-misfit_of_break s c what point cut no_leaf is_cut cuts = sym (without_leaf s c what point false no_leaf (not_true (not (is_some c.pending) || is_line_ending what) cut is_cut cuts))
+misfit_of_break s c what point cut no_leaf is_cut cuts =
+    sym (without_leaf s c what point cut no_leaf is_cut ∙ ap (λ (b : Bool). cond (not b) (option_or (misfit_of (innermost c.containers).container what) (first_failing (checks_after s c.in_table what point))) (Some UnfinishedBreak)) cuts)
 
+-- else what the container says comes, and then the tests after it
 pub misfit_of_context : (s : Source) (c : Context) (what : ItemKind) (point : Point) (cut : Bool) (found : Option ErrorKind)
     → c.is_leaf ≡ false → cut ≡ not (not (is_some c.pending) || is_line_ending what) → cut ≡ false → found ≡ misfit_of (innermost c.containers).container what
     → option_or found (first_failing (checks_after s c.in_table what point)) ≡ first_failing (enter_checks s (top_of c) what point)
 misfit_of_context s c what point cut found no_leaf is_cut uncut same =
     ap (λ (o : Option ErrorKind). option_or o (first_failing (checks_after s c.in_table what point))) same
-    ∙ sym (without_leaf s c what point true no_leaf (not_false (not (is_some c.pending) || is_line_ending what) cut is_cut uncut))
+    ∙ sym (without_leaf s c what point cut no_leaf is_cut ∙ ap (λ (b : Bool). cond (not b) (option_or (misfit_of (innermost c.containers).container what) (first_failing (checks_after s c.in_table what point))) (Some UnfinishedBreak)) uncut)
+
+-- whether a span is frontmatter, and no byte of the document stands where it begins
+abbrev pub lacks_first_byte : Source → ItemKind → Point → Bool
+lacks_first_byte s what point = is_frontmatter what && not (is_some (byte_at s.bytes point))
+
+-- what the last two tests come to
+abbrev pub last_misfit : Bool → Bool → Option ErrorKind
+last_misfit nests lacks = cond (not nests) (cond (not lacks) None (Some InvalidSlice)) (Some Misplaced)
+
+one_or_other : (b c : Bool) → (not b || c) ≡ not (b && not c)
+one_or_other true c = not_not c
+one_or_other false c = refl
+
+-- where the container says nothing, they decide
+pub misfit_of_rest : (s : Source) (c : Context) (what : ItemKind) (point : Point) (cut nests lacks : Bool)
+    → c.is_leaf ≡ false → cut ≡ not (not (is_some c.pending) || is_line_ending what) → cut ≡ false → None ≡ misfit_of (innermost c.containers).container what
+    → nests ≡ (c.in_table && is_table what) → lacks ≡ lacks_first_byte s what point
+    → last_misfit nests lacks ≡ first_failing (enter_checks s (top_of c) what point)
+misfit_of_rest s c what point cut nests lacks no_leaf is_cut uncut fits does_nest does_lack =
+    (λ t. last_misfit (does_nest t) (does_lack t))
+    ∙ ap (λ (b : Bool). cond (not (c.in_table && is_table what)) (cond b None (Some InvalidSlice)) (Some Misplaced)) (sym (one_or_other (is_frontmatter what) (is_some (byte_at s.bytes point))))
+    ∙ misfit_of_context s c what point cut None no_leaf is_cut uncut fits

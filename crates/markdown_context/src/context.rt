@@ -1,6 +1,6 @@
 //! The open spans of a list of events, and what each event does to them.
 
-ghost use Rattle.std.specs.Prelude.{◌≡◌, ◌≤◌, ◌+◌, ◌||◌, None, Ok, OnOk, [], false, is_some, not, true};
+ghost use Rattle.std.specs.Prelude.{◌≡◌, ◌≤◌, ◌+◌, ◌&&◌, ◌||◌, None, Ok, OnOk, [], false, is_some, not, true};
 ghost use Rattle.markdown_events.specs.Names.{role_of};
 ghost use Rattle.markdown_events.specs.declared.role.ItemKind.TheVariants as item_kinds;
 ghost use Rattle.markdown_events.specs.declared.role.Role.TheVariants as roles;
@@ -12,6 +12,7 @@ ghost use Rattle.markdown_context.specs.declared.container.Container.TheVariants
 ghost use Rattle.markdown_context.specs.Containers.{misfit_of};
 ghost use Rattle.nest.specs.Nest.{innermost};
 ghost use Rattle.markdown_grammar.specs.Items as Kinds;
+ghost use Rattle.markdown_grammar.specs.Document as Documents;
 ghost use Rattle.markdown_grammar.specs.Document.{Source, source};
 ghost use Rattle.markdown_context.specs.States.{
   Begun,
@@ -100,6 +101,14 @@ fn is_table(what: ItemKind) -> bool
     matches!(what, ItemKind::Content(Content::Table))
 }
 
+/// Whether a span is frontmatter, and no byte of the document stands where it begins.
+#[inline(always)]
+fn lacks_first_byte(document: &Document<'_>, what: ItemKind, point: &Point) -> bool
+    ensures { result ≡ (Kinds.is_frontmatter what && not (is_some (Documents.byte_at document.now point.now))) }
+{
+    matches!(what, ItemKind::Content(Content::Frontmatter)) && byte_at(document, *point).is_none()
+}
+
 impl<'a, 'e> Context<'a, 'e> {
     /// Before the first event.
     pub fn new(alloc: Global) -> Context<'a, 'e>
@@ -140,6 +149,14 @@ impl<'a, 'e> Context<'a, 'e> {
         self.in_table || is_table(what)
     }
 
+    /// Whether a span is a table in a table.
+    #[inline(always)]
+    fn nests_table(&self, what: ItemKind) -> bool
+        ensures { result ≡ (self.now.in_table && Kinds.is_table what) }
+    {
+        self.in_table && is_table(what)
+    }
+
     /// The rule of the innermost container that a significant span violates, if it violates one.
     fn container_misfit(&self, what: ItemKind) -> Option<ErrorKind>
         ensures { result ≡ misfit_of (innermost self.now.containers).container what }
@@ -161,15 +178,13 @@ impl<'a, 'e> Context<'a, 'e> {
         if let Some(error_kind) = self.container_misfit(what) {
             return Some(error_kind);
         }
-        if self.in_table && is_table(what) {
+        if self.nests_table(what) {
             return Some(ErrorKind::Misplaced);
         }
-        match what {
-            ItemKind::Content(Content::Frontmatter) if byte_at(document, *point).is_none() => {
-                Some(ErrorKind::InvalidSlice)
-            }
-            _ => None,
+        if lacks_first_byte(document, what, point) {
+            return Some(ErrorKind::InvalidSlice);
         }
+        None
     }
 
     /// Opens a significant span, if the innermost container takes it, and says whether it is a leaf.

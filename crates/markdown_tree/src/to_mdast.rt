@@ -129,8 +129,8 @@ fn compile_list<R: References>(
     ensures bound { steps.new.count ≤ steps.old.count + 4 * length steps.old.events
         + run_visits (source bytes.now (R.text references.now)) steps.old.events opening }
 {
-    let Taken { context, length } = take_all(alloc, steps, &Document::new(bytes), references);
-    let length = match length {
+    let Taken { context, outcome } = take_all(alloc, steps, &Document::new(bytes), references);
+    let length = match outcome {
         Ok(length) => length,
         Err(fault) => {
             drop(context);
@@ -148,11 +148,12 @@ fn compile_list<R: References>(
     }))
 }
 
-/// What the events came to that were taken, and how many they are, where none was refused.
+/// The context after the last event that was taken, and how many events there are, or why one of them
+/// was refused.
 #[derive(Drop)]
 struct Taken<'a, 'e> {
     context: Context<'a, 'e>,
-    length: Result<usize, Fault>,
+    outcome: Result<usize, Fault>,
 }
 
 /// Takes all events, one after the other. It stays out of its callers, whose code would crowd the loop, and
@@ -164,10 +165,10 @@ fn take_all<'a, 'e, R: References>(
     document: &Document<'a>,
     references: &R,
 ) -> Taken<'a, 'e>
-    ensures gives { Completes (λ _. state_of result.context) result.length
+    ensures gives { Completes (λ _. state_of result.context) result.outcome
         (run (source document.now (R.text references.now)) steps.old.events opening) }
-    ensures empty { steps.old.events ≡ [] → IsOk result.length }
-    ensures length { IfOk result.length (λ count. count ≡ length steps.old.events) }
+    ensures empty { steps.old.events ≡ [] → IsOk result.outcome }
+    ensures length { IfOk result.outcome (λ count. count ≡ length steps.old.events) }
     ensures list { steps.new.events ≡ steps.old.events }
     ensures bound { steps.new.count ≤ steps.old.count + 2 * length steps.old.events
         + run_visits (source document.now (R.text references.now)) steps.old.events opening }
@@ -178,14 +179,14 @@ fn take_all<'a, 'e, R: References>(
         if let Err(stop) = context.step(alloc, steps, document, references, event) {
             return Taken {
                 context,
-                length: Err(stop.at(event.point)),
+                outcome: Err(stop.at(event.point)),
             };
         }
         index += 1;
     }
     Taken {
         context,
-        length: Ok(index),
+        outcome: Ok(index),
     }
 }
 

@@ -18,17 +18,29 @@ const COLON: (usize, Name) = (3, Name::GfmTableDelimiterMarker);
 
 const LINE: (usize, Name) = (3, Name::GfmTableDelimiterFiller);
 
-const COLONS: [(usize, Name); 17] = [
-    TABLE, ROW, VALUE, LINE, VALUE, COLON, LINE, VALUE, LINE, COLON, VALUE, COLON, LINE, COLON,
-    VALUE, COLON, VALUE,
+/// Outlines that begin with a table, and how its columns are aligned: by the colons of each cell of its
+/// own first row, and in no other way where it has none.
+pub static TABLES: [(&[(usize, Name)], &[AlignKind]); 3] = [
+    (
+        &[
+            TABLE, ROW, VALUE, LINE, VALUE, COLON, LINE, VALUE, LINE, COLON, VALUE, COLON, LINE,
+            COLON, VALUE, COLON, VALUE,
+        ],
+        &[
+            AlignKind::None,
+            AlignKind::Left,
+            AlignKind::Right,
+            AlignKind::Center,
+            AlignKind::Center,
+            AlignKind::None,
+        ],
+    ),
+    (&[TABLE, TABLE, ROW, VALUE], &[]),
+    (
+        &[TABLE, ROW, VALUE, COLON, ROW, VALUE, LINE, VALUE, LINE],
+        &[AlignKind::Center],
+    ),
 ];
-
-const NO_ROW: [(usize, Name); 4] = [TABLE, TABLE, ROW, VALUE];
-
-const SECOND_ROW: [(usize, Name); 9] = [TABLE, ROW, VALUE, COLON, ROW, VALUE, LINE, VALUE, LINE];
-
-/// The tables of the tests here.
-pub const TABLES: [&[(usize, Name)]; 3] = [&COLONS, &NO_ROW, &SECOND_ROW];
 
 /// How the columns of the table that begins at this index are aligned, if one begins there.
 pub fn table_align(
@@ -50,8 +62,8 @@ pub fn table_align(
     }
 }
 
-// The table of this outline is aligned so.
-fn aligned(
+/// The table of an outline is aligned so.
+fn is_aligned(
     rt: &impl Abort,
     alloc: Global,
     outline: &[(usize, Name)],
@@ -59,32 +71,14 @@ fn aligned(
 ) -> Result<(), AllocError> {
     let events = spelled(alloc, outline)?;
     let kinds = table_align(alloc, events.as_slice(), 0)?;
-    holds(
-        rt,
-        matches!(&kinds, Some(kinds) if kinds.as_slice() == want),
-    );
+    holds(rt, kinds.as_deref() == Some(want));
     Ok(())
 }
 
 #[test]
-fn colons_align_a_column(rt: HostRuntime) -> Result<(), AllocError> {
-    let want = [
-        AlignKind::None,
-        AlignKind::Left,
-        AlignKind::Right,
-        AlignKind::Center,
-        AlignKind::Center,
-        AlignKind::None,
-    ];
-    aligned(&rt, rt.alloc(), &COLONS, &want)
-}
-
-#[test]
-fn a_table_without_its_row_has_no_column(rt: HostRuntime) -> Result<(), AllocError> {
-    aligned(&rt, rt.alloc(), &NO_ROW, &[])
-}
-
-#[test]
-fn a_second_row_aligns_nothing(rt: HostRuntime) -> Result<(), AllocError> {
-    aligned(&rt, rt.alloc(), &SECOND_ROW, &[AlignKind::Center])
+fn colons_in_its_first_row_align_a_table(rt: HostRuntime) -> Result<(), AllocError> {
+    for (outline, want) in &TABLES {
+        is_aligned(&rt, rt.alloc(), outline, want)?;
+    }
+    Ok(())
 }

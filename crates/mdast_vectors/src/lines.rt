@@ -136,20 +136,32 @@ fn expect_json_request<R: Abort + AllocGlobal>(
     prints(rt, rt.alloc(), &found, request)
 }
 
+/// Arguments of `mdast_json`, and what they ask for.
+static JSON_REQUESTS: [(Option<&str>, Option<&str>, Option<&str>, &str); 6] = [
+    (Some("hi.md"), None, None, "Some((Json(Bytes), \"hi.md\"))"),
+    (
+        Some("--utf16"),
+        Some("hi.md"),
+        None,
+        "Some((Json(Utf16), \"hi.md\"))",
+    ),
+    (
+        Some("--utf16"),
+        None,
+        None,
+        "Some((Json(Bytes), \"--utf16\"))",
+    ),
+    (Some("hi.md"), Some("hi.md"), None, "None"),
+    (Some("--utf16"), Some("hi.md"), Some("hi.md"), "None"),
+    (None, None, None, "None"),
+];
+
 #[test]
 fn takes_a_document_and_an_option(rt: HostRuntime) -> Result<(), AllocError> {
-    let doc = Some("hi.md");
-    expect_json_request(&rt, [doc, None, None], "Some((Json(Bytes), \"hi.md\"))")?;
-    let option = Some("--utf16");
-    expect_json_request(&rt, [option, doc, None], "Some((Json(Utf16), \"hi.md\"))")?;
-    expect_json_request(
-        &rt,
-        [option, None, None],
-        "Some((Json(Bytes), \"--utf16\"))",
-    )?;
-    expect_json_request(&rt, [doc, doc, None], "None")?;
-    expect_json_request(&rt, [option, doc, doc], "None")?;
-    expect_json_request(&rt, [None, None, None], "None")
+    for (first, second, third, request) in &JSON_REQUESTS {
+        expect_json_request(&rt, [*first, *second, *third], request)?;
+    }
+    Ok(())
 }
 
 /// In `é!` the text of the second character is at the byte offset 2, and at the offset 1 in units.
@@ -245,17 +257,33 @@ fn own(alloc: Global, argument: Option<&str>) -> Result<Option<String>, AllocErr
     }
 }
 
+/// Arguments of `mdast_show`, and what they ask for.
+static REQUESTS: [(Option<&str>, Option<&str>, Option<&str>, &str); 7] = [
+    (None, None, None, "None"),
+    (Some("hi.md"), None, None, "Some(Show(\"hi.md\"))"),
+    (Some("--check"), None, None, "Some(Show(\"--check\"))"),
+    (
+        Some("--check"),
+        Some("hi.md"),
+        None,
+        "Some(Check(\"hi.md\"))",
+    ),
+    (
+        Some("--check"),
+        Some("--check"),
+        None,
+        "Some(Check(\"--check\"))",
+    ),
+    (Some("hi.md"), Some("--check"), None, "None"),
+    (Some("--check"), Some("hi.md"), Some("hi.md"), "None"),
+];
+
 #[test]
 fn tells_what_the_arguments_ask_for(rt: HostRuntime) -> Result<(), AllocError> {
-    let doc = Some("hi.md");
-    let check = Some("--check");
-    expect_request(&rt, [None, None, None], "None")?;
-    expect_request(&rt, [doc, None, None], "Some(Show(\"hi.md\"))")?;
-    expect_request(&rt, [check, None, None], "Some(Show(\"--check\"))")?;
-    expect_request(&rt, [check, doc, None], "Some(Check(\"hi.md\"))")?;
-    expect_request(&rt, [check, check, None], "Some(Check(\"--check\"))")?;
-    expect_request(&rt, [doc, check, None], "None")?;
-    expect_request(&rt, [check, doc, doc], "None")
+    for (first, second, third, request) in &REQUESTS {
+        expect_request(&rt, [*first, *second, *third], request)?;
+    }
+    Ok(())
 }
 
 #[test]

@@ -10,7 +10,6 @@ use markdown_nodes::mdast::{List, ListItem, Node, Paragraph, Root};
 use markdown_nodes::unist::Position;
 use markdown_tree::to_mdast::{References, compile};
 use std::alloc::{AllocError, Global};
-use std::process::Abort;
 use std::test::Fail;
 
 /// A decoder that gives one space for every value.
@@ -52,11 +51,12 @@ fn root(children: Vec<Node>) -> Node {
     })
 }
 
-/// A root of five bytes with paragraphs at these positions.
-fn paragraphs(alloc: Global, positions: &[Option<Position>]) -> Result<Node, AllocError> {
+/// A root of five bytes with paragraphs between these bytes, or nowhere.
+fn paragraphs(alloc: Global, places: &[Option<(usize, usize)>]) -> Result<Node, AllocError> {
     let mut children = Vec::new(alloc);
-    for position in positions {
-        children.push(paragraph(alloc, *position))?;
+    for place in places {
+        let position = place.and_then(|(start, end)| between(start, end));
+        children.push(paragraph(alloc, position))?;
     }
     Ok(root(children))
 }
@@ -110,10 +110,9 @@ fn the_first_paragraph_of_a_checked_item_starts_after_its_end(rt: HostRuntime) -
     Ok(())
 }
 
-/// So may that paragraph alone, and even it may not end after its item.
+/// Even that paragraph may not end after its item.
 #[test]
-fn only_the_first_paragraph_of_a_checked_item_may_do_so(rt: HostRuntime) -> Result<(), AllocError> {
-    are_ordered(&rt, rt.alloc(), &[between(6, 5)], false)?;
+fn the_first_paragraph_of_a_checked_item_ends_in_it(rt: HostRuntime) -> Result<(), AllocError> {
     let tree = checked_item(rt.alloc(), between(6, 6))?;
     holds(&rt, !ordered(&tree));
     Ok(())
@@ -141,37 +140,30 @@ fn paragraphs_in_falling_order(rt: HostRuntime) -> Result<(), Fail> {
     Ok(())
 }
 
-/// Whether a root with paragraphs at these positions is ordered is said so.
-fn are_ordered(
-    rt: &impl Abort,
-    alloc: Global,
-    positions: &[Option<Position>],
-    want: bool,
-) -> Result<(), AllocError> {
-    let tree = paragraphs(alloc, positions)?;
-    same(rt, ordered(&tree), want);
+/// Where the paragraphs in a root of five bytes stand, and whether the root is ordered: each has a
+/// position, begins and ends in the root, does not end before it begins, and does not begin before an
+/// earlier one ends.
+static PARAGRAPHS: [(&[Option<(usize, usize)>], bool); 7] = [
+    (&[Some((0, 5))], true),
+    (&[Some((0, 1)), None], false),
+    (&[Some((0, 6))], false),
+    (&[Some((6, 5))], false),
+    (&[Some((4, 3))], false),
+    (&[Some((0, 2)), Some((2, 3)), Some((3, 4))], true),
+    (&[Some((0, 2)), Some((2, 3)), Some((1, 4))], false),
+];
+
+#[test]
+fn paragraphs_nest_and_stand_in_order(rt: HostRuntime) -> Result<(), AllocError> {
+    for (places, want) in &PARAGRAPHS {
+        let tree = paragraphs(rt.alloc(), places)?;
+        same(&rt, ordered(&tree), *want);
+    }
     Ok(())
 }
 
 #[test]
-fn a_node_without_a_position(rt: HostRuntime) -> Result<(), AllocError> {
+fn a_node_has_a_position(rt: HostRuntime) {
     holds(&rt, ordered(&paragraph(rt.alloc(), between(0, 1))));
     holds(&rt, !ordered(&paragraph(rt.alloc(), None)));
-    are_ordered(&rt, rt.alloc(), &[between(0, 1), None], false)
-}
-
-#[test]
-fn a_node_that_leaves_its_parent(rt: HostRuntime) -> Result<(), AllocError> {
-    are_ordered(&rt, rt.alloc(), &[between(0, 5)], true)?;
-    are_ordered(&rt, rt.alloc(), &[between(0, 6)], false)?;
-    are_ordered(&rt, rt.alloc(), &[between(4, 3)], false)
-}
-
-/// The third begins before the first ends, and the second does not.
-#[test]
-fn siblings_out_of_order(rt: HostRuntime) -> Result<(), AllocError> {
-    let in_order = [between(0, 2), between(2, 3), between(3, 4)];
-    are_ordered(&rt, rt.alloc(), &in_order, true)?;
-    let out_of_order = [between(0, 2), between(2, 3), between(1, 4)];
-    are_ordered(&rt, rt.alloc(), &out_of_order, false)
 }

@@ -56,22 +56,24 @@ fn expect<R: Abort + AllocGlobal>(
     Ok(())
 }
 
-#[test]
-fn names_turned_answers(rt: HostRuntime) -> Result<(), AllocError> {
-    let table =
-        "row a\n\"a\"\nData 0-1\n! slice-invalid 1:1 (0)\n\ncase 7\ndoc\n= Root { children: [] }\n";
-    let said =
-        "x: row a gives = Root { children: [Text { value: \"a\", position: Some(1:1-1:2 (0-1)) }], position: Some(1:1-1:2 (0-1)) }\nx: case 7 gives = Root { children: [], position: Some(1:1-1:1 (0-0)) }\nx: 2 cases, 2 not as they must be\n";
-    expect(&rt, &[("x", table)], said, 1)
-}
+/// Tables that are not as they must be, and what is said of each.
+static TURNED: [(&str, &str); 2] = [
+    (
+        "row a\n\"a\"\nData 0-1\n! slice-invalid 1:1 (0)\n\ncase 7\ndoc\n= Root { children: [] }\n",
+        "x: row a gives = Root { children: [Text { value: \"a\", position: Some(1:1-1:2 (0-1)) }], position: Some(1:1-1:2 (0-1)) }\nx: case 7 gives = Root { children: [], position: Some(1:1-1:1 (0-0)) }\nx: 2 cases, 2 not as they must be\n",
+    ),
+    (
+        "row a\n\"a\"\nData 0-1\n= Root { children: [Text { value: \"a\", position: Some(1:1-1:2 (0-1)) }], position: Some(1:1-1:2 (0-1)) }\nordered no\n\nrow b\n\"ab\"\nParagraph 1-2, Paragraph 0-1\n= Root { children: [Paragraph { children: [], position: Some(1:2-1:3 (1-2)) }, Paragraph { children: [], position: Some(1:1-1:2 (0-1)) }], position: Some(1:2-1:2 (1-1)) }\nordered yes\n",
+        "x: row a gives a tree that is ordered\nx: row b gives a tree that is not ordered\nx: 2 cases, 2 not as they must be\n",
+    ),
+];
 
 #[test]
-fn names_turned_orders(rt: HostRuntime) -> Result<(), AllocError> {
-    let table =
-        "row a\n\"a\"\nData 0-1\n= Root { children: [Text { value: \"a\", position: Some(1:1-1:2 (0-1)) }], position: Some(1:1-1:2 (0-1)) }\nordered no\n\nrow b\n\"ab\"\nParagraph 1-2, Paragraph 0-1\n= Root { children: [Paragraph { children: [], position: Some(1:2-1:3 (1-2)) }, Paragraph { children: [], position: Some(1:1-1:2 (0-1)) }], position: Some(1:2-1:2 (1-1)) }\nordered yes\n";
-    let said =
-        "x: row a gives a tree that is ordered\nx: row b gives a tree that is not ordered\nx: 2 cases, 2 not as they must be\n";
-    expect(&rt, &[("x", table)], said, 1)
+fn names_turned_answers_and_orders(rt: HostRuntime) -> Result<(), AllocError> {
+    for (table, said) in &TURNED {
+        expect(&rt, &[("x", table)], said, 1)?;
+    }
+    Ok(())
 }
 
 /// Checksums for the rows above, what is said of them, and the status.

@@ -84,7 +84,7 @@ fn list_shows(rt: &impl Abort, alloc: Global, outline: &[(usize, Name)]) -> Resu
 
 #[test]
 fn lists_and_items_show_what_is_said_of_events(rt: HostRuntime) -> Result<(), Fail> {
-    for outline in LISTS {
+    for (outline, _, _, _) in &LISTS {
         list_shows(&rt, rt.alloc(), outline)?;
     }
     Ok(())
@@ -102,7 +102,7 @@ fn table_shows(rt: &impl Abort, alloc: Global, outline: &[(usize, Name)]) -> Res
 
 #[test]
 fn tables_show_what_is_said_of_events(rt: HostRuntime) -> Result<(), Fail> {
-    for outline in TABLES {
+    for (outline, _) in &TABLES {
         table_shows(&rt, rt.alloc(), outline)?;
     }
     Ok(())

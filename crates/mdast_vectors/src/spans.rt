@@ -24,18 +24,30 @@ fn found(
     Ok(())
 }
 
-#[test]
-fn a_span_ends_at_its_exit(rt: HostRuntime) -> Result<(), AllocError> {
-    let events = spelled(rt.alloc(), &[(0, Name::Paragraph), (1, Name::Data)])?;
-    let cases = [(0, Some(3)), (1, Some(2)), (2, None), (4, None)];
-    found(&rt, rt.alloc(), events.as_slice(), &cases)
-}
+/// Outlines, and where the span that begins at an index ends: at its own exit, and nowhere where it
+/// holds what it cannot hold.
+static SPANS: [(&[(usize, Name)], &[(usize, Option<usize>)]); 3] = [
+    (
+        &[(0, Name::Paragraph), (1, Name::Data)],
+        &[(0, Some(3)), (1, Some(2)), (2, None), (4, None)],
+    ),
+    (
+        &[(0, Name::BlockQuote), (1, Name::BlockQuote)],
+        &[(0, Some(3)), (1, Some(2))],
+    ),
+    (
+        &[(0, Name::LineEnding), (1, Name::Data)],
+        &[(0, None), (1, Some(2))],
+    ),
+];
 
 #[test]
-fn a_span_of_the_same_name_has_its_own_exit(rt: HostRuntime) -> Result<(), AllocError> {
-    let events = spelled(rt.alloc(), &[(0, Name::BlockQuote), (1, Name::BlockQuote)])?;
-    let cases = [(0, Some(3)), (1, Some(2))];
-    found(&rt, rt.alloc(), events.as_slice(), &cases)
+fn a_span_ends_at_its_own_exit(rt: HostRuntime) -> Result<(), AllocError> {
+    for (outline, cases) in &SPANS {
+        let events = spelled(rt.alloc(), outline)?;
+        found(&rt, rt.alloc(), events.as_slice(), cases)?;
+    }
+    Ok(())
 }
 
 #[test]
@@ -47,13 +59,6 @@ fn crossed_exits_end_no_span(rt: HostRuntime) -> Result<(), AllocError> {
         exit(Name::Data),
     ];
     found(&rt, rt.alloc(), &events, &[(0, None), (1, None)])
-}
-
-#[test]
-fn a_line_ending_holds_nothing(rt: HostRuntime) -> Result<(), AllocError> {
-    let events = spelled(rt.alloc(), &[(0, Name::LineEnding), (1, Name::Data)])?;
-    let cases = [(0, None), (1, Some(2))];
-    found(&rt, rt.alloc(), events.as_slice(), &cases)
 }
 
 #[test]

@@ -27,35 +27,38 @@ const BLANK: (usize, Name) = (1, Name::BlankLineEnding);
 /// A blank line in an item.
 const BLANK_WITHIN: (usize, Name) = (2, Name::BlankLineEnding);
 
-const BARE: [(usize, Name); 5] = [LIST, ITEM, PREFIX, BLANK, ITEM];
-
-const SPACED: [(usize, Name); 6] = [LIST, ITEM, PREFIX, SPACE, BLANK, ITEM];
-
-const TWICE: [(usize, Name); 6] = [LIST, ITEM, PREFIX, BLANK, BLANK, ITEM];
-
-const QUOTED: [(usize, Name); 7] = [LIST, ITEM, PREFIX, QUOTE, MARK, BLANK, ITEM];
-
-const WITHIN: [(usize, Name); 6] = [LIST, ITEM, PREFIX, TEXT, BLANK_WITHIN, TEXT];
-
-const EMPTY_ITEM: [(usize, Name); 4] = [LIST, ITEM, PREFIX, BLANK_WITHIN];
-
-const SPACED_ITEM: [(usize, Name); 5] = [LIST, ITEM, PREFIX, SPACE, BLANK_WITHIN];
-
-const BLANK_ITEM: [(usize, Name); 3] = [LIST, ITEM, BLANK_WITHIN];
-
-const TEXT_ITEM: [(usize, Name); 5] = [LIST, ITEM, PREFIX, TEXT, BLANK_WITHIN];
-
-/// The lists of the tests here. Each begins with an item.
-pub const LISTS: [&[(usize, Name)]; 9] = [
-    &BARE,
-    &SPACED,
-    &TWICE,
-    &QUOTED,
-    &WITHIN,
-    &EMPTY_ITEM,
-    &SPACED_ITEM,
-    &BLANK_ITEM,
-    &TEXT_ITEM,
+/// Outlines that begin with a list and its first item, with whether the list is loose, whether it is
+/// where its items count, and whether that item is.
+pub static LISTS: [(&[(usize, Name)], bool, bool, bool); 9] = [
+    (&[LIST, ITEM, PREFIX, BLANK, ITEM], false, false, false),
+    (
+        &[LIST, ITEM, PREFIX, SPACE, BLANK, ITEM],
+        false,
+        false,
+        false,
+    ),
+    (&[LIST, ITEM, PREFIX, BLANK, BLANK, ITEM], true, true, false),
+    (
+        &[LIST, ITEM, PREFIX, QUOTE, MARK, BLANK, ITEM],
+        false,
+        false,
+        false,
+    ),
+    (
+        &[LIST, ITEM, PREFIX, TEXT, BLANK_WITHIN, TEXT],
+        false,
+        true,
+        true,
+    ),
+    (&[LIST, ITEM, PREFIX, BLANK_WITHIN], false, false, false),
+    (
+        &[LIST, ITEM, PREFIX, SPACE, BLANK_WITHIN],
+        false,
+        false,
+        false,
+    ),
+    (&[LIST, ITEM, BLANK_WITHIN], false, true, true),
+    (&[LIST, ITEM, PREFIX, TEXT, BLANK_WITHIN], false, true, true),
 ];
 
 /// Whether the list that begins at this index is loose, if one begins there.
@@ -99,51 +102,22 @@ pub fn item_spread(
     }
 }
 
-/// The list of an outline is loose, or not.
-fn list_is(
-    rt: &impl Abort,
-    alloc: Global,
-    outline: &[(usize, Name)],
-    include_items: bool,
-    want: bool,
-) -> Result<(), AllocError> {
+/// Whether the list of an outline is loose, whether it is where its items count, and whether its first
+/// item is.
+fn looseness(alloc: Global, outline: &[(usize, Name)]) -> Result<[Option<bool>; 3], AllocError> {
     let events = spelled(alloc, outline)?;
-    let spread = list_spread(alloc, events.as_slice(), 0, include_items)?;
-    same(rt, spread, Some(want));
+    Ok([
+        list_spread(alloc, events.as_slice(), 0, false)?,
+        list_spread(alloc, events.as_slice(), 0, true)?,
+        item_spread(alloc, events.as_slice(), 1)?,
+    ])
+}
+
+#[test]
+fn blank_lines_make_lists_and_items_loose(rt: HostRuntime) -> Result<(), AllocError> {
+    for (outline, list, with_items, item) in &LISTS {
+        let found = looseness(rt.alloc(), outline)?;
+        same(&rt, found, [Some(*list), Some(*with_items), Some(*item)]);
+    }
     Ok(())
-}
-
-#[test]
-fn blank_lines_between_items(rt: HostRuntime) -> Result<(), AllocError> {
-    list_is(&rt, rt.alloc(), &BARE, false, false)?;
-    list_is(&rt, rt.alloc(), &SPACED, false, false)?;
-    list_is(&rt, rt.alloc(), &TWICE, false, true)?;
-    list_is(&rt, rt.alloc(), &QUOTED, false, false)
-}
-
-#[test]
-fn blank_lines_within_an_item(rt: HostRuntime) -> Result<(), AllocError> {
-    list_is(&rt, rt.alloc(), &WITHIN, false, false)?;
-    list_is(&rt, rt.alloc(), &WITHIN, true, true)
-}
-
-/// The first item of the list of an outline is loose, or not.
-fn item_is(
-    rt: &impl Abort,
-    alloc: Global,
-    outline: &[(usize, Name)],
-    want: bool,
-) -> Result<(), AllocError> {
-    let events = spelled(alloc, outline)?;
-    let spread = item_spread(alloc, events.as_slice(), 1)?;
-    same(rt, spread, Some(want));
-    Ok(())
-}
-
-#[test]
-fn blank_lines_of_an_item(rt: HostRuntime) -> Result<(), AllocError> {
-    item_is(&rt, rt.alloc(), &EMPTY_ITEM, false)?;
-    item_is(&rt, rt.alloc(), &SPACED_ITEM, false)?;
-    item_is(&rt, rt.alloc(), &BLANK_ITEM, true)?;
-    item_is(&rt, rt.alloc(), &TEXT_ITEM, true)
 }
