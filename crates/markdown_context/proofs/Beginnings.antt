@@ -11,18 +11,18 @@ use Rattle.markdown_events.specs.declared.role.Role.{Role}
 use Rattle.markdown_events.specs.declared.role.Role.TheVariants.{Significant as significant}
 use Rattle.markdown_events.specs.declared.unist.Position.{Position}
 use Rattle.markdown_nodes.specs.View.{views}
-use Rattle.markdown_context.specs.declared.container.Container.{Container}
-use Rattle.markdown_context.specs.declared.container.Container.TheVariants as containers
+use Rattle.markdown_containers.specs.declared.container.Container.{Container}
+use Rattle.markdown_containers.specs.declared.container.Container.TheVariants as containers
 use Rattle.markdown_grammar.specs.declared.error_kind.ErrorKind.TheVariants.{Held, UnfinishedBreak}
 use Rattle.markdown_grammar.specs.declared.error_kind.Stop.{Stop}
 use Rattle.markdown_grammar.specs.declared.error_kind.Stop.TheVariants as stops
 use Rattle.markdown_context.specs.declared.context.Context.{Context}
 use Rattle.markdown_context.specs.declared.context.Frame.{Frame}
-use Rattle.markdown_context.specs.declared.open_container.OpenContainer.{OpenContainer}
+use Rattle.markdown_containers.specs.declared.open_container.OpenContainer.{OpenContainer}
 use Rattle.markdown_grammar.specs.declared.error_kind.ErrorKind.{ErrorKind}
 use Rattle.markdown_steps.specs.Compiler.{ContainerState, OpenSpan, State, enter_as, enter_checks, enter_step, entered, fresh, push}
 use Rattle.markdown_grammar.specs.Grammar.{ContentModel, code_fenced, model_of, leaf, list_ordered, math_flow}
-use Rattle.markdown_context.specs.Containers.{IsFresh, current_model_of, initial_model_of}
+use Rattle.markdown_containers.specs.Containers.{IsFresh, current_model_of, initial_model_of}
 use Rattle.markdown_builder.specs.PartsSoFar.{first_failing}
 use Rattle.markdown_events.specs.Around.{may_begin, under}
 use Rattle.markdown_steps.specs.Columns.{columns_entered}
@@ -33,7 +33,8 @@ use Rattle.markdown_steps.specs.Checks.{checked, refused}
 use Rattle.markdown_grammar.specs.Document.{Source}
 use Rattle.nest.specs.Nest.{around_innermost, innermost}
 use Rattle.nest.proofs.Nesting.{turned}
-use Rattle.markdown_context.specs.States.{Begun, Opened, OpenedContainer, Stops, OpenedLeaf, containers_left, container_state_of, kept_top, leaf_left, leaf_place, opens, outer_of, state_of, top_of, with_break}
+use Rattle.markdown_containers.specs.ContainerStates.{Stops, container_state_of, with_break}
+use Rattle.markdown_context.specs.States.{Begun, Opened, OpenedContainer, OpenedLeaf, containers_left, kept_top, leaf_left, leaf_place, opens, outer_of, state_of, top_of}
 use Rattle.markdown_blocks.specs.Columns.{columns_of}
 use Rattle.markdown_builder.specs.Marks.{marks_of}
 

@@ -16,8 +16,8 @@ use Rattle.markdown_events.specs.declared.role.Role.TheVariants.{Transparent as 
 use Rattle.markdown_events.specs.declared.unist.Position.{Position}
 use Rattle.markdown_context.specs.declared.context.Context.{Context}
 use Rattle.markdown_context.specs.declared.context.Frame.{Frame}
-use Rattle.markdown_context.specs.declared.container.Container.{Container}
-use Rattle.markdown_context.specs.declared.open_container.OpenContainer.{OpenContainer}
+use Rattle.markdown_containers.specs.declared.container.Container.{Container}
+use Rattle.markdown_containers.specs.declared.open_container.OpenContainer.{OpenContainer}
 use Rattle.markdown_builder.specs.declared.marks.Marks.{Marks as OpenMarks}
 use Rattle.markdown_grammar.specs.declared.error_kind.ErrorKind.{ErrorKind}
 use Rattle.markdown_grammar.specs.declared.error_kind.ErrorKind.TheVariants.{InvalidSlice, Misplaced, Unbalanced, UnfinishedBreak}
@@ -29,7 +29,7 @@ use Rattle.markdown_grammar.specs.Refusals.{missing_error, value_error}
 use Rattle.markdown_grammar.specs.Grammar.{rules}
 use Rattle.markdown_steps.specs.Compiler.{all_stood}
 use Rattle.markdown_grammar.specs.Grammar.{ContentModel, code_fenced, model_of, leaf, list_item, list_ordered, marked_item, marked_numbered_item, math_flow, numbered_item}
-use Rattle.markdown_context.specs.Containers.{is_part_model, is_model_of, misfit_of, initial_model_of}
+use Rattle.markdown_containers.specs.Containers.{is_part_model, is_model_of, misfit_of, initial_model_of}
 use Rattle.markdown_builder.specs.PartsSoFar.{first_failing}
 use Rattle.markdown_grammar.specs.Items.{is_frontmatter, is_line_ending, is_table}
 use Rattle.markdown_grammar.specs.Document.{byte_at}
@@ -41,11 +41,12 @@ use Rattle.markdown_grammar.specs.Document.{Source}
 use Rattle.nest.specs.Nest.{around_innermost, first_or, innermost, with_innermost}
 use Rattle.nest.specs.declared.Nest.{Nest}
 use Rattle.nest.proofs.Nesting.{IsPut, put_around, put_innermost, turned, written_around, written_innermost}
-use Rattle.markdown_context.specs.Takings.{TakesParent}
-use Rattle.markdown_context.specs.declared.container.Container.TheVariants as containers
+use Rattle.markdown_containers.specs.Takings.{TakesParent}
+use Rattle.markdown_containers.specs.declared.container.Container.TheVariants as containers
 use Rattle.markdown_blocks.specs.Parents.{is_parent}
 use Rattle.markdown_steps.specs.Columns.{no_columns}
-use Rattle.markdown_context.specs.States.{Closed, Ends, EndsAs, Gives, ContainerEnds, Stops, containers_left, container_state_of, kept_top, leaf_container, leaf_left, leaf_place, left_to, left_visits, summary_of_container, opens, outer_of, state_of, top_of}
+use Rattle.markdown_containers.specs.ContainerStates.{Gives, Stops, container_state_of, summary_of_container}
+use Rattle.markdown_context.specs.States.{Closed, Ends, EndsAs, ContainerEnds, containers_left, kept_top, leaf_container, leaf_left, leaf_place, left_to, left_visits, opens, outer_of, state_of, top_of}
 use Rattle.markdown_blocks.specs.Columns.{columns_of}
 use Rattle.markdown_builder.specs.Marks.{marks_of}
 use Rattle.markdown_steps.specs.Visits.{exit_visits, visits_at_end, visits_by_owner}
@@ -53,7 +54,7 @@ use Rattle.markdown_steps.specs.Well.{AllStand, Stands, Well, is_transparent}
 use Rattle.markdown_context.proofs.Beginnings.{no_leaf_row}
 use Rattle.markdown_steps.proofs.Booleans.{and-right}
 use Rattle.markdown_context.proofs.Misfits.{left_none, misfit_first, none_fails}
-use Rattle.markdown_context.proofs.Stopping.{gives_same}
+use Rattle.markdown_containers.proofs.Stopping.{gives_same}
 use Rattle.markdown_steps.proofs.WellKept.{taken-awaited}
 
 -- ---- What is known of a span that ends

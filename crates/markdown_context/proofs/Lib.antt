@@ -1,10 +1,4 @@
-pub mod Keeping
-pub mod SpanEnds
-pub mod LeafEnds
-pub mod PartEnds
-pub mod Stopping
 pub mod Misfits
 pub mod Beginnings
 pub mod Endings
 pub mod Unfinished
-pub mod Kept

@@ -3,14 +3,14 @@ use Rattle.std.proofs.Common.{◌≡◌, Bool, true, false, ◌||◌, ◌&&◌, 
 use Rattle.std.specs.Option.{option_or}
 use Rattle.markdown_events.specs.declared.role.ItemKind.{ItemKind}
 use Rattle.markdown_events.specs.declared.role.Part.{Part}
-use Rattle.markdown_context.specs.declared.container.Container.{Container}
+use Rattle.markdown_containers.specs.declared.container.Container.{Container}
 use Rattle.markdown_grammar.specs.declared.error_kind.ErrorKind.{ErrorKind}
 use Rattle.markdown_steps.specs.Compiler.{allows, enter_checks, fresh, has_one_of, rule_checks}
 use Rattle.markdown_grammar.specs.Refusals.{rule_error}
 use Rattle.markdown_grammar.specs.Grammar.{rules}
 use Rattle.markdown_steps.specs.Compiler.{has_stood}
 use Rattle.markdown_grammar.specs.Grammar.{ContentModel, leaf}
-use Rattle.markdown_context.specs.Containers.{misfit_of, part_of, initial_model_of}
+use Rattle.markdown_containers.specs.Containers.{misfit_of, part_of, initial_model_of}
 use Rattle.markdown_builder.specs.PartsSoFar.{empty_but, first_failing}
 use Rattle.markdown_grammar.specs.Items.{is_frontmatter, is_line_ending, is_one_of, is_table}
 use Rattle.markdown_events.specs.declared.event.Point.{Point}

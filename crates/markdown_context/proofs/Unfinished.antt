@@ -8,7 +8,7 @@ use Rattle.markdown_builder.specs.PartsSoFar.{first_failing}
 use Rattle.markdown_context.specs.States.{opens, state_of, top_of}
 use Rattle.markdown_context.specs.declared.context.Context.{Context}
 use Rattle.markdown_context.specs.declared.context.Frame.{Frame}
-use Rattle.markdown_context.specs.declared.open_container.OpenContainer.{OpenContainer}
+use Rattle.markdown_containers.specs.declared.open_container.OpenContainer.{OpenContainer}
 use Rattle.markdown_grammar.specs.declared.error_kind.ErrorKind.TheVariants.{Unbalanced, UnfinishedBreak}
 use Rattle.markdown_steps.specs.Compiler.{ContainerState, last_checks, no_open_span}
 

@@ -1,3 +1,1 @@
-pub mod Containers
 pub mod States
-pub mod Takings

@@ -8,8 +8,8 @@ ghost use Rattle.markdown_steps.specs.Compiler;
 ghost use Rattle.markdown_steps.specs.Compiler.{enter_as, enter_checks, enter_step, exit_step, last_checks, opening};
 ghost use Rattle.markdown_blocks.specs.Parents.{is_parent};
 ghost use Rattle.markdown_builder.specs.PartsSoFar.{first_failing};
-ghost use Rattle.markdown_context.specs.declared.container.Container.TheVariants as containers;
-ghost use Rattle.markdown_context.specs.Containers.{misfit_of};
+ghost use Rattle.markdown_containers.specs.declared.container.Container.TheVariants as containers;
+ghost use Rattle.markdown_containers.specs.Containers.{misfit_of};
 ghost use Rattle.nest.specs.Nest.{innermost};
 ghost use Rattle.markdown_grammar.specs.Items as Kinds;
 ghost use Rattle.markdown_grammar.specs.Document as Documents;
@@ -33,13 +33,13 @@ ghost use Rattle.markdown_context.specs.States.{
 ghost use Rattle.markdown_steps.specs.Visits.{exit_visits, step_visits};
 ghost use Rattle.markdown_steps.specs.Well.{Well, is_transparent};
 
-use crate::container::Container;
-use crate::open_container::{Ending, OpenContainer, has_line_endings};
 use character_references::references::References;
 use markdown_blocks::parent::is_parent;
 use markdown_blocks::table::Columns;
 use markdown_builder::marks::Marks;
 use markdown_builder::slice::{Document, byte_at};
+use markdown_containers::container::Container;
+use markdown_containers::open_container::{Ending, OpenContainer, has_line_endings};
 use markdown_grammar::error_kind::{ErrorKind, Stop};
 use markdown_nodes::around::Around;
 use markdown_nodes::event::{Event, Kind, Name, Point};

@@ -3,7 +3,7 @@ use Rattle.markdown_events.specs.declared.role.Role.{Role}
 use Rattle.markdown_steps.specs.Compiler.{enter_as}
 use Rattle.markdown_context.specs.States.{state_of}
 use Rattle.markdown_context.proofs.Beginnings.{enter_free, enter_held}
-use Rattle.markdown_context.proofs.Stopping.{gives_same}
+use Rattle.markdown_containers.proofs.Stopping.{gives_same}
 use Rattle.markdown_context.proofs.context.Context.enter.Goals as goal
 
 pub returns-then-not-allows : goal.returns-then-not-allows

@@ -1,5 +1,5 @@
 use Rattle.markdown_context.proofs.Beginnings.{significant_entered, significant_stops}
-use Rattle.markdown_context.proofs.Stopping.{passed_on}
+use Rattle.markdown_containers.proofs.Stopping.{passed_on}
 use Rattle.markdown_context.proofs.context.Context.enter_significant.Goals as goal
 
 pub returns-in_err-is_leaf : goal.returns-in_err-is_leaf

@@ -2,7 +2,7 @@ use Rattle.std.proofs.Common.{◌-◌, arith, get_or, sym, ◌∙◌}
 use Rattle.std.specs.Prelude.{vec_len}
 use Rattle.markdown_grammar.specs.Document.{source}
 use Rattle.markdown_context.proofs.Endings.{ends, exit_done, exit_none, exit_other, exit_stops, exit_visits_left, none_left}
-use Rattle.markdown_context.proofs.Stopping.{passed_on}
+use Rattle.markdown_containers.proofs.Stopping.{passed_on}
 use Rattle.markdown_context.proofs.context.Context.exit.Goals as goal
 
 pub returns-in_default-clause-gives : goal.returns-in_default-clause-gives

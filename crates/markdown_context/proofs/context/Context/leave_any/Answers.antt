@@ -1,22 +1,22 @@
 use Rattle.std.proofs.Common.{arith, None, refl, sym, ap, ◌∙◌}
 use Rattle.markdown_steps.specs.ChildFacts.{ChildFacts}
 use Rattle.nest.specs.declared.Nest.{Nest}
-use Rattle.markdown_context.specs.declared.open_container.OpenContainer.{OpenContainer}
+use Rattle.markdown_containers.specs.declared.open_container.OpenContainer.{OpenContainer}
 use Rattle.markdown_events.specs.declared.role.Role.TheVariants.{Significant as significant}
 use Rattle.markdown_grammar.specs.Grammar.{model_of}
 use Rattle.markdown_grammar.specs.Items.{is_table}
-use Rattle.markdown_context.specs.Containers.{current_model_of, initial_model_of, misfit_of}
+use Rattle.markdown_containers.specs.Containers.{current_model_of, initial_model_of, misfit_of}
 use Rattle.markdown_context.specs.declared.context.Context.{Context}
 use Rattle.markdown_steps.specs.Columns.{child_facts, columns_left}
 use Rattle.markdown_steps.specs.Compiler.{leave}
 use Rattle.nest.specs.Nest.{with_innermost}
-use Rattle.markdown_context.specs.States.{container_state_of, summary_of_container}
+use Rattle.markdown_containers.specs.ContainerStates.{container_state_of, summary_of_container}
 use Rattle.markdown_blocks.specs.Columns.{columns_of}
 use Rattle.markdown_builder.specs.Marks.{marks_of}
 use Rattle.markdown_steps.specs.Visits.{visits_at_end}
 use Rattle.nest.proofs.Nesting.{taken_out}
 use Rattle.markdown_context.proofs.Endings.{closed_gives, closed_own, closed_so, closed_walks, columns_kept, content_row, part_row}
-use Rattle.markdown_context.proofs.Stopping.{always, gives_same, on_ok}
+use Rattle.markdown_containers.proofs.Stopping.{always, gives_same, on_ok}
 use Rattle.markdown_context.proofs.context.Context.leave_any.Goals as goal
 
 pub take_content-requires-clause-initial_model : goal.take_content-requires-clause-initial_model

@@ -2,13 +2,13 @@ use Rattle.std.proofs.Common.{Global, Vec, refl, subst}
 use Rattle.markdown_events.specs.declared.role.ItemKind.TheVariants.{Content as content}
 use Rattle.nest.specs.Nest.{with_innermost}
 use Rattle.markdown_context.specs.declared.context.Context.{Context}
-use Rattle.markdown_context.specs.Takings.{TakesParent}
+use Rattle.markdown_containers.specs.Takings.{TakesParent}
 use Rattle.markdown_nodes.specs.declared.mdast.Node.{Node}
 use Rattle.nest.specs.declared.Nest.{Nest}
-use Rattle.markdown_context.specs.declared.open_container.OpenContainer.{OpenContainer}
+use Rattle.markdown_containers.specs.declared.open_container.OpenContainer.{OpenContainer}
 use Rattle.nest.proofs.Nesting.{taken_out}
 use Rattle.markdown_context.proofs.Endings.{closed_so, columns_kept, parent_no_table, parent_taken}
-use Rattle.markdown_context.proofs.Stopping.{on_ok}
+use Rattle.markdown_containers.proofs.Stopping.{on_ok}
 use Rattle.markdown_context.proofs.context.Context.leave_parent.Goals as goal
 
 pub returns-clause-gives : goal.returns-clause-gives

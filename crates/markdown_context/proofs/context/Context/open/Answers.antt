@@ -1,9 +1,9 @@
 use Rattle.std.proofs.Common.{◌≡◌, refl, sym, subst, ap, ◌∙◌}
 use Rattle.markdown_grammar.specs.Grammar.{model_of}
-use Rattle.markdown_context.specs.Containers.{IsFresh, current_model_of}
+use Rattle.markdown_containers.specs.Containers.{IsFresh, current_model_of}
 use Rattle.nest.specs.Nest.{innermost}
 use Rattle.nest.specs.declared.Nest.{Nest}
-use Rattle.markdown_context.specs.declared.open_container.OpenContainer.{OpenContainer}
+use Rattle.markdown_containers.specs.declared.open_container.OpenContainer.{OpenContainer}
 use Rattle.nest.proofs.Nesting.{IsPut, put_around, put_innermost}
 use Rattle.markdown_context.proofs.context.Context.open.Goals as goal
 

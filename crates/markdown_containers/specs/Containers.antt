@@ -1,0 +1,202 @@
+-- What an open span is to the items in it: what has stood in it so far, by its construct.
+use Rattle.std.specs.Prelude.{◌≢◌, List, Option, Result, false, true, Bool, ℕ}
+use Rattle.markdown_blocks.specs.Definitions.{definition, footnote_definition}
+use Rattle.markdown_blocks.specs.Fences.{code_fence, code_fenced, math_fence, math_flow}
+use Rattle.markdown_blocks.specs.Headings.{atx, setext}
+use Rattle.markdown_blocks.specs.Lists.{list_item, marked_paragraph, numbered_item, ordered_list, task_paragraph}
+use Rattle.markdown_builder.specs.PartsSoFar.{Gains, GainsWords, IsFresh as IsFreshIn, Makes, PartsSoFar, misfit_in, place_with, summary_in, without_parts}
+use Rattle.markdown_containers.specs.declared.container.Container.{Container}
+use Rattle.markdown_containers.specs.declared.container.Container.TheVariants as containers
+use Rattle.markdown_events.specs.declared.event.Point.{Point}
+use Rattle.markdown_events.specs.declared.role.Content.{Content}
+use Rattle.markdown_events.specs.declared.role.Content.TheVariants as contents
+use Rattle.markdown_events.specs.declared.role.ItemKind.{ItemKind}
+use Rattle.markdown_events.specs.declared.role.ItemKind.TheVariants as item_kinds
+use Rattle.markdown_events.specs.declared.role.Part.{Part}
+use Rattle.markdown_events.specs.declared.role.Part.TheVariants as parts
+use Rattle.markdown_grammar.specs.Attributes.{Place}
+use Rattle.markdown_grammar.specs.Document.{Source, source}
+use Rattle.markdown_grammar.specs.Grammar as models
+use Rattle.markdown_grammar.specs.Grammar.{ContentModel}
+use Rattle.markdown_grammar.specs.Refusals.{value_error}
+use Rattle.markdown_grammar.specs.Values.{is_read}
+use Rattle.markdown_grammar.specs.declared.error_kind.ErrorKind.{ErrorKind}
+use Rattle.markdown_grammar.specs.declared.error_kind.Stop.{Stop}
+use Rattle.markdown_inlines.specs.Autolinks.{autolink}
+use Rattle.markdown_inlines.specs.CharacterReferences.{character_reference}
+use Rattle.markdown_inlines.specs.FootnoteCalls.{footnote_call}
+use Rattle.markdown_inlines.specs.Media.{media, reference, resource}
+use Rattle.markdown_nodes.specs.Tree.{Trees}
+use Rattle.markdown_steps.specs.Summaries.{PartSummary, Path, Summary}
+
+-- a span in which any content may stand, and no part
+abbrev pub any_content : PartsSoFar
+any_content = without_parts models.any_content
+
+-- what has stood in a container, by its construct
+abbrev pub parts_of : Container → PartsSoFar
+parts_of containers.AnyContent = any_content
+parts_of (containers.Autolink x) = autolink x
+parts_of (containers.Media x) = media x
+parts_of (containers.FootnoteCall x) = footnote_call x
+parts_of (containers.Resource x) = resource x
+parts_of (containers.Reference x) = reference x
+parts_of (containers.Definition x) = definition x
+parts_of (containers.CharacterReference x) = character_reference x
+parts_of (containers.CodeFence x) = code_fence x
+parts_of (containers.MathFence x) = math_fence x
+parts_of (containers.ListOrdered x) = ordered_list x
+parts_of (containers.ListItem x) = list_item x
+parts_of (containers.NumberedItem x) = numbered_item x
+parts_of (containers.TaskParagraph x) = task_paragraph x
+parts_of containers.MarkedParagraph = marked_paragraph
+parts_of (containers.FootnoteDefinition x) = footnote_definition x
+parts_of (containers.HeadingAtx x) = atx x
+parts_of (containers.HeadingSetext x) = setext x
+parts_of (containers.CodeFenced x) = code_fenced x
+parts_of (containers.MathFlow x) = math_flow x
+
+-- the content model with which it began
+abbrev pub initial_model_of : Container → ContentModel
+initial_model_of h = (parts_of h).initial_model
+
+-- the content model that it has now
+abbrev pub current_model_of : Container → ContentModel
+current_model_of h = (parts_of h).current_model
+
+-- what is kept of the part at the end of a path
+abbrev pub part_of : Container → Path → Option PartSummary
+part_of h = (parts_of h).part
+
+-- the byte of the last marker of a character reference
+abbrev pub marker_of : Container → Option ℕ
+marker_of h = (parts_of h).marker
+
+-- the mark of an item, or of a paragraph in one
+abbrev pub mark_of : Container → Option Bool
+mark_of h = (parts_of h).mark
+
+-- the number of an item, or of the first such in a list
+abbrev pub value_of : Container → Option ℕ
+value_of h = (parts_of h).value
+
+-- the nodes of the label of a container that has one
+abbrev pub label_of : Container → Trees
+label_of h = (parts_of h).label
+
+-- the rule of a container that one more item violates, if it violates one
+abbrev pub misfit_of : Container → ItemKind → Option ErrorKind
+misfit_of h what = misfit_in (parts_of h) what
+
+-- nothing is kept in a container yet, which has this content model
+abbrev pub IsFresh : Container → ContentModel → Type 0
+IsFresh h begun = IsFreshIn (parts_of h) begun
+
+-- what such a container keeps, with these nodes
+abbrev pub summary_with : Container → Trees → Summary
+summary_with h ts = summary_in (parts_of h) ts
+
+-- what a container keeps in which any content may stand, with these nodes
+abbrev pub summary_of_nodes : Trees → Summary
+summary_of_nodes ts = summary_with containers.AnyContent ts
+
+-- after one more item the container keeps this
+abbrev pub Keeps : Source → Place → ItemKind → Point → Point → Summary → Container → Container → Type 0
+Keeps s p what a b i old new = Gains s p what a b i (parts_of old) (parts_of new)
+
+-- the same wherever the item stands, and whatever nodes are in it
+abbrev pub KeepsAnywhere : ItemKind → Container → Container → Container → Type 0
+KeepsAnywhere what inner old new = (s : Source) (p : Place) (a b : Point) (ts : Trees) → Keeps s p what a b (summary_with inner ts) old new
+
+-- a part with these items in it is read and kept, or refused where it cannot be read
+abbrev pub KeepsPart : {X : Type 0} → Source → Part → Point → Point → Summary → Container → Container → Result X Stop → Type 0
+KeepsPart s q a b i old new result =
+    (line_endings in_table : Bool) → let p : Place = place_with line_endings in_table (marker_of old) in
+    Makes result (is_read s (current_model_of old) p false (item_kinds.Part q) a b) (value_error s (item_kinds.Part q) a b) (λ _. Keeps s p (item_kinds.Part q) a b i old new)
+
+-- the same of a part with these nodes in it, whatever the decoder knows
+abbrev pub KeepsNodes : {X : Type 0} → List ℕ → Part → Point → Point → Trees → Container → Container → Result X Stop → Type 0
+KeepsNodes bytes q a b ts old new result =
+    (text : List ℕ → ℕ → Option (List ℕ)) → KeepsPart (source bytes text) q a b (summary_of_nodes ts) old new result
+
+-- a part with this text is kept, whatever its nodes are
+abbrev pub KeepsWords : Part → List ℕ → Container → Container → Type 0
+KeepsWords q text old new = GainsWords q text (parts_of old) (parts_of new)
+
+-- ---- Content models by what has them
+
+-- a content model that content may have
+abbrev pub is_model_of : Content → ContentModel → Bool
+is_model_of contents.CharacterReference models.character_reference = true
+is_model_of contents.Autolink models.autolink = true
+is_model_of contents.Link models.media = true
+is_model_of contents.Image models.media = true
+is_model_of contents.FootnoteCall models.footnote_call = true
+is_model_of contents.Definition models.definition = true
+is_model_of contents.ListOrdered models.list_ordered = true
+is_model_of contents.ListItem models.list_item = true
+is_model_of contents.ListItem models.numbered_item = true
+is_model_of contents.Paragraph models.any_content = true
+is_model_of contents.Paragraph models.task_paragraph = true
+is_model_of contents.Paragraph models.marked_paragraph = true
+is_model_of contents.FootnoteDefinition models.footnote_definition = true
+is_model_of contents.HeadingAtx models.heading_atx = true
+is_model_of contents.HeadingSetext models.heading_setext = true
+is_model_of contents.CodeFenced models.code_fenced = true
+is_model_of contents.MathFlow models.math_flow = true
+is_model_of contents.BlockQuote models.any_content = true
+is_model_of contents.CodeIndented models.any_content = true
+is_model_of contents.CodeText models.any_content = true
+is_model_of contents.Emphasis models.any_content = true
+is_model_of contents.Frontmatter models.any_content = true
+is_model_of contents.Strikethrough models.any_content = true
+is_model_of contents.Table models.any_content = true
+is_model_of contents.TableRow models.any_content = true
+is_model_of contents.TableCell models.any_content = true
+is_model_of contents.Html models.any_content = true
+is_model_of contents.ListUnordered models.any_content = true
+is_model_of contents.MathText models.any_content = true
+is_model_of contents.Strong models.any_content = true
+is_model_of _ _ = false
+
+-- a content model that a part may have, but that of the leaves
+abbrev pub is_part_model : Part → ContentModel → Bool
+is_part_model parts.Resource models.resource = true
+is_part_model parts.Reference models.reference = true
+is_part_model parts.CodeFencedFence models.code_fence = true
+is_part_model parts.MathFlowFence models.math_fence = true
+is_part_model parts.LabelText models.any_content = true
+is_part_model parts.ReferenceString models.any_content = true
+is_part_model parts.DefinitionLabelString models.any_content = true
+is_part_model parts.DefinitionDestinationString models.any_content = true
+is_part_model parts.DefinitionTitleString models.any_content = true
+is_part_model parts.FootnoteDefinitionLabelString models.any_content = true
+is_part_model parts.ResourceDestinationString models.any_content = true
+is_part_model parts.ResourceTitleString models.any_content = true
+is_part_model parts.CodeFencedFenceInfo models.any_content = true
+is_part_model parts.CodeFencedFenceMeta models.any_content = true
+is_part_model parts.MathFlowFenceMeta models.any_content = true
+is_part_model parts.HeadingSetextText models.any_content = true
+is_part_model _ _ = false
+
+-- a part that is a leaf in no content model
+abbrev pub IsNoLeaf : Part → Type 0
+IsNoLeaf q = (m : ContentModel) → models.part_model m q ≢ models.leaf
+
+-- a part that is a text, and nothing else is looked at in it
+abbrev pub is_text_part : Part → Bool
+is_text_part parts.DefinitionDestinationString = true
+is_text_part parts.DefinitionTitleString = true
+is_text_part parts.ResourceDestinationString = true
+is_text_part parts.ResourceTitleString = true
+is_text_part parts.CodeFencedFenceInfo = true
+is_text_part parts.CodeFencedFenceMeta = true
+is_text_part parts.MathFlowFenceMeta = true
+is_text_part _ = false
+
+-- a part that is a label in itself, and names a definition
+abbrev pub is_label_string : Part → Bool
+is_label_string parts.ReferenceString = true
+is_label_string parts.DefinitionLabelString = true
+is_label_string parts.FootnoteDefinitionLabelString = true
+is_label_string _ = false

@@ -1,0 +1,3 @@
+pub mod Containers
+pub mod ContainerStates
+pub mod Takings

@@ -1,0 +1,534 @@
+//! An open span with the nodes made in it: what it takes at the exit of each span in it.
+
+ghost use Rattle.std.specs.Prelude.{◌≡◌, ◌≢◌, ◌≤◌, ◌+◌, ◌||◌, IfOk, None, Ok, OnOk, Option, Some, false, is_some, not, true};
+ghost use Rattle.markdown_blocks.specs.Parents.{is_parent};
+ghost use Rattle.markdown_containers.specs.Containers.{
+  current_model_of,
+  initial_model_of,
+  is_model_of,
+  is_part_model,
+  misfit_of,
+  summary_of_nodes,
+};
+ghost use Rattle.markdown_containers.specs.ContainerStates.{summary_of_container};
+ghost use Rattle.markdown_containers.specs.Takings.{
+  IsNodeOf,
+  LeavesColumns,
+  MakesOf,
+  TakesAnyLeaf,
+  TakesContent,
+  TakesKept,
+  TakesLeaf,
+  TakesNodes,
+  TakesParent,
+  TakesPart,
+  TakesText,
+  content_visits,
+  value_text,
+};
+ghost use Rattle.markdown_containers.specs.declared.container.Container.TheVariants as containers;
+ghost use Rattle.markdown_events.specs.declared.role.Content.TheVariants as contents;
+ghost use Rattle.markdown_events.specs.declared.role.ItemKind.TheVariants as item_kinds;
+ghost use Rattle.markdown_events.specs.declared.role.Part.TheVariants as parts;
+ghost use Rattle.markdown_grammar.specs.Attributes.{line_ending_is_text, line_ending_is_text_after};
+ghost use Rattle.markdown_grammar.specs.Document.{Source, source};
+ghost use Rattle.markdown_grammar.specs.Grammar as models;
+ghost use Rattle.markdown_grammar.specs.Items.{is_line_ending};
+ghost use Rattle.markdown_inlines.specs.Autolinks.{is_literal};
+ghost use Rattle.markdown_nodes.specs.Tree.{join};
+ghost use Rattle.markdown_nodes.specs.View.{views};
+ghost use Rattle.markdown_steps.specs.Visits.{visits_at_end};
+
+use crate::container::Container;
+use character_references::references::References;
+use markdown_blocks::code::{indented_code, inline_code};
+use markdown_blocks::frontmatter::frontmatter;
+use markdown_blocks::html::html;
+use markdown_blocks::list::{ListItemParts, NumberedItemParts, list_item, unordered_list};
+use markdown_blocks::math::inline_math;
+use markdown_blocks::parent::parent;
+use markdown_blocks::table::{Columns, table};
+use markdown_blocks::thematic_break::thematic_break;
+use markdown_builder::joining::{append, put, put_text};
+use markdown_builder::marks::Marks;
+use markdown_builder::slice::{Document, byte_at, position_of};
+use markdown_grammar::error_kind::Stop;
+use markdown_inlines::autolink::literal;
+use markdown_inlines::text::{hard_break, put_slice};
+use markdown_nodes::event::Point;
+use markdown_nodes::mdast::Node;
+use markdown_nodes::role::{Content, ItemKind, Part};
+use markdown_nodes::steps::Steps;
+use markdown_nodes::unist::Position;
+use std::alloc::{AllocError, Global};
+
+/// An open significant span that is no leaf, or the root, with the nodes made in it so far.
+#[derive(Drop)]
+pub struct OpenContainer<'a> {
+    pub container: Container<'a>,
+    /// Whether a line ending is text in it now.
+    pub line_endings: bool,
+    pub nodes: Vec<Node>,
+}
+
+/// A span that ends, and what its node asks of where it stands.
+#[derive(Clone, Copy)]
+pub struct Ending {
+    pub start: Point,
+    pub end: Point,
+    /// Whether a table is around it.
+    pub in_table: bool,
+    /// What the spans in it said.
+    pub marks: Marks,
+}
+
+/// Whether a line ending is text in a span: not where blocks, cells or parts alone stand, and in a
+/// block of code or math not before its first fence.
+pub fn has_line_endings(what: ItemKind) -> bool
+    ensures { result ≡ line_ending_is_text what }
+{
+    match what {
+        ItemKind::Content(content) => match content {
+            Content::Table
+            | Content::BlockQuote
+            | Content::TableRow
+            | Content::TableCell
+            | Content::ListOrdered
+            | Content::ListUnordered
+            | Content::ListItem
+            | Content::FootnoteDefinition
+            | Content::CodeFenced
+            | Content::MathFlow
+            | Content::Autolink
+            | Content::Link
+            | Content::Image
+            | Content::FootnoteCall
+            | Content::Definition => false,
+            _ => true,
+        },
+        ItemKind::Part(part) => match part {
+            Part::Resource | Part::Reference => false,
+            _ => true,
+        },
+    }
+}
+
+/// Whether a line ending is text after a part: after a fence it is, after the text of a heading it is
+/// not, and else it is what it was.
+fn has_line_endings_after(part: Part, before: bool) -> bool
+    ensures { result ≡ line_ending_is_text_after (item_kinds.Part part) before }
+{
+    match part {
+        Part::CodeFencedFence | Part::MathFlowFence => true,
+        Part::HeadingSetextText => false,
+        _ => before,
+    }
+}
+
+impl<'a> OpenContainer<'a> {
+    /// Takes a leaf that has ended. `pending` is the break that waits for its line ending, if one
+    /// does.
+    pub fn take_leaf<R: References>(
+        &mut self,
+        pending: &mut Option<Position>,
+        alloc: Global,
+        document: &Document<'a>,
+        references: &R,
+        what: ItemKind,
+        ending: Ending,
+    ) -> Result<(), Stop>
+        requires leaf { models.model_of (current_model_of self.old.container) what ≡ models.leaf }
+        requires fits { misfit_of self.old.container what ≡ None }
+        requires waits { (not (is_some pending.old) || is_line_ending what) ≡ true }
+        ensures { TakesLeaf (source document.now (R.text references.now)) what ending pending.old self.old pending.new self.new result }
+    {
+        match what {
+            ItemKind::Content(content) => {
+                self.take_leaf_content(pending, alloc, document, content, ending)
+            }
+            ItemKind::Part(part) => self.take_leaf_part(alloc, document, references, part, ending),
+        }
+    }
+
+    /// Takes content that is a leaf, which gives nodes.
+    fn take_leaf_content(
+        &mut self,
+        pending: &mut Option<Position>,
+        alloc: Global,
+        document: &Document<'_>,
+        content: Content,
+        ending: Ending,
+    ) -> Result<(), Stop>
+        requires leaf { models.content_model (current_model_of self.old.container) content ≡ models.leaf }
+        requires waits { (not (is_some pending.old) || is_line_ending (item_kinds.Content content)) ≡ true }
+        ensures { TakesAnyLeaf document.now (item_kinds.Content content) ending pending.old self.old pending.new self.new result }
+    {
+        match content {
+            Content::Data => self.take_data(alloc, document, ending),
+            Content::AutolinkLiteralEmail
+            | Content::AutolinkLiteralWww
+            | Content::AutolinkLiteralWhole => self.take_literal(alloc, document, content, ending),
+            Content::ThematicBreak => self.take_thematic_break(ending),
+            Content::HardBreak => {
+                *pending = Some(position_of(ending.start, ending.end));
+                Ok(())
+            }
+            Content::LineEnding => self.take_line_ending(pending, alloc, document, ending),
+            _ => unreachable!(),
+        }
+    }
+
+    /// Takes a part that is a leaf, of which the container keeps what it asks for.
+    fn take_leaf_part<R: References>(
+        &mut self,
+        alloc: Global,
+        document: &Document<'a>,
+        references: &R,
+        part: Part,
+        ending: Ending,
+    ) -> Result<(), Stop>
+        requires leaf { models.part_model (current_model_of self.old.container) part ≡ models.leaf }
+        requires fits { misfit_of self.old.container (item_kinds.Part part) ≡ None }
+        ensures { TakesLeaf (source document.now (R.text references.now)) (item_kinds.Part part) ending None self.old None self.new result }
+    {
+        let taken = self.container.take_leaf_part(
+            alloc,
+            document,
+            references,
+            part,
+            ending.start,
+            ending.end,
+        );
+        self.line_endings = has_line_endings_after(part, self.line_endings);
+        taken
+    }
+
+    /// Takes a run of characters: a text.
+    fn take_data(
+        &mut self,
+        alloc: Global,
+        document: &Document<'_>,
+        ending: Ending,
+    ) -> Result<(), Stop>
+        ensures { TakesAnyLeaf document.now (item_kinds.Content contents.Data) ending None self.old None self.new result }
+    {
+        put_slice(alloc, &mut self.nodes, document, ending.start, ending.end)
+    }
+
+    /// Takes an address that stands in the text as it is: a link to it.
+    fn take_literal(
+        &mut self,
+        alloc: Global,
+        document: &Document<'_>,
+        content: Content,
+        ending: Ending,
+    ) -> Result<(), Stop>
+        requires { is_literal content ≡ true }
+        ensures { TakesAnyLeaf document.now (item_kinds.Content content) ending None self.old None self.new result }
+    {
+        let node = literal(alloc, document, content, ending.start, ending.end)?;
+        put(&mut self.nodes, node)?;
+        Ok(())
+    }
+
+    /// Takes a thematic break.
+    fn take_thematic_break(&mut self, ending: Ending) -> Result<(), Stop>
+        ensures { (s : Source) → TakesLeaf s (item_kinds.Content contents.ThematicBreak) ending None self.old None self.new result }
+    {
+        let position = position_of(ending.start, ending.end);
+        put(&mut self.nodes, thematic_break(position))?;
+        Ok(())
+    }
+
+    /// Takes a line ending. After a break that waits for it, it ends the break, which is then a node:
+    /// in mdast a break reaches over its line ending. Else it is text, where line endings are.
+    fn take_line_ending(
+        &mut self,
+        pending: &mut Option<Position>,
+        alloc: Global,
+        document: &Document<'_>,
+        ending: Ending,
+    ) -> Result<(), Stop>
+        ensures { TakesAnyLeaf document.now (item_kinds.Content contents.LineEnding) ending pending.old self.old pending.new self.new result }
+    {
+        if let Some(position) = pending.take() {
+            put(&mut self.nodes, hard_break(position, ending.end))?;
+            return Ok(());
+        }
+        if self.line_endings {
+            return put_slice(alloc, &mut self.nodes, document, ending.start, ending.end);
+        }
+        Ok(())
+    }
+}
+
+impl<'a> OpenContainer<'a> {
+    /// Takes a part that has ended, which was no leaf.
+    pub fn take_part(
+        &mut self,
+        alloc: Global,
+        steps: &mut Steps<'_>,
+        document: &Document<'a>,
+        part: Part,
+        own: OpenContainer<'a>,
+        ending: Ending,
+    ) -> Result<(), Stop>
+        requires initial_model { initial_model_of own.container ≡ models.part_model (current_model_of self.old.container) part }
+        requires such { is_part_model part (initial_model_of own.container) ≡ true }
+        requires fits { misfit_of self.old.container (item_kinds.Part part) ≡ None }
+        ensures left { TakesPart document.now part own.entry ending self.old self.new result }
+        ensures list { steps.new.events ≡ steps.old.events }
+        ensures bound { steps.new.count ≤ steps.old.count + visits_at_end (item_kinds.Part part) (summary_of_container own.entry) }
+    {
+        let OpenContainer {
+            container,
+            nodes,
+            ..
+        } = own;
+        match (container, part) {
+            (Container::AnyContent, Part::HeadingSetextText) => Ok(self.take_heading_text(nodes)?),
+            (Container::AnyContent, _) => self.take_text(
+                alloc, steps, document, part, nodes, ending,
+            ),
+            (inner, _) => {
+                self.take_parts(part, inner);
+                Ok(())
+            }
+        }
+    }
+
+    /// Takes the text of a heading over its underline, whose nodes are the heading's. After it line
+    /// endings are no text.
+    fn take_heading_text(&mut self, nodes: Vec<Node>) -> Result<(), AllocError>
+        requires { misfit_of self.old.container (item_kinds.Part parts.HeadingSetextText) ≡ None }
+        ensures { OnOk result (TakesNodes (item_kinds.Part parts.HeadingSetextText) (views nodes.items) self.old self.new) }
+    {
+        self.container.take_heading_text();
+        append(&mut self.nodes, nodes)?;
+        self.line_endings = false;
+        Ok(())
+    }
+
+    /// Takes a part in which content stood: a label, a destination, a title, or what comes after a
+    /// fence.
+    fn take_text(
+        &mut self,
+        alloc: Global,
+        steps: &mut Steps<'_>,
+        document: &Document<'a>,
+        part: Part,
+        nodes: Vec<Node>,
+        ending: Ending,
+    ) -> Result<(), Stop>
+        requires such { is_part_model part models.any_content ≡ true }
+        requires heading { part ≢ parts.HeadingSetextText }
+        requires fits { misfit_of self.old.container (item_kinds.Part part) ≡ None }
+        ensures left { TakesText document.now part (views nodes.items) ending self.old self.new result }
+        ensures list { steps.new.events ≡ steps.old.events }
+        ensures bound { steps.new.count ≤ steps.old.count + visits_at_end (item_kinds.Part part) (summary_of_nodes (views nodes.items)) }
+    {
+        self.container.take_text(
+            alloc,
+            steps,
+            document,
+            part,
+            nodes,
+            ending.start,
+            ending.end,
+        )
+    }
+
+    /// Takes a part with parts of its own. After a first fence line endings are text.
+    fn take_parts(&mut self, part: Part, inner: Container<'_>)
+        requires model { initial_model_of inner ≡ models.part_model (current_model_of self.old.container) part }
+        requires inner { inner ≢ containers.AnyContent }
+        requires such { is_part_model part (initial_model_of inner) ≡ true }
+        requires fits { misfit_of self.old.container (item_kinds.Part part) ≡ None }
+        ensures { TakesKept part inner.entry self.old self.new }
+    {
+        self.container.take_part(part, inner);
+        self.line_endings = has_line_endings_after(part, self.line_endings);
+    }
+}
+
+impl OpenContainer<'_> {
+    /// The nodes made in it, once the span has ended.
+    #[inline(always)]
+    pub fn into_nodes(self) -> Vec<Node>
+        ensures { result ≡ self.entry.nodes }
+    {
+        let OpenContainer { nodes, .. } = self;
+        nodes
+    }
+
+    /// Takes a parent that has ended, of which nothing but nodes is kept.
+    pub fn take_parent(
+        &mut self,
+        content: Content,
+        nodes: Vec<Node>,
+        start: Point,
+        end: Point,
+    ) -> Result<(), AllocError>
+        requires { is_parent content ≡ true }
+        ensures { OnOk result (TakesParent content start end nodes self.old self.new) }
+    {
+        let node = parent(content, nodes, position_of(start, end));
+        put(&mut self.nodes, node)?;
+        Ok(())
+    }
+}
+
+impl<'a> OpenContainer<'a> {
+    /// Takes content that has ended: its node, and what else it gives.
+    pub fn take_content(
+        &mut self,
+        alloc: Global,
+        steps: &mut Steps<'_>,
+        document: &Document<'_>,
+        columns: &mut Columns,
+        content: Content,
+        own: OpenContainer<'_>,
+        ending: Ending,
+    ) -> Result<(), Stop>
+        requires initial_model { initial_model_of own.container ≡ models.content_model (current_model_of self.old.container) content }
+        requires such { is_model_of content (initial_model_of own.container) ≡ true }
+        requires no_parent { own.container ≡ containers.AnyContent → is_parent content ≡ false }
+        ensures left { TakesContent document.now content own.entry ending columns.old self.old self.new result }
+        ensures columns { OnOk result (LeavesColumns content ending.marks columns.old columns.new) }
+        ensures list { steps.new.events ≡ steps.old.events }
+        ensures bound { steps.new.count ≤ steps.old.count + content_visits content own.entry + 1 }
+    {
+        self.container.take_content(content, &own.container);
+        match content {
+            Content::CharacterReference => self.take_reference(alloc, own, ending),
+            _ => {
+                let node = own.node(alloc, steps, document, columns, content, ending)?;
+                put(&mut self.nodes, node)?;
+                Ok(())
+            }
+        }
+    }
+
+    /// Takes the text that a character reference stands for, if it has a value.
+    fn take_reference(
+        &mut self,
+        alloc: Global,
+        own: OpenContainer<'_>,
+        ending: Ending,
+    ) -> Result<(), Stop>
+        requires { is_model_of contents.CharacterReference (initial_model_of own.container) ≡ true }
+        ensures container { self.new.container ≡ self.old.container }
+        ensures line_endings { self.new.line_endings ≡ self.old.line_endings }
+        ensures text { MakesOf own.entry result
+            (λ _. views self.new.nodes.items ≡ join (views self.old.nodes.items) (value_text own.entry ending)) }
+    {
+        let OpenContainer { container, .. } = own;
+        match container {
+            Container::CharacterReference(parts) => {
+                let text = parts.text()?;
+                let position = position_of(ending.start, ending.end);
+                put_text(alloc, &mut self.nodes, text.as_str(), position)?;
+                Ok(())
+            }
+            _ => unreachable!(),
+        }
+    }
+}
+
+impl<'a> OpenContainer<'a> {
+    /// The node of a span of content at its exit, if what has to stand in it does.
+    fn node(
+        self,
+        alloc: Global,
+        steps: &mut Steps<'_>,
+        document: &Document<'_>,
+        columns: &mut Columns,
+        content: Content,
+        ending: Ending,
+    ) -> Result<Node, Stop>
+        requires such { is_model_of content (initial_model_of self.container) ≡ true }
+        requires other { content ≢ contents.CharacterReference }
+        requires no_parent { self.container ≡ containers.AnyContent → is_parent content ≡ false }
+        ensures node { MakesOf self.entry result (IsNodeOf document.now content ending columns.old (summary_of_container self.entry)) }
+        ensures columns { OnOk result (LeavesColumns content ending.marks columns.old columns.new) }
+        ensures list { steps.new.events ≡ steps.old.events }
+        ensures bound { steps.new.count ≤ steps.old.count + content_visits content self.entry + 1 }
+    {
+        let OpenContainer {
+            container,
+            line_endings: _,
+            nodes,
+        } = self;
+        let position = position_of(ending.start, ending.end);
+        match container {
+            Container::AnyContent => {
+                Ok(any_content_node(alloc, steps, document, columns, content, nodes, ending)?)
+            }
+            Container::TaskParagraph(_) | Container::MarkedParagraph => {
+                Ok(parent(Content::Paragraph, nodes, position))
+            }
+            Container::ListOrdered(parts) => parts.node(
+                nodes,
+                position,
+                ending.marks.is_loose_list,
+            ),
+            Container::ListItem(ListItemParts { mark }) => {
+                Ok(list_item(steps, nodes, position, ending.marks.is_loose_item, mark))
+            }
+            Container::NumberedItem(NumberedItemParts { mark, .. }) => {
+                Ok(list_item(steps, nodes, position, ending.marks.is_loose_item, mark))
+            }
+            Container::FootnoteDefinition(parts) => Ok(parts.node(alloc, nodes, position)),
+            Container::HeadingAtx(parts) => parts.node(nodes, position),
+            Container::HeadingSetext(parts) => parts.node(nodes, position),
+            Container::CodeFenced(parts) => parts.node(alloc, steps, nodes, position),
+            Container::MathFlow(parts) => parts.node(alloc, steps, nodes, position),
+            Container::Autolink(parts) => Ok(parts.node(alloc, ending.start, ending.end)?),
+            Container::Media(parts) if content == Content::Image => {
+                Ok(parts.image(alloc, steps, position)?)
+            }
+            Container::Media(parts) => Ok(parts.link(alloc, steps, position)?),
+            Container::FootnoteCall(parts) => Ok(parts.node(alloc, steps, position)?),
+            Container::Definition(parts) => Ok(parts.node(alloc, position)),
+            Container::CharacterReference(_)
+            | Container::Resource(_)
+            | Container::Reference(_)
+            | Container::CodeFence(_)
+            | Container::MathFence(_) => unreachable!(),
+        }
+    }
+}
+
+/// The node of content in which any content may stand, and which is no parent.
+#[tactic(auto, unfolding(markdown_nodes::specs::View::view))]
+fn any_content_node(
+    alloc: Global,
+    steps: &mut Steps<'_>,
+    document: &Document<'_>,
+    columns: &mut Columns,
+    content: Content,
+    nodes: Vec<Node>,
+    ending: Ending,
+) -> Result<Node, AllocError>
+    requires such { is_model_of content models.any_content ≡ true }
+    requires no_parent { is_parent content ≡ false }
+    ensures node { IfOk result (IsNodeOf document.now content ending columns.old (summary_of_nodes (views nodes.items))) }
+    ensures columns { OnOk result (LeavesColumns content ending.marks columns.old columns.new) }
+    ensures list { steps.new.events ≡ steps.old.events }
+    ensures bound { steps.new.count ≤ steps.old.count + visits_at_end (item_kinds.Content content) (summary_of_nodes (views nodes.items)) }
+{
+    let position = position_of(ending.start, ending.end);
+    match content {
+        Content::Table => Ok(table(nodes, position, columns.take(alloc))),
+        Content::ListUnordered => Ok(unordered_list(nodes, position, ending.marks.is_loose_list)),
+        Content::CodeIndented => indented_code(alloc, steps, nodes, position),
+        Content::CodeText => inline_code(alloc, steps, nodes, position, ending.in_table),
+        Content::MathText => inline_math(alloc, steps, nodes, position, ending.in_table),
+        Content::Html => html(alloc, steps, nodes, position),
+        Content::Frontmatter => {
+            let is_toml = byte_at(document, ending.start) == Some(b'+');
+            frontmatter(alloc, steps, nodes, position, is_toml)
+        }
+        _ => unreachable!(),
+    }
+}

@@ -1,7 +1,0 @@
-use Rattle.markdown_grammar.specs.Document.{source}
-use Rattle.markdown_context.proofs.LeafEnds.{break_is_in}
-use Rattle.markdown_context.proofs.open_container.OpenContainer.take_leaf_content.Goals as goal
-
-pub returns-in-HardBreak : goal.returns-in-HardBreak
-returns-in-HardBreak c text children place =
-    break_is_in (source c.args.document.now text) c.args.ending.in_table c.args.pending.now c.position_of.result c.args.self.now c.args.content c.args.ending.start c.args.ending.end children place c.in-HardBreak.is c.requires.waits c.position_of.ensures

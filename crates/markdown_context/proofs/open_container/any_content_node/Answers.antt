@@ -1,5 +1,0 @@
-use Rattle.std.proofs.Common.{rules}
-use Rattle.markdown_context.proofs.open_container.any_content_node.Goals as goal
-
-pub returns-in-ListUnordered-clause-bound : goal.returns-in-ListUnordered-clause-bound
-returns-in-ListUnordered-clause-bound c = search rules
