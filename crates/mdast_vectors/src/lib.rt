@@ -14,8 +14,6 @@
 #[cfg(test)]
 mod alignment;
 #[cfg(test)]
-mod bytes;
-#[cfg(test)]
 mod check;
 #[cfg(test)]
 mod debug_form;
@@ -57,7 +55,5 @@ mod spread;
 mod texts;
 #[cfg(test)]
 mod trees;
-#[cfg(test)]
-mod unbalanced;
 
 pub use markdown_grammar::ordered::ordered;

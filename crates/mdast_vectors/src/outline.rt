@@ -68,12 +68,3 @@ pub fn event_at(kind: Kind, name: Name, index: usize) -> Event {
     };
     Event { kind, name, point }
 }
-
-/// Events in the first line.
-pub fn events_at(alloc: Global, outline: &[(Kind, Name, usize)]) -> Result<Vec<Event>, AllocError> {
-    let mut events = Vec::new(alloc);
-    for (kind, name, index) in outline {
-        events.push(event_at(*kind, *name, *index))?;
-    }
-    Ok(events)
-}
