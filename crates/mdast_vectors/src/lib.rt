@@ -55,5 +55,7 @@ mod spread;
 mod texts;
 #[cfg(test)]
 mod trees;
+#[cfg(test)]
+mod unbalanced;
 
 pub use markdown_grammar::ordered::ordered;

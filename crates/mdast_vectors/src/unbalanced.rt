@@ -1,0 +1,39 @@
+//! All that is said of a list that is no forest's. The cases of `forms.txt` have more.
+
+use crate::expect::same;
+use crate::outline::{compiled, event_at};
+use markdown_nodes::event::{Event, Kind, Name};
+use markdown_nodes::mdast::Node;
+use markdown_nodes::message::{Fault, Message, Place};
+use markdown_nodes::unist::Point;
+use std::alloc::{AllocError, Global};
+use std::process::Abort;
+use std::test::Fail;
+
+/// What is said of a list that has no tree.
+fn said(answer: Result<Node, Fault>) -> Result<Option<Message>, AllocError> {
+    match answer {
+        Ok(_) => Ok(None),
+        Err(Fault::Message(message)) => Ok(Some(message)),
+        Err(Fault::Memory(error)) => Err(error),
+    }
+}
+
+/// These events over `ab` are unbalanced at this point, and the message is whole.
+fn unbalanced(rt: &impl Abort, alloc: Global, events: &[Event], point: Point) -> Result<(), Fail> {
+    let want = Message {
+        place: Some(Place::Point(point)),
+        reason: "an exit does not match the open span, or a span is left open",
+        rule_id: "events-unbalanced",
+        source: "markdown-rs",
+    };
+    same(rt, said(compiled(alloc, b"ab", events))?, Some(want));
+    Ok(())
+}
+
+/// A span that is left open is unbalanced at the last event.
+#[test]
+fn an_enter_alone(rt: HostRuntime) -> Result<(), Fail> {
+    let events = [event_at(Kind::Enter, Name::Paragraph, 0)];
+    unbalanced(&rt, rt.alloc(), &events, Point::new(1, 1, 0))
+}
