@@ -197,36 +197,43 @@ impl Node {
     pub fn position(&self) -> Option<&Position>
         ensures { option_map (λ p. p.now) result ≡ position_of self.now }
     {
+        self.optional_position().as_ref()
+    }
+
+    /// The position of the node, as its kind keeps it.
+    fn optional_position(&self) -> &Option<Position>
+        ensures { result.now ≡ position_of self.now }
+    {
         match self {
-            Node::Root(node) => node.position.as_ref(),
-            Node::Blockquote(node) => node.position.as_ref(),
-            Node::FootnoteDefinition(node) => node.position.as_ref(),
-            Node::List(node) => node.position.as_ref(),
-            Node::Toml(node) => node.position.as_ref(),
-            Node::Yaml(node) => node.position.as_ref(),
-            Node::Break(node) => node.position.as_ref(),
-            Node::InlineCode(node) => node.position.as_ref(),
-            Node::InlineMath(node) => node.position.as_ref(),
-            Node::Delete(node) => node.position.as_ref(),
-            Node::Emphasis(node) => node.position.as_ref(),
-            Node::FootnoteReference(node) => node.position.as_ref(),
-            Node::Html(node) => node.position.as_ref(),
-            Node::Image(node) => node.position.as_ref(),
-            Node::ImageReference(node) => node.position.as_ref(),
-            Node::Link(node) => node.position.as_ref(),
-            Node::LinkReference(node) => node.position.as_ref(),
-            Node::Strong(node) => node.position.as_ref(),
-            Node::Text(node) => node.position.as_ref(),
-            Node::Code(node) => node.position.as_ref(),
-            Node::Math(node) => node.position.as_ref(),
-            Node::Heading(node) => node.position.as_ref(),
-            Node::Table(node) => node.position.as_ref(),
-            Node::ThematicBreak(node) => node.position.as_ref(),
-            Node::TableRow(node) => node.position.as_ref(),
-            Node::TableCell(node) => node.position.as_ref(),
-            Node::ListItem(node) => node.position.as_ref(),
-            Node::Definition(node) => node.position.as_ref(),
-            Node::Paragraph(node) => node.position.as_ref(),
+            Node::Root(node) => &node.position,
+            Node::Blockquote(node) => &node.position,
+            Node::FootnoteDefinition(node) => &node.position,
+            Node::List(node) => &node.position,
+            Node::Toml(node) => &node.position,
+            Node::Yaml(node) => &node.position,
+            Node::Break(node) => &node.position,
+            Node::InlineCode(node) => &node.position,
+            Node::InlineMath(node) => &node.position,
+            Node::Delete(node) => &node.position,
+            Node::Emphasis(node) => &node.position,
+            Node::FootnoteReference(node) => &node.position,
+            Node::Html(node) => &node.position,
+            Node::Image(node) => &node.position,
+            Node::ImageReference(node) => &node.position,
+            Node::Link(node) => &node.position,
+            Node::LinkReference(node) => &node.position,
+            Node::Strong(node) => &node.position,
+            Node::Text(node) => &node.position,
+            Node::Code(node) => &node.position,
+            Node::Math(node) => &node.position,
+            Node::Heading(node) => &node.position,
+            Node::Table(node) => &node.position,
+            Node::ThematicBreak(node) => &node.position,
+            Node::TableRow(node) => &node.position,
+            Node::TableCell(node) => &node.position,
+            Node::ListItem(node) => &node.position,
+            Node::Definition(node) => &node.position,
+            Node::Paragraph(node) => &node.position,
         }
     }
 
@@ -377,30 +384,30 @@ impl Node {
             Node::FootnoteDefinition(FootnoteDefinition { children, .. }) =>
                 children.destroy_empty(),
             Node::List(List { children, .. }) => children.destroy_empty(),
-            Node::Toml(node) => drop(node),
-            Node::Yaml(node) => drop(node),
-            Node::Break(node) => drop(node),
-            Node::InlineCode(node) => drop(node),
-            Node::InlineMath(node) => drop(node),
+            Node::Toml(_) => {}
+            Node::Yaml(_) => {}
+            Node::Break(_) => {}
+            Node::InlineCode(_) => {}
+            Node::InlineMath(_) => {}
             Node::Delete(Delete { children, .. }) => children.destroy_empty(),
             Node::Emphasis(Emphasis { children, .. }) => children.destroy_empty(),
-            Node::FootnoteReference(node) => drop(node),
-            Node::Html(node) => drop(node),
-            Node::Image(node) => drop(node),
-            Node::ImageReference(node) => drop(node),
+            Node::FootnoteReference(_) => {}
+            Node::Html(_) => {}
+            Node::Image(_) => {}
+            Node::ImageReference(_) => {}
             Node::Link(Link { children, .. }) => children.destroy_empty(),
             Node::LinkReference(LinkReference { children, .. }) => children.destroy_empty(),
             Node::Strong(Strong { children, .. }) => children.destroy_empty(),
-            Node::Text(node) => drop(node),
-            Node::Code(node) => drop(node),
-            Node::Math(node) => drop(node),
+            Node::Text(_) => {}
+            Node::Code(_) => {}
+            Node::Math(_) => {}
             Node::Heading(Heading { children, .. }) => children.destroy_empty(),
             Node::Table(Table { children, .. }) => children.destroy_empty(),
-            Node::ThematicBreak(node) => drop(node),
+            Node::ThematicBreak(_) => {}
             Node::TableRow(TableRow { children, .. }) => children.destroy_empty(),
             Node::TableCell(TableCell { children, .. }) => children.destroy_empty(),
             Node::ListItem(ListItem { children, .. }) => children.destroy_empty(),
-            Node::Definition(node) => drop(node),
+            Node::Definition(_) => {}
             Node::Paragraph(Paragraph { children, .. }) => children.destroy_empty(),
         }
     }

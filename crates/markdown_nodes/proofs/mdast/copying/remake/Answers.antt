@@ -37,58 +37,58 @@ returns-in-ListItem c = λ like. like-ListItem c.args.node.now c.in-ListItem.nod
 pub returns-in-Paragraph : goal.returns-in-Paragraph
 returns-in-Paragraph c = λ like. like-Paragraph c.args.node.now c.in-Paragraph.node c.args.children c.in-Paragraph.is like
 
-pub returns-in-Toml : goal.returns-in-Toml
+pub returns-in_ok-clone-in-Toml : goal.returns-in_ok-clone-in-Toml
 unfolding out-Node view
-returns-in-Toml c = search rules
+returns-in_ok-clone-in-Toml c = search rules
 
-pub returns-in-Yaml : goal.returns-in-Yaml
+pub returns-in_ok-clone-in-Yaml : goal.returns-in_ok-clone-in-Yaml
 unfolding out-Node view
-returns-in-Yaml c = search rules
+returns-in_ok-clone-in-Yaml c = search rules
 
-pub returns-in-Break : goal.returns-in-Break
+pub returns-in_ok-clone-in-Break : goal.returns-in_ok-clone-in-Break
 unfolding out-Node view
-returns-in-Break c = search rules
+returns-in_ok-clone-in-Break c = search rules
 
-pub returns-in-InlineCode : goal.returns-in-InlineCode
+pub returns-in_ok-clone-in-InlineCode : goal.returns-in_ok-clone-in-InlineCode
 unfolding out-Node view
-returns-in-InlineCode c = search rules
+returns-in_ok-clone-in-InlineCode c = search rules
 
-pub returns-in-InlineMath : goal.returns-in-InlineMath
+pub returns-in_ok-clone-in-InlineMath : goal.returns-in_ok-clone-in-InlineMath
 unfolding out-Node view
-returns-in-InlineMath c = search rules
+returns-in_ok-clone-in-InlineMath c = search rules
 
-pub returns-in-FootnoteReference : goal.returns-in-FootnoteReference
+pub returns-in_ok-clone-in-FootnoteReference : goal.returns-in_ok-clone-in-FootnoteReference
 unfolding out-Node view
-returns-in-FootnoteReference c = search rules
+returns-in_ok-clone-in-FootnoteReference c = search rules
 
-pub returns-in-Html : goal.returns-in-Html
+pub returns-in_ok-clone-in-Html : goal.returns-in_ok-clone-in-Html
 unfolding out-Node view
-returns-in-Html c = search rules
+returns-in_ok-clone-in-Html c = search rules
 
-pub returns-in-Image : goal.returns-in-Image
+pub returns-in_ok-clone-in-Image : goal.returns-in_ok-clone-in-Image
 unfolding out-Node view
-returns-in-Image c = search rules
+returns-in_ok-clone-in-Image c = search rules
 
-pub returns-in-ImageReference : goal.returns-in-ImageReference
+pub returns-in_ok-clone-in-ImageReference : goal.returns-in_ok-clone-in-ImageReference
 unfolding out-Node view
-returns-in-ImageReference c = search rules
+returns-in_ok-clone-in-ImageReference c = search rules
 
-pub returns-in-Text : goal.returns-in-Text
+pub returns-in_ok-clone-in-Text : goal.returns-in_ok-clone-in-Text
 unfolding out-Node view
-returns-in-Text c = search rules
+returns-in_ok-clone-in-Text c = search rules
 
-pub returns-in-Code : goal.returns-in-Code
+pub returns-in_ok-clone-in-Code : goal.returns-in_ok-clone-in-Code
 unfolding out-Node view
-returns-in-Code c = search rules
+returns-in_ok-clone-in-Code c = search rules
 
-pub returns-in-Math : goal.returns-in-Math
+pub returns-in_ok-clone-in-Math : goal.returns-in_ok-clone-in-Math
 unfolding out-Node view
-returns-in-Math c = search rules
+returns-in_ok-clone-in-Math c = search rules
 
-pub returns-in-ThematicBreak : goal.returns-in-ThematicBreak
+pub returns-in_ok-clone-in-ThematicBreak : goal.returns-in_ok-clone-in-ThematicBreak
 unfolding out-Node view
-returns-in-ThematicBreak c = search rules
+returns-in_ok-clone-in-ThematicBreak c = search rules
 
-pub returns-in-Definition : goal.returns-in-Definition
+pub returns-in_ok-clone-in-Definition : goal.returns-in_ok-clone-in-Definition
 unfolding out-Node view
-returns-in-Definition c = search rules
+returns-in_ok-clone-in-Definition c = search rules

@@ -1,0 +1,5 @@
+use Rattle.std.proofs.Common.{rules}
+use Rattle.markdown_nodes.proofs.mdast.Node.position_mut.Goals as goal
+
+pub returns : goal.returns
+returns c = search rules
