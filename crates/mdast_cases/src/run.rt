@@ -4,7 +4,7 @@ use crate::case::Case;
 use crate::replay::difference;
 use crate::sums::{SumsDifference, sums_difference};
 use crate::table::{TableError, cases};
-use mdast_programs::run::say;
+use command_line::output::say;
 use std::alloc::{AllocError, AllocFailed, Global};
 use std::io::Write;
 

@@ -6,10 +6,11 @@
 //! UTF-16 units of JavaScript, for events whose columns count bytes.
 #![tactic(auto)]
 
-use mdast_programs::document::{arguments, document};
-use mdast_programs::program::{Program, Units};
-use mdast_programs::request::{DocumentError, json_request};
-use mdast_programs::run::{run_as, say};
+use command_line::document::{arguments, document};
+use command_line::output::say;
+use command_line::program::{Program, Units};
+use command_line::request::{DocumentError, json_request};
+use mdast_programs::run::run_as;
 use std::io::{self, Write};
 use std::process::ExitCode;
 

@@ -7,7 +7,7 @@ use Rattle.markdown_nodes.specs.declared.mdast.Node.{Node}
 use Rattle.markdown_grammar.specs.Correct.{IsMeaning}
 use Rattle.event_lines.specs.Lines.{lines}
 use Rattle.mdast_programs.specs.Run.{IsAnswer, IsLineOf, Prints, over, status_of}
-use Rattle.mdast_programs.specs.declared.program.Program.{Program}
+use Rattle.command_line.specs.declared.program.Program.{Program}
 use Rattle.mdast_programs.specs.declared.run.Answer.{Answer}
 use Rattle.mdast_programs.specs.declared.run.Answer.TheVariants as answers
 

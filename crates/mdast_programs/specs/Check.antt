@@ -6,7 +6,7 @@ use Rattle.mdast_check.specs.Report.{IsReport}
 use Rattle.mdast_programs.specs.declared.run.Answer.{Answer}
 use Rattle.mdast_programs.specs.declared.run.Answer.TheVariants as answers
 use Rattle.mdast_programs.specs.Run.{Prints}
-use Rattle.mdast_programs.specs.declared.program.Program.TheVariants.{Show}
+use Rattle.command_line.specs.declared.program.Program.TheVariants.{Show}
 
 -- the exit status for a tree: 4 where a reference is open
 abbrev pub tree_status : List Reference → ℕ

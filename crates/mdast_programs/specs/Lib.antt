@@ -1,4 +1,2 @@
-pub mod Programs
-pub mod Requests
 pub mod Run
 pub mod Check

@@ -15,10 +15,10 @@ use Rattle.mdast_programs.specs.declared.run.Answer.{Answer}
 use Rattle.mdast_programs.specs.declared.run.Answer.TheVariants as answers
 use Rattle.character_references.specs.Decoder.{decoded}
 use Rattle.event_lines.specs.Lines.{lines, IsFirstUnread}
-use Rattle.mdast_programs.specs.Programs.{program_name}
-use Rattle.mdast_programs.specs.declared.program.Program.{Program}
-use Rattle.mdast_programs.specs.declared.program.Program.TheVariants.{Show, Json}
-use Rattle.mdast_programs.specs.declared.program.Units.TheVariants.{Bytes, Utf16}
+use Rattle.command_line.specs.Programs.{program_name}
+use Rattle.command_line.specs.declared.program.Program.{Program}
+use Rattle.command_line.specs.declared.program.Program.TheVariants.{Show, Json}
+use Rattle.command_line.specs.declared.program.Units.TheVariants.{Bytes, Utf16}
 use Rattle.markdown_json.specs.Json.{json}
 use Rattle.markdown_json.specs.Utf16.{json_utf16}
 

@@ -10,8 +10,9 @@ ghost use Rattle.mdast_programs.specs.Run.{IsRefusedWith, Means};
 ghost use Rattle.mdast_programs.specs.declared.run.Answer.TheVariants as answers;
 ghost use Rattle.markdown_nodes.specs.View.{view};
 
-use crate::program::Program;
-use crate::run::{Answer, answer_to, say};
+use crate::run::{Answer, answer_to};
+use command_line::output::say;
+use command_line::program::Program;
 use markdown_nodes::mdast::Node;
 use mdast_check::report::report_of;
 use std::alloc::{AllocError, Global};

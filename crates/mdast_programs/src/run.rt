@@ -1,19 +1,20 @@
 //! One run of the program.
 
-ghost use Rattle.std.specs.Prelude.{◌≡◌, ◌≢◌, ◌⊎◌, ◌≤◌, [], List, ℕ, codes, IfOk, IfSome, IsSome, string_bytes};
+ghost use Rattle.std.specs.Prelude.{◌≡◌, ◌≤◌, [], List, ℕ, codes, IfOk, IfSome, IsSome, string_bytes};
 ghost use Rattle.std.specs.Io.KnownBytes.{IsAtEnd, Appends};
+ghost use Rattle.command_line.specs.Programs.{memory_line};
+ghost use Rattle.command_line.specs.declared.program.Program.TheVariants as programs;
+ghost use Rattle.command_line.specs.declared.program.Units.TheVariants as units;
 ghost use Rattle.markdown_nodes.specs.declared.mdast.Node.{Node};
 ghost use Rattle.mdast_programs.specs.Run;
-ghost use Rattle.mdast_programs.specs.Programs.{memory_line};
 ghost use Rattle.mdast_programs.specs.Run.{IsAnswer, IsCompiled, IsLineOf, IsRefusedWith, IsTextOf, Means, Prints, status_of};
-ghost use Rattle.mdast_programs.specs.declared.program.Program.TheVariants as programs;
-ghost use Rattle.mdast_programs.specs.declared.program.Units.TheVariants as units;
 ghost use Rattle.mdast_programs.specs.declared.run.Answer.TheVariants as answers;
 ghost use Rattle.markdown_nodes.specs.View.{view};
 
-use crate::input::{ReadError, read_all};
-use crate::program::{Program, Units};
 use character_references::decoder::Decoder;
+use command_line::input::{ReadError, read_all};
+use command_line::output::say;
+use command_line::program::{Program, Units};
 use event_lines::lines::{LinesError, events};
 use markdown_json::{to_json, to_json_utf16};
 use markdown_nodes::event::Event;
@@ -34,7 +35,7 @@ pub enum Answer {
     /// This line of the events, counted from 1, cannot be read.
     UnreadLine(usize),
     /// The events cannot be read: a read failed, or none of those that
-    /// [`read_all`](crate::input::read_all) makes met the end.
+    /// [`read_all`](command_line::input::read_all) makes met the end.
     UnreadEvents,
 }
 
@@ -188,17 +189,6 @@ pub fn run_as<I: Read, O: Write>(
     Outcome {
         status,
         answer: Some(answer),
-    }
-}
-
-/// Writes a line, and gives its exit status, or 2 where the line cannot be written.
-pub fn say<O: Write>(output: &mut O, line: &str, status: u8) -> u8
-    ensures status { (result ≡ status) ⊎ (result ≡ 2) }
-    ensures written { result ≢ 2 → Appends (O.contents output.old) (O.contents output.new) line.now }
-{
-    match output.write_all(line.as_bytes()) {
-        Ok(()) => status,
-        Err(_) => 2,
     }
 }
 

@@ -7,9 +7,9 @@
 //! wrong or a file cannot be read, and with 3 where memory ran out.
 #![tactic(auto)]
 
+use command_line::document::document;
+use command_line::request::DocumentError;
 use mdast_cases::run::{Input, RunError, run, status};
-use mdast_programs::document::document;
-use mdast_programs::request::DocumentError;
 use std::alloc::AllocError;
 use std::env;
 use std::io::{self, ErrorKind};

@@ -6,11 +6,12 @@
 //! line for each heading, and then one for each reference that no definition answers.
 #![tactic(auto)]
 
+use command_line::document::{arguments, document};
+use command_line::output::say;
+use command_line::program::Program;
+use command_line::request::{DocumentError, Request};
 use mdast_programs::check::run_check;
-use mdast_programs::document::{arguments, document};
-use mdast_programs::program::Program;
-use mdast_programs::request::{DocumentError, Request};
-use mdast_programs::run::{run_as, say};
+use mdast_programs::run::run_as;
 use std::io::{self, Write};
 use std::process::ExitCode;
 

@@ -3,11 +3,11 @@
 ghost use Rattle.std.specs.Prelude.{◌<◌};
 
 use crate::expect::{holds, prints, same};
+use command_line::program::{Program, Units};
+use command_line::request::{DocumentError, Request, json_request};
 use event_lines::lines::events;
 use markdown_nodes::event::{Event, Kind, Name, Point};
 use mdast_programs::check::run_check;
-use mdast_programs::program::{Program, Units};
-use mdast_programs::request::{DocumentError, Request, json_request};
 use mdast_programs::run::{run, run_as, run_json};
 use std::alloc::{AllocError, Global};
 use std::io::{self, ErrorKind, Read, Write};
