@@ -16,7 +16,7 @@ use Rattle.markdown_steps.specs.Checks.{refused}
 use Rattle.markdown_steps.specs.Summaries.{Summary}
 use Rattle.markdown_grammar.specs.Attributes.{Place}
 
--- what such a container keeps, with its nodes
+-- what an open container keeps, with its nodes
 abbrev pub summary_of_container : OpenContainer → Summary
 summary_of_container h = summary_with h.container (views h.nodes.items)
 

@@ -38,6 +38,7 @@ ghost use Rattle.markdown_inlines.specs.Autolinks.{is_literal};
 ghost use Rattle.markdown_nodes.specs.Tree.{join};
 ghost use Rattle.markdown_nodes.specs.View.{views};
 ghost use Rattle.markdown_steps.specs.Visits.{visits_at_end};
+ghost use Rattle.nest.specs.Nest.{IsPut, innermost};
 
 use crate::container::Container;
 use character_references::references::References;
@@ -60,6 +61,7 @@ use markdown_nodes::mdast::Node;
 use markdown_nodes::role::{Content, ItemKind, Part};
 use markdown_nodes::steps::Steps;
 use markdown_nodes::unist::Position;
+use nest::Nest;
 use std::alloc::{AllocError, Global};
 
 /// An open significant span that is no leaf, or the root, with the nodes made in it so far.
@@ -348,6 +350,25 @@ impl<'a> OpenContainer<'a> {
     {
         self.container.take_part(part, inner);
         self.line_endings = has_line_endings_after(part, self.line_endings);
+    }
+}
+
+/// The nodes of the innermost of open containers: those of the root, once all spans have ended.
+#[inline(always)]
+pub fn innermost_nodes(containers: Nest<OpenContainer<'_>>) -> Vec<Node>
+    ensures { result ≡ (innermost containers.entry).nodes }
+{
+    containers.into_innermost().into_nodes()
+}
+
+impl<'a> OpenContainer<'a> {
+    /// Becomes the innermost of open containers. The error is that memory ran out.
+    #[inline(always)]
+    pub fn open_in(self, containers: &mut Nest<OpenContainer<'a>>) -> Result<(), AllocError>
+        ensures { OnOk result (IsPut self.entry containers.old containers.new) }
+    {
+        containers.inner.push(self)?;
+        Ok(())
     }
 }
 

@@ -20,7 +20,7 @@ use Rattle.markdown_containers.specs.declared.container.Container.{Container}
 use Rattle.markdown_containers.specs.declared.open_container.OpenContainer.{OpenContainer}
 use Rattle.markdown_builder.specs.declared.marks.Marks.{Marks as OpenMarks}
 use Rattle.markdown_grammar.specs.declared.error_kind.ErrorKind.{ErrorKind}
-use Rattle.markdown_grammar.specs.declared.error_kind.ErrorKind.TheVariants.{InvalidSlice, Misplaced, Unbalanced, UnfinishedBreak}
+use Rattle.markdown_grammar.specs.declared.error_kind.ErrorKind.TheVariants.{Unbalanced, UnfinishedBreak}
 use Rattle.markdown_grammar.specs.declared.error_kind.Stop.{Stop}
 use Rattle.markdown_grammar.specs.declared.error_kind.Stop.TheVariants as stops
 use Rattle.markdown_steps.specs.Columns.{columns_left, child_facts}
@@ -31,16 +31,15 @@ use Rattle.markdown_steps.specs.Compiler.{all_stood}
 use Rattle.markdown_grammar.specs.Grammar.{ContentModel, code_fenced, model_of, leaf, list_item, list_ordered, marked_item, marked_numbered_item, math_flow, numbered_item}
 use Rattle.markdown_containers.specs.Containers.{is_part_model, is_model_of, misfit_of, initial_model_of}
 use Rattle.markdown_builder.specs.PartsSoFar.{first_failing}
-use Rattle.markdown_grammar.specs.Items.{is_frontmatter, is_line_ending, is_table}
-use Rattle.markdown_grammar.specs.Document.{byte_at}
+use Rattle.markdown_grammar.specs.Items.{is_line_ending, is_table}
 use Rattle.markdown_grammar.specs.Values.{is_read}
 use Rattle.markdown_grammar.specs.Refusals.{ErrorAt}
 use Rattle.markdown_steps.specs.Checks.{checked, passes, refused, ◌>>=◌}
 use Rattle.markdown_steps.specs.Siblings.{marks_with}
 use Rattle.markdown_grammar.specs.Document.{Source}
-use Rattle.nest.specs.Nest.{around_innermost, first_or, innermost, with_innermost}
+use Rattle.nest.specs.Nest.{IsPut, around_innermost, first_or, innermost, with_innermost}
 use Rattle.nest.specs.declared.Nest.{Nest}
-use Rattle.nest.proofs.Nesting.{IsPut, put_around, put_innermost, turned, written_around, written_innermost}
+use Rattle.nest.proofs.Nesting.{put_around, put_innermost, turned, written_around, written_innermost}
 use Rattle.markdown_containers.specs.Takings.{TakesParent}
 use Rattle.markdown_containers.specs.declared.container.Container.TheVariants as containers
 use Rattle.markdown_blocks.specs.Parents.{is_parent}
@@ -53,7 +52,7 @@ use Rattle.markdown_steps.specs.Visits.{exit_visits, visits_at_end, visits_by_ow
 use Rattle.markdown_steps.specs.Well.{AllStand, Stands, Well, is_transparent}
 use Rattle.markdown_context.proofs.Beginnings.{no_leaf_row}
 use Rattle.markdown_steps.proofs.Booleans.{and-right}
-use Rattle.markdown_context.proofs.Misfits.{left_none, misfit_first, none_fails}
+use Rattle.markdown_context.proofs.Misfits.{checks_after, left_none, misfit_first, none_fails}
 use Rattle.markdown_containers.proofs.Stopping.{gives_same}
 use Rattle.markdown_steps.proofs.WellKept.{taken-awaited}
 
@@ -63,7 +62,7 @@ use Rattle.markdown_steps.proofs.WellKept.{taken-awaited}
 fits_of : (s : Source) (in_table : Bool) (pending : Option Position) (h : OpenContainer) (what : ItemKind) (start : Point) → passes (enter_checks s (container_state_of in_table pending h) what start) ≡ true → misfit_of h.container what ≡ None
 fits_of s in_table pending h what start passed =
     let top : ContainerState = container_state_of in_table pending h in
-    let others : List (Bool × ErrorKind) = (not (in_table && is_table what), Misplaced) ∷ (not (is_frontmatter what) || is_some (byte_at s.bytes start), InvalidSlice) ∷ [] in
+    let others : List (Bool × ErrorKind) = checks_after s in_table what start in
     let tests : List (Bool × ErrorKind) = rule_checks (initial_model_of h.container) (rules (initial_model_of h.container)) top.inner what others in
     left_none (misfit_of h.container what) (first_failing others)
     (sym (misfit_first h.container top.inner what others refl) ∙ none_fails tests (and-right (not top.after_break || is_line_ending what) (passes tests) passed))

@@ -83,9 +83,13 @@ checks_after s in_table what point = (not (in_table && is_table what), Misplaced
 pub misfit_of_leaf : (s : Source) (c : Context) (what : ItemKind) (point : Point) → c.is_leaf ≡ true → Some Misplaced ≡ first_failing (enter_checks s (top_of c) what point)
 misfit_of_leaf s c what point is_leaf = λ t. first_failing (enter_checks s (cond (sym is_leaf t) (fresh leaf (leaf_place c.in_table)) (kept_top c)) what point)
 
--- where no leaf is open, a break that is cut off comes first, then the container, and then what is around it
+-- a break that is cut off comes first, then the container, and then what is around it
+abbrev unless_cut : Source → Context → ItemKind → Point → Bool → Option ErrorKind
+unless_cut s c what point cut = cond (not cut) (option_or (misfit_of (innermost c.containers).container what) (first_failing (checks_after s c.in_table what point))) (Some UnfinishedBreak)
+
+-- where no leaf is open, that is the first test that fails
 without_leaf : (s : Source) (c : Context) (what : ItemKind) (point : Point) (cut : Bool) → c.is_leaf ≡ false → cut ≡ not (not (is_some c.pending) || is_line_ending what)
-    → first_failing (enter_checks s (top_of c) what point) ≡ cond (not cut) (option_or (misfit_of (innermost c.containers).container what) (first_failing (checks_after s c.in_table what point))) (Some UnfinishedBreak)
+    → first_failing (enter_checks s (top_of c) what point) ≡ unless_cut s c what point cut
 without_leaf s c what point cut no_leaf is_cut =
     (λ t. first_failing (enter_checks s (cond (no_leaf t) (fresh leaf (leaf_place c.in_table)) (kept_top c)) what point))
     ∙ ap (λ (o : Option ErrorKind). cond (not (is_some c.pending) || is_line_ending what) o (Some UnfinishedBreak)) (misfit_first (innermost c.containers).container (kept_top c).inner what (checks_after s c.in_table what point) refl)
@@ -95,7 +99,7 @@ without_leaf s c what point cut no_leaf is_cut =
 pub misfit_of_break : (s : Source) (c : Context) (what : ItemKind) (point : Point) (cut : Bool)
     → c.is_leaf ≡ false → cut ≡ not (not (is_some c.pending) || is_line_ending what) → cut ≡ true → Some UnfinishedBreak ≡ first_failing (enter_checks s (top_of c) what point)
 misfit_of_break s c what point cut no_leaf is_cut cuts =
-    sym (without_leaf s c what point cut no_leaf is_cut ∙ ap (λ (b : Bool). cond (not b) (option_or (misfit_of (innermost c.containers).container what) (first_failing (checks_after s c.in_table what point))) (Some UnfinishedBreak)) cuts)
+    sym (without_leaf s c what point cut no_leaf is_cut ∙ ap (unless_cut s c what point) cuts)
 
 -- else what the container says comes, and then the tests after it
 pub misfit_of_context : (s : Source) (c : Context) (what : ItemKind) (point : Point) (cut : Bool) (found : Option ErrorKind)
@@ -103,7 +107,7 @@ pub misfit_of_context : (s : Source) (c : Context) (what : ItemKind) (point : Po
     → option_or found (first_failing (checks_after s c.in_table what point)) ≡ first_failing (enter_checks s (top_of c) what point)
 misfit_of_context s c what point cut found no_leaf is_cut uncut same =
     ap (λ (o : Option ErrorKind). option_or o (first_failing (checks_after s c.in_table what point))) same
-    ∙ sym (without_leaf s c what point cut no_leaf is_cut ∙ ap (λ (b : Bool). cond (not b) (option_or (misfit_of (innermost c.containers).container what) (first_failing (checks_after s c.in_table what point))) (Some UnfinishedBreak)) uncut)
+    ∙ sym (without_leaf s c what point cut no_leaf is_cut ∙ ap (unless_cut s c what point) uncut)
 
 -- whether a span is frontmatter, and no byte of the document stands where it begins
 abbrev pub lacks_first_byte : Source → ItemKind → Point → Bool

@@ -39,7 +39,9 @@ use markdown_blocks::table::Columns;
 use markdown_builder::marks::Marks;
 use markdown_builder::slice::{Document, byte_at};
 use markdown_containers::container::Container;
-use markdown_containers::open_container::{Ending, OpenContainer, has_line_endings};
+use markdown_containers::open_container::{
+    Ending, OpenContainer, has_line_endings, innermost_nodes,
+};
 use markdown_grammar::error_kind::{ErrorKind, Stop};
 use markdown_nodes::around::Around;
 use markdown_nodes::event::{Event, Kind, Name, Point};
@@ -209,7 +211,7 @@ impl<'a, 'e> Context<'a, 'e> {
             line_endings: has_line_endings(what),
             nodes: Vec::new(alloc),
         };
-        self.containers.inner.push(inner)?;
+        inner.open_in(&mut self.containers)?;
         Ok(false)
     }
 
@@ -254,7 +256,7 @@ impl<'a, 'e> Context<'a, 'e> {
         ensures { result ≡ (innermost self.entry.containers).nodes }
     {
         let Context { containers, .. } = self;
-        containers.into_innermost().into_nodes()
+        innermost_nodes(containers)
     }
 
     /// Opens a span.

@@ -133,7 +133,8 @@ fn compile_list<R: References>(
     let length = match outcome {
         Ok(length) => length,
         Err(fault) => {
-            drop(context);
+            // The nodes are freed as those of a whole list are.
+            let _nodes = context.into_nodes();
             return Err(fault);
         }
     };

@@ -4,7 +4,7 @@ use Rattle.std.specs.Prelude.{slice_index_or, slice_set, vec_len}
 use Rattle.std.specs.Vec.{with_item}
 use Rattle.std.proofs.lemmas.List.{reverse-append}
 use Rattle.nest.specs.declared.Nest.{Nest}
-use Rattle.nest.specs.Nest.{after_first, around_innermost, first_or, innermost, with_innermost, with_innermost_by}
+use Rattle.nest.specs.Nest.{IsPut, after_first, around_innermost, first_or, innermost, with_innermost, with_innermost_by}
 
 -- the last of some values is the first of them turned round
 pub turned : {T : Type 0} (xs : List T) (x : T) → reverse (xs ++ x ∷ []) ≡ x ∷ reverse xs
@@ -15,11 +15,6 @@ first_and_rest [] other = refl
 first_and_rest (x ∷ xs) other = refl
 
 -- ---- One more, or one less
-
--- a value was put into the innermost one, and all others stay
-pub record IsPut {T : Type 0} (value : T) (before after : Nest T) : Type 0 where
-  pub outermost : after.outermost ≡ before.outermost
-  pub inner : after.inner.items ≡ before.inner.items ++ value ∷ []
 
 -- what is taken out was put into the rest
 pub taken_out : {T : Type 0} (old : Nest T) (rest : Vec T Global) (x : T) → old.inner.items ≡ rest.items ++ x ∷ [] → IsPut x (record old { inner = rest }) old

@@ -1,5 +1,5 @@
 -- The innermost of values that stand in one another, and those around it.
-use Rattle.std.specs.Prelude.{◌-◌, ◌++◌, List, [], ◌∷◌, reverse, vec_len}
+use Rattle.std.specs.Prelude.{◌≡◌, ◌-◌, ◌++◌, List, [], ◌∷◌, reverse, vec_len}
 use Rattle.std.specs.Borrow.{Fml, Lends, MutBor}
 use Rattle.std.specs.Vec.{with_item}
 use denote.RattleType.{RattleType}
@@ -32,6 +32,11 @@ with_innermost_by (x ∷ xs) n new = record n { inner = with_item n.inner (vec_l
 -- the same values, but for the innermost
 abbrev pub with_innermost : {T : Type 0} → Nest T → T → Nest T
 with_innermost n new = with_innermost_by n.inner.items n new
+
+-- a value was put into the innermost one, and all others stay
+pub record IsPut {T : Type 0} (value : T) (before after : Nest T) : Type 0 where
+  pub outermost : after.outermost ≡ before.outermost
+  pub inner : after.inner.items ≡ before.inner.items ++ value ∷ []
 
 -- the values end with what was last written through the result as the innermost one
 abbrev pub LendsInnermost : (T : RattleType) → MutBor (Nest T.Denot) → MutBor T.Denot → Fml

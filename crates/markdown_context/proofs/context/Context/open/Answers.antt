@@ -1,18 +1,18 @@
 use Rattle.std.proofs.Common.{◌≡◌, refl, sym, subst, ap, ◌∙◌}
 use Rattle.markdown_grammar.specs.Grammar.{model_of}
 use Rattle.markdown_containers.specs.Containers.{IsFresh, current_model_of}
-use Rattle.nest.specs.Nest.{innermost}
+use Rattle.nest.specs.Nest.{IsPut, innermost}
 use Rattle.nest.specs.declared.Nest.{Nest}
 use Rattle.markdown_containers.specs.declared.open_container.OpenContainer.{OpenContainer}
-use Rattle.nest.proofs.Nesting.{IsPut, put_around, put_innermost}
+use Rattle.nest.proofs.Nesting.{put_around, put_innermost}
 use Rattle.markdown_context.proofs.context.Context.open.Goals as goal
 
 pub returns : goal.returns
 returns c s same =
     let old : Nest OpenContainer = c.args.self.now.containers in
-    let new : Nest OpenContainer = record old { inner = c.push.new.self } in
+    let new : Nest OpenContainer = c.open_in.new.containers in
     let inner : OpenContainer = record { container = c.opened.result; line_endings = c.has_line_endings.result; nodes = c.new.result } in
-    let put : IsPut inner old new = record { outermost = refl; inner = c.in_ok-push.ensures.items } in
+    let put : IsPut inner old new = c.in_ok-open_in.ensures in
     let top : innermost new ≡ inner = put_innermost old new inner put in
     let begun : IsFresh inner.container (model_of (current_model_of (innermost old).container) c.args.what) =
     subst (λ (h : OpenContainer). IsFresh inner.container (model_of (current_model_of h.container) c.args.what)) c.innermost.ensures c.opened.ensures in record {
