@@ -1,6 +1,6 @@
 -- The values of blocks and spans whose text stands in the tree as it is written.
 use Rattle.std.specs.Prelude.{Bool, List, false, true, ℕ}
-use Rattle.markdown_events.specs.Texts.{raw, spaces, trim}
+use Rattle.markdown_texts.specs.Texts.{raw, spaces, trim}
 use Rattle.markdown_nodes.specs.Tree.{plain_text}
 use Rattle.markdown_nodes.specs.View.{views}
 use Rattle.markdown_nodes.specs.declared.mdast.Node.{Node}

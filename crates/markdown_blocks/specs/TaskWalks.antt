@@ -3,8 +3,8 @@ use Rattle.std.specs.Prelude.{List, None, Option, Some, [], ℕ, ◌∷◌}
 use Rattle.markdown_nodes.specs.Tree.{Trees, node, paragraph, text}
 use Rattle.markdown_nodes.specs.View.{views}
 use Rattle.markdown_nodes.specs.declared.mdast.Paragraph.{Paragraph}
-use Rattle.markdown_events.specs.declared.unist.Point.{Point}
-use Rattle.markdown_events.specs.declared.unist.Position.{Position}
+use Rattle.positions.specs.declared.unist.Point.{Point}
+use Rattle.positions.specs.declared.unist.Position.{Position}
 use Rattle.markdown_grammar.specs.Tasks.{after_blank, trimmed_text}
 
 -- what is left of a text, and where it starts then, where it has characters and a position

@@ -3,7 +3,7 @@ use Rattle.std.proofs.Common.{◌≡◌, ◌<◌, ℕ, ◌+◌, ◌-◌, false, 
 use Rattle.markdown_nodes.specs.declared.mdast.Node.{Node}
 use Rattle.markdown_nodes.specs.declared.mdast.Node.TheVariants as nodes
 use Rattle.markdown_leaves.specs.declared.Text.{Text}
-use Rattle.markdown_events.specs.declared.unist.Position.{Position}
+use Rattle.positions.specs.declared.unist.Position.{Position}
 use Rattle.std.specs.List.{remove}
 use Rattle.markdown_nodes.specs.Tree.{Label, Trees, Tree, before, join, node, nothing, only, seam, text}
 use Rattle.markdown_nodes.specs.View.{view, views}

@@ -4,7 +4,7 @@ use Rattle.std.specs.List.{list_all}
 use Rattle.std.specs.String.Boundary.{IsSplitPoint}
 use Rattle.std.proofs.lemmas.Bool.Decides.{nat_tests}
 use Rattle.std.proofs.lemmas.List.{append-nil, reverse-append, reverse-reverse}
-use Rattle.markdown_events.specs.Texts.{is_line_ending, is_space, raw, spaces, starts_with_byte, without_escapes, without_last_line_ending, without_line_ending_reversed, without_padding}
+use Rattle.markdown_texts.specs.Texts.{is_line_ending, is_space, raw, spaces, starts_with_byte, without_escapes, without_last_line_ending, without_line_ending_reversed, without_padding}
 use Rattle.markdown_builder.specs.ValueTexts.{is_kept, is_unpadded}
 
 -- ---- A text that is a value as it stands

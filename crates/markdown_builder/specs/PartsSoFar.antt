@@ -8,7 +8,7 @@ use Rattle.markdown_events.specs.declared.role.ItemKind.{ItemKind}
 use Rattle.markdown_events.specs.declared.role.ItemKind.TheVariants as item_kinds
 use Rattle.markdown_events.specs.declared.role.Part.{Part}
 use Rattle.markdown_events.specs.declared.role.Part.TheVariants as parts
-use Rattle.markdown_events.specs.declared.unist.Position.{Position}
+use Rattle.positions.specs.declared.unist.Position.{Position}
 use Rattle.markdown_nodes.specs.Tree.{Label as TreeLabel, Tree, Trees, nothing, plain_text}
 use Rattle.markdown_nodes.specs.View.{view}
 use Rattle.markdown_nodes.specs.declared.mdast.Node.{Node}

@@ -2,7 +2,7 @@
 
 ghost use Rattle.std.specs.Prelude.{◌≡◌, ◌≤◌, ◌+◌, IfOk, option_map, string_bytes};
 ghost use Rattle.markdown_builder.specs.Labels.{identified_kept};
-ghost use Rattle.markdown_events.specs.Texts.{fold};
+ghost use Rattle.markdown_texts.specs.Texts.{fold};
 ghost use Rattle.markdown_grammar.specs.Buffers.{node_count};
 ghost use Rattle.markdown_nodes.specs.Tree.{plain_text};
 ghost use Rattle.markdown_nodes.specs.View.{views};

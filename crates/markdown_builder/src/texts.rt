@@ -2,7 +2,7 @@
 
 ghost use Rattle.std.specs.Prelude.{◌≡◌, ◌<◌, ◌++◌, ◌&&◌, IfOk, drop, length, slice_index, string_bytes, true};
 ghost use Rattle.std.specs.List.{list_all};
-ghost use Rattle.markdown_events.specs.Texts.{raw, spaces, trim, without_first_line_ending, without_last_line_ending};
+ghost use Rattle.markdown_texts.specs.Texts.{raw, spaces, trim, without_first_line_ending, without_last_line_ending};
 ghost use Rattle.markdown_builder.specs.ValueTexts.{is_kept, is_unpadded};
 
 use markdown_nodes::text::{line_endings_to_spaces, raw_text, trim_eol};

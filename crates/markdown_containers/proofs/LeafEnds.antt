@@ -7,7 +7,7 @@ use Rattle.markdown_nodes.specs.Tree.{Label, Tree, Trees, join, node, nothing, o
 use Rattle.markdown_nodes.specs.View.{views}
 use Rattle.markdown_nodes.proofs.Joining.{join-nothing}
 use Rattle.markdown_events.specs.declared.event.Point.{Point}
-use Rattle.markdown_events.specs.declared.unist.Position.{Position}
+use Rattle.positions.specs.declared.unist.Position.{Position}
 use Rattle.markdown_events.specs.declared.role.ItemKind.{ItemKind}
 use Rattle.markdown_events.specs.declared.role.ItemKind.TheVariants.{Content as content}
 use Rattle.markdown_events.specs.declared.role.Content.{Content}

@@ -6,7 +6,7 @@ use Rattle.markdown_grammar.specs.declared.error_kind.Stop.{Stop}
 use Rattle.markdown_grammar.specs.declared.error_kind.Stop.TheVariants as stops
 use Rattle.markdown_nodes.specs.Tree.{Trees, join, node, nothing, «break»}
 use Rattle.markdown_events.specs.declared.event.Point.{Point}
-use Rattle.markdown_events.specs.declared.unist.Position.{Position}
+use Rattle.positions.specs.declared.unist.Position.{Position}
 use Rattle.markdown_steps.specs.Compiler.{ContainerState}
 use Rattle.markdown_grammar.specs.Grammar.{ContentModel}
 use Rattle.markdown_containers.specs.Containers.{summary_with, marker_of, current_model_of, initial_model_of}

@@ -9,7 +9,7 @@ use Rattle.markdown_events.specs.declared.role.Content.TheVariants as contents
 use Rattle.markdown_events.specs.declared.role.Part.TheVariants as parts
 use Rattle.markdown_events.specs.declared.role.Role.{Role}
 use Rattle.markdown_events.specs.declared.role.Role.TheVariants.{Significant as significant}
-use Rattle.markdown_events.specs.declared.unist.Position.{Position}
+use Rattle.positions.specs.declared.unist.Position.{Position}
 use Rattle.markdown_nodes.specs.View.{views}
 use Rattle.markdown_containers.specs.declared.container.Container.{Container}
 use Rattle.markdown_containers.specs.declared.container.Container.TheVariants as containers

@@ -7,8 +7,8 @@ use Rattle.markdown_events.specs.declared.role.ItemKind.{ItemKind}
 use Rattle.markdown_events.specs.declared.role.ItemKind.TheVariants as item_kinds
 use Rattle.markdown_events.specs.declared.role.Role.{Role}
 use Rattle.markdown_events.specs.declared.role.Role.TheVariants.{Transparent as transparent, Significant as significant}
-use Rattle.markdown_events.specs.declared.message.Fault.{Fault}
-use Rattle.markdown_events.specs.declared.message.Fault.TheVariants as faults
+use Rattle.positions.specs.declared.message.Fault.{Fault}
+use Rattle.positions.specs.declared.message.Fault.TheVariants as faults
 use Rattle.markdown_grammar.specs.Refusals.{Says}
 use Rattle.markdown_steps.specs.Visits.{visits_by_owner}
 use Rattle.markdown_containers.specs.declared.container.Container.{Container}

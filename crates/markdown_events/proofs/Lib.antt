@@ -6,7 +6,3 @@ pub mod Spans
 mod GhostWalks
 pub mod OpenSpans
 pub mod Aligns
-pub mod Cuts
-pub mod LineEndings
-pub mod Collapsing
-mod Decimals

@@ -1,13 +1,9 @@
 pub mod Names
 pub mod Spelling
-pub mod Places
-pub mod Messages
 pub mod Alignments
 pub mod Slices
 pub mod Forest
 pub mod Around
-pub mod Texts
-pub mod TextWalks
 pub mod Spread
 pub mod Counted
 pub mod Steps

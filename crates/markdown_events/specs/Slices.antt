@@ -2,8 +2,8 @@
 use Rattle.std.specs.Prelude.{ℕ, ◌+◌, ◌&&◌, List, length, Option, None, Some, nat_le, nat_lt, slice_range, if◌then◌else◌}
 use Rattle.std.specs.Str.{is_utf8}
 use Rattle.markdown_events.specs.declared.event.Point.{Point}
-use Rattle.markdown_events.specs.declared.unist.Point.{Point as Place}
-use Rattle.markdown_events.specs.declared.unist.Position.{Position}
+use Rattle.positions.specs.declared.unist.Point.{Point as Place}
+use Rattle.positions.specs.declared.unist.Position.{Position}
 
 -- a point in the tree: virtual spaces are dropped
 abbrev pub to_unist : Point → Place

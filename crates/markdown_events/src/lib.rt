@@ -7,12 +7,11 @@
 
 pub mod around;
 mod count;
-pub mod decimal;
 pub mod event;
 pub mod infer;
 pub mod laws;
-pub mod message;
 pub mod role;
 pub mod steps;
-pub mod text;
-pub mod unist;
+
+pub use markdown_texts::text;
+pub use positions::{decimal, message, unist};

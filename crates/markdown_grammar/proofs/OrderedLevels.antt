@@ -1,7 +1,7 @@
 -- What is asked of the levels on a stack, one node after the other.
 use Rattle.std.proofs.Common.{◌≡◌, Bool, List, None, Some, [], arith, max, refl, sym, ap, subst, ℕ, ◌++◌, ◌∙◌, ◌∷◌}
 use Rattle.std.proofs.Math.Nat.{le-max_left, le-max_right, max-le}
-use Rattle.markdown_events.specs.declared.unist.Position.{Position}
+use Rattle.positions.specs.declared.unist.Position.{Position}
 use Rattle.markdown_nodes.specs.declared.mdast.Node.{Node}
 use Rattle.markdown_nodes.specs.Access.{label_of, nodes_in, position_of}
 use Rattle.markdown_nodes.specs.Tree.{Label, Tree, Trees, before, node, nothing, only}

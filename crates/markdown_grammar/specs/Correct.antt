@@ -2,8 +2,8 @@
 use Rattle.std.specs.Prelude.{List, ◌≡◌, ◌≢◌, ◌⊎◌}
 use Rattle.markdown_events.specs.declared.event.Event.{Event}
 use Rattle.markdown_nodes.specs.declared.mdast.Node.{Node}
-use Rattle.markdown_events.specs.declared.message.Fault.{Fault}
-use Rattle.markdown_events.specs.declared.message.Message.{Message}
+use Rattle.positions.specs.declared.message.Fault.{Fault}
+use Rattle.positions.specs.declared.message.Message.{Message}
 use Rattle.markdown_events.specs.Forest.{Forest, events_of}
 use Rattle.markdown_nodes.specs.View.{view}
 use Rattle.markdown_grammar.specs.declared.error_kind.ErrorKind.TheVariants.{Unbalanced}
@@ -12,7 +12,7 @@ use Rattle.markdown_grammar.specs.Meaning.{meaning}
 use Rattle.markdown_grammar.specs.Reasons.{EndsOpen, StopsAtFirstError}
 use Rattle.markdown_grammar.specs.Refusals.{ErrorAt, Says}
 use Rattle.markdown_grammar.specs.Document.{Source}
-use Rattle.markdown_events.specs.declared.message.Fault.TheVariants as faults
+use Rattle.positions.specs.declared.message.Fault.TheVariants as faults
 
 -- the tree is the meaning of an accepted forest that has these events
 pub record IsMeaning (tree : Node) (events : List Event) (s : Source) : Type 0 where

@@ -3,7 +3,7 @@ use Rattle.std.specs.Prelude.{List, None, Option, Some, [], if◌then◌else◌,
 use Rattle.markdown_events.specs.Slices.{between}
 use Rattle.markdown_nodes.specs.Tree.{Label, Trees, join, node, nothing, plain_label, plain_text}
 use Rattle.markdown_events.specs.declared.event.Point.{Point}
-use Rattle.markdown_events.specs.Texts.{fold}
+use Rattle.markdown_texts.specs.Texts.{fold}
 use Rattle.markdown_events.specs.declared.role.ItemKind.{ItemKind}
 use Rattle.markdown_events.specs.declared.role.Part.{Part}
 use Rattle.markdown_grammar.specs.Document.{Source, text_read}

@@ -1,6 +1,6 @@
 -- The levels of a tree that a walk has still to look at, and what is asked of the nodes that are left in each.
 use Rattle.std.specs.Prelude.{Bool, List, [], max, ℕ, ⊤, ◌∷◌, ◌≤◌}
-use Rattle.markdown_events.specs.declared.unist.Position.{Position}
+use Rattle.positions.specs.declared.unist.Position.{Position}
 use Rattle.markdown_nodes.specs.Tree.{Label, Trees}
 use Rattle.markdown_nodes.specs.View.{views}
 use Rattle.markdown_grammar.specs.declared.ordered.Level.{Level}

@@ -4,7 +4,7 @@ use Rattle.markdown_events.specs.Forest.{Forest, empty, span}
 use Rattle.markdown_events.specs.Slices.{between}
 use Rattle.markdown_nodes.specs.Tree.{Tree, root}
 use Rattle.markdown_events.specs.declared.event.Point.{Point}
-use Rattle.markdown_events.specs.declared.unist.Position.{Position}
+use Rattle.positions.specs.declared.unist.Position.{Position}
 use Rattle.markdown_grammar.specs.Decorated.{nodes_of}
 use Rattle.markdown_grammar.specs.Items.{items}
 use Rattle.markdown_grammar.specs.Nodes.{decorate}

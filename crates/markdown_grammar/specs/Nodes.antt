@@ -8,7 +8,7 @@ use Rattle.markdown_grammar.specs.Decorated.{Decorated, Found, decorated, first,
 use Rattle.std.specs.Option.{option_and_then, option_or}
 use Rattle.markdown_events.specs.Forest.{Forest}
 use Rattle.markdown_events.specs.Spread.{align, loose, loose_item}
-use Rattle.markdown_events.specs.Texts.{raw, spaces, trim}
+use Rattle.markdown_texts.specs.Texts.{raw, spaces, trim}
 use Rattle.markdown_events.specs.declared.role.ItemKind.{ItemKind}
 use Rattle.markdown_grammar.specs.Document.{Source, is_byte, length_between, text_read}
 use Rattle.markdown_grammar.specs.Items.{Items, item, none}

@@ -1,8 +1,8 @@
 -- What a refusal says.
 use Rattle.std.specs.Prelude.{List, Some, codes, if◌then◌else◌, is_some, ℕ, ◌≡◌}
 use Rattle.markdown_events.specs.declared.event.Point.{Point}
-use Rattle.markdown_events.specs.declared.message.Fault.{Fault}
-use Rattle.markdown_events.specs.declared.message.Message.{Message}
+use Rattle.positions.specs.declared.message.Fault.{Fault}
+use Rattle.positions.specs.declared.message.Message.{Message}
 use Rattle.markdown_events.specs.Slices.{slice, to_unist}
 use Rattle.markdown_events.specs.declared.role.ItemKind.{ItemKind}
 use Rattle.markdown_events.specs.declared.role.ItemKind.TheVariants.{Part as part}
@@ -11,8 +11,8 @@ use Rattle.markdown_grammar.specs.Document.{Source, length_between}
 use Rattle.markdown_grammar.specs.declared.error_kind.ErrorKind.{ErrorKind}
 use Rattle.markdown_grammar.specs.declared.error_kind.ErrorKind.TheVariants.{HeadingDepth, Held, IncompleteReference, InvalidListValue, InvalidSlice, Misplaced, MissingFence, MissingListValue, Repeated, Unbalanced, UnfinishedBreak, UnknownReference}
 use Rattle.markdown_grammar.specs.declared.error_kind.Stop.{Stop}
-use Rattle.markdown_events.specs.declared.message.Fault.TheVariants as faults
-use Rattle.markdown_events.specs.declared.message.Place.TheVariants as places
+use Rattle.positions.specs.declared.message.Fault.TheVariants as faults
+use Rattle.positions.specs.declared.message.Place.TheVariants as places
 use Rattle.markdown_events.specs.declared.role.Part.TheVariants as parts
 use Rattle.markdown_grammar.specs.declared.error_kind.Stop.TheVariants as stops
 

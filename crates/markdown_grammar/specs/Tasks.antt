@@ -1,8 +1,8 @@
 -- What a mark does to the nodes of its item.
 use Rattle.std.specs.Prelude.{Bool, List, None, Option, Some, [], if◌then◌else◌, min, ℕ, ◌&&◌, ◌+◌, ◌-◌, ◌==◌, ◌^◌, ◌||◌, ◌∷◌}
 use Rattle.markdown_nodes.specs.Tree.{Trees, node, nothing, paragraph, text}
-use Rattle.markdown_events.specs.declared.unist.Point.{Point}
-use Rattle.markdown_events.specs.declared.unist.Position.{Position}
+use Rattle.positions.specs.declared.unist.Point.{Point}
+use Rattle.positions.specs.declared.unist.Position.{Position}
 
 -- a sum that stops at the greatest number
 abbrev pub capped_sum : ℕ → ℕ → ℕ

@@ -2,7 +2,7 @@
 use Rattle.std.specs.Prelude.{◌≡◌, List, None, Option, Result, Some, Vec, [], option_map, unwrap_or, ℕ}
 use Rattle.std.specs.declared.alloc.Global.{Global}
 use Rattle.markdown_events.specs.Slices.{slice}
-use Rattle.markdown_events.specs.Texts.{fold}
+use Rattle.markdown_texts.specs.Texts.{fold}
 use Rattle.markdown_events.specs.declared.event.Point.{Point}
 use Rattle.markdown_events.specs.declared.role.Part.TheVariants as parts
 use Rattle.markdown_grammar.specs.declared.error_kind.Stop.{Stop}

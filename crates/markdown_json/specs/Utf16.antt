@@ -1,7 +1,7 @@
 -- Points in UTF-16 code units, as JavaScript counts the characters of its strings.
 use Rattle.std.specs.Prelude.{ℕ, ◌≡◌, ◌≤◌, Some, ◌+◌, ◌-◌, List, [], ◌∷◌, Bool, if◌then◌else◌, ◌==◌, ◌||◌, nat_lt, length, take, min, unwrap_or, ◌^◌}
 use Rattle.std.specs.List.{list_any, slice_get}
-use Rattle.markdown_events.specs.declared.unist.Point.{Point}
+use Rattle.positions.specs.declared.unist.Point.{Point}
 use Rattle.markdown_nodes.specs.Tree.{Tree}
 use Rattle.markdown_json.specs.declared.utf16.Counts.{Counts}
 use Rattle.markdown_json.specs.Json.{json_counted}

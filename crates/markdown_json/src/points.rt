@@ -1,7 +1,7 @@
 //! How the points of a tree are counted where they are written.
 
 ghost use Rattle.std.specs.Prelude.{◌≡◌};
-ghost use Rattle.markdown_events.specs.declared.unist.Point.{Point};
+ghost use Rattle.positions.specs.declared.unist.Point.{Point};
 
 use markdown_nodes::unist::Point;
 

@@ -1,7 +1,7 @@
 //! Points in UTF-16 code units, as JavaScript counts the characters of its strings.
 
 ghost use Rattle.std.specs.Prelude.{◌≡◌, ◌+◌, ◌≤◌, ◌<◌, ◌^◌, ◌*◌, if◌then◌else◌, IfOk};
-ghost use Rattle.markdown_events.specs.declared.unist.Point.{Point};
+ghost use Rattle.positions.specs.declared.unist.Point.{Point};
 ghost use Rattle.markdown_json.specs.Utf16;
 ghost use Rattle.markdown_json.specs.Utf16.{AreCountsOf, counted_by, counts_at, ends_line, units_at};
 

@@ -1,7 +1,7 @@
 -- How Debug writes nodes, level by level.
 use mathlib.Core.Logic.{⊎_elim}
 use Rattle.std.proofs.Common.{◌≡◌, ◌⊎◌, ℕ, Bool, codes, List, [], ◌++◌, sym, ap, ◌∙◌, append-nil, append_assoc}
-use Rattle.markdown_events.specs.Places.{position_text}
+use Rattle.positions.specs.Places.{position_text}
 use Rattle.markdown_nodes.specs.declared.mdast.debug.Frame.{Frame}
 use Rattle.markdown_nodes.specs.declared.mdast.Node.{Node}
 use Rattle.markdown_nodes.specs.Access.{label_of, nodes_in, position_of}

@@ -2,7 +2,7 @@
 use Rattle.std.proofs.Common.{◌≡◌, Vec, Global, Option, Some, refl, sym, ap, ◌∙◌}
 use Rattle.std.specs.Prelude.{option_map, string_bytes}
 use denote.Hole.Carrier
-use Rattle.markdown_events.specs.declared.unist.Position.{Position}
+use Rattle.positions.specs.declared.unist.Position.{Position}
 use Rattle.markdown_nodes.specs.declared.mdast.Node.{Node, Row_of-Node, end_of-Node, more_of-Node, items-the_row-Node, items_hidden-the_row-Node-0, items_shown-the_row-Node-0}
 use Rattle.markdown_nodes.specs.declared.mdast.Node.TheBlock.{hidden-the_row-Node-0, seen-the_row-Node-0, shape-the_row-Node-0, shown-the_row-Node-0}
 use Rattle.markdown_nodes.specs.declared.mdast.Node.TheVariants as nodes

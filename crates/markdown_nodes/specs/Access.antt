@@ -5,7 +5,7 @@ use Rattle.markdown_nodes.specs.declared.mdast.Node.{Node}
 use Rattle.markdown_nodes.specs.declared.mdast.Node.TheOpen.{Node-F}
 use Rattle.markdown_nodes.specs.declared.mdast.Node.TheVariants as nodes
 use Rattle.markdown_nodes.specs.declared.mdast.Node.TheViews.{out-Node}
-use Rattle.markdown_events.specs.declared.unist.Position.{Position}
+use Rattle.positions.specs.declared.unist.Position.{Position}
 use Rattle.markdown_nodes.specs.Tree.{Label, Tree, root, paragraph, blockquote, emphasis, strong, delete, table_row, table_cell, thematic_break, «break», text, html, inline_code, inline_math, yaml, toml, heading, table}
 use Rattle.markdown_nodes.specs.Labels.{code_label, definition_label, footnote_definition_label, footnote_reference_label, image_label, image_reference_label, link_label, link_reference_label, list_item_label, list_label, math_label}
 use Rattle.markdown_nodes.specs.View.{views}

@@ -7,9 +7,9 @@ use Rattle.std.specs.contracts.option.Option as option
 use Rattle.std.specs.contracts.vec.Vec as vec
 use Rattle.std.specs.contracts.impls.GlobalAllocator.TheImpl.{ghosts}
 use Rattle.markdown_nodes.specs.declared.mdast.Node.{Node}
-use Rattle.markdown_events.specs.declared.unist.Position.{Position}
+use Rattle.positions.specs.declared.unist.Position.{Position}
 use Rattle.markdown_nodes.specs.contracts.mdast.Node as node_type
-use Rattle.markdown_events.specs.contracts.unist.Position as position_type
+use Rattle.positions.specs.contracts.unist.Position as position_type
 use Rattle.markdown_nodes.specs.Access.{with_children, with_position}
 
 -- a parent ends with what was last written through the result as its children, and any other node as it was

@@ -3,9 +3,9 @@ use Rattle.std.specs.Prelude.{ℕ, Bool, List, [], ◌∷◌, ◌++◌, Option, 
 use Rattle.std.specs.Fmt.{comma_space, decimal}
 use Rattle.std.specs.declared.alloc.Global.{Global}
 use Rattle.markdown_events.specs.declared.infer.AlignKind.{AlignKind}
-use Rattle.markdown_events.specs.declared.unist.Position.{Position}
+use Rattle.positions.specs.declared.unist.Position.{Position}
 use Rattle.markdown_events.specs.Alignments.{alignment_name}
-use Rattle.markdown_events.specs.Places.{position_text}
+use Rattle.positions.specs.Places.{position_text}
 use Rattle.quoted.specs.Quoted.{quoted}
 use Rattle.markdown_nodes.specs.Written.{Notation, written}
 use Rattle.markdown_leaves.specs.declared.ReferenceKind.{ReferenceKind}

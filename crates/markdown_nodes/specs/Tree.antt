@@ -2,7 +2,7 @@
 use Rattle.std.specs.Prelude.{ℕ, Bool, List, [], ◌++◌, Option, None, Some}
 use Rattle.markdown_events.specs.declared.infer.AlignKind.{AlignKind}
 use Rattle.markdown_leaves.specs.declared.ReferenceKind.{ReferenceKind}
-use Rattle.markdown_events.specs.declared.unist.Position.{Position}
+use Rattle.positions.specs.declared.unist.Position.{Position}
 
 -- the kind of a node, with its fields but for children and position, in the order of the nodes' own
 pub data Label : Type 0 where

@@ -1,6 +1,6 @@
 -- How nodes are written as text, whichever way: Debug's form and JSON differ in what stands around a node.
 use Rattle.std.specs.Prelude.{ℕ, List, [], ◌++◌, Option}
-use Rattle.markdown_events.specs.declared.unist.Position.{Position}
+use Rattle.positions.specs.declared.unist.Position.{Position}
 use Rattle.markdown_nodes.specs.Tree.{Label, Tree, Trees, nothing, node}
 
 -- what stands before the children of a node, after them, and between two nodes

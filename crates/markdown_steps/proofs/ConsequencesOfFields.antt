@@ -7,7 +7,7 @@ use Rattle.markdown_events.specs.Slices.{between}
 use Rattle.markdown_steps.specs.ChildFacts.{ChildFacts, child_facts_of}
 use Rattle.markdown_nodes.specs.Tree.{Label, only}
 use Rattle.markdown_events.specs.declared.role.ItemKind.{ItemKind}
-use Rattle.markdown_events.specs.declared.unist.Position.{Position}
+use Rattle.positions.specs.declared.unist.Position.{Position}
 use Rattle.markdown_steps.proofs.Allowed.{stood-is}
 use Rattle.markdown_steps.proofs.Booleans.{and-left, and-right}
 use Rattle.markdown_steps.proofs.Conditions.{passing}

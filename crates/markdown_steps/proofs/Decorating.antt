@@ -4,7 +4,7 @@ use Rattle.std.specs.Prelude.{if◌then◌else◌, is_some, option_map, unwrap_o
 use Rattle.std.specs.Option.{option_and_then, option_or}
 use Rattle.markdown_events.specs.Forest.{Forest}
 use Rattle.markdown_steps.specs.ChildFacts.{child_facts_of}
-use Rattle.markdown_events.specs.Texts.{fold, trim}
+use Rattle.markdown_texts.specs.Texts.{fold, trim}
 use Rattle.markdown_nodes.specs.Tree.{Trees, join, nothing, plain_label, plain_text}
 use Rattle.markdown_events.specs.declared.event.Point.{Point}
 use Rattle.markdown_events.specs.declared.role.ItemKind.{ItemKind}

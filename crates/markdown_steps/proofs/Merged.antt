@@ -6,8 +6,8 @@ use Rattle.markdown_steps.specs.ChildFacts.{child_facts_of}
 use Rattle.markdown_nodes.specs.Tree.{Label, Trees, join, node, nothing, only, paragraph, seam, text}
 use Rattle.markdown_events.specs.declared.event.Point.{Point}
 use Rattle.markdown_events.specs.declared.role.ItemKind.{ItemKind}
-use Rattle.markdown_events.specs.declared.unist.Point.{Point as UnistPoint}
-use Rattle.markdown_events.specs.declared.unist.Position.{Position}
+use Rattle.positions.specs.declared.unist.Point.{Point as UnistPoint}
+use Rattle.positions.specs.declared.unist.Position.{Position}
 use Rattle.markdown_steps.specs.Consequences.{NoTextAfterText, begins_with_text}
 use Rattle.markdown_steps.proofs.Decorating.{nodes-are}
 use Rattle.markdown_steps.specs.Consequences.{is_text}

@@ -16,8 +16,8 @@ use Rattle.markdown_events.specs.declared.event.Point.{Point}
 use Rattle.markdown_events.specs.declared.role.ItemKind.{ItemKind}
 use Rattle.markdown_events.specs.declared.role.Part.{Part}
 use Rattle.markdown_events.specs.declared.role.Role.{Role}
-use Rattle.markdown_events.specs.declared.unist.Point.{Point as UnistPoint}
-use Rattle.markdown_events.specs.declared.unist.Position.{Position}
+use Rattle.positions.specs.declared.unist.Point.{Point as UnistPoint}
+use Rattle.positions.specs.declared.unist.Position.{Position}
 use Rattle.markdown_steps.proofs.ItemLists.{regroup}
 use Rattle.markdown_grammar.specs.Attributes.{mark}
 use Rattle.markdown_grammar.specs.Document.{text_read}

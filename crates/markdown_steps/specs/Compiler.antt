@@ -12,8 +12,8 @@ use Rattle.markdown_events.specs.declared.event.Point.{Point}
 use Rattle.markdown_events.specs.declared.role.ItemKind.{ItemKind}
 use Rattle.markdown_events.specs.declared.role.Part.{Part}
 use Rattle.markdown_events.specs.declared.role.Role.{Role}
-use Rattle.markdown_events.specs.declared.unist.Point.{Point as UnistPoint}
-use Rattle.markdown_events.specs.declared.unist.Position.{Position}
+use Rattle.positions.specs.declared.unist.Point.{Point as UnistPoint}
+use Rattle.positions.specs.declared.unist.Position.{Position}
 use Rattle.markdown_events.specs.Around.{in_the_open, may_begin, under}
 use Rattle.markdown_steps.specs.Columns.{Columns, columns_entered, columns_left, no_columns, child_facts}
 use Rattle.markdown_steps.specs.Extents.{extent_of, last_event}

@@ -2,7 +2,7 @@
 use Rattle.std.specs.Prelude.{List, None, Option, Some, length, slice_get, ◌-◌}
 use Rattle.markdown_events.specs.Slices.{between}
 use Rattle.markdown_events.specs.declared.event.Event.{Event}
-use Rattle.markdown_events.specs.declared.unist.Position.{Position}
+use Rattle.positions.specs.declared.unist.Position.{Position}
 use Rattle.markdown_grammar.specs.Meaning.{nowhere}
 
 -- the last of the events

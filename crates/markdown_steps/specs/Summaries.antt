@@ -1,7 +1,7 @@
 -- What a container keeps of its parts, in place of its items.
 use Rattle.std.specs.Prelude.{Bool, List, None, Option, Some, [], if◌then◌else◌, option_map, unwrap_or, ℕ}
 use Rattle.std.specs.Option.{option_and_then}
-use Rattle.markdown_events.specs.Texts.{fold}
+use Rattle.markdown_texts.specs.Texts.{fold}
 use Rattle.markdown_nodes.specs.Tree.{Trees, plain_label, plain_text}
 use Rattle.markdown_events.specs.declared.event.Point.{Point}
 use Rattle.markdown_events.specs.declared.role.Part.{Part}

@@ -9,7 +9,7 @@ use Rattle.markdown_steps.specs.Summaries.{Summary, PartSummary, Path, address, 
 use Rattle.markdown_grammar.specs.Decorated.{node_at}
 use Rattle.markdown_grammar.specs.Nodes.{Media, frontmatter, image_label, link_label, linked}
 use Rattle.markdown_steps.specs.ChildFacts.{ChildFacts, child_facts_of}
-use Rattle.markdown_events.specs.Texts.{raw, spaces, trim}
+use Rattle.markdown_texts.specs.Texts.{raw, spaces, trim}
 use Rattle.markdown_events.specs.declared.role.ItemKind.{ItemKind}
 use Rattle.markdown_grammar.specs.Document.{Source, is_byte, text_read}
 use Rattle.markdown_grammar.specs.Items.{Items, item, none, same_part, ◌then◌}

@@ -2,7 +2,7 @@
 use Rattle.std.specs.Prelude.{List, Some, string_bytes, ℕ}
 use Rattle.markdown_nodes.specs.Tree.{Trees, node, nothing, text}
 use Rattle.markdown_leaves.specs.declared.Text.{Text}
-use Rattle.markdown_events.specs.declared.unist.Position.{Position}
+use Rattle.positions.specs.declared.unist.Position.{Position}
 
 -- a text alone, by its value and its place
 abbrev pub one_text : List ℕ → Position → Trees

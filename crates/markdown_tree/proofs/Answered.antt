@@ -5,9 +5,9 @@ use Rattle.markdown_events.specs.Forest.{Forest, events_of}
 use Rattle.markdown_events.proofs.Unique.{one_forest}
 use Rattle.markdown_events.specs.declared.event.Event.{Event}
 use Rattle.markdown_events.specs.declared.event.Point.{Point}
-use Rattle.markdown_events.specs.declared.unist.Position.{Position}
-use Rattle.markdown_events.specs.declared.message.Fault.{Fault}
-use Rattle.markdown_events.specs.declared.message.Fault.TheVariants as faults
+use Rattle.positions.specs.declared.unist.Position.{Position}
+use Rattle.positions.specs.declared.message.Fault.{Fault}
+use Rattle.positions.specs.declared.message.Fault.TheVariants as faults
 use Rattle.markdown_nodes.specs.Tree.{Tree, only, root}
 use Rattle.markdown_nodes.specs.View.{view, views}
 use Rattle.markdown_nodes.specs.declared.mdast.Node.{Node}

@@ -2,10 +2,10 @@
 use Rattle.std.proofs.Common.{◌≡◌, ℕ, List, Option, Some, None, ap, subst, sym, ◌∙◌}
 use Rattle.std.specs.Prelude.{IfSome, IsSomeAnd, option_map}
 use Rattle.markdown_events.specs.declared.event.Event.{Event}
-use Rattle.markdown_events.specs.declared.message.Message.{Message}
-use Rattle.markdown_events.specs.declared.message.Place.{Place}
-use Rattle.markdown_events.specs.declared.unist.Point.{Point}
-use Rattle.markdown_events.specs.Messages.{start_of}
+use Rattle.positions.specs.declared.message.Message.{Message}
+use Rattle.positions.specs.declared.message.Place.{Place}
+use Rattle.positions.specs.declared.unist.Point.{Point}
+use Rattle.positions.specs.Messages.{start_of}
 use Rattle.event_lines.specs.Lines.{lines}
 use Rattle.markdown_nodes.specs.declared.mdast.Node.{Node}
 use Rattle.markdown_nodes.specs.Tree.{only}

@@ -2,9 +2,9 @@
 use Rattle.std.specs.Prelude.{◌≡◌, ℕ, List, [], Some, option_map, IsSomeAnd}
 use Rattle.character_references.specs.Named.{known}
 use Rattle.markdown_events.specs.declared.event.Event.{Event}
-use Rattle.markdown_events.specs.declared.message.Message.{Message}
-use Rattle.markdown_events.specs.declared.unist.Point.{Point}
-use Rattle.markdown_events.specs.Messages.{start_of}
+use Rattle.positions.specs.declared.message.Message.{Message}
+use Rattle.positions.specs.declared.unist.Point.{Point}
+use Rattle.positions.specs.Messages.{start_of}
 use Rattle.event_lines.specs.Lines.{lines}
 use Rattle.markdown_nodes.specs.declared.mdast.Node.{Node}
 use Rattle.markdown_nodes.specs.Tree.{only}

@@ -5,7 +5,7 @@
 ghost use Rattle.std.specs.Prelude.{◌≡◌, ◌≢◌, ◌⊎◌, ◌≤◌, [], IfSome};
 ghost use Rattle.std.specs.Str.{IsUtf8};
 ghost use Rattle.event_lines.specs.Lines.{IsFirstUnread};
-ghost use Rattle.markdown_events.specs.Messages.{start_of};
+ghost use Rattle.positions.specs.Messages.{start_of};
 ghost use Rattle.markdown_json.specs.Json.{json};
 ghost use Rattle.markdown_nodes.specs.View.{view};
 ghost use Rattle.mdast_c.specs.Outcomes.{IsRefusal, IsTree, IsWithoutRefusal, over, point_of};

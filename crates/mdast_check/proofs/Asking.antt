@@ -3,7 +3,7 @@ use Rattle.std.proofs.Common.{◌≡◌, ℕ, Bool, true, false, not, cond, List
 use Rattle.std.specs.Prelude.{option_map}
 use Rattle.std.specs.List.{cons_option, filter_map, list_any}
 use Rattle.std.specs.Str.{bytes_eq}
-use Rattle.markdown_events.specs.declared.unist.Position.{Position}
+use Rattle.positions.specs.declared.unist.Position.{Position}
 use Rattle.markdown_nodes.specs.declared.mdast.Node.{Node}
 use Rattle.markdown_nodes.specs.Access.{label_of, position_of}
 use Rattle.markdown_nodes.specs.Tree.{Tree}

@@ -2,7 +2,7 @@
 use Rattle.std.specs.Prelude.{ℕ, Bool, not, List, Option, Some, None, filter, option_map, string_bytes}
 use Rattle.std.specs.List.{filter_map, list_any}
 use Rattle.std.specs.Str.{bytes_eq}
-use Rattle.markdown_events.specs.declared.unist.Position.{Position}
+use Rattle.positions.specs.declared.unist.Position.{Position}
 use Rattle.markdown_nodes.specs.Tree.{Label, Tree, link_reference, image_reference, footnote_reference, definition, footnote_definition}
 use Rattle.mdast_check.specs.declared.references.Open.{Open}
 use Rattle.mdast_check.specs.declared.references.OpenKind.{OpenKind}

@@ -2,8 +2,8 @@
 use Rattle.std.specs.Prelude.{◌≡◌, ℕ, Bool, List, [], ◌++◌, Option, None, Some, codes}
 use Rattle.std.specs.Fmt.{decimal}
 use Rattle.std.specs.List.{flat_map}
-use Rattle.markdown_events.specs.declared.unist.Position.{Position}
-use Rattle.markdown_events.specs.Places.{position_text}
+use Rattle.positions.specs.declared.unist.Position.{Position}
+use Rattle.positions.specs.Places.{position_text}
 use Rattle.quoted.specs.Quoted.{quoted}
 use Rattle.markdown_nodes.specs.Tree.{Tree}
 use Rattle.mdast_check.specs.declared.references.OpenKind.{OpenKind}

@@ -3,8 +3,8 @@ use Rattle.std.specs.Prelude.{◌≡◌, ℕ, Bool, List, ◌++◌, Option, IfSo
 use Rattle.std.specs.Fmt.{decimal}
 use Rattle.std.specs.Io.KnownBytes.{IsAtEnd}
 use Rattle.markdown_events.specs.declared.event.Event.{Event}
-use Rattle.markdown_events.specs.declared.message.Message.{Message}
-use Rattle.markdown_events.specs.Messages.{message_text}
+use Rattle.positions.specs.declared.message.Message.{Message}
+use Rattle.positions.specs.Messages.{message_text}
 use Rattle.markdown_nodes.specs.declared.mdast.Node.{Node}
 use Rattle.markdown_nodes.specs.Shown.{shown}
 use Rattle.markdown_nodes.specs.Tree.{Tree}

@@ -2,7 +2,7 @@
 
 ghost use Rattle.std.specs.Fmt.{WritesOnOk, decimal};
 ghost use Rattle.std.specs.Prelude.{◌≡◌, ◌⊎◌, ◌++◌, ℕ, Bool, [], Some, IsNone, codes, if◌then◌else◌, option_map, string_bytes};
-ghost use Rattle.markdown_events.specs.Places.{position_text};
+ghost use Rattle.positions.specs.Places.{position_text};
 ghost use Rattle.markdown_nodes.specs.Access.{label_of, nodes_in, position_of};
 ghost use Rattle.markdown_nodes.specs.Labels.{code_label, definition_label, image_label, image_reference_label};
 ghost use Rattle.markdown_nodes.specs.Shown.{

@@ -1,5 +1,5 @@
 use Rattle.std.proofs.Common.{rules, subst}
-use Rattle.markdown_events.specs.declared.message.Fault.{Fault}
+use Rattle.positions.specs.declared.message.Fault.{Fault}
 use Rattle.markdown_grammar.specs.Correct.{FailsRightly}
 use Rattle.mdast_c.specs.Outcomes.{over}
 use Rattle.mdast_c.proofs.OutcomeLemmas.{refusal_said, tree_said}

@@ -1,6 +1,6 @@
 use Rattle.std.proofs.Common.{ap, ◌∙◌}
 use Rattle.std.specs.Prelude.{string_bytes}
-use Rattle.markdown_events.specs.Texts.{without_last_line_ending}
+use Rattle.markdown_texts.specs.Texts.{without_last_line_ending}
 use Rattle.markdown_builder.proofs.TextCuts.{end_splits, end_taken}
 use Rattle.markdown_builder.proofs.texts.trim_end.Goals as goal
 

@@ -1,5 +1,5 @@
 use Rattle.std.proofs.Common.{◌≡◌, IfOk, string_bytes, subst}
-use Rattle.markdown_events.specs.declared.unist.Point.{Point}
+use Rattle.positions.specs.declared.unist.Point.{Point}
 use Rattle.markdown_json.specs.Json.{json_counted}
 use Rattle.markdown_json.proofs.Utf16Counts.{counted-is}
 use Rattle.markdown_nodes.specs.View.{view}

@@ -1,6 +1,6 @@
 use Rattle.std.proofs.Common.{Global, List, Some, Vec, ℕ, arith, ap, length, sym, ◌∙◌}
 use Rattle.markdown_events.specs.declared.event.Event.{Event}
-use Rattle.markdown_events.specs.declared.unist.Position.{Position}
+use Rattle.positions.specs.declared.unist.Position.{Position}
 use Rattle.markdown_steps.specs.Compiler.{opening, point_of, run}
 use Rattle.markdown_steps.specs.Extents.{extent_of, last_event}
 use Rattle.markdown_steps.specs.Visits.{run_visits}

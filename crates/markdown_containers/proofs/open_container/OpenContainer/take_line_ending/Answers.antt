@@ -1,7 +1,7 @@
 use Rattle.std.proofs.Common.{None, Some, refl, ap, ◌∙◌}
 use Rattle.std.specs.Prelude.{is_some}
 use Rattle.markdown_events.specs.Slices.{slice}
-use Rattle.markdown_events.specs.declared.unist.Position.{Position}
+use Rattle.positions.specs.declared.unist.Position.{Position}
 use Rattle.markdown_nodes.specs.Tree.{Tree, join, only}
 use Rattle.markdown_nodes.specs.View.{views}
 use Rattle.markdown_grammar.specs.Document.{Source, source}

@@ -1,7 +1,7 @@
 use Rattle.std.proofs.Common.{ap, refl, sym, ◌∙◌}
 use Rattle.markdown_nodes.specs.Tree.{Tree, Trees, join, only}
 use Rattle.markdown_nodes.specs.View.{views}
-use Rattle.markdown_events.specs.declared.unist.Position.{Position}
+use Rattle.positions.specs.declared.unist.Position.{Position}
 use Rattle.markdown_containers.specs.Containers.{summary_with}
 use Rattle.markdown_blocks.specs.Parents.{parent_label}
 use Rattle.markdown_builder.specs.PartsSoFar.{placed}

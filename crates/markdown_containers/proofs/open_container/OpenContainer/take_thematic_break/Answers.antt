@@ -1,6 +1,6 @@
 use Rattle.std.proofs.Common.{refl, ap, ◌∙◌}
 use Rattle.markdown_events.specs.declared.role.Content.TheVariants as contents
-use Rattle.markdown_events.specs.declared.unist.Position.{Position}
+use Rattle.positions.specs.declared.unist.Position.{Position}
 use Rattle.markdown_nodes.specs.Tree.{Tree, join, nothing, only, thematic_break}
 use Rattle.markdown_nodes.specs.View.{views}
 use Rattle.markdown_builder.specs.PartsSoFar.{placed}
