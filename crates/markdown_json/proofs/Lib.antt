@@ -1,4 +1,1 @@
-mod Escapes
-mod Fragments
-mod Utf16Counts
 mod JsonWriting

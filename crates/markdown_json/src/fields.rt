@@ -1,7 +1,7 @@
-//! The fields of a node, in the terms of mdast.
+//! The fields of each kind of node, in the terms of mdast.
 
-ghost use Rattle.std.specs.Fmt.{decimal};
-ghost use Rattle.std.specs.Prelude.{◌≡◌, ◌++◌, [], OnOk, codes, if◌then◌else◌, option_map, string_bytes};
+ghost use Rattle.std.specs.Prelude.{◌≡◌, ◌++◌, OnOk, string_bytes};
+ghost use Rattle.json_fields.specs.Fields.{position_field};
 ghost use Rattle.markdown_nodes.specs.Access.{label_of, position_of};
 ghost use Rattle.markdown_nodes.specs.Labels.{
   code_label,
@@ -16,40 +16,20 @@ ghost use Rattle.markdown_nodes.specs.Labels.{
   list_label,
   math_label,
 };
-ghost use Rattle.markdown_nodes.specs.Shown.{bool_text};
 ghost use Rattle.markdown_nodes.specs.Tree.{heading, table};
-ghost use Rattle.markdown_json.specs.Json.{
-  align_field,
-  alignment,
-  alignments,
-  association_of,
-  children,
-  children_end,
-  closing,
-  field,
-  key,
-  kind,
-  literal,
-  maybe,
-  opening,
-  or_null,
-  point,
-  position_field,
-  reference_of,
-  reference_type,
-  resource_of,
-  position_value,
-};
-ghost use Rattle.markdown_json.specs.Strings.{string};
+ghost use Rattle.markdown_json.specs.Json.{children_end, closing, opening};
 
-use crate::points::Points;
-use crate::strings::{push, push_string};
-use markdown_nodes::decimal::push_decimal;
-use markdown_nodes::mdast::{
-    AlignKind, Code, Definition, FootnoteDefinition, FootnoteReference, Heading, Image,
-    ImageReference, Link, LinkReference, List, ListItem, Math, Node, ReferenceKind, Table,
+use json_fields::fields::{
+    push_align, push_association, push_checked, push_children, push_flag, push_kind, push_literal,
+    push_number, push_option, push_parent, push_position_field, push_reference, push_resource,
+    push_start, push_text,
 };
-use markdown_nodes::unist::{Point, Position};
+use json_fields::points::Points;
+use json_fields::strings::push;
+use markdown_nodes::mdast::{
+    Code, Definition, FootnoteDefinition, FootnoteReference, Heading, Image, ImageReference, Link,
+    LinkReference, List, ListItem, Math, Node, Table,
+};
 use std::alloc::AllocError;
 
 /// Appends the kind and the fields of a node to what is written, up to its children.
@@ -132,171 +112,6 @@ fn push_position<P: Points>(out: &mut String, points: &P, node: &Node) -> Result
     }
 }
 
-/// Appends the field of a position to what is written.
-#[tactic(auto, unfolding(crate::specs::Json::field, crate::specs::Json::position_value))]
-fn push_position_field<P: Points>(
-    out: &mut String,
-    points: &P,
-    position: Position,
-) -> Result<(), AllocError>
-    ensures { OnOk result (string_bytes out.new
-        ≡ string_bytes out.old ++ field (codes "position") (position_value (P.counted points.now) position)) }
-{
-    push_key(out, "position")?;
-    push(out, "{\"start\":")?;
-    push_point(out, points.counted(position.start))?;
-    push_key(out, "end")?;
-    push_point(out, points.counted(position.end))?;
-    push(out, "}")
-}
-
-/// Appends a point to what is written.
-#[tactic(auto, unfolding(crate::specs::Json::point))]
-fn push_point(out: &mut String, place: Point) -> Result<(), AllocError>
-    ensures { OnOk result (string_bytes out.new ≡ string_bytes out.old ++ point place) }
-{
-    push(out, "{\"line\":")?;
-    push_decimal(out, place.line)?;
-    push_number(out, "column", place.column)?;
-    push_number(out, "offset", place.offset)?;
-    push(out, "}")
-}
-
-/// Appends the kind of a node to what is written.
-#[tactic(auto, unfolding(crate::specs::Json::kind))]
-fn push_kind(out: &mut String, name: &str) -> Result<(), AllocError>
-    ensures { OnOk result (string_bytes out.new ≡ string_bytes out.old ++ kind name.now) }
-{
-    push(out, "{\"type\":\"")?;
-    push(out, name)?;
-    push(out, "\"")
-}
-
-/// Appends the name of a field to what is written.
-#[tactic(auto, unfolding(crate::specs::Json::key))]
-fn push_key(out: &mut String, name: &str) -> Result<(), AllocError>
-    ensures { OnOk result (string_bytes out.new ≡ string_bytes out.old ++ key name.now) }
-{
-    push(out, ",\"")?;
-    push(out, name)?;
-    push(out, "\":")
-}
-
-/// Appends the start of the children of a parent to what is written.
-#[tactic(auto, unfolding(crate::specs::Json::children))]
-fn push_children(out: &mut String) -> Result<(), AllocError>
-    ensures { OnOk result (string_bytes out.new ≡ string_bytes out.old ++ children) }
-{
-    push(out, ",\"children\":[")
-}
-
-/// Appends a parent that has no other fields than its children to what is written.
-fn push_parent(out: &mut String, name: &str) -> Result<(), AllocError>
-    ensures { OnOk result (string_bytes out.new ≡ string_bytes out.old ++ (kind name.now ++ children)) }
-{
-    push_kind(out, name)?;
-    push_children(out)
-}
-
-/// Appends a literal that has no other fields than its value to what is written.
-fn push_literal(out: &mut String, name: &str, value: &String) -> Result<(), AllocError>
-    ensures { OnOk result (string_bytes out.new ≡ string_bytes out.old ++ literal name.now (string_bytes value.now)) }
-{
-    push_kind(out, name)?;
-    push_text(out, "value", value)
-}
-
-/// Appends a field that is a number to what is written.
-#[tactic(auto, unfolding(crate::specs::Json::field))]
-fn push_number(out: &mut String, name: &str, number: usize) -> Result<(), AllocError>
-    ensures { OnOk result (string_bytes out.new ≡ string_bytes out.old ++ field name.now (decimal number)) }
-{
-    push_key(out, name)?;
-    push_decimal(out, number)
-}
-
-/// Appends a field with a value that is JSON already to what is written.
-#[tactic(auto, unfolding(crate::specs::Json::field))]
-fn push_value(out: &mut String, name: &str, value: &str) -> Result<(), AllocError>
-    ensures { OnOk result (string_bytes out.new ≡ string_bytes out.old ++ field name.now value.now) }
-{
-    push_key(out, name)?;
-    push(out, value)
-}
-
-/// Appends a field that is true or false to what is written.
-fn push_flag(out: &mut String, name: &str, flag: bool) -> Result<(), AllocError>
-    ensures { OnOk result (string_bytes out.new ≡ string_bytes out.old ++ field name.now (bool_text flag)) }
-{
-    push_value(out, name, if flag { "true" } else { "false" })
-}
-
-/// Appends a field that is a text to what is written.
-#[tactic(auto, unfolding(crate::specs::Json::field))]
-fn push_text(out: &mut String, name: &str, text: &String) -> Result<(), AllocError>
-    ensures { OnOk result (string_bytes out.new ≡ string_bytes out.old ++ field name.now (string (string_bytes text.now))) }
-{
-    push_key(out, name)?;
-    push_string(out, text.as_str())
-}
-
-/// Appends a field that is a text or null to what is written.
-fn push_option(out: &mut String, name: &str, text: &Option<String>) -> Result<(), AllocError>
-    ensures { OnOk result (string_bytes out.new ≡ string_bytes out.old ++ field name.now (maybe (option_map string_bytes text.now))) }
-{
-    match text {
-        Some(text) => push_text(out, name, text),
-        None => push_value(out, name, "null"),
-    }
-}
-
-/// Appends the fields of a resource to what is written.
-#[tactic(auto, unfolding(crate::specs::Json::resource))]
-fn push_resource(out: &mut String, url: &String, title: &Option<String>) -> Result<(), AllocError>
-    ensures { OnOk result (string_bytes out.new ≡ string_bytes out.old ++ resource_of url.now title.now) }
-{
-    push_option(out, "title", title)?;
-    push_text(out, "url", url)
-}
-
-/// Appends the fields of an association to what is written.
-#[tactic(auto, unfolding(crate::specs::Json::association))]
-fn push_association(
-    out: &mut String,
-    identifier: &String,
-    label: &Option<String>,
-) -> Result<(), AllocError>
-    ensures { OnOk result (string_bytes out.new ≡ string_bytes out.old ++ association_of identifier.now label.now) }
-{
-    push_text(out, "identifier", identifier)?;
-    push_option(out, "label", label)
-}
-
-/// Appends the fields of a reference to what is written.
-#[tactic(auto, unfolding(crate::specs::Json::reference))]
-fn push_reference(
-    out: &mut String,
-    kind: ReferenceKind,
-    identifier: &String,
-    label: &Option<String>,
-) -> Result<(), AllocError>
-    ensures { OnOk result (string_bytes out.new ≡ string_bytes out.old ++ reference_of kind identifier.now label.now) }
-{
-    push_association(out, identifier, label)?;
-    push_reference_type(out, kind)
-}
-
-/// Appends the field that tells how a reference is written.
-fn push_reference_type(out: &mut String, kind: ReferenceKind) -> Result<(), AllocError>
-    ensures { OnOk result (string_bytes out.new ≡ string_bytes out.old ++ field (codes "referenceType") (reference_type kind)) }
-{
-    match kind {
-        ReferenceKind::Shortcut => push_value(out, "referenceType", "\"shortcut\""),
-        ReferenceKind::Collapsed => push_value(out, "referenceType", "\"collapsed\""),
-        ReferenceKind::Full => push_value(out, "referenceType", "\"full\""),
-    }
-}
-
 /// Appends a heading to what is written, up to its children.
 fn push_heading(out: &mut String, node: &Heading) -> Result<(), AllocError>
     ensures { OnOk result (string_bytes out.new ≡ string_bytes out.old ++ opening (heading node.now.depth)) }
@@ -317,16 +132,6 @@ fn push_list(out: &mut String, node: &List) -> Result<(), AllocError>
     push_children(out)
 }
 
-/// Appends the field with the number that a list begins with, which may be null.
-fn push_start(out: &mut String, start: Option<u32>) -> Result<(), AllocError>
-    ensures { OnOk result (string_bytes out.new ≡ string_bytes out.old ++ field (codes "start") (or_null decimal start)) }
-{
-    match start {
-        Some(start) => push_number(out, "start", start as usize),
-        None => push_value(out, "start", "null"),
-    }
-}
-
 /// Appends a list item to what is written, up to its children.
 fn push_list_item(out: &mut String, node: &ListItem) -> Result<(), AllocError>
     ensures { OnOk result (string_bytes out.new ≡ string_bytes out.old ++ opening (list_item_label node.now)) }
@@ -337,16 +142,6 @@ fn push_list_item(out: &mut String, node: &ListItem) -> Result<(), AllocError>
     push_children(out)
 }
 
-/// Appends the field that tells whether a task is done: null where the item is no task.
-fn push_checked(out: &mut String, checked: Option<bool>) -> Result<(), AllocError>
-    ensures { OnOk result (string_bytes out.new ≡ string_bytes out.old ++ field (codes "checked") (or_null bool_text checked)) }
-{
-    match checked {
-        Some(checked) => push_flag(out, "checked", checked),
-        None => push_value(out, "checked", "null"),
-    }
-}
-
 /// Appends a table to what is written, up to its children.
 fn push_table(out: &mut String, node: &Table) -> Result<(), AllocError>
     ensures { OnOk result (string_bytes out.new ≡ string_bytes out.old ++ opening (table node.now.align.items)) }
@@ -354,51 +149,6 @@ fn push_table(out: &mut String, node: &Table) -> Result<(), AllocError>
     push_kind(out, "table")?;
     push_align(out, &node.align)?;
     push_children(out)
-}
-
-/// Appends the field that tells how the columns of a table are aligned.
-#[tactic(auto, unfolding(crate::specs::Json::field))]
-fn push_align(out: &mut String, align: &[AlignKind]) -> Result<(), AllocError>
-    ensures { OnOk result (string_bytes out.new ≡ string_bytes out.old ++ align_field align.now) }
-{
-    push_key(out, "align")?;
-    push(out, "[")?;
-    push_alignments(out, align)?;
-    push(out, "]")
-}
-
-/// Appends the alignments of columns, with commas between them.
-fn push_alignments(out: &mut String, align: &[AlignKind]) -> Result<(), AllocError>
-    ensures { OnOk result (string_bytes out.new ≡ string_bytes out.old ++ alignments [] align.now) }
-{
-    let mut later = false;
-    'columns: for kind in align {
-        push_alignment(out, *kind, later)?;
-        later = true;
-    }
-    Ok(())
-}
-
-/// Appends the alignment of a column, after a comma where it is not the first column.
-fn push_alignment(out: &mut String, kind: AlignKind, later: bool) -> Result<(), AllocError>
-    ensures { OnOk result (string_bytes out.new ≡ string_bytes out.old ++ ((if later then codes "," else []) ++ alignment kind)) }
-{
-    if later {
-        push(out, ",")?;
-    }
-    push(out, alignment(kind))
-}
-
-/// How a column is aligned.
-fn alignment(kind: AlignKind) -> &'static str
-    ensures { result.now ≡ alignment kind }
-{
-    match kind {
-        AlignKind::Left => "\"left\"",
-        AlignKind::Right => "\"right\"",
-        AlignKind::Center => "\"center\"",
-        AlignKind::None => "null",
-    }
 }
 
 /// Appends a code block to what is written.

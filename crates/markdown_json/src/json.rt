@@ -1,15 +1,14 @@
 //! A tree as JSON, with no call for each level.
 
 ghost use Rattle.std.specs.Prelude.{◌≡◌, ◌++◌, IfOk, OnOk, string_bytes};
-ghost use Rattle.markdown_json.specs.Json.{json, json_counted, opening_after};
-ghost use Rattle.markdown_json.specs.Utf16.{json_utf16};
+ghost use Rattle.markdown_json.specs.Json.{json, json_counted, json_utf16, opening_after};
 ghost use Rattle.markdown_nodes.specs.Access.{label_of};
 ghost use Rattle.markdown_nodes.specs.View.{view};
 
 use crate::fields::{push_closing, push_opening};
-use crate::points::{Bytes, Points};
-use crate::strings::push;
-use crate::utf16::Utf16Points;
+use json_fields::points::{Bytes, Points};
+use json_fields::strings::push;
+use json_fields::utf16::Utf16Points;
 use markdown_nodes::mdast::Node;
 use std::alloc::{AllocError, Global};
 

@@ -3,9 +3,6 @@
 
 mod fields;
 mod json;
-pub mod laws;
-mod points;
-mod strings;
-mod utf16;
 
 pub use json::{to_json, to_json_utf16};
+pub use json_fields::laws;

@@ -1,1 +1,2 @@
 pub mod ReferenceKinds
+pub mod Fields

@@ -1,8 +1,13 @@
-//! The nodes of mdast that have no children, as a text or a break, and the forms of references.
+//! The nodes of mdast that have no children, as a text or a break, the forms of references, and how
+//! the fields of all nodes are written and copied.
 //!
 //! Eight of them are literals, which have a value, and six are not. Each has a position in the
 //! document, or none where it was generated. `markdown_nodes` passes them on.
 #![tactic(auto)]
+
+pub mod copying;
+pub mod debug;
+pub mod escapes;
 
 use markdown_events::unist::Position;
 use std::fmt;

@@ -2,7 +2,6 @@ mod ComparingLevels
 mod CopyingLevels
 mod Dropping
 pub mod Levels
-mod Items
 mod ReadingLevels
 mod Sizes
 pub mod WritingLevels

@@ -20,7 +20,7 @@ use Rattle.command_line.specs.declared.program.Program.{Program}
 use Rattle.command_line.specs.declared.program.Program.TheVariants.{Show, Json}
 use Rattle.command_line.specs.declared.program.Units.TheVariants.{Bytes, Utf16}
 use Rattle.markdown_json.specs.Json.{json}
-use Rattle.markdown_json.specs.Utf16.{json_utf16}
+use Rattle.markdown_json.specs.Json.{json_utf16}
 
 -- the document, with what the program's decoder knows
 abbrev pub over : List ℕ → Source

@@ -1,14 +1,15 @@
 //! Copies of nodes.
 
-ghost use Rattle.std.specs.Prelude.{◌≡◌, IfOk, option_map, string_bytes};
+ghost use Rattle.std.specs.Prelude.{◌≡◌, IfOk};
 ghost use Rattle.markdown_nodes.specs.Access.{nodes_in};
 ghost use Rattle.markdown_nodes.specs.declared.mdast.Node.TheVariants as nodes;
 ghost use Rattle.markdown_nodes.specs.View.{view, views};
 
 use crate::mdast::{
-    AlignKind, Blockquote, Delete, Emphasis, FootnoteDefinition, Heading, Link, LinkReference,
-    List, ListItem, Node, Paragraph, Root, Strong, Table, TableCell, TableRow,
+    Blockquote, Delete, Emphasis, FootnoteDefinition, Heading, Link, LinkReference, List, ListItem,
+    Node, Paragraph, Root, Strong, Table, TableCell, TableRow,
 };
+use markdown_leaves::copying::{copy_align, copy_optional};
 use std::alloc::{AllocError, Global};
 
 /// A parent, the copies of the first nodes in it, and the nodes after the one that is copied.
@@ -17,27 +18,6 @@ struct Frame<'a> {
     parent: &'a Node,
     rest: &'a [Node],
     copies: Vec<Node>,
-}
-
-/// A copy of a text that may be there.
-fn copy_optional(text: &Option<String>) -> Result<Option<String>, AllocError>
-    ensures { IfOk result (λ copy. option_map string_bytes copy ≡ option_map string_bytes text.now) }
-{
-    match text {
-        Some(text) => Ok(Some(text.clone()?)),
-        None => Ok(None),
-    }
-}
-
-/// A copy of the columns of a table.
-fn copy_align(align: &Vec<AlignKind>) -> Result<Vec<AlignKind>, AllocError>
-    ensures { IfOk result (λ copy. copy.items ≡ align.now.items) }
-{
-    let mut copy = Vec::with_capacity(*align.allocator(), align.len())?;
-    for kind in align {
-        copy.push(*kind)?;
-    }
-    Ok(copy)
 }
 
 /// A copy of a node that takes these nodes as its children; a node that is no parent drops them.

@@ -1,37 +1,22 @@
 //! The text that `{:?}` writes of a node: that of a derived Debug, with no call for each level.
 
-ghost use Rattle.std.specs.Fmt.{WritesOnOk, decimal};
-ghost use Rattle.std.specs.Prelude.{◌≡◌, ◌⊎◌, ◌++◌, ℕ, Bool, [], Some, IsNone, codes, if◌then◌else◌, option_map, string_bytes};
+ghost use Rattle.std.specs.Fmt.{WritesOnOk};
+ghost use Rattle.std.specs.Prelude.{◌≡◌, ◌⊎◌, ◌++◌, ℕ, Bool, [], Some, IsNone, codes, if◌then◌else◌};
 ghost use Rattle.positions.specs.Places.{position_text};
 ghost use Rattle.markdown_nodes.specs.Access.{label_of, nodes_in, position_of};
-ghost use Rattle.markdown_nodes.specs.Labels.{code_label, definition_label, image_label, image_reference_label};
-ghost use Rattle.markdown_nodes.specs.Shown.{
-  align_field,
-  association_of,
-  bool_text,
-  closing,
-  content_end,
-  fields,
-  item_fields,
-  list_fields,
-  literal_value,
-  maybe,
-  opening,
-  option_text,
-  position_alone,
-  reference_of,
-  resource_of,
-  shown,
-};
+ghost use Rattle.markdown_leaves.specs.Fields.{option_text};
+ghost use Rattle.markdown_nodes.specs.Shown.{closing, content_end, fields, opening, position_alone, shown};
 ghost use Rattle.markdown_nodes.specs.Tree.{«break», thematic_break};
 ghost use Rattle.markdown_nodes.specs.View.{view};
-ghost use Rattle.quoted.specs.Quoted.{members, quoted};
+ghost use Rattle.quoted.specs.Quoted.{members};
 
+use crate::mdast::Node;
 use crate::mdast::escapes::escapes_of;
-use crate::mdast::{
-    AlignKind, Code, Definition, Image, ImageReference, List, ListItem, Node, ReferenceKind,
+use markdown_leaves::debug::{
+    write_align, write_association, write_code_fields, write_definition_fields, write_depth,
+    write_image_fields, write_image_reference_fields, write_item_fields, write_list_fields,
+    write_option, write_reference, write_resource, write_value,
 };
-use quoted::write_quoted;
 use std::alloc::Global;
 use std::collections::BTreeSet;
 use std::fmt;
@@ -242,18 +227,6 @@ fn write_content_end<W: fmt::Write>(
     }
 }
 
-/// Writes the value of a literal, up to its position.
-fn write_value<W: fmt::Write>(
-    value: &String,
-    escapes: &BTreeSet<char>,
-    f: &mut fmt::Formatter<W>,
-) -> fmt::Result
-    ensures { WritesOnOk W.write_str_gives f.old result (literal_value (members escapes.now) (string_bytes value.now)) f.new }
-{
-    write_quoted(value.as_str(), escapes, f)?;
-    f.write_str(", position: ")
-}
-
 /// Writes the position of a node, or that there is none.
 fn write_position<W: fmt::Write>(node: &Node, f: &mut fmt::Formatter<W>) -> fmt::Result
     ensures { WritesOnOk W.write_str_gives f.old result (option_text position_text (position_of node.now)) f.new }
@@ -274,8 +247,8 @@ fn write_fields<W: fmt::Write>(
 {
     match node {
         Node::Heading(node) => write_depth(node.depth, f),
-        Node::List(node) => write_list_fields(node, f),
-        Node::ListItem(node) => write_item_fields(node, f),
+        Node::List(node) => write_list_fields(node.ordered, node.start, node.spread, f),
+        Node::ListItem(node) => write_item_fields(node.spread, node.checked, f),
         Node::Table(node) => write_align(&node.align, f),
         Node::Code(node) => write_code_fields(node, escapes, f),
         Node::Math(node) => write_option(", meta: ", &node.meta, escapes, f),
@@ -300,183 +273,4 @@ fn write_fields<W: fmt::Write>(
         Node::Definition(node) => write_definition_fields(node, escapes, f),
         _ => Ok(()),
     }
-}
-
-/// Writes the depth of a heading.
-fn write_depth<W: fmt::Write>(depth: u8, f: &mut fmt::Formatter<W>) -> fmt::Result
-    ensures { WritesOnOk W.write_str_gives f.old result (codes ", depth: " ++ decimal depth) f.new }
-{
-    write!(f, ", depth: {depth}")
-}
-
-/// Writes the fields of a block of code.
-fn write_code_fields<W: fmt::Write>(
-    node: &Code,
-    escapes: &BTreeSet<char>,
-    f: &mut fmt::Formatter<W>,
-) -> fmt::Result
-    ensures { WritesOnOk W.write_str_gives f.old result (fields (members escapes.now) (code_label node.now)) f.new }
-{
-    write_option(", lang: ", &node.lang, escapes, f)?;
-    write_option(", meta: ", &node.meta, escapes, f)
-}
-
-/// Writes the fields of an image.
-fn write_image_fields<W: fmt::Write>(
-    node: &Image,
-    escapes: &BTreeSet<char>,
-    f: &mut fmt::Formatter<W>,
-) -> fmt::Result
-    ensures { WritesOnOk W.write_str_gives f.old result (fields (members escapes.now) (image_label node.now)) f.new }
-{
-    write_text(", alt: ", &node.alt, escapes, f)?;
-    write_resource(&node.url, &node.title, escapes, f)
-}
-
-/// Writes the fields of a reference to an image.
-fn write_image_reference_fields<W: fmt::Write>(
-    node: &ImageReference,
-    escapes: &BTreeSet<char>,
-    f: &mut fmt::Formatter<W>,
-) -> fmt::Result
-    ensures { WritesOnOk W.write_str_gives f.old result (fields (members escapes.now) (image_reference_label node.now)) f.new }
-{
-    write_text(", alt: ", &node.alt, escapes, f)?;
-    write_reference(
-        node.reference_kind,
-        &node.identifier,
-        &node.label,
-        escapes,
-        f,
-    )
-}
-
-/// Writes the fields of a definition.
-fn write_definition_fields<W: fmt::Write>(
-    node: &Definition,
-    escapes: &BTreeSet<char>,
-    f: &mut fmt::Formatter<W>,
-) -> fmt::Result
-    ensures { WritesOnOk W.write_str_gives f.old result (fields (members escapes.now) (definition_label node.now)) f.new }
-{
-    write_resource(&node.url, &node.title, escapes, f)?;
-    write_association(&node.identifier, &node.label, escapes, f)
-}
-
-/// Writes a field that is a text. Its name stands between a comma and a colon.
-fn write_text<W: fmt::Write>(
-    name: &str,
-    text: &String,
-    escapes: &BTreeSet<char>,
-    f: &mut fmt::Formatter<W>,
-) -> fmt::Result
-    ensures { WritesOnOk W.write_str_gives f.old result (name.now ++ quoted (members escapes.now) (string_bytes text.now)) f.new }
-{
-    f.write_str(name)?;
-    write_quoted(text.as_str(), escapes, f)
-}
-
-/// Writes a field that is a text or none. Its name stands between a comma and a colon.
-fn write_option<W: fmt::Write>(
-    name: &str,
-    text: &Option<String>,
-    escapes: &BTreeSet<char>,
-    f: &mut fmt::Formatter<W>,
-) -> fmt::Result
-    ensures { WritesOnOk W.write_str_gives f.old result (name.now ++ maybe (members escapes.now) (option_map string_bytes text.now)) f.new }
-{
-    f.write_str(name)?;
-    match text {
-        Some(text) => {
-            f.write_str("Some(")?;
-            write_quoted(text.as_str(), escapes, f)?;
-            f.write_str(")")
-        }
-        None => f.write_str("None"),
-    }
-}
-
-/// Writes the fields of a resource.
-fn write_resource<W: fmt::Write>(
-    url: &String,
-    title: &Option<String>,
-    escapes: &BTreeSet<char>,
-    f: &mut fmt::Formatter<W>,
-) -> fmt::Result
-    ensures { WritesOnOk W.write_str_gives f.old result (resource_of (members escapes.now) url.now title.now) f.new }
-{
-    write_text(", url: ", url, escapes, f)?;
-    write_option(", title: ", title, escapes, f)
-}
-
-/// Writes the fields of an association.
-fn write_association<W: fmt::Write>(
-    identifier: &String,
-    label: &Option<String>,
-    escapes: &BTreeSet<char>,
-    f: &mut fmt::Formatter<W>,
-) -> fmt::Result
-    ensures { WritesOnOk W.write_str_gives f.old result (association_of (members escapes.now) identifier.now label.now) f.new }
-{
-    write_text(", identifier: ", identifier, escapes, f)?;
-    write_option(", label: ", label, escapes, f)
-}
-
-/// Writes the fields of a reference.
-fn write_reference<W: fmt::Write>(
-    kind: ReferenceKind,
-    identifier: &String,
-    label: &Option<String>,
-    escapes: &BTreeSet<char>,
-    f: &mut fmt::Formatter<W>,
-) -> fmt::Result
-    ensures { WritesOnOk W.write_str_gives f.old result (reference_of (members escapes.now) kind identifier.now label.now) f.new }
-{
-    write!(f, ", reference_kind: {kind:?}")?;
-    write_association(identifier, label, escapes, f)
-}
-
-/// Writes the fields of a list.
-fn write_list_fields<W: fmt::Write>(node: &List, f: &mut fmt::Formatter<W>) -> fmt::Result
-    ensures { WritesOnOk W.write_str_gives f.old result (list_fields node.now.ordered node.now.start node.now.spread) f.new }
-{
-    write_flag(", ordered: ", node.ordered, f)?;
-    write_start(node.start, f)?;
-    write_flag(", spread: ", node.spread, f)
-}
-
-/// Writes the number that a list begins with, or that there is none.
-fn write_start<W: fmt::Write>(start: Option<u32>, f: &mut fmt::Formatter<W>) -> fmt::Result
-    ensures { WritesOnOk W.write_str_gives f.old result (codes ", start: " ++ option_text decimal start) f.new }
-{
-    match start {
-        Some(start) => write!(f, ", start: Some({start})"),
-        None => f.write_str(", start: None"),
-    }
-}
-
-/// Writes a field that is true or false. Its name stands between a comma and a colon.
-fn write_flag<W: fmt::Write>(name: &str, flag: bool, f: &mut fmt::Formatter<W>) -> fmt::Result
-    ensures { WritesOnOk W.write_str_gives f.old result (name.now ++ bool_text flag) f.new }
-{
-    f.write_str(name)?;
-    f.write_str(if flag { "true" } else { "false" })
-}
-
-/// Writes the fields of a list item.
-fn write_item_fields<W: fmt::Write>(node: &ListItem, f: &mut fmt::Formatter<W>) -> fmt::Result
-    ensures { WritesOnOk W.write_str_gives f.old result (item_fields node.now.spread node.now.checked) f.new }
-{
-    let spread = node.spread;
-    match node.checked {
-        Some(checked) => write!(f, ", spread: {spread}, checked: Some({checked})"),
-        None => write!(f, ", spread: {spread}, checked: None"),
-    }
-}
-
-/// Writes how the columns of a table are aligned.
-fn write_align<W: fmt::Write>(align: &Vec<AlignKind>, f: &mut fmt::Formatter<W>) -> fmt::Result
-    ensures { WritesOnOk W.write_str_gives f.old result (align_field align.now.items) f.new }
-{
-    write!(f, ", align: {align:?}")
 }

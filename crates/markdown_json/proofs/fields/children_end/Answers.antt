@@ -1,4 +1,5 @@
-use Rattle.std.proofs.Common.{refl}
+use Rattle.std.proofs.Common.{refl, arith}
+use Rattle.std.proofs.lemmas.Grind.{common_steps}
 use denote.Hole.Carrier
 use Rattle.markdown_nodes.specs.Access.{label_of}
 use Rattle.markdown_nodes.specs.declared.mdast.Node.TheViews.{out-Node}
@@ -59,3 +60,6 @@ returns-in-ThematicBreak c = rw c.in-ThematicBreak.is refl
 pub returns-in-Definition : goal.returns-in-Definition
 unfolding out-Node denote.Hole.Carrier.out
 returns-in-Definition c = rw c.in-Definition.is refl
+
+pub returns-in_default : goal.returns-in_default
+returns-in_default c = grind (arith, common_steps)

@@ -1,4 +1,5 @@
-use Rattle.std.proofs.Common.{rules}
+use Rattle.std.proofs.Common.{rules, arith}
+use Rattle.std.proofs.lemmas.Grind.{common_steps}
 use denote.Hole.Carrier
 use Rattle.markdown_nodes.specs.declared.mdast.Node.TheViews.{out-Node}
 use Rattle.markdown_nodes.proofs.mdast.debug.write_content_end.Goals as goal
@@ -37,3 +38,21 @@ returns-in-Math g c = rw c.in-Math.is c.write_value-in-Math.ensures
 
 pub returns-in_default : goal.returns-in_default
 returns-in_default c = search rules
+
+pub returns-in-ThematicBreak : goal.returns-in-ThematicBreak
+returns-in-ThematicBreak g c = grind (arith, common_steps)
+
+pub returns-in-Definition : goal.returns-in-Definition
+returns-in-Definition g c = grind (arith, common_steps)
+
+pub returns-in-ImageReference : goal.returns-in-ImageReference
+returns-in-ImageReference g c = grind (arith, common_steps)
+
+pub returns-in-Break : goal.returns-in-Break
+returns-in-Break g c = grind (arith, common_steps)
+
+pub returns-in-Image : goal.returns-in-Image
+returns-in-Image g c = grind (arith, common_steps)
+
+pub returns-in-FootnoteReference : goal.returns-in-FootnoteReference
+returns-in-FootnoteReference g c = grind (arith, common_steps)

@@ -1,3 +1,5 @@
+use Rattle.std.proofs.Common.{arith}
+use Rattle.std.proofs.lemmas.Grind.{common_steps}
 use denote.Hole.Carrier
 use Rattle.markdown_nodes.specs.declared.mdast.Node.TheViews.{out-Node}
 use Rattle.markdown_nodes.proofs.mdast.debug.write_fields.Goals as goal
@@ -53,3 +55,6 @@ returns-in-FootnoteDefinition g c = rw c.in-FootnoteDefinition.is c.write_associ
 pub returns-in-Definition : goal.returns-in-Definition
 unfolding out-Node denote.Hole.Carrier.out
 returns-in-Definition g c = rw c.in-Definition.is c.write_definition_fields.ensures
+
+pub returns-in_default : goal.returns-in_default
+returns-in_default g c = grind (arith, common_steps)

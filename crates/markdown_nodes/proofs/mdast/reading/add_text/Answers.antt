@@ -1,4 +1,5 @@
-use Rattle.std.proofs.Common.{refl}
+use Rattle.std.proofs.Common.{refl, arith}
+use Rattle.std.proofs.lemmas.Grind.{common_steps}
 use Rattle.std.proofs.lemmas.List.{nil_from_length}
 use Rattle.markdown_nodes.proofs.Levels.{walks_down, walks_up}
 use Rattle.markdown_nodes.proofs.ReadingLevels.{reads_down, reads_first, reads_up}
@@ -18,3 +19,6 @@ walk-smaller c = walks_up (λ x. x.now) c.walk.level.now c.in-Some-pop.rest.now 
 
 pub walk-preserved : goal.walk-preserved
 walk-preserved c = reads_up _ c.walk.level.now _ c.walk.levels.items _ c.in-Some-pop.rest _ c.walk.invariant (nil_from_length _ c.in_default.ensures.cases) c.in-Some-pop.ensures.items refl
+
+pub returns-in_default-pop : goal.returns-in_default-pop
+returns-in_default-pop c = grind (arith, common_steps)

@@ -1,0 +1,3 @@
+mod Escapes
+mod Fragments
+pub mod Utf16Counts

@@ -1,0 +1,7 @@
+use Rattle.std.proofs.Common.{rules}
+use Rattle.json_fields.specs.Strings.{escape}
+use Rattle.json_fields.proofs.strings.push_escape.Goals as goal
+
+pub returns-in-34 : goal.returns-in-34
+unfolding escape
+returns-in-34 c = search rules

@@ -1,0 +1,266 @@
+//! The fields of a node, in the terms of mdast: each by its name and its value.
+
+ghost use Rattle.std.specs.Fmt.{decimal};
+ghost use Rattle.std.specs.Prelude.{◌≡◌, ◌++◌, [], OnOk, codes, if◌then◌else◌, option_map, string_bytes};
+ghost use Rattle.markdown_leaves.specs.Fields.{bool_text};
+ghost use Rattle.json_fields.specs.Fields.{
+  align_field,
+  alignment,
+  alignments,
+  association_of,
+  children,
+  field,
+  key,
+  kind,
+  literal,
+  maybe,
+  or_null,
+  point,
+  position_value,
+  reference_of,
+  reference_type,
+  resource_of,
+};
+ghost use Rattle.json_fields.specs.Strings.{string};
+
+use crate::points::Points;
+use crate::strings::{push, push_string};
+use markdown_events::infer::AlignKind;
+use markdown_leaves::ReferenceKind;
+use positions::decimal::push_decimal;
+use positions::unist::{Point, Position};
+use std::alloc::AllocError;
+
+/// Appends the field of a position to what is written.
+#[tactic(auto, unfolding(crate::specs::Fields::field, crate::specs::Fields::position_value))]
+pub fn push_position_field<P: Points>(
+    out: &mut String,
+    points: &P,
+    position: Position,
+) -> Result<(), AllocError>
+    ensures { OnOk result (string_bytes out.new
+        ≡ string_bytes out.old ++ field (codes "position") (position_value (P.counted points.now) position)) }
+{
+    push_key(out, "position")?;
+    push(out, "{\"start\":")?;
+    push_point(out, points.counted(position.start))?;
+    push_key(out, "end")?;
+    push_point(out, points.counted(position.end))?;
+    push(out, "}")
+}
+
+/// Appends a point to what is written.
+#[tactic(auto, unfolding(crate::specs::Fields::point))]
+fn push_point(out: &mut String, place: Point) -> Result<(), AllocError>
+    ensures { OnOk result (string_bytes out.new ≡ string_bytes out.old ++ point place) }
+{
+    push(out, "{\"line\":")?;
+    push_decimal(out, place.line)?;
+    push_number(out, "column", place.column)?;
+    push_number(out, "offset", place.offset)?;
+    push(out, "}")
+}
+
+/// Appends the kind of a node to what is written.
+#[tactic(auto, unfolding(crate::specs::Fields::kind))]
+pub fn push_kind(out: &mut String, name: &str) -> Result<(), AllocError>
+    ensures { OnOk result (string_bytes out.new ≡ string_bytes out.old ++ kind name.now) }
+{
+    push(out, "{\"type\":\"")?;
+    push(out, name)?;
+    push(out, "\"")
+}
+
+/// Appends the name of a field to what is written.
+#[tactic(auto, unfolding(crate::specs::Fields::key))]
+fn push_key(out: &mut String, name: &str) -> Result<(), AllocError>
+    ensures { OnOk result (string_bytes out.new ≡ string_bytes out.old ++ key name.now) }
+{
+    push(out, ",\"")?;
+    push(out, name)?;
+    push(out, "\":")
+}
+
+/// Appends the start of the children of a parent to what is written.
+#[tactic(auto, unfolding(crate::specs::Fields::children))]
+pub fn push_children(out: &mut String) -> Result<(), AllocError>
+    ensures { OnOk result (string_bytes out.new ≡ string_bytes out.old ++ children) }
+{
+    push(out, ",\"children\":[")
+}
+
+/// Appends a parent that has no other fields than its children to what is written.
+pub fn push_parent(out: &mut String, name: &str) -> Result<(), AllocError>
+    ensures { OnOk result (string_bytes out.new ≡ string_bytes out.old ++ (kind name.now ++ children)) }
+{
+    push_kind(out, name)?;
+    push_children(out)
+}
+
+/// Appends a literal that has no other fields than its value to what is written.
+pub fn push_literal(out: &mut String, name: &str, value: &String) -> Result<(), AllocError>
+    ensures { OnOk result (string_bytes out.new ≡ string_bytes out.old ++ literal name.now (string_bytes value.now)) }
+{
+    push_kind(out, name)?;
+    push_text(out, "value", value)
+}
+
+/// Appends a field that is a number to what is written.
+#[tactic(auto, unfolding(crate::specs::Fields::field))]
+pub fn push_number(out: &mut String, name: &str, number: usize) -> Result<(), AllocError>
+    ensures { OnOk result (string_bytes out.new ≡ string_bytes out.old ++ field name.now (decimal number)) }
+{
+    push_key(out, name)?;
+    push_decimal(out, number)
+}
+
+/// Appends a field with a value that is JSON already to what is written.
+#[tactic(auto, unfolding(crate::specs::Fields::field))]
+pub fn push_value(out: &mut String, name: &str, value: &str) -> Result<(), AllocError>
+    ensures { OnOk result (string_bytes out.new ≡ string_bytes out.old ++ field name.now value.now) }
+{
+    push_key(out, name)?;
+    push(out, value)
+}
+
+/// Appends a field that is true or false to what is written.
+pub fn push_flag(out: &mut String, name: &str, flag: bool) -> Result<(), AllocError>
+    ensures { OnOk result (string_bytes out.new ≡ string_bytes out.old ++ field name.now (bool_text flag)) }
+{
+    push_value(out, name, if flag { "true" } else { "false" })
+}
+
+/// Appends a field that is a text to what is written.
+#[tactic(auto, unfolding(crate::specs::Fields::field))]
+pub fn push_text(out: &mut String, name: &str, text: &String) -> Result<(), AllocError>
+    ensures { OnOk result (string_bytes out.new ≡ string_bytes out.old ++ field name.now (string (string_bytes text.now))) }
+{
+    push_key(out, name)?;
+    push_string(out, text.as_str())
+}
+
+/// Appends a field that is a text or null to what is written.
+pub fn push_option(out: &mut String, name: &str, text: &Option<String>) -> Result<(), AllocError>
+    ensures { OnOk result (string_bytes out.new ≡ string_bytes out.old ++ field name.now (maybe (option_map string_bytes text.now))) }
+{
+    match text {
+        Some(text) => push_text(out, name, text),
+        None => push_value(out, name, "null"),
+    }
+}
+
+/// Appends the fields of a resource to what is written.
+#[tactic(auto, unfolding(crate::specs::Fields::resource))]
+pub fn push_resource(
+    out: &mut String,
+    url: &String,
+    title: &Option<String>,
+) -> Result<(), AllocError>
+    ensures { OnOk result (string_bytes out.new ≡ string_bytes out.old ++ resource_of url.now title.now) }
+{
+    push_option(out, "title", title)?;
+    push_text(out, "url", url)
+}
+
+/// Appends the fields of an association to what is written.
+#[tactic(auto, unfolding(crate::specs::Fields::association))]
+pub fn push_association(
+    out: &mut String,
+    identifier: &String,
+    label: &Option<String>,
+) -> Result<(), AllocError>
+    ensures { OnOk result (string_bytes out.new ≡ string_bytes out.old ++ association_of identifier.now label.now) }
+{
+    push_text(out, "identifier", identifier)?;
+    push_option(out, "label", label)
+}
+
+/// Appends the fields of a reference to what is written.
+#[tactic(auto, unfolding(crate::specs::Fields::reference))]
+pub fn push_reference(
+    out: &mut String,
+    kind: ReferenceKind,
+    identifier: &String,
+    label: &Option<String>,
+) -> Result<(), AllocError>
+    ensures { OnOk result (string_bytes out.new ≡ string_bytes out.old ++ reference_of kind identifier.now label.now) }
+{
+    push_association(out, identifier, label)?;
+    push_reference_type(out, kind)
+}
+
+/// Appends the field that tells how a reference is written.
+fn push_reference_type(out: &mut String, kind: ReferenceKind) -> Result<(), AllocError>
+    ensures { OnOk result (string_bytes out.new ≡ string_bytes out.old ++ field (codes "referenceType") (reference_type kind)) }
+{
+    match kind {
+        ReferenceKind::Shortcut => push_value(out, "referenceType", "\"shortcut\""),
+        ReferenceKind::Collapsed => push_value(out, "referenceType", "\"collapsed\""),
+        ReferenceKind::Full => push_value(out, "referenceType", "\"full\""),
+    }
+}
+
+/// Appends the field with the number that a list begins with, which may be null.
+pub fn push_start(out: &mut String, start: Option<u32>) -> Result<(), AllocError>
+    ensures { OnOk result (string_bytes out.new ≡ string_bytes out.old ++ field (codes "start") (or_null decimal start)) }
+{
+    match start {
+        Some(start) => push_number(out, "start", start as usize),
+        None => push_value(out, "start", "null"),
+    }
+}
+
+/// Appends the field that tells whether a task is done: null where the item is no task.
+pub fn push_checked(out: &mut String, checked: Option<bool>) -> Result<(), AllocError>
+    ensures { OnOk result (string_bytes out.new ≡ string_bytes out.old ++ field (codes "checked") (or_null bool_text checked)) }
+{
+    match checked {
+        Some(checked) => push_flag(out, "checked", checked),
+        None => push_value(out, "checked", "null"),
+    }
+}
+
+/// Appends the field that tells how the columns of a table are aligned.
+#[tactic(auto, unfolding(crate::specs::Fields::field))]
+pub fn push_align(out: &mut String, align: &[AlignKind]) -> Result<(), AllocError>
+    ensures { OnOk result (string_bytes out.new ≡ string_bytes out.old ++ align_field align.now) }
+{
+    push_key(out, "align")?;
+    push(out, "[")?;
+    push_alignments(out, align)?;
+    push(out, "]")
+}
+
+/// Appends the alignments of columns, with commas between them.
+fn push_alignments(out: &mut String, align: &[AlignKind]) -> Result<(), AllocError>
+    ensures { OnOk result (string_bytes out.new ≡ string_bytes out.old ++ alignments [] align.now) }
+{
+    let mut later = false;
+    'columns: for kind in align {
+        push_alignment(out, *kind, later)?;
+        later = true;
+    }
+    Ok(())
+}
+
+/// Appends the alignment of a column, after a comma where it is not the first column.
+fn push_alignment(out: &mut String, kind: AlignKind, later: bool) -> Result<(), AllocError>
+    ensures { OnOk result (string_bytes out.new ≡ string_bytes out.old ++ ((if later then codes "," else []) ++ alignment kind)) }
+{
+    if later {
+        push(out, ",")?;
+    }
+    push(out, alignment(kind))
+}
+
+/// How a column is aligned.
+fn alignment(kind: AlignKind) -> &'static str
+    ensures { result.now ≡ alignment kind }
+{
+    match kind {
+        AlignKind::Left => "\"left\"",
+        AlignKind::Right => "\"right\"",
+        AlignKind::Center => "\"center\"",
+        AlignKind::None => "null",
+    }
+}

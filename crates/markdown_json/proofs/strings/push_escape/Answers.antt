@@ -1,7 +1,0 @@
-use Rattle.std.proofs.Common.{rules}
-use Rattle.markdown_json.specs.Strings.{escape}
-use Rattle.markdown_json.proofs.strings.push_escape.Goals as goal
-
-pub returns-in-34 : goal.returns-in-34
-unfolding escape
-returns-in-34 c = search rules

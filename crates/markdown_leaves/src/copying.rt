@@ -1,0 +1,27 @@
+//! Copies of the fields of nodes.
+
+ghost use Rattle.std.specs.Prelude.{◌≡◌, IfOk, option_map, string_bytes};
+
+use markdown_events::infer::AlignKind;
+use std::alloc::AllocError;
+
+/// A copy of a text that may be there.
+pub fn copy_optional(text: &Option<String>) -> Result<Option<String>, AllocError>
+    ensures { IfOk result (λ copy. option_map string_bytes copy ≡ option_map string_bytes text.now) }
+{
+    match text {
+        Some(text) => Ok(Some(text.clone()?)),
+        None => Ok(None),
+    }
+}
+
+/// A copy of the columns of a table.
+pub fn copy_align(align: &Vec<AlignKind>) -> Result<Vec<AlignKind>, AllocError>
+    ensures { IfOk result (λ copy. copy.items ≡ align.now.items) }
+{
+    let mut copy = Vec::with_capacity(*align.allocator(), align.len())?;
+    for kind in align {
+        copy.push(*kind)?;
+    }
+    Ok(copy)
+}

@@ -1,0 +1,34 @@
+//! The characters beyond ASCII in the fields of a node that std's Debug writes as their Unicode escape.
+
+use std::alloc::AllocError;
+use std::collections::BTreeSet;
+
+/// Adds those in a text, and in two that a node may lack.
+pub fn add_texts(
+    text: &str,
+    first: &Option<String>,
+    second: &Option<String>,
+    escapes: &mut BTreeSet<char>,
+) -> Result<(), AllocError> {
+    add_text(text, escapes)?;
+    add_text(or_empty(first), escapes)?;
+    add_text(or_empty(second), escapes)
+}
+
+/// The text, or an empty one where there is none.
+fn or_empty(text: &Option<String>) -> &str {
+    text.as_deref().unwrap_or("")
+}
+
+/// Adds those in a text.
+pub fn add_text(text: &str, escapes: &mut BTreeSet<char>) -> Result<(), AllocError> {
+    if text.is_ascii() {
+        return Ok(());
+    }
+    for c in text.chars() {
+        if !c.is_ascii() && c.escape_debug().len() > 1 {
+            escapes.insert(c)?;
+        }
+    }
+    Ok(())
+}
