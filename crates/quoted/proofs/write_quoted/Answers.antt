@@ -1,6 +1,6 @@
-use Rattle.std.proofs.Common.{[], ◌++◌, ◌∷◌, codes, flat_map, ◌∙◌, ap, sym, map-id, append-nil, append_assoc, nat_cmp, rules}
+use Rattle.std.proofs.Common.{[], ◌++◌, ◌∷◌, codes, flat_map, ◌∙◌, ap, sym, map-id, append-nil, append_assoc, nat_cmp, rules, arith}
 use Rattle.std.specs.BTreeSet.{contains}
-use Rattle.std.proofs.lemmas.Grind.{flat_map-append}
+use Rattle.std.proofs.lemmas.Grind.{flat_map-append, common_steps}
 use Rattle.std.proofs.lemmas.Iterator.{YieldsList-from_chars}
 use Rattle.std.proofs.lemmas.Iterator.Consumers.{YieldsList-end}
 use Rattle.std.proofs.Output.{has_written_append, has_written_of_eq}
@@ -30,3 +30,6 @@ returns g c = λ plain ok.
     has_written_of_eq _ _ _ _ _
     (append_assoc (codes "\"") (flat_map (escaped set) c.loop-c.yielded) (codes "\"") ∙ ap (λ cs. codes "\"" ++ flat_map (escaped set) cs ++ codes "\"") (sym (map-id c.loop-c.yielded) ∙ done.0))
     (has_written_append _ _ _ _ _ _ so_far (c.write_str-2.ensures.writes so_far.plain ok))
+
+pub loop-c-init : goal.loop-c-init
+loop-c-init g c = grind (arith, common_steps)

@@ -1,4 +1,5 @@
-use Rattle.std.proofs.Common.{Some, ap, sym, ◌∙◌}
+use Rattle.std.proofs.Common.{Some, ap, sym, ◌∙◌, arith}
+use Rattle.std.proofs.lemmas.Grind.{common_steps}
 use Rattle.markdown_events.specs.declared.role.Content.{Content}
 use Rattle.markdown_nodes.specs.View.{views}
 use Rattle.markdown_blocks.specs.Parents.{parent_label}
@@ -26,3 +27,6 @@ returns-in-TableRow c = parents.table_row_made (record { children = c.args.child
 
 pub returns-in-TableCell : goal.returns-in-TableCell
 returns-in-TableCell c = parents.table_cell_made (record { children = c.args.children; position = Some c.args.position }) ∙ ap (λ (k : Content). placed (parent_label k) (views c.args.children.items) c.args.position) (sym c.in-TableCell.is)
+
+pub unreachable-requires : goal.unreachable-requires
+unreachable-requires c = grind (arith, common_steps)

@@ -1,4 +1,5 @@
 use Rattle.std.proofs.Common.{arith, refl, sym, ◌∙◌}
+use Rattle.std.proofs.lemmas.Grind.{common_steps}
 use Rattle.std.proofs.lemmas.List.{nil_from_length}
 use Rattle.markdown_builder.proofs.Readings.{in_none, in_parent, left_down, left_first, left_none, left_past, left_up, reads_all, reads_down, reads_first, reads_past, reads_up, walks_down, walks_past, walks_up, within}
 use Rattle.markdown_builder.proofs.buffer.add_text.Goals as goal
@@ -59,3 +60,9 @@ walk-preserved c =
       list = c.walk.invariant.list;
       count = omega (arith, c.walk.invariant.count, left_up c.walk.level.now c.in-Some-pop.rest.now c.walk.levels.items c.pop.new.self.items c.in-Some-pop.rest empty c.in-Some-pop.ensures.items refl);
     }
+
+pub returns-in_default-pop-clause-list : goal.returns-in_default-pop-clause-list
+returns-in_default-pop-clause-list c = grind (arith, common_steps)
+
+pub returns-in_default-pop-clause-bound : goal.returns-in_default-pop-clause-bound
+returns-in_default-pop-clause-bound c = grind (arith, common_steps)

@@ -1,4 +1,5 @@
-use Rattle.std.proofs.Common.{List, [], ◌∷◌, ◌++◌, ap, refl, sym, ◌∙◌, ◌<◌}
+use Rattle.std.proofs.Common.{List, [], ◌∷◌, ◌++◌, ap, refl, sym, ◌∙◌, ◌<◌, arith}
+use Rattle.std.proofs.lemmas.Grind.{common_steps}
 use Rattle.std.specs.Vec.{vec_len}
 use Rattle.markdown_nodes.specs.declared.mdast.Node.{Node}
 use Rattle.markdown_nodes.specs.Tree.{Tree, join, only}
@@ -34,3 +35,9 @@ returns c =
           ap views (c.in_ok-push.ensures.items ∙ ap (λ (xs : List Node). xs ++ c.args.node ∷ []) (c.first_place.ensures ∙ ap (λ x. x.items) w.nodes-is))
           ∙ views_put v.items c.args.node (no_text c.args.node w.in_default.not-Text)
     ]
+
+pub part_some-nodes : goal.part_some-nodes
+part_some-nodes c = grind (arith, common_steps)
+
+pub part_none-nodes : goal.part_none-nodes
+part_none-nodes c = grind (arith, common_steps)

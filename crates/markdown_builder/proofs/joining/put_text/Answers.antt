@@ -1,4 +1,5 @@
-use Rattle.std.proofs.Common.{ap, refl, ◌<◌, ◌∙◌}
+use Rattle.std.proofs.Common.{ap, refl, ◌<◌, ◌∙◌, arith}
+use Rattle.std.proofs.lemmas.Grind.{common_steps}
 use Rattle.std.specs.Vec.{vec_len}
 use Rattle.markdown_builder.proofs.Joins.{first_begun, text_begun, text_grown}
 use Rattle.markdown_builder.proofs.Views.{no_text}
@@ -26,3 +27,9 @@ returns c =
       | in_default w ↦
           first_begun v.items c.one_place.new.nodes.items c.push.new.self.items (vec_len v) c.in_ok-new_text.field-0 (one_text c.args.value.now c.args.position) v.ok.0 w.in_default.ensures.variant.1 (c.one_place.ensures ∙ ap (λ x. x.items) w.nodes-is) c.in_ok-push.ensures.items c.in_ok-new_text.ensures
     ]
+
+pub part_some-nodes : goal.part_some-nodes
+part_some-nodes c = grind (arith, common_steps)
+
+pub part_none-nodes : goal.part_none-nodes
+part_none-nodes c = grind (arith, common_steps)

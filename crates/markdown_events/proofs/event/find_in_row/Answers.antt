@@ -4,3 +4,6 @@ use Rattle.markdown_events.proofs.event.find_in_row.Goals as goal
 
 pub returns-then-eq : goal.returns-then-eq
 returns-then-eq c = grind (arith, common_steps)
+
+pub loop-name-preserved : goal.loop-name-preserved
+loop-name-preserved c = grind (arith, common_steps)

@@ -1,4 +1,5 @@
 use Rattle.std.proofs.Common.{Global, List, Some, Vec, ℕ, arith, ap, length, sym, ◌∙◌}
+use Rattle.std.proofs.lemmas.Grind.{common_steps}
 use Rattle.markdown_events.specs.declared.event.Event.{Event}
 use Rattle.positions.specs.declared.unist.Position.{Position}
 use Rattle.markdown_steps.specs.Compiler.{opening, point_of, run}
@@ -69,3 +70,36 @@ returns-clause-bound g c =
     let length = (rw c.in-Ok.is at c.take_all-context.ensures.length) in
     let ends = c.root_position.ensures.count in
     omega (arith, same, taken, length, ends)
+
+pub returns-in-Err-clause-empty : goal.returns-in-Err-clause-empty
+returns-in-Err-clause-empty g c = grind (arith, common_steps)
+
+pub returns-in-Err-clause-gives : goal.returns-in-Err-clause-gives
+returns-in-Err-clause-gives g c = grind (arith, common_steps)
+
+pub last_point-requires-clause-length : goal.last_point-requires-clause-length
+last_point-requires-clause-length g c = grind (arith, common_steps)
+
+pub root_position-requires : goal.root_position-requires
+root_position-requires g c = grind (arith, common_steps)
+
+pub returns-in-Err-clause-list : goal.returns-in-Err-clause-list
+returns-in-Err-clause-list g c = grind (arith, common_steps)
+
+pub returns-in-Some-clause-fits : goal.returns-in-Some-clause-fits
+returns-in-Some-clause-fits g c = grind (arith, common_steps)
+
+pub returns-clause-list : goal.returns-clause-list
+returns-clause-list g c = grind (arith, common_steps)
+
+pub returns-in-Err-clause-fits : goal.returns-in-Err-clause-fits
+returns-in-Err-clause-fits g c = grind (arith, common_steps)
+
+pub returns-clause-empty : goal.returns-clause-empty
+returns-clause-empty g c = grind (arith, common_steps)
+
+pub returns-in-Some-clause-list : goal.returns-in-Some-clause-list
+returns-in-Some-clause-list g c = grind (arith, common_steps)
+
+pub returns-clause-fits : goal.returns-clause-fits
+returns-clause-fits g c = grind (arith, common_steps)

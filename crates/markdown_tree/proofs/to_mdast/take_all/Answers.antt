@@ -1,4 +1,5 @@
 use Rattle.std.proofs.Common.{ap, sym, ◌∙◌, arith}
+use Rattle.std.proofs.lemmas.Grind.{common_steps}
 use Rattle.std.specs.Prelude.{slice_get}
 use Rattle.std.proofs.lemmas.Option.{slice_get_within}
 use Rattle.markdown_grammar.specs.Document.{source}
@@ -40,3 +41,30 @@ returns-clause-length g c =
     let past = past_end c.args.steps.now.events c.loop-event.index at in
     let within = c.loop-event.invariant.0.within in
     omega (arith, past, within)
+
+pub returns-clause-bound : goal.returns-clause-bound
+returns-clause-bound g c = grind (arith, common_steps)
+
+pub overflow_add-index : goal.overflow_add-index
+overflow_add-index g c = grind (arith, common_steps)
+
+pub returns-clause-list : goal.returns-clause-list
+returns-clause-list g c = grind (arith, common_steps)
+
+pub step-requires : goal.step-requires
+step-requires g c = grind (arith, common_steps)
+
+pub loop-event-init : goal.loop-event-init
+loop-event-init g c = grind (arith, common_steps)
+
+pub returns-in-Err-clause-length : goal.returns-in-Err-clause-length
+returns-in-Err-clause-length g c = grind (arith, common_steps)
+
+pub returns-clause-empty : goal.returns-clause-empty
+returns-clause-empty g c = grind (arith, common_steps)
+
+pub returns-in-Err-clause-list : goal.returns-in-Err-clause-list
+returns-in-Err-clause-list g c = grind (arith, common_steps)
+
+pub returns-in-Err-clause-empty : goal.returns-in-Err-clause-empty
+returns-in-Err-clause-empty g c = grind (arith, common_steps)

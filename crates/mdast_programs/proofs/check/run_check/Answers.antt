@@ -1,4 +1,5 @@
-use Rattle.std.proofs.Common.{rules, ◌≡◌, ℕ, List, sym, subst, ◌∙◌}
+use Rattle.std.proofs.Common.{rules, ◌≡◌, ℕ, List, sym, subst, ◌∙◌, arith}
+use Rattle.std.proofs.lemmas.Grind.{common_steps}
 use Rattle.std.specs.Io.KnownBytes.{Appends}
 use Rattle.mdast_programs.proofs.CheckLemmas.{closed_written, open_written, status_said}
 use Rattle.mdast_programs.proofs.check.run_check.Goals as goal
@@ -17,3 +18,42 @@ returns-in-Ok-checked-clause-opens g c four =
 
 pub returns-in-Ok-checked-clause-refused : goal.returns-in-Ok-checked-clause-refused
 returns-in-Ok-checked-clause-refused g c = search rules
+
+pub returns-in_default-clause-refused : goal.returns-in_default-clause-refused
+returns-in_default-clause-refused g c = grind (arith, common_steps)
+
+pub returns-clause-end : goal.returns-clause-end
+returns-clause-end g c = grind (arith, common_steps)
+
+pub returns-clause-opens : goal.returns-clause-opens
+returns-clause-opens g c = grind (arith, common_steps)
+
+pub returns-in_default-clause-closed : goal.returns-in_default-clause-closed
+returns-in_default-clause-closed g c = grind (arith, common_steps)
+
+pub returns-clause-refused : goal.returns-clause-refused
+returns-clause-refused g c = grind (arith, common_steps)
+
+pub returns-in-Ok-checked-clause-memory : goal.returns-in-Ok-checked-clause-memory
+returns-in-Ok-checked-clause-memory g c = grind (arith, common_steps)
+
+pub returns-clause-closed : goal.returns-clause-closed
+returns-clause-closed g c = grind (arith, common_steps)
+
+pub returns-in-Ok-checked-clause-bound : goal.returns-in-Ok-checked-clause-bound
+returns-in-Ok-checked-clause-bound g c = grind (arith, common_steps)
+
+pub returns-clause-bound : goal.returns-clause-bound
+returns-clause-bound g c = grind (arith, common_steps)
+
+pub returns-in-Ok-checked-clause-end : goal.returns-in-Ok-checked-clause-end
+returns-in-Ok-checked-clause-end g c = grind (arith, common_steps)
+
+pub returns-in_default-clause-end : goal.returns-in_default-clause-end
+returns-in_default-clause-end g c = grind (arith, common_steps)
+
+pub returns-in_default-clause-bound : goal.returns-in_default-clause-bound
+returns-in_default-clause-bound g c = grind (arith, common_steps)
+
+pub returns-in_default-clause-opens : goal.returns-in_default-clause-opens
+returns-in_default-clause-opens g c = grind (arith, common_steps)

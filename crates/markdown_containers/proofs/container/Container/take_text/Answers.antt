@@ -1,4 +1,5 @@
 use Rattle.std.proofs.Common.{arith, true, ◌≡◌}
+use Rattle.std.proofs.lemmas.Grind.{common_steps}
 use Rattle.markdown_builder.specs.PartsSoFar.{place_with}
 use Rattle.markdown_grammar.specs.Document.{source}
 use Rattle.markdown_nodes.specs.View.{views}
@@ -20,3 +21,30 @@ returns-in_ok-text-in_default c =
       list = c.values_of.ensures.list;
       bound = omega (arith, visits, bound);
     }
+
+pub take_value-requires : goal.take_value-requires
+take_value-requires c = grind (arith, common_steps)
+
+pub returns-in-ReferenceString-clause-bound : goal.returns-in-ReferenceString-clause-bound
+returns-in-ReferenceString-clause-bound c = grind (arith, common_steps)
+
+pub take_identified-requires-clause-such : goal.take_identified-requires-clause-such
+take_identified-requires-clause-such c = grind (arith, common_steps)
+
+pub take_label-requires : goal.take_label-requires
+take_label-requires c = grind (arith, common_steps)
+
+pub returns-in-ReferenceString-clause-taken : goal.returns-in-ReferenceString-clause-taken
+returns-in-ReferenceString-clause-taken c = grind (arith, common_steps)
+
+pub returns-in-LabelText-clause-taken : goal.returns-in-LabelText-clause-taken
+returns-in-LabelText-clause-taken c = grind (arith, common_steps)
+
+pub returns-in-ReferenceString-clause-list : goal.returns-in-ReferenceString-clause-list
+returns-in-ReferenceString-clause-list c = grind (arith, common_steps)
+
+pub returns-in-LabelText-clause-bound : goal.returns-in-LabelText-clause-bound
+returns-in-LabelText-clause-bound c = grind (arith, common_steps)
+
+pub take_identified-requires-clause-fits : goal.take_identified-requires-clause-fits
+take_identified-requires-clause-fits c = grind (arith, common_steps)

@@ -1,4 +1,5 @@
-use Rattle.std.proofs.Common.{None, false, refl, sym, ap, subst, ◌∙◌}
+use Rattle.std.proofs.Common.{None, false, refl, sym, ap, subst, ◌∙◌, arith}
+use Rattle.std.proofs.lemmas.Grind.{common_steps}
 use Rattle.markdown_steps.specs.ChildFacts.{ChildFacts}
 use Rattle.markdown_nodes.specs.Tree.{Trees, join}
 use Rattle.markdown_nodes.specs.View.{views}
@@ -61,3 +62,24 @@ returns-in_ok-put-in_default c = record {
   list = c.node.ensures.list;
   bound = c.node.ensures.bound;
 }
+
+pub take_content-requires-clause-such : goal.take_content-requires-clause-such
+take_content-requires-clause-such c = grind (arith, common_steps)
+
+pub node-requires : goal.node-requires
+node-requires c = grind (arith, common_steps)
+
+pub take_content-requires-clause-initial_model : goal.take_content-requires-clause-initial_model
+take_content-requires-clause-initial_model c = grind (arith, common_steps)
+
+pub returns-in_err-put-in_default : goal.returns-in_err-put-in_default
+returns-in_err-put-in_default c = grind (arith, common_steps)
+
+pub take_reference-requires : goal.take_reference-requires
+take_reference-requires c = grind (arith, common_steps)
+
+pub returns-in-CharacterReference-clause-bound : goal.returns-in-CharacterReference-clause-bound
+returns-in-CharacterReference-clause-bound c = grind (arith, common_steps)
+
+pub returns-in-CharacterReference-clause-columns : goal.returns-in-CharacterReference-clause-columns
+returns-in-CharacterReference-clause-columns c = grind (arith, common_steps)

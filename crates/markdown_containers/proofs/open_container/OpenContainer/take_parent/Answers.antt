@@ -1,4 +1,5 @@
-use Rattle.std.proofs.Common.{ap, refl, sym, ◌∙◌}
+use Rattle.std.proofs.Common.{ap, refl, sym, ◌∙◌, arith}
+use Rattle.std.proofs.lemmas.Grind.{common_steps}
 use Rattle.markdown_nodes.specs.Tree.{Tree, Trees, join, only}
 use Rattle.markdown_nodes.specs.View.{views}
 use Rattle.positions.specs.declared.unist.Position.{Position}
@@ -23,3 +24,6 @@ returns c s in_table inner_table line_endings children =
     ∙ ap (λ (p : Position). join (views c.args.self.now.nodes.items) (only (placed (parent_label c.args.content) (views c.args.nodes.items) p))) c.position_of.ensures
     ∙ ap (λ (ts : Trees). join (views c.args.self.now.nodes.items) ts)
     (sym (parent_made s (place_of in_table c.args.self.now) c.args.content c.args.start c.args.end children (summary_with containers.AnyContent (views c.args.nodes.items)) c.requires)))
+
+pub put-requires : goal.put-requires
+put-requires c = grind (arith, common_steps)

@@ -1,4 +1,5 @@
-use Rattle.std.proofs.Common.{ap, ◌∙◌}
+use Rattle.std.proofs.Common.{ap, ◌∙◌, arith}
+use Rattle.std.proofs.lemmas.Grind.{common_steps}
 use Rattle.markdown_events.specs.declared.role.Role.{Role}
 use Rattle.markdown_steps.specs.Compiler.{enter_as}
 use Rattle.markdown_context.specs.States.{state_of}
@@ -22,3 +23,12 @@ returns-in-Significant c s same =
     (enter_free s c.args.name c.role-role.result c.args.point.now c.allows.result c.args.self.now c.role-role.ensures c.allows.ensures c.if-not-allows.false
     ∙ ap (λ (r : Role). enter_as s r c.args.name c.args.point.now (state_of c.args.self.now)) c.in-Significant.is)
     (c.enter_significant.ensures s same)
+
+pub enter_significant-requires : goal.enter_significant-requires
+enter_significant-requires c = grind (arith, common_steps)
+
+pub enter_transparent-requires-clause-transparent : goal.enter_transparent-requires-clause-transparent
+enter_transparent-requires-clause-transparent c = grind (arith, common_steps)
+
+pub enter_transparent-requires-clause-role : goal.enter_transparent-requires-clause-role
+enter_transparent-requires-clause-role c = grind (arith, common_steps)

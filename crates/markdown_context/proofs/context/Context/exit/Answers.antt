@@ -1,4 +1,5 @@
 use Rattle.std.proofs.Common.{◌-◌, arith, get_or, sym, ◌∙◌}
+use Rattle.std.proofs.lemmas.Grind.{common_steps}
 use Rattle.std.specs.Prelude.{vec_len}
 use Rattle.markdown_grammar.specs.Document.{source}
 use Rattle.markdown_context.proofs.Endings.{ends, exit_done, exit_none, exit_other, exit_stops, exit_visits_left, none_left}
@@ -40,3 +41,12 @@ returns-clause-bound g c =
     let same = exit_visits_left c.args.name c.args.self.now c.pop.new.self c.in-Some.frame c.role-role.result c.in-Some.ensures.items c.role-role.ensures (sym c.is.ensures.value ∙ c.if-not-is.false) in
     let visits_at_end = c.leave.ensures.bound in
     omega (arith, same, visits_at_end)
+
+pub returns-clause-list : goal.returns-clause-list
+returns-clause-list g c = grind (arith, common_steps)
+
+pub returns-in_default-clause-bound : goal.returns-in_default-clause-bound
+returns-in_default-clause-bound g c = grind (arith, common_steps)
+
+pub returns-then-not-is-clause-bound : goal.returns-then-not-is-clause-bound
+returns-then-not-is-clause-bound g c = grind (arith, common_steps)

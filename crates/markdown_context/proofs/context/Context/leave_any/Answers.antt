@@ -1,4 +1,5 @@
 use Rattle.std.proofs.Common.{arith, None, refl, sym, ap, ◌∙◌}
+use Rattle.std.proofs.lemmas.Grind.{common_steps}
 use Rattle.markdown_steps.specs.ChildFacts.{ChildFacts}
 use Rattle.nest.specs.declared.Nest.{Nest}
 use Rattle.markdown_containers.specs.declared.open_container.OpenContainer.{OpenContainer}
@@ -95,3 +96,15 @@ returns-in-Part-clause-bound c =
     ∙ (λ t. visits_at_end (c.in-Part.is t) (summary_of_container c.in-Some.own)) in
     let bound = c.take_part.ensures.bound in
     omega (arith, same, bound)
+
+pub take_content-requires-clause-no_parent : goal.take_content-requires-clause-no_parent
+take_content-requires-clause-no_parent c = grind (arith, common_steps)
+
+pub unreachable-requires : goal.unreachable-requires
+unreachable-requires c = grind (arith, common_steps)
+
+pub returns-in-Content-clause-list : goal.returns-in-Content-clause-list
+returns-in-Content-clause-list c = grind (arith, common_steps)
+
+pub returns-in-Part-clause-list : goal.returns-in-Part-clause-list
+returns-in-Part-clause-list c = grind (arith, common_steps)

@@ -1,4 +1,5 @@
-use Rattle.std.proofs.Common.{Ok, false, refl}
+use Rattle.std.proofs.Common.{Ok, false, refl, arith}
+use Rattle.std.proofs.lemmas.Grind.{common_steps}
 use Rattle.markdown_grammar.specs.Document.{source}
 use Rattle.markdown_steps.specs.Columns.{child_facts}
 use Rattle.markdown_blocks.specs.Columns.{columns_of}
@@ -21,3 +22,12 @@ returns-clause-closed g c =
     let new = record c.args.self.now { containers = with_innermost c.args.self.now.containers c.take_leaf.new.self; is_leaf = false; pending = c.take_leaf.new.pending } in
     leaf_closed c.args.what c.args.self.now new c.take_leaf.new.self c.requires.«open» refl refl refl refl
     (columns_kept c.args.what c.args.self.now new (leaf_no_table _ c.args.what c.requires.ends.initial_model) refl)
+
+pub take_leaf-requires-clause-leaf : goal.take_leaf-requires-clause-leaf
+take_leaf-requires-clause-leaf g c = grind (arith, common_steps)
+
+pub take_leaf-requires-clause-waits : goal.take_leaf-requires-clause-waits
+take_leaf-requires-clause-waits g c = grind (arith, common_steps)
+
+pub take_leaf-requires-clause-fits : goal.take_leaf-requires-clause-fits
+take_leaf-requires-clause-fits g c = grind (arith, common_steps)

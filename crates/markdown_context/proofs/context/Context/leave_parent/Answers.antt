@@ -1,4 +1,5 @@
-use Rattle.std.proofs.Common.{Global, Vec, refl, subst}
+use Rattle.std.proofs.Common.{Global, Vec, refl, subst, arith}
+use Rattle.std.proofs.lemmas.Grind.{common_steps}
 use Rattle.markdown_events.specs.declared.role.ItemKind.TheVariants.{Content as content}
 use Rattle.nest.specs.Nest.{with_innermost}
 use Rattle.markdown_context.specs.declared.context.Context.{Context}
@@ -29,3 +30,9 @@ returns-clause-closed c =
     (λ takes. closed_so (content c.args.content) c.args.self.now new rest c.in-Some.own c.take_parent.new.self c.requires.«open» (taken_out _ _ _ c.in-Some.ensures.items) refl refl refl refl
     (columns_kept (content c.args.content) c.args.self.now new (parent_no_table c.args.content c.requires.such) refl))
     c.take_parent.ensures
+
+pub take_parent-requires : goal.take_parent-requires
+take_parent-requires c = grind (arith, common_steps)
+
+pub unreachable-requires : goal.unreachable-requires
+unreachable-requires c = grind (arith, common_steps)

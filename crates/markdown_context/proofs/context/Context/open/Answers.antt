@@ -1,4 +1,5 @@
-use Rattle.std.proofs.Common.{◌≡◌, refl, sym, subst, ap, ◌∙◌}
+use Rattle.std.proofs.Common.{◌≡◌, refl, sym, subst, ap, ◌∙◌, arith}
+use Rattle.std.proofs.lemmas.Grind.{common_steps}
 use Rattle.markdown_grammar.specs.Grammar.{model_of}
 use Rattle.markdown_containers.specs.Containers.{IsFresh, current_model_of}
 use Rattle.nest.specs.Nest.{IsPut, innermost}
@@ -23,3 +24,12 @@ returns c s same =
       outer = put_around old new inner put;
       others = refl;
     }
+
+pub returns-then-takes_as_leaf : goal.returns-then-takes_as_leaf
+returns-then-takes_as_leaf c = grind (arith, common_steps)
+
+pub opened-requires : goal.opened-requires
+opened-requires c = grind (arith, common_steps)
+
+pub returns-in-Some : goal.returns-in-Some
+returns-in-Some c = grind (arith, common_steps)

@@ -1,4 +1,5 @@
-use Rattle.std.proofs.Common.{sym, ◌∙◌, refl}
+use Rattle.std.proofs.Common.{sym, ◌∙◌, refl, arith}
+use Rattle.std.proofs.lemmas.Grind.{common_steps}
 use Rattle.std.proofs.lemmas.List.{nil_from_length}
 use Rattle.mdast_check.proofs.Steps.{lets_go, takes}
 use Rattle.mdast_check.proofs.walk.Walk.next.Goals as goal
@@ -11,3 +12,9 @@ returns-in-Some-split_first c =
 pub levels-preserved : goal.levels-preserved
 levels-preserved c =
     lets_go c.levels.self.levels.items c.pop.new.self.items c.in-Some.level c.in-Some.ensures.items (nil_from_length _ c.in_default-split_first.ensures.cases) ∙ c.levels.invariant
+
+pub returns : goal.returns
+returns c = grind (arith, common_steps)
+
+pub levels-smaller : goal.levels-smaller
+levels-smaller c = grind (arith, common_steps)
