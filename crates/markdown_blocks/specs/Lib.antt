@@ -4,5 +4,3 @@ pub mod Parents
 pub mod Headings
 pub mod Lists
 pub mod Definitions
-pub mod Fences
-pub mod RawTexts

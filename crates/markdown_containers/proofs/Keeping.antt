@@ -17,7 +17,7 @@ use Rattle.markdown_steps.specs.Compiler.{label_with, part_with}
 use Rattle.markdown_grammar.specs.Attributes.{mark_given, value_given}
 use Rattle.markdown_grammar.specs.Grammar.{ContentModel, model_after, list_item, numbered_item}
 use Rattle.markdown_containers.specs.Containers.{Keeps, current_model_of, label_of, mark_of, part_of, summary_with, value_of}
-use Rattle.markdown_blocks.specs.Fences.{fence_of, in_code_fence, in_math_fence}
+use Rattle.markdown_literals.specs.Fences.{fence_of, in_code_fence, in_math_fence}
 use Rattle.markdown_inlines.specs.Labels.{label_kept, label_nodes}
 use Rattle.markdown_inlines.specs.Media.{reference_of, resource_of}
 use Rattle.markdown_blocks.specs.Parents.{is_parent}

@@ -1,7 +1,7 @@
 -- What a container keeps, by what its construct says of itself.
 use Rattle.std.proofs.Common.{◌≡◌, ◌≢◌, List, Option, None, Some, Result, refl, sym, subst, true, false, ℕ}
-use Rattle.markdown_blocks.specs.declared.code.CodeFenceParts.{CodeFenceParts}
-use Rattle.markdown_blocks.specs.declared.math.MathFenceParts.{MathFenceParts}
+use Rattle.markdown_literals.specs.declared.code.CodeFenceParts.{CodeFenceParts}
+use Rattle.markdown_literals.specs.declared.math.MathFenceParts.{MathFenceParts}
 use Rattle.markdown_builder.specs.PartsSoFar.{after_if}
 use Rattle.markdown_containers.specs.Containers.{Keeps, KeepsPart, KeepsWords, current_model_of, is_part_model, is_text_part, part_of, summary_with}
 use Rattle.markdown_containers.specs.declared.container.Container.{Container}

@@ -1,7 +1,7 @@
 -- What an open span is to the items in it: what has stood in it so far, by its construct.
 use Rattle.std.specs.Prelude.{◌≢◌, List, Option, Result, false, true, Bool, ℕ}
 use Rattle.markdown_blocks.specs.Definitions.{definition, footnote_definition}
-use Rattle.markdown_blocks.specs.Fences.{code_fence, code_fenced, math_fence, math_flow}
+use Rattle.markdown_literals.specs.Fences.{code_fence, code_fenced, math_fence, math_flow}
 use Rattle.markdown_blocks.specs.Headings.{atx, setext}
 use Rattle.markdown_blocks.specs.Lists.{list_item, marked_paragraph, numbered_item, ordered_list, task_paragraph}
 use Rattle.markdown_builder.specs.PartsSoFar.{Gains, GainsWords, IsFresh as IsFreshIn, Makes, PartsSoFar, misfit_in, place_with, summary_in, without_parts}

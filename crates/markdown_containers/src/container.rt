@@ -31,7 +31,6 @@ ghost use Rattle.markdown_steps.specs.Compiler.{nothing_yet};
 ghost use Rattle.markdown_steps.specs.Visits.{visits_at_end};
 
 use character_references::references::References;
-use markdown_blocks::code::{CodeFenceParts, CodeFencedParts};
 use markdown_blocks::definition::DefinitionParts;
 use markdown_blocks::footnote_definition::FootnoteDefinitionParts;
 use markdown_blocks::heading::{AtxParts, SetextParts};
@@ -39,7 +38,6 @@ use markdown_blocks::list::{
     ListItemParts, NumberedItemParts, OrderedListParts, TaskParagraphParts,
     misfit_in_marked_paragraph,
 };
-use markdown_blocks::math::{MathFenceParts, MathFlowParts};
 use markdown_builder::buffer::values_of;
 use markdown_builder::slice::Document;
 use markdown_grammar::error_kind::{ErrorKind, Stop};
@@ -47,6 +45,8 @@ use markdown_inlines::autolink::AutolinkParts;
 use markdown_inlines::character_reference::{CharacterReferenceParts, Marker};
 use markdown_inlines::footnote_call::FootnoteCallParts;
 use markdown_inlines::media::{MediaParts, ReferenceParts, ResourceParts};
+use markdown_literals::code::{CodeFenceParts, CodeFencedParts};
+use markdown_literals::math::{MathFenceParts, MathFlowParts};
 use markdown_nodes::event::Point;
 use markdown_nodes::mdast::Node;
 use markdown_nodes::role::{Content, ItemKind, Part};

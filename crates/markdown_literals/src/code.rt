@@ -6,8 +6,8 @@
 //! `on_enter_code_indented`, `on_exit_code_indented`, `on_enter_code_text`, `on_exit_raw_text`.
 
 ghost use Rattle.std.specs.Prelude.{◌≡◌, ◌≤◌, ◌+◌, IfOk, None, Some, is_some, string_bytes};
-ghost use Rattle.markdown_blocks.specs.Fences.{code_fence, code_fenced, code_label};
-ghost use Rattle.markdown_blocks.specs.RawTexts.{fenced_text, indented_text, inline_text};
+ghost use Rattle.markdown_literals.specs.Fences.{code_fence, code_fenced, code_label};
+ghost use Rattle.markdown_literals.specs.RawTexts.{fenced_text, indented_text, inline_text};
 ghost use Rattle.markdown_builder.specs.PartsSoFar.{GainsItem, GainsWords, IsFresh, IsNode, Makes, misfit_in};
 ghost use Rattle.markdown_events.specs.declared.role.ItemKind.TheVariants as item_kinds;
 ghost use Rattle.markdown_events.specs.declared.role.Part.TheVariants as parts;

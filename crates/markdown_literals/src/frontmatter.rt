@@ -3,7 +3,7 @@
 //! The original: `on_enter_frontmatter`, `on_exit_frontmatter`.
 
 ghost use Rattle.std.specs.Prelude.{◌≡◌, ◌≤◌, ◌+◌, IfOk};
-ghost use Rattle.markdown_blocks.specs.RawTexts.{fenced_text};
+ghost use Rattle.markdown_literals.specs.RawTexts.{fenced_text};
 ghost use Rattle.markdown_builder.specs.PartsSoFar.{IsNode};
 ghost use Rattle.markdown_grammar.specs.Buffers.{node_count};
 ghost use Rattle.markdown_grammar.specs.Nodes.{frontmatter};

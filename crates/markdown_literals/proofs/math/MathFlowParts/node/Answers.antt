@@ -1,6 +1,6 @@
 use Rattle.std.proofs.Common.{arith}
 use Rattle.std.proofs.lemmas.Grind.{common_steps}
-use Rattle.markdown_blocks.proofs.math.MathFlowParts.node.Goals as goal
+use Rattle.markdown_literals.proofs.math.MathFlowParts.node.Goals as goal
 
 pub returns-in_ok-block_math-in-Some-clause-list : goal.returns-in_ok-block_math-in-Some-clause-list
 returns-in_ok-block_math-in-Some-clause-list c = grind (arith, common_steps)

@@ -1,9 +1,9 @@
 -- What has stood in an open block of fenced code or math, in its first fence, and the labels of their nodes.
 use Rattle.std.specs.Prelude.{List, None, Option, Some, option_map, string_bytes, ℕ}
-use Rattle.markdown_blocks.specs.declared.code.CodeFenceParts.{CodeFenceParts}
-use Rattle.markdown_blocks.specs.declared.code.CodeFencedParts.{CodeFencedParts}
-use Rattle.markdown_blocks.specs.declared.math.MathFenceParts.{MathFenceParts}
-use Rattle.markdown_blocks.specs.declared.math.MathFlowParts.{MathFlowParts}
+use Rattle.markdown_literals.specs.declared.code.CodeFenceParts.{CodeFenceParts}
+use Rattle.markdown_literals.specs.declared.code.CodeFencedParts.{CodeFencedParts}
+use Rattle.markdown_literals.specs.declared.math.MathFenceParts.{MathFenceParts}
+use Rattle.markdown_literals.specs.declared.math.MathFlowParts.{MathFlowParts}
 use Rattle.markdown_builder.specs.PartsSoFar.{PartsSoFar, after_if, ending_text, with_parts}
 use Rattle.markdown_events.specs.declared.role.Part.TheVariants as parts
 use Rattle.markdown_grammar.specs.Grammar as models

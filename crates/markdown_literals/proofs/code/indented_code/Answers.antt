@@ -1,6 +1,6 @@
 use Rattle.std.proofs.Common.{arith}
 use Rattle.std.proofs.lemmas.Grind.{common_steps}
-use Rattle.markdown_blocks.proofs.math.block_math.Goals as goal
+use Rattle.markdown_literals.proofs.code.indented_code.Goals as goal
 
 pub returns-clause-bound : goal.returns-clause-bound
 returns-clause-bound c = grind (arith, common_steps)

@@ -1,6 +1,6 @@
 use Rattle.std.proofs.Common.{arith}
 use Rattle.std.proofs.lemmas.Grind.{common_steps}
-use Rattle.markdown_blocks.proofs.code.CodeFencedParts.node.Goals as goal
+use Rattle.markdown_literals.proofs.code.CodeFencedParts.node.Goals as goal
 
 pub returns-in_ok-fenced_code-in-Some-clause-bound : goal.returns-in_ok-fenced_code-in-Some-clause-bound
 returns-in_ok-fenced_code-in-Some-clause-bound c = grind (arith, common_steps)

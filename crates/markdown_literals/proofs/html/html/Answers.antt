@@ -1,6 +1,6 @@
 use Rattle.std.proofs.Common.{arith}
 use Rattle.std.proofs.lemmas.Grind.{common_steps}
-use Rattle.markdown_blocks.proofs.code.fenced_code.Goals as goal
+use Rattle.markdown_literals.proofs.html.html.Goals as goal
 
 pub returns-clause-list : goal.returns-clause-list
 returns-clause-list c = grind (arith, common_steps)
