@@ -1,4 +1,5 @@
-use Rattle.std.proofs.Common.{◌≡◌, ◌++◌, ◌∷◌, [], Some, None, ap, sym, ◌∙◌, lit<, string_bytes, rules}
+use Rattle.std.proofs.lemmas.Grind.{common_steps}
+use Rattle.std.proofs.Common.{◌≡◌, ◌++◌, ◌∷◌, [], Some, None, ap, sym, ◌∙◌, lit<, string_bytes, rules, arith}
 use Rattle.std.proofs.lemmas.Str.Pattern.{split_parts}
 use Rattle.markdown_texts.proofs.Cuts.{turn, without_escapes_none}
 use Rattle.markdown_texts.proofs.text.without_escapes.Goals as goal
@@ -13,3 +14,6 @@ pub returns-in-None : goal.returns-in-None
 returns-in-None c =
     let none = split_parts 124 c.loop-front.rest.now None c.in-None.ensures.cases (lit< tt) in
     c.in_ok-push_str-in-None.ensures.bytes ∙ ap (λ x. string_bytes c.loop-front.text ++ x) (sym (without_escapes_none _ none)) ∙ sym c.loop-front.invariant.1
+
+pub loop-front-init : goal.loop-front-init
+loop-front-init c = grind (arith, common_steps)

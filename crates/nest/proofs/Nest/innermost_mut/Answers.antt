@@ -1,4 +1,5 @@
-use Rattle.std.proofs.Common.{◌<◌, length, refl, sym, ◌∙◌}
+use Rattle.std.proofs.lemmas.Grind.{common_steps}
+use Rattle.std.proofs.Common.{◌<◌, length, refl, sym, ◌∙◌, arith}
 use Rattle.nest.proofs.Nesting.{last_read, last_written, some_within}
 use Rattle.nest.proofs.Nest.innermost_mut.Goals as goal
 
@@ -8,3 +9,6 @@ returns g c =
       (refl, λ w. last_written c.args.self.now.inner.items c.args.self.now c.len-last.result w c.len-last.ensures some),
       record { writes_back = tt; value = last_read c.args.self.now.inner.items c.len-last.result c.index_mut.result.now c.args.self.now.outermost (c.len-last.ensures ∙ c.args.self.now.inner.ok.0) some c.index_mut.ensures.value },
     )
+
+pub returns-then-is_empty : goal.returns-then-is_empty
+returns-then-is_empty g c = grind (arith, common_steps)
