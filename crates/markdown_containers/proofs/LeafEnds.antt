@@ -19,7 +19,7 @@ use Rattle.markdown_grammar.specs.Refusals.{value_error}
 use Rattle.markdown_grammar.specs.Document.{text_read}
 use Rattle.markdown_grammar.specs.Grammar.{leaf}
 use Rattle.markdown_containers.specs.Containers.{Keeps, current_model_of}
-use Rattle.markdown_inlines.specs.Autolinks.{is_literal}
+use Rattle.markdown_literals.specs.Autolinks.{is_literal}
 use Rattle.markdown_grammar.specs.Items.{is_hard_break, is_line_ending}
 use Rattle.markdown_steps.specs.SummaryNodes.{node_of}
 use Rattle.markdown_steps.specs.Summaries.{Summary}

@@ -22,7 +22,7 @@ use Rattle.markdown_grammar.specs.Refusals.{value_error}
 use Rattle.markdown_grammar.specs.Values.{is_read}
 use Rattle.markdown_grammar.specs.declared.error_kind.ErrorKind.{ErrorKind}
 use Rattle.markdown_grammar.specs.declared.error_kind.Stop.{Stop}
-use Rattle.markdown_inlines.specs.Autolinks.{autolink}
+use Rattle.markdown_literals.specs.Autolinks.{autolink}
 use Rattle.markdown_inlines.specs.CharacterReferences.{character_reference}
 use Rattle.markdown_inlines.specs.FootnoteCalls.{footnote_call}
 use Rattle.markdown_inlines.specs.Media.{media, reference, resource}

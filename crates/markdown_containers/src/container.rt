@@ -41,10 +41,10 @@ use markdown_blocks::list::{
 use markdown_builder::buffer::values_of;
 use markdown_builder::slice::Document;
 use markdown_grammar::error_kind::{ErrorKind, Stop};
-use markdown_inlines::autolink::AutolinkParts;
 use markdown_inlines::character_reference::{CharacterReferenceParts, Marker};
 use markdown_inlines::footnote_call::FootnoteCallParts;
 use markdown_inlines::media::{MediaParts, ReferenceParts, ResourceParts};
+use markdown_literals::autolink::AutolinkParts;
 use markdown_literals::code::{CodeFenceParts, CodeFencedParts};
 use markdown_literals::math::{MathFenceParts, MathFlowParts};
 use markdown_nodes::event::Point;

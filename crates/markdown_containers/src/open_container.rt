@@ -34,7 +34,7 @@ ghost use Rattle.markdown_grammar.specs.Attributes.{line_ending_is_text, line_en
 ghost use Rattle.markdown_grammar.specs.Document.{Source, source};
 ghost use Rattle.markdown_grammar.specs.Grammar as models;
 ghost use Rattle.markdown_grammar.specs.Items.{is_line_ending};
-ghost use Rattle.markdown_inlines.specs.Autolinks.{is_literal};
+ghost use Rattle.markdown_literals.specs.Autolinks.{is_literal};
 ghost use Rattle.markdown_nodes.specs.Tree.{join};
 ghost use Rattle.markdown_nodes.specs.View.{views};
 ghost use Rattle.markdown_steps.specs.Visits.{visits_at_end};
@@ -50,8 +50,8 @@ use markdown_builder::joining::{append, put, put_text};
 use markdown_builder::marks::Marks;
 use markdown_builder::slice::{Document, byte_at, position_of};
 use markdown_grammar::error_kind::Stop;
-use markdown_inlines::autolink::literal;
 use markdown_inlines::text::{hard_break, put_slice};
+use markdown_literals::autolink::literal;
 use markdown_literals::code::{indented_code, inline_code};
 use markdown_literals::frontmatter::frontmatter;
 use markdown_literals::html::html;

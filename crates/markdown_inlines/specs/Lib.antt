@@ -1,6 +1,5 @@
 pub mod Texts
 pub mod Labels
-pub mod Autolinks
 pub mod CharacterReferences
 pub mod Media
 pub mod FootnoteCalls

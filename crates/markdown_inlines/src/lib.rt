@@ -1,11 +1,10 @@
 //! The constructs of a line of text (CommonMark, "Inlines"; GFM): of each, what may stand in it,
 //! what is kept of that, and the node that it gives at its exit.
 //!
-//! Emphasis, strong emphasis and strikethrough keep nothing but their nodes, and inline code and
-//! math nothing but a text: they are not here.
+//! Emphasis, strong emphasis and strikethrough keep nothing but their nodes, and inline code, math and
+//! autolinks nothing but a text: they are not here.
 #![tactic(auto)]
 
-pub mod autolink;
 pub mod character_reference;
 pub mod footnote_call;
 mod image;

@@ -2,8 +2,7 @@
 //!
 //! The original's `on_exit_media`, for a link.
 
-ghost use Rattle.std.specs.Prelude.{◌≡◌, ◌≤◌, ◌+◌, IfOk, option_map, string_bytes};
-ghost use Rattle.markdown_nodes.specs.Tree as tree;
+ghost use Rattle.std.specs.Prelude.{◌≡◌, ◌≤◌, ◌+◌, IfOk};
 ghost use Rattle.markdown_nodes.specs.View.{view, views};
 ghost use Rattle.markdown_grammar.specs.Buffers.{node_count};
 ghost use Rattle.markdown_builder.specs.PartsSoFar.{IsNode, placed};
@@ -13,7 +12,8 @@ ghost use Rattle.markdown_inlines.specs.Media.{link_by_label, link_by_name, link
 use crate::label::{Label, identified, label_nodes};
 use crate::media::{MediaParts, ReferenceParts, ResourceParts, Target};
 use markdown_builder::label::Identified;
-use markdown_nodes::mdast::{Link, LinkReference, Node, ReferenceKind};
+use markdown_literals::autolink::link_to;
+use markdown_nodes::mdast::{LinkReference, Node, ReferenceKind};
 use markdown_nodes::steps::Steps;
 use markdown_nodes::unist::Position;
 use std::alloc::{AllocError, Global};
@@ -69,23 +69,6 @@ fn link_by_label(
     let named = identified(alloc, steps, &label)?;
     let children = label_nodes(alloc, label);
     Ok(link_reference(children, position, reference_kind, named))
-}
-
-/// A link to an address.
-pub(crate) fn link_to(
-    children: Vec<Node>,
-    position: Position,
-    url: String,
-    title: Option<String>,
-) -> Node
-    ensures { view result ≡ placed (tree.link (string_bytes url) (option_map string_bytes title)) (views children.items) position }
-{
-    Node::Link(Link {
-        children,
-        position: Some(position),
-        url,
-        title,
-    })
 }
 
 /// A link by reference to what is named so.

@@ -1,2 +1,3 @@
 pub mod Fences
 pub mod RawTexts
+pub mod Autolinks

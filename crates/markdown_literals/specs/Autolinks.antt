@@ -17,9 +17,9 @@ use Rattle.markdown_steps.specs.Summaries.{PartSummary, Path, Summary, address, 
 use Rattle.markdown_steps.specs.SummaryNodes
 use Rattle.markdown_steps.specs.SummaryNodes.{node_of}
 use Rattle.markdown_builder.specs.PartsSoFar.{PartsSoFar, ending, with_parts}
-use Rattle.markdown_inlines.specs.declared.autolink.Address.{Address}
-use Rattle.markdown_inlines.specs.declared.autolink.AutolinkParts.{AutolinkParts}
-use Rattle.markdown_inlines.specs.declared.autolink.AutolinkParts.TheVariants as autolinks
+use Rattle.markdown_literals.specs.declared.autolink.Address.{Address}
+use Rattle.markdown_literals.specs.declared.autolink.AutolinkParts.{AutolinkParts}
+use Rattle.markdown_literals.specs.declared.autolink.AutolinkParts.TheVariants as autolinks
 
 -- an address, and where it stands
 abbrev pub address_kept : Address → Option PartSummary

@@ -4,26 +4,25 @@
 //! The original's `on_enter_autolink`, `on_exit_autolink_email`, `on_exit_autolink_protocol`,
 //! `on_enter_gfm_autolink_literal` and `on_exit_gfm_autolink_literal`.
 
-ghost use Rattle.std.specs.Prelude.{◌≡◌, ◌++◌, IfOk, None, is_some, true};
+ghost use Rattle.std.specs.Prelude.{◌≡◌, ◌++◌, IfOk, None, is_some, option_map, string_bytes, true};
 ghost use Rattle.markdown_events.specs.Slices.{slice};
 ghost use Rattle.markdown_events.specs.declared.role.ItemKind.TheVariants as item_kinds;
 ghost use Rattle.markdown_events.specs.declared.role.Part.TheVariants as parts;
 ghost use Rattle.markdown_nodes.specs.Tree as tree;
 ghost use Rattle.markdown_nodes.specs.Tree.{nothing, only};
-ghost use Rattle.markdown_nodes.specs.View.{view};
+ghost use Rattle.markdown_nodes.specs.View.{view, views};
 ghost use Rattle.markdown_grammar.specs.Grammar as models;
 ghost use Rattle.markdown_grammar.specs.declared.error_kind.ErrorKind.TheVariants.{InvalidSlice};
 ghost use Rattle.markdown_builder.specs.PartsSoFar.{IsFresh, IsNode, Makes, Reads, misfit_in, placed};
-ghost use Rattle.markdown_inlines.specs.Autolinks.{IsLiteral, IsSchemeOf, autolink, autolink_nodes, is_literal};
+ghost use Rattle.markdown_literals.specs.Autolinks.{IsLiteral, IsSchemeOf, autolink, autolink_nodes, is_literal};
 
-use crate::link::link_to;
 use markdown_builder::joining::new_text;
 use markdown_builder::misfits::at_most_one;
 use markdown_builder::slice::{Document, position_of, text_of};
 use markdown_builder::texts::address;
 use markdown_grammar::error_kind::{ErrorKind, Stop};
 use markdown_nodes::event::Point;
-use markdown_nodes::mdast::Node;
+use markdown_nodes::mdast::{Link, Node};
 use markdown_nodes::role::{Content, ItemKind, Part};
 use markdown_nodes::unist::Position;
 use std::alloc::{AllocError, Global};
@@ -172,4 +171,16 @@ fn linked(
     children.push(new_text(alloc, value, place)?)?;
     let url = address(alloc, scheme, value)?;
     Ok(link_to(children, position, url, None))
+}
+
+/// A link to an address, be it an autolink or a link with a label of its own.
+pub fn link_to(children: Vec<Node>, position: Position, url: String, title: Option<String>) -> Node
+    ensures { view result ≡ placed (tree.link (string_bytes url) (option_map string_bytes title)) (views children.items) position }
+{
+    Node::Link(Link {
+        children,
+        position: Some(position),
+        url,
+        title,
+    })
 }

@@ -1,6 +1,6 @@
 use Rattle.std.proofs.Common.{arith}
 use Rattle.std.proofs.lemmas.Grind.{common_steps}
-use Rattle.markdown_inlines.proofs.autolink.AutolinkParts.node.Goals as goal
+use Rattle.markdown_literals.proofs.autolink.AutolinkParts.node.Goals as goal
 
 pub returns-in-Protocol : goal.returns-in-Protocol
 returns-in-Protocol c = grind (arith, common_steps)
