@@ -1,4 +1,5 @@
-//! The fields of a node, in the terms of mdast: each by its name and its value.
+//! The fields of a node, in the terms of mdast: each by its name and its value, after a comma. The only
+//! error is that memory ran out.
 
 ghost use Rattle.std.specs.Fmt.{decimal};
 ghost use Rattle.std.specs.Prelude.{◌≡◌, ◌++◌, [], OnOk, codes, if◌then◌else◌, option_map, string_bytes};
@@ -31,7 +32,10 @@ use positions::decimal::push_decimal;
 use positions::unist::{Point, Position};
 use std::alloc::AllocError;
 
-/// Appends the field of a position to what is written.
+/// Appends the field of a position to what is written, with its points as `points` counts them.
+///
+/// For the first character of a document it is
+/// `,"position":{"start":{"line":1,"column":1,"offset":0},"end":{"line":1,"column":2,"offset":1}}`.
 #[tactic(auto, unfolding(crate::specs::Fields::field, crate::specs::Fields::position_value))]
 pub fn push_position_field<P: Points>(
     out: &mut String,
@@ -61,7 +65,9 @@ fn push_point(out: &mut String, place: Point) -> Result<(), AllocError>
     push(out, "}")
 }
 
-/// Appends the kind of a node to what is written.
+/// Appends the kind of a node to what is written, with which its object begins.
+///
+/// For the name `text` it is `{"type":"text"`.
 #[tactic(auto, unfolding(crate::specs::Fields::kind))]
 pub fn push_kind(out: &mut String, name: &str) -> Result<(), AllocError>
     ensures { OnOk result (string_bytes out.new ≡ string_bytes out.old ++ kind name.now) }
@@ -81,7 +87,7 @@ fn push_key(out: &mut String, name: &str) -> Result<(), AllocError>
     push(out, "\":")
 }
 
-/// Appends the start of the children of a parent to what is written.
+/// Appends the start of the children of a parent to what is written: `,"children":[`.
 #[tactic(auto, unfolding(crate::specs::Fields::children))]
 pub fn push_children(out: &mut String) -> Result<(), AllocError>
     ensures { OnOk result (string_bytes out.new ≡ string_bytes out.old ++ children) }
@@ -89,7 +95,9 @@ pub fn push_children(out: &mut String) -> Result<(), AllocError>
     push(out, ",\"children\":[")
 }
 
-/// Appends a parent that has no other fields than its children to what is written.
+/// Appends what stands before the children of a parent that has no other fields to what is written.
+///
+/// For the name `root` it is `{"type":"root","children":[`.
 pub fn push_parent(out: &mut String, name: &str) -> Result<(), AllocError>
     ensures { OnOk result (string_bytes out.new ≡ string_bytes out.old ++ (kind name.now ++ children)) }
 {
@@ -97,7 +105,9 @@ pub fn push_parent(out: &mut String, name: &str) -> Result<(), AllocError>
     push_children(out)
 }
 
-/// Appends a literal that has no other fields than its value to what is written.
+/// Appends a literal that has no other fields than its value to what is written, up to its position.
+///
+/// For the name `text` and the value `a` it is `{"type":"text","value":"a"`.
 pub fn push_literal(out: &mut String, name: &str, value: &String) -> Result<(), AllocError>
     ensures { OnOk result (string_bytes out.new ≡ string_bytes out.old ++ literal name.now (string_bytes value.now)) }
 {
@@ -106,6 +116,8 @@ pub fn push_literal(out: &mut String, name: &str, value: &String) -> Result<(), 
 }
 
 /// Appends a field that is a number to what is written.
+///
+/// For the name `depth` and the number 2 it is `,"depth":2`.
 #[tactic(auto, unfolding(crate::specs::Fields::field))]
 pub fn push_number(out: &mut String, name: &str, number: usize) -> Result<(), AllocError>
     ensures { OnOk result (string_bytes out.new ≡ string_bytes out.old ++ field name.now (decimal number)) }
@@ -115,6 +127,8 @@ pub fn push_number(out: &mut String, name: &str, number: usize) -> Result<(), Al
 }
 
 /// Appends a field with a value that is JSON already to what is written.
+///
+/// For the name `title` and the value `null` it is `,"title":null`.
 #[tactic(auto, unfolding(crate::specs::Fields::field))]
 pub fn push_value(out: &mut String, name: &str, value: &str) -> Result<(), AllocError>
     ensures { OnOk result (string_bytes out.new ≡ string_bytes out.old ++ field name.now value.now) }
@@ -124,6 +138,8 @@ pub fn push_value(out: &mut String, name: &str, value: &str) -> Result<(), Alloc
 }
 
 /// Appends a field that is true or false to what is written.
+///
+/// For the name `spread` and false it is `,"spread":false`.
 pub fn push_flag(out: &mut String, name: &str, flag: bool) -> Result<(), AllocError>
     ensures { OnOk result (string_bytes out.new ≡ string_bytes out.old ++ field name.now (bool_text flag)) }
 {
@@ -131,6 +147,8 @@ pub fn push_flag(out: &mut String, name: &str, flag: bool) -> Result<(), AllocEr
 }
 
 /// Appends a field that is a text to what is written.
+///
+/// For the name `alt` and the text `a` it is `,"alt":"a"`.
 #[tactic(auto, unfolding(crate::specs::Fields::field))]
 pub fn push_text(out: &mut String, name: &str, text: &String) -> Result<(), AllocError>
     ensures { OnOk result (string_bytes out.new ≡ string_bytes out.old ++ field name.now (string (string_bytes text.now))) }
@@ -140,6 +158,8 @@ pub fn push_text(out: &mut String, name: &str, text: &String) -> Result<(), Allo
 }
 
 /// Appends a field that is a text or null to what is written.
+///
+/// For the name `lang` and no text it is `,"lang":null`.
 pub fn push_option(out: &mut String, name: &str, text: &Option<String>) -> Result<(), AllocError>
     ensures { OnOk result (string_bytes out.new ≡ string_bytes out.old ++ field name.now (maybe (option_map string_bytes text.now))) }
 {
@@ -149,7 +169,9 @@ pub fn push_option(out: &mut String, name: &str, text: &Option<String>) -> Resul
     }
 }
 
-/// Appends the fields of a resource to what is written.
+/// Appends the fields of a resource (mdast) to what is written.
+///
+/// For the URL `a` without a title they are `,"title":null,"url":"a"`.
 #[tactic(auto, unfolding(crate::specs::Fields::resource))]
 pub fn push_resource(
     out: &mut String,
@@ -162,7 +184,9 @@ pub fn push_resource(
     push_text(out, "url", url)
 }
 
-/// Appends the fields of an association to what is written.
+/// Appends the fields of an association (mdast) to what is written.
+///
+/// For the identifier `a` and the label `A` they are `,"identifier":"a","label":"A"`.
 #[tactic(auto, unfolding(crate::specs::Fields::association))]
 pub fn push_association(
     out: &mut String,
@@ -175,7 +199,9 @@ pub fn push_association(
     push_option(out, "label", label)
 }
 
-/// Appends the fields of a reference to what is written.
+/// Appends the fields of a reference (mdast) to what is written: those of an association, and its form.
+///
+/// The last is `,"referenceType":"full"` for `[a][b]`.
 #[tactic(auto, unfolding(crate::specs::Fields::reference))]
 pub fn push_reference(
     out: &mut String,
@@ -201,6 +227,8 @@ fn push_reference_type(out: &mut String, kind: ReferenceKind) -> Result<(), Allo
 }
 
 /// Appends the field with the number that a list begins with, which may be null.
+///
+/// For a list that begins with 3 it is `,"start":3`.
 pub fn push_start(out: &mut String, start: Option<u32>) -> Result<(), AllocError>
     ensures { OnOk result (string_bytes out.new ≡ string_bytes out.old ++ field (codes "start") (or_null decimal start)) }
 {
@@ -211,6 +239,8 @@ pub fn push_start(out: &mut String, start: Option<u32>) -> Result<(), AllocError
 }
 
 /// Appends the field that tells whether a task is done: null where the item is no task.
+///
+/// For a task that is done it is `,"checked":true`.
 pub fn push_checked(out: &mut String, checked: Option<bool>) -> Result<(), AllocError>
     ensures { OnOk result (string_bytes out.new ≡ string_bytes out.old ++ field (codes "checked") (or_null bool_text checked)) }
 {
@@ -221,6 +251,8 @@ pub fn push_checked(out: &mut String, checked: Option<bool>) -> Result<(), Alloc
 }
 
 /// Appends the field that tells how the columns of a table are aligned.
+///
+/// For one column to the left and one without alignment it is `,"align":["left",null]`.
 #[tactic(auto, unfolding(crate::specs::Fields::field))]
 pub fn push_align(out: &mut String, align: &[AlignKind]) -> Result<(), AllocError>
     ensures { OnOk result (string_bytes out.new ≡ string_bytes out.old ++ align_field align.now) }

@@ -6,14 +6,19 @@ ghost use Rattle.json_fields.specs.Strings.{escape, escaped, string};
 
 use std::alloc::AllocError;
 
-/// Appends a text to what is written, as it is: `push_str`, with a contract in bytes.
+/// Appends a text to what is written, as it is: `push_str`, with a contract in bytes. The only error is
+/// that memory ran out.
+///
+/// After `{`, the text `}` makes `{}`.
 pub fn push(out: &mut String, text: &str) -> Result<(), AllocError>
     ensures { OnOk result (string_bytes out.new ≡ string_bytes out.old ++ text.now) }
 {
     out.push_str(text)
 }
 
-/// Appends a text between quotes to what is written.
+/// Appends a text between quotes to what is written. The only error is that memory ran out.
+///
+/// A line feed is written as a backslash and an `n`, so the text stands on one line.
 #[tactic(auto, unfolding(crate::specs::Strings::string))]
 pub fn push_string(out: &mut String, text: &str) -> Result<(), AllocError>
     ensures { OnOk result (string_bytes out.new ≡ string_bytes out.old ++ string text.now) }

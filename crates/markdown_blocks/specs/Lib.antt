@@ -3,4 +3,3 @@ pub mod Columns
 pub mod Parents
 pub mod Headings
 pub mod Lists
-pub mod Definitions

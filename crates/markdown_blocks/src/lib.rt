@@ -1,9 +1,7 @@
-//! Blocks that hold nodes, and definitions: what may stand in each, the parts that it keeps, and the
-//! node that it gives at its exit; and the plain containers, which blocks share with inlines.
+//! Blocks that hold nodes: what may stand in each, the parts that it keeps, and the node that it gives
+//! at its exit; and the plain containers, which blocks share with inlines.
 #![tactic(auto)]
 
-pub mod definition;
-pub mod footnote_definition;
 pub mod heading;
 pub mod list;
 mod number;

@@ -3,7 +3,6 @@
 #![tactic(auto)]
 
 pub mod buffer;
-pub mod joining;
 pub mod label;
 pub mod marks;
 pub mod misfits;

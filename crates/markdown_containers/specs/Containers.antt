@@ -1,6 +1,6 @@
 -- What an open span is to the items in it: what has stood in it so far, by its construct.
 use Rattle.std.specs.Prelude.{◌≢◌, List, Option, Result, false, true, Bool, ℕ}
-use Rattle.markdown_blocks.specs.Definitions.{definition, footnote_definition}
+use Rattle.markdown_definitions.specs.Definitions.{definition, footnote_definition}
 use Rattle.markdown_literals.specs.Fences.{code_fence, code_fenced, math_fence, math_flow}
 use Rattle.markdown_blocks.specs.Headings.{atx, setext}
 use Rattle.markdown_blocks.specs.Lists.{list_item, marked_paragraph, numbered_item, ordered_list, task_paragraph}
@@ -24,7 +24,7 @@ use Rattle.markdown_grammar.specs.declared.error_kind.ErrorKind.{ErrorKind}
 use Rattle.markdown_grammar.specs.declared.error_kind.Stop.{Stop}
 use Rattle.markdown_literals.specs.Autolinks.{autolink}
 use Rattle.markdown_inlines.specs.CharacterReferences.{character_reference}
-use Rattle.markdown_inlines.specs.FootnoteCalls.{footnote_call}
+use Rattle.markdown_definitions.specs.FootnoteCalls.{footnote_call}
 use Rattle.markdown_inlines.specs.Media.{media, reference, resource}
 use Rattle.markdown_nodes.specs.Tree.{Trees}
 use Rattle.markdown_steps.specs.Summaries.{PartSummary, Path, Summary}

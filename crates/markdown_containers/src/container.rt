@@ -31,8 +31,6 @@ ghost use Rattle.markdown_steps.specs.Compiler.{nothing_yet};
 ghost use Rattle.markdown_steps.specs.Visits.{visits_at_end};
 
 use character_references::references::References;
-use markdown_blocks::definition::DefinitionParts;
-use markdown_blocks::footnote_definition::FootnoteDefinitionParts;
 use markdown_blocks::heading::{AtxParts, SetextParts};
 use markdown_blocks::list::{
     ListItemParts, NumberedItemParts, OrderedListParts, TaskParagraphParts,
@@ -40,9 +38,11 @@ use markdown_blocks::list::{
 };
 use markdown_builder::buffer::values_of;
 use markdown_builder::slice::Document;
+use markdown_definitions::definition::DefinitionParts;
+use markdown_definitions::footnote_call::FootnoteCallParts;
+use markdown_definitions::footnote_definition::FootnoteDefinitionParts;
 use markdown_grammar::error_kind::{ErrorKind, Stop};
 use markdown_inlines::character_reference::{CharacterReferenceParts, Marker};
-use markdown_inlines::footnote_call::FootnoteCallParts;
 use markdown_inlines::media::{MediaParts, ReferenceParts, ResourceParts};
 use markdown_literals::autolink::AutolinkParts;
 use markdown_literals::code::{CodeFenceParts, CodeFencedParts};

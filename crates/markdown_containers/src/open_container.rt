@@ -46,11 +46,11 @@ use markdown_blocks::list::{ListItemParts, NumberedItemParts, list_item, unorder
 use markdown_blocks::parent::parent;
 use markdown_blocks::table::{Columns, table};
 use markdown_blocks::thematic_break::thematic_break;
-use markdown_builder::joining::{append, put, put_text};
 use markdown_builder::marks::Marks;
 use markdown_builder::slice::{Document, byte_at, position_of};
 use markdown_grammar::error_kind::Stop;
 use markdown_inlines::text::{hard_break, put_slice};
+use markdown_joining::{append, put, put_text};
 use markdown_literals::autolink::literal;
 use markdown_literals::code::{indented_code, inline_code};
 use markdown_literals::frontmatter::frontmatter;

@@ -1,8 +1,10 @@
 //! The events of a tokenizer, and what is read from them without the grammar: names and what each is
-//! to the tree, points, spans of a flat list, spread and alignment, texts, numbers in decimal digits,
-//! and messages; and the one reader of a list, which counts.
+//! to the tree, points, spans of a flat list, spread and alignment; and the one reader of a list, which
+//! counts.
 //!
-//! The crate `markdown_nodes` passes the modules on, each under its name, and the law among its own.
+//! The modules of `positions` and `markdown_texts` (points of unist, numbers in decimal digits, messages
+//! and texts) are passed on. The crate `markdown_nodes` passes all of these on, each under its name, and
+//! the law among its own.
 #![tactic(auto)]
 
 pub mod around;

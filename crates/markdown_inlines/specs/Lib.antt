@@ -2,4 +2,3 @@ pub mod Texts
 pub mod Labels
 pub mod CharacterReferences
 pub mod Media
-pub mod FootnoteCalls

@@ -80,8 +80,11 @@ pub(crate) fn label_text(
     }
 }
 
-/// What a label refers to: its identifier, and its text.
-pub(crate) fn identified(
+/// What a label refers to: the identifier and the label of an association (mdast).
+///
+/// For the label `A` of `[^A]` the identifier is `a` and the label is `A`. The nodes of the label are
+/// read by one step for each. The only error is that memory ran out.
+pub fn identified(
     alloc: Global,
     steps: &mut Steps<'_>,
     label: &Option<Label<'_>>,

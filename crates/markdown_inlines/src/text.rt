@@ -12,9 +12,9 @@ ghost use Rattle.markdown_grammar.specs.declared.error_kind.ErrorKind.TheVariant
 ghost use Rattle.markdown_builder.specs.PartsSoFar.{Makes, placed};
 ghost use Rattle.markdown_inlines.specs.Texts.{text_between};
 
-use markdown_builder::joining::put_text;
 use markdown_builder::slice::{Document, position_of, text_of};
 use markdown_grammar::error_kind::Stop;
+use markdown_joining::put_text;
 use markdown_nodes::event::Point;
 use markdown_nodes::mdast::{Break, Node};
 use markdown_nodes::unist::Position;

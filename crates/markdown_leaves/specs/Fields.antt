@@ -1,10 +1,11 @@
 -- The text that Debug writes of the fields of a node. `escapes` are the characters beyond ASCII that stand as their Unicode escape.
-use Rattle.std.specs.Prelude.{ℕ, Bool, List, [], ◌∷◌, ◌++◌, Option, Some, None, String, if◌then◌else◌, codes, option_map, string_bytes}
+use Rattle.std.specs.Prelude.{ℕ, Bool, List, [], ◌∷◌, ◌++◌, Option, String, if◌then◌else◌, codes, option_map, string_bytes}
 use Rattle.std.specs.Fmt.{comma_space, decimal}
 use Rattle.std.specs.declared.alloc.Global.{Global}
 use Rattle.markdown_events.specs.declared.infer.AlignKind.{AlignKind}
 use Rattle.markdown_events.specs.Alignments.{alignment_name}
 use Rattle.quoted.specs.Quoted.{quoted}
+use Rattle.quoted.specs.TextFields.{association, maybe, option_text, resource}
 use Rattle.markdown_leaves.specs.declared.ReferenceKind.{ReferenceKind}
 use Rattle.markdown_leaves.specs.declared.Code.{Code}
 use Rattle.markdown_leaves.specs.declared.Definition.{Definition}
@@ -16,15 +17,6 @@ use Rattle.markdown_leaves.specs.ReferenceKinds.{reference_kind_name}
 abbrev pub bool_text : Bool → List ℕ
 bool_text value = if value then codes "true" else codes "false"
 
--- None, or Some and the text of the value
-abbrev pub option_text : {X : Type 0} → (X → List ℕ) → Option X → List ℕ
-option_text value_text None = codes "None"
-option_text value_text (Some value) = codes "Some(" ++ value_text value ++ codes ")"
-
--- a text between quotes, or that there is none
-abbrev pub maybe : (ℕ → Bool) → Option (List ℕ) → List ℕ
-maybe escapes it = option_text (quoted escapes) it
-
 -- the texts of values, the first after `lead` and each other one after a comma
 abbrev pub items_text : {X : Type 0} → (X → List ℕ) → List ℕ → List X → List ℕ
 items_text item_text lead [] = []
@@ -33,14 +25,6 @@ items_text item_text lead (item ∷ items) = lead ++ item_text item ++ items_tex
 -- the value of a literal, up to the position
 abbrev pub literal_value : (ℕ → Bool) → List ℕ → List ℕ
 literal_value escapes value = quoted escapes value ++ codes ", position: "
-
--- the fields of a resource
-abbrev pub resource : (ℕ → Bool) → List ℕ → Option (List ℕ) → List ℕ
-resource escapes url title = codes ", url: " ++ quoted escapes url ++ codes ", title: " ++ maybe escapes title
-
--- the fields of an association
-abbrev pub association : (ℕ → Bool) → List ℕ → Option (List ℕ) → List ℕ
-association escapes identifier label = codes ", identifier: " ++ quoted escapes identifier ++ codes ", label: " ++ maybe escapes label
 
 -- the fields of a reference
 abbrev pub reference : (ℕ → Bool) → ReferenceKind → List ℕ → Option (List ℕ) → List ℕ
@@ -73,14 +57,6 @@ image_reference_fields escapes alt kind identifier label = codes ", alt: " ++ qu
 -- the fields of a definition
 abbrev pub definition_fields : (ℕ → Bool) → List ℕ → Option (List ℕ) → List ℕ → Option (List ℕ) → List ℕ
 definition_fields escapes url title identifier label = resource escapes url title ++ association escapes identifier label
-
--- the fields of a resource with these texts
-abbrev pub resource_of : (ℕ → Bool) → String Global → Option (String Global) → List ℕ
-resource_of escapes url title = resource escapes (string_bytes url) (option_map string_bytes title)
-
--- the fields of an association with these texts
-abbrev pub association_of : (ℕ → Bool) → String Global → Option (String Global) → List ℕ
-association_of escapes identifier label = association escapes (string_bytes identifier) (option_map string_bytes label)
 
 -- the fields of a reference with these texts
 abbrev pub reference_of : (ℕ → Bool) → ReferenceKind → String Global → Option (String Global) → List ℕ

@@ -1,4 +1,4 @@
-//! Copies of the fields of nodes.
+//! Copies of the fields of nodes. The only error is that memory ran out.
 
 ghost use Rattle.std.specs.Prelude.{◌≡◌, IfOk, option_map, string_bytes};
 
@@ -6,6 +6,8 @@ use markdown_events::infer::AlignKind;
 use std::alloc::AllocError;
 
 /// A copy of a text that may be there.
+///
+/// For the title `a` it is `Some` of a text `a`, and for none it is `None`.
 pub fn copy_optional(text: &Option<String>) -> Result<Option<String>, AllocError>
     ensures { IfOk result (λ copy. option_map string_bytes copy ≡ option_map string_bytes text.now) }
 {
@@ -15,7 +17,9 @@ pub fn copy_optional(text: &Option<String>) -> Result<Option<String>, AllocError
     }
 }
 
-/// A copy of the columns of a table.
+/// A copy of the alignments of the columns of a table, in their order.
+///
+/// For one column to the left it is a list of `AlignKind::Left`.
 pub fn copy_align(align: &Vec<AlignKind>) -> Result<Vec<AlignKind>, AllocError>
     ensures { IfOk result (λ copy. copy.items ≡ align.now.items) }
 {

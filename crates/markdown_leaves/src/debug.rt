@@ -1,13 +1,12 @@
 //! The text that Debug writes of the fields of a node: of its value, and of those after its position.
 //!
-//! Each function writes one field, or the fields of one kind. `escapes` has the characters beyond ASCII
-//! that stand as their Unicode escape.
+//! Each function writes one field, or the fields of one kind, each after a comma. `escapes` has the
+//! characters beyond ASCII that stand as their Unicode escape. The only error is that of the writer.
 
 ghost use Rattle.std.specs.Fmt.{WritesOnOk, decimal};
-ghost use Rattle.std.specs.Prelude.{◌++◌, codes, option_map, string_bytes};
+ghost use Rattle.std.specs.Prelude.{◌++◌, codes, string_bytes};
 ghost use Rattle.markdown_leaves.specs.Fields.{
   align_field,
-  association_of,
   bool_text,
   code_fields_of,
   definition_fields_of,
@@ -16,20 +15,21 @@ ghost use Rattle.markdown_leaves.specs.Fields.{
   item_fields,
   list_fields,
   literal_value,
-  maybe,
-  option_text,
   reference_of,
-  resource_of,
 };
-ghost use Rattle.quoted.specs.Quoted.{members, quoted};
+ghost use Rattle.quoted.specs.Quoted.{members};
+ghost use Rattle.quoted.specs.TextFields.{option_text};
 
 use crate::{Code, Definition, Image, ImageReference, ReferenceKind};
 use markdown_events::infer::AlignKind;
+use quoted::fields::{write_association, write_option, write_resource, write_text};
 use quoted::write_quoted;
 use std::collections::BTreeSet;
 use std::fmt;
 
 /// Writes the value of a literal, up to its position.
+///
+/// For the value `a` it is `"a", position: `.
 pub fn write_value<W: fmt::Write>(
     value: &String,
     escapes: &BTreeSet<char>,
@@ -41,7 +41,7 @@ pub fn write_value<W: fmt::Write>(
     f.write_str(", position: ")
 }
 
-/// Writes the depth of a heading.
+/// Writes the depth of a heading, as `, depth: 2`.
 pub fn write_depth<W: fmt::Write>(depth: u8, f: &mut fmt::Formatter<W>) -> fmt::Result
     ensures { WritesOnOk W.write_str_gives f.old result (codes ", depth: " ++ decimal depth) f.new }
 {
@@ -49,6 +49,8 @@ pub fn write_depth<W: fmt::Write>(depth: u8, f: &mut fmt::Formatter<W>) -> fmt::
 }
 
 /// Writes the fields of a block of code.
+///
+/// For `~~~a` they are `, lang: Some("a"), meta: None`.
 pub fn write_code_fields<W: fmt::Write>(
     node: &Code,
     escapes: &BTreeSet<char>,
@@ -61,6 +63,8 @@ pub fn write_code_fields<W: fmt::Write>(
 }
 
 /// Writes the fields of an image.
+///
+/// For `![a](b)` they are `, alt: "a", url: "b", title: None`.
 pub fn write_image_fields<W: fmt::Write>(
     node: &Image,
     escapes: &BTreeSet<char>,
@@ -73,6 +77,8 @@ pub fn write_image_fields<W: fmt::Write>(
 }
 
 /// Writes the fields of a reference to an image.
+///
+/// For `![a]` they are `, alt: "a", reference_kind: Shortcut, identifier: "a", label: Some("a")`.
 pub fn write_image_reference_fields<W: fmt::Write>(
     node: &ImageReference,
     escapes: &BTreeSet<char>,
@@ -91,6 +97,8 @@ pub fn write_image_reference_fields<W: fmt::Write>(
 }
 
 /// Writes the fields of a definition.
+///
+/// For `[a]: b` they are `, url: "b", title: None, identifier: "a", label: Some("a")`.
 pub fn write_definition_fields<W: fmt::Write>(
     node: &Definition,
     escapes: &BTreeSet<char>,
@@ -102,66 +110,9 @@ pub fn write_definition_fields<W: fmt::Write>(
     write_association(&node.identifier, &node.label, escapes, f)
 }
 
-/// Writes a field that is a text. Its name stands between a comma and a colon.
-fn write_text<W: fmt::Write>(
-    name: &str,
-    text: &String,
-    escapes: &BTreeSet<char>,
-    f: &mut fmt::Formatter<W>,
-) -> fmt::Result
-    ensures { WritesOnOk W.write_str_gives f.old result (name.now ++ quoted (members escapes.now) (string_bytes text.now)) f.new }
-{
-    f.write_str(name)?;
-    write_quoted(text.as_str(), escapes, f)
-}
-
-/// Writes a field that is a text or none. Its name stands between a comma and a colon.
-pub fn write_option<W: fmt::Write>(
-    name: &str,
-    text: &Option<String>,
-    escapes: &BTreeSet<char>,
-    f: &mut fmt::Formatter<W>,
-) -> fmt::Result
-    ensures { WritesOnOk W.write_str_gives f.old result (name.now ++ maybe (members escapes.now) (option_map string_bytes text.now)) f.new }
-{
-    f.write_str(name)?;
-    match text {
-        Some(text) => {
-            f.write_str("Some(")?;
-            write_quoted(text.as_str(), escapes, f)?;
-            f.write_str(")")
-        }
-        None => f.write_str("None"),
-    }
-}
-
-/// Writes the fields of a resource.
-pub fn write_resource<W: fmt::Write>(
-    url: &String,
-    title: &Option<String>,
-    escapes: &BTreeSet<char>,
-    f: &mut fmt::Formatter<W>,
-) -> fmt::Result
-    ensures { WritesOnOk W.write_str_gives f.old result (resource_of (members escapes.now) url.now title.now) f.new }
-{
-    write_text(", url: ", url, escapes, f)?;
-    write_option(", title: ", title, escapes, f)
-}
-
-/// Writes the fields of an association.
-pub fn write_association<W: fmt::Write>(
-    identifier: &String,
-    label: &Option<String>,
-    escapes: &BTreeSet<char>,
-    f: &mut fmt::Formatter<W>,
-) -> fmt::Result
-    ensures { WritesOnOk W.write_str_gives f.old result (association_of (members escapes.now) identifier.now label.now) f.new }
-{
-    write_text(", identifier: ", identifier, escapes, f)?;
-    write_option(", label: ", label, escapes, f)
-}
-
-/// Writes the fields of a reference.
+/// Writes the fields of a reference (mdast).
+///
+/// For `[a]` they are `, reference_kind: Shortcut, identifier: "a", label: Some("a")`.
 pub fn write_reference<W: fmt::Write>(
     kind: ReferenceKind,
     identifier: &String,
@@ -176,6 +127,8 @@ pub fn write_reference<W: fmt::Write>(
 }
 
 /// Writes the fields of a list.
+///
+/// For `3. a` they are `, ordered: true, start: Some(3), spread: false`.
 pub fn write_list_fields<W: fmt::Write>(
     ordered: bool,
     start: Option<u32>,
@@ -208,6 +161,8 @@ fn write_flag<W: fmt::Write>(name: &str, flag: bool, f: &mut fmt::Formatter<W>) 
 }
 
 /// Writes the fields of a list item.
+///
+/// For `* [x] a` they are `, spread: false, checked: Some(true)`.
 pub fn write_item_fields<W: fmt::Write>(
     spread: bool,
     checked: Option<bool>,
@@ -222,6 +177,8 @@ pub fn write_item_fields<W: fmt::Write>(
 }
 
 /// Writes how the columns of a table are aligned.
+///
+/// For one column to the left it is `, align: [Left]`.
 pub fn write_align<W: fmt::Write>(align: &Vec<AlignKind>, f: &mut fmt::Formatter<W>) -> fmt::Result
     ensures { WritesOnOk W.write_str_gives f.old result (align_field align.now.items) f.new }
 {

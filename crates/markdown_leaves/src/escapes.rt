@@ -1,9 +1,12 @@
 //! The characters beyond ASCII in the fields of a node that std's Debug writes as their Unicode escape.
+//! The only error is that memory ran out.
 
 use std::alloc::AllocError;
 use std::collections::BTreeSet;
 
 /// Adds those in a text, and in two that a node may lack.
+///
+/// For a URL, a title and none they are those in the URL and in the title.
 pub fn add_texts(
     text: &str,
     first: &Option<String>,
@@ -21,6 +24,8 @@ fn or_empty(text: &Option<String>) -> &str {
 }
 
 /// Adds those in a text.
+///
+/// For the text `é` there are none, since it is written as it is; for a text of U+FEFF there is one.
 pub fn add_text(text: &str, escapes: &mut BTreeSet<char>) -> Result<(), AllocError> {
     if text.is_ascii() {
         return Ok(());

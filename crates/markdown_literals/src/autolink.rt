@@ -16,11 +16,11 @@ ghost use Rattle.markdown_grammar.specs.declared.error_kind.ErrorKind.TheVariant
 ghost use Rattle.markdown_builder.specs.PartsSoFar.{IsFresh, IsNode, Makes, Reads, misfit_in, placed};
 ghost use Rattle.markdown_literals.specs.Autolinks.{IsLiteral, IsSchemeOf, autolink, autolink_nodes, is_literal};
 
-use markdown_builder::joining::new_text;
 use markdown_builder::misfits::at_most_one;
 use markdown_builder::slice::{Document, position_of, text_of};
 use markdown_builder::texts::address;
 use markdown_grammar::error_kind::{ErrorKind, Stop};
+use markdown_joining::new_text;
 use markdown_nodes::event::Point;
 use markdown_nodes::mdast::{Link, Node};
 use markdown_nodes::role::{Content, ItemKind, Part};

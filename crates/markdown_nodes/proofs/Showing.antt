@@ -5,7 +5,7 @@ use Rattle.positions.specs.Places.{position_text}
 use Rattle.markdown_nodes.specs.declared.mdast.debug.Frame.{Frame}
 use Rattle.markdown_nodes.specs.declared.mdast.Node.{Node}
 use Rattle.markdown_nodes.specs.Access.{label_of, nodes_in, position_of}
-use Rattle.markdown_leaves.specs.Fields.{option_text}
+use Rattle.quoted.specs.TextFields.{option_text}
 use Rattle.markdown_nodes.specs.Shown.{debug_notation, opening, shown}
 use Rattle.markdown_nodes.specs.Tree.{«break», thematic_break}
 use Rattle.markdown_nodes.specs.View.{view}

@@ -38,6 +38,8 @@ mod nodes;
 #[cfg(test)]
 mod order;
 #[cfg(test)]
+mod outcomes;
+#[cfg(test)]
 mod outline;
 #[cfg(test)]
 mod pairs;

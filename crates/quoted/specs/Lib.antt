@@ -1,1 +1,2 @@
 pub mod Quoted
+pub mod TextFields

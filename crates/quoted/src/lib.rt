@@ -1,4 +1,4 @@
-//! Texts between quotes, as Debug writes them.
+//! Texts between quotes, as Debug writes them, and fields that are texts.
 #![tactic(auto)]
 
 ghost use Rattle.std.specs.Fmt.{WritesOnOk};
@@ -6,6 +6,8 @@ ghost use Rattle.std.specs.Prelude.{◌≡◌, ◌<◌, ◌≤◌, ◌++◌, ◌
 ghost use Rattle.std.specs.List.{list_all};
 ghost use Rattle.quoted.specs.Quoted;
 ghost use Rattle.quoted.specs.Quoted.{escaped, members, quoted};
+
+pub mod fields;
 
 use std::alloc::{AllocError, Global};
 use std::collections::BTreeSet;

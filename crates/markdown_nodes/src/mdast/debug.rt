@@ -4,19 +4,20 @@ ghost use Rattle.std.specs.Fmt.{WritesOnOk};
 ghost use Rattle.std.specs.Prelude.{◌≡◌, ◌⊎◌, ◌++◌, ℕ, Bool, [], Some, IsNone, codes, if◌then◌else◌};
 ghost use Rattle.positions.specs.Places.{position_text};
 ghost use Rattle.markdown_nodes.specs.Access.{label_of, nodes_in, position_of};
-ghost use Rattle.markdown_leaves.specs.Fields.{option_text};
 ghost use Rattle.markdown_nodes.specs.Shown.{closing, content_end, fields, opening, position_alone, shown};
 ghost use Rattle.markdown_nodes.specs.Tree.{«break», thematic_break};
 ghost use Rattle.markdown_nodes.specs.View.{view};
 ghost use Rattle.quoted.specs.Quoted.{members};
+ghost use Rattle.quoted.specs.TextFields.{option_text};
 
 use crate::mdast::Node;
 use crate::mdast::escapes::escapes_of;
 use markdown_leaves::debug::{
-    write_align, write_association, write_code_fields, write_definition_fields, write_depth,
-    write_image_fields, write_image_reference_fields, write_item_fields, write_list_fields,
-    write_option, write_reference, write_resource, write_value,
+    write_align, write_code_fields, write_definition_fields, write_depth, write_image_fields,
+    write_image_reference_fields, write_item_fields, write_list_fields, write_reference,
+    write_value,
 };
+use quoted::fields::{write_association, write_option, write_resource};
 use std::alloc::Global;
 use std::collections::BTreeSet;
 use std::fmt;

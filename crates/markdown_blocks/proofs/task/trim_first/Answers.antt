@@ -4,7 +4,7 @@ use Rattle.std.specs.Vec.{vec_len}
 use denote.Hole.Carrier
 use Rattle.markdown_nodes.specs.declared.mdast.Node.TheViews.{out-Node}
 use Rattle.markdown_blocks.proofs.Trims.{first_views, not_cut, text_goes, text_starts, text_stays, with_first}
-use Rattle.markdown_builder.proofs.Views.{no_text}
+use Rattle.markdown_joining.proofs.Views.{no_text}
 use Rattle.markdown_blocks.proofs.task.trim_first.Goals as goal
 
 pub returns-in_default : goal.returns-in_default

@@ -1,0 +1,2 @@
+mod Joins
+pub mod Views
