@@ -4,13 +4,14 @@ use Rattle.markdown_grammar.specs.Correct.{FailsRightly}
 use Rattle.mdast_outcomes.specs.Outcomes.{over}
 use Rattle.mdast_outcomes.proofs.OutcomeLemmas.{refusal_said, tree_said}
 use Rattle.mdast_outcomes.proofs.outcome_of.Goals as goal
+
 pub returns-in-Ok-compile : goal.returns-in-Ok-compile
 returns-in-Ok-compile c = record {
   status = search rules;
   tree = λ zero.
-    tree_said c.compiled.result c.in-Ok-compile.tree c.args.event_lines.now c.args.document.now c.in-Ok.table.now
-    c.in-Ok-events.ensures.ok c.deref.ensures.value c.in-Ok.ensures.cases.0
-    c.in-Ok-compile.ensures.found c.in-Ok-compile.ensures.ordered (c.compiled.ensures.tree zero);
+      tree_said c.compiled.result c.in-Ok-compile.tree c.args.event_lines.now c.args.document.now c.in-Ok.table.now
+      c.in-Ok-events.ensures.ok c.deref.ensures.value c.in-Ok.ensures.cases.0
+      c.in-Ok-compile.ensures.found c.in-Ok-compile.ensures.ordered (c.compiled.ensures.tree zero);
   refused = search rules;
   unread = search rules;
   table = search rules;
@@ -25,13 +26,13 @@ returns-in-Err-Message c = record {
   status = search rules;
   tree = search rules;
   refused = λ one.
-    let Fails : Fault → Type 0 = λ fault. FailsRightly fault c.deref.result.now (over c.args.document.now c.in-Ok.table.now) in
-    refusal_said c.refused.result c.in-Err-Message.message c.args.event_lines.now c.args.document.now c.in-Ok.table.now
-    c.in-Ok-events.ensures.ok c.deref.ensures.value c.in-Ok.ensures.cases.0
-    (subst Fails c.in-Err-Message.field-0-is c.in-Err-Message.ensures.refused)
-    (rw c.in-Err-Message.message-is at c.refused.ensures.rule)
-    (rw c.in-Err-Message.message-is at c.refused.ensures.reason)
-    (rw c.in-Err-Message.message-is at c.refused.ensures.point);
+      let Fails : Fault → Type 0 = λ fault. FailsRightly fault c.deref.result.now (over c.args.document.now c.in-Ok.table.now) in
+      refusal_said c.refused.result c.in-Err-Message.message c.args.event_lines.now c.args.document.now c.in-Ok.table.now
+      c.in-Ok-events.ensures.ok c.deref.ensures.value c.in-Ok.ensures.cases.0
+      (subst Fails c.in-Err-Message.field-0-is c.in-Err-Message.ensures.refused)
+      (rw c.in-Err-Message.message-is at c.refused.ensures.rule)
+      (rw c.in-Err-Message.message-is at c.refused.ensures.reason)
+      (rw c.in-Err-Message.message-is at c.refused.ensures.point);
   unread = search rules;
   table = search rules;
   utf8 = search rules;
