@@ -1,1 +1,2 @@
 pub mod States
+pub use Rattle.markdown_containers.specs.ContainerStates

@@ -27,7 +27,7 @@ use Rattle.markdown_grammar.specs.Refusals.{ErrorAt}
 use Rattle.markdown_steps.specs.Checks.{checked, refused, ◌>>=◌}
 use Rattle.markdown_grammar.specs.Document.{Source}
 use Rattle.nest.specs.Nest.{around_innermost, innermost}
-use Rattle.markdown_containers.specs.ContainerStates.{with_break}
+use Rattle.markdown_context.specs.ContainerStates.{with_break}
 use Rattle.markdown_context.specs.States.{Completes, Fails, kept_top, leaf_container, leaf_place, opens, state_of, top_of}
 use Rattle.markdown_steps.specs.Visits.{run_visits}
 use Rattle.markdown_steps.specs.Well.{AllStand}

@@ -14,7 +14,7 @@ use Rattle.markdown_grammar.specs.Refusals.{ErrorAt}
 use Rattle.markdown_steps.specs.Checks.{◌>>=◌}
 use Rattle.markdown_grammar.specs.Refusals.{IsFaultOf}
 use Rattle.markdown_grammar.specs.Document.{Source}
-use Rattle.markdown_containers.specs.ContainerStates.{Stops}
+use Rattle.markdown_context.specs.ContainerStates.{Stops}
 use Rattle.markdown_context.specs.States.{Fails}
 use Rattle.markdown_steps.specs.Visits.{run_visits, step_visits}
 use Rattle.markdown_steps.specs.Well.{Well}
