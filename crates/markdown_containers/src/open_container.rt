@@ -251,7 +251,8 @@ impl<'a> OpenContainer<'a> {
         document: &Document<'_>,
         ending: Ending,
     ) -> Result<(), Stop>
-        ensures { TakesAnyLeaf document.now (item_kinds.Content contents.LineEnding) ending pending.old self.old pending.new self.new result }
+        ensures { TakesAnyLeaf document.now (item_kinds.Content contents.LineEnding) ending
+            pending.old self.old pending.new self.new result }
     {
         if let Some(position) = pending.take() {
             put(&mut self.nodes, hard_break(position, ending.end))?;
