@@ -1,7 +1,7 @@
-use Rattle.std.proofs.Common.{rules, ◌≡◌, ℕ, List, sym, subst, ◌∙◌, arith}
+use Rattle.std.proofs.Common.{◌≡◌, ℕ, List, sym, subst, ◌∙◌, arith}
 use Rattle.std.proofs.lemmas.Grind.{common_steps}
 use Rattle.std.specs.Io.KnownBytes.{Appends}
-use Rattle.mdast_programs.proofs.CheckLemmas.{closed_written, open_written, status_said}
+use Rattle.mdast_programs.proofs.CheckLemmas.{closed_written, open_written, refused_written, status_said}
 use Rattle.mdast_programs.proofs.check.run_check.Goals as goal
 
 pub returns-in-Ok-checked-clause-closed : goal.returns-in-Ok-checked-clause-closed
@@ -17,7 +17,10 @@ returns-in-Ok-checked-clause-opens g c four =
     (subst (λ (t : List ℕ). Appends (g.O.Write.contents c.args.output.now) (g.O.Write.contents c.say-in-Ok-checked.new.output) t) c.as_str.ensures.value wrote)
 
 pub returns-in-Ok-checked-clause-refused : goal.returns-in-Ok-checked-clause-refused
-returns-in-Ok-checked-clause-refused g c = search rules
+returns-in-Ok-checked-clause-refused g c one =
+    let wrote = c.say-in-Ok-checked.ensures.written (λ two. let z : 2 ≡ 1 = sym two ∙ one in cc) in
+    refused_written c.in-Ok.answer _ _ _ _ c.args.doc.now _ _ (status_said _ _ 1 c.say-in-Ok-checked.ensures.status one (λ z. cc)) c.in-Ok.ensures c.in-Ok-checked.ensures
+    (subst (λ (t : List ℕ). Appends (g.O.Write.contents c.args.output.now) (g.O.Write.contents c.say-in-Ok-checked.new.output) t) c.as_str.ensures.value wrote)
 
 pub returns-in_default-clause-refused : goal.returns-in_default-clause-refused
 returns-in_default-clause-refused g c = grind (arith, common_steps)

@@ -1,4 +1,4 @@
-use Rattle.std.proofs.Common.{rules, ◌≡◌, sym, ◌∙◌, subst, List, ℕ, arith}
+use Rattle.std.proofs.Common.{◌≡◌, refl, sym, ◌∙◌, subst, List, ℕ, arith}
 use Rattle.std.proofs.lemmas.Grind.{common_steps}
 use Rattle.std.specs.Io.KnownBytes.{Appends}
 use Rattle.mdast_programs.proofs.RunLemmas.{not_written, status_kept, tree_written}
@@ -16,7 +16,7 @@ returns-clause-tree g c zero = elim c.match-line.branch [
 ]
 
 pub returns-clause-answered : goal.returns-clause-answered
-returns-clause-answered g c = search rules
+returns-clause-answered g c small = refl
 
 pub returns-clause-bound : goal.returns-clause-bound
 returns-clause-bound g c = grind (arith, common_steps)
@@ -47,3 +47,6 @@ returns-in_default-clause-memory g c = grind (arith, common_steps)
 
 pub returns-clause-refused : goal.returns-clause-refused
 returns-clause-refused g c = grind (arith, common_steps)
+
+pub returns-clause-answer : goal.returns-clause-answer
+returns-clause-answer g c = c.in-Ok.ensures

@@ -1,4 +1,4 @@
-use Rattle.std.proofs.Common.{Some, refl, sym, ap, ◌∙◌, rules}
+use Rattle.std.proofs.Common.{Some, refl, sym, ap, ◌∙◌}
 use denote.Hole.Carrier
 use Rattle.markdown_nodes.specs.declared.mdast.Node.TheViews.{out-Node}
 use Rattle.markdown_nodes.specs.Access.{children_of}
@@ -118,4 +118,5 @@ unfolding out-Node denote.Hole.Carrier.out
 returns-in-Definition c = (refl, record { writes_back = tt; value = sym (ap children_of c.in-Definition.is) })
 
 pub returns-in-Paragraph : goal.returns-in-Paragraph
-returns-in-Paragraph c = search rules
+unfolding out-Node denote.Hole.Carrier.out
+returns-in-Paragraph c = (rw c.in-Paragraph.is refl, record { writes_back = tt; value = ap (λ n. Some n.children) c.in-Paragraph.node-is ∙ rw c.in-Paragraph.is (children_kept _) })
