@@ -6,8 +6,8 @@ use Rattle.markdown_events.specs.declared.infer.AlignKind.{AlignKind}
 use Rattle.markdown_events.specs.declared.infer.AlignKind.TheVariants as aligns
 use Rattle.positions.specs.declared.unist.Point.{Point}
 use Rattle.positions.specs.declared.unist.Position.{Position}
-use Rattle.markdown_leaves.specs.declared.ReferenceKind.{ReferenceKind}
-use Rattle.markdown_leaves.specs.declared.ReferenceKind.TheVariants.{Shortcut, Collapsed, Full}
+use Rattle.markdown_kinds.specs.declared.ReferenceKind.{ReferenceKind}
+use Rattle.markdown_kinds.specs.declared.ReferenceKind.TheVariants.{Shortcut, Collapsed, Full}
 use Rattle.json_fields.specs.Strings.{string}
 
 -- the kind of a node

@@ -3,7 +3,7 @@
 
 ghost use Rattle.std.specs.Fmt.{decimal};
 ghost use Rattle.std.specs.Prelude.{◌≡◌, ◌++◌, [], OnOk, codes, if◌then◌else◌, option_map, string_bytes};
-ghost use Rattle.markdown_leaves.specs.Fields.{bool_text};
+ghost use Rattle.markdown_kinds.specs.Fields.{bool_text};
 ghost use Rattle.json_fields.specs.Fields.{
   align_field,
   alignment,
@@ -27,7 +27,7 @@ ghost use Rattle.json_fields.specs.Strings.{string};
 use crate::points::Points;
 use crate::strings::{push, push_string};
 use markdown_events::infer::AlignKind;
-use markdown_leaves::ReferenceKind;
+use markdown_kinds::ReferenceKind;
 use positions::decimal::push_decimal;
 use positions::unist::{Point, Position};
 use std::alloc::AllocError;

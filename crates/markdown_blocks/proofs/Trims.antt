@@ -4,8 +4,8 @@ use Rattle.std.proofs.lemmas.Bool.Decides.{nat_tests}
 use Rattle.markdown_nodes.specs.Access.{label_of}
 use Rattle.markdown_nodes.specs.declared.mdast.Node.{Node}
 use Rattle.markdown_nodes.specs.declared.mdast.Node.TheVariants as nodes
-use Rattle.markdown_nodes.specs.declared.mdast.Paragraph.{Paragraph}
-use Rattle.markdown_leaves.specs.declared.Text.{Text}
+use Rattle.markdown_nodes.specs.Kinds.{Paragraph}
+use Rattle.markdown_kinds.specs.declared.Text.{Text}
 use Rattle.positions.specs.declared.unist.Point.{Point}
 use Rattle.positions.specs.declared.unist.Position.{Position}
 use Rattle.markdown_nodes.specs.Tree.{Label, Trees, Tree, before, node, nothing, paragraph, text}

@@ -2,7 +2,7 @@
 use Rattle.std.specs.Prelude.{List, None, Option, Some, [], ℕ, ◌∷◌}
 use Rattle.markdown_nodes.specs.Tree.{Trees, node, paragraph, text}
 use Rattle.markdown_nodes.specs.View.{views}
-use Rattle.markdown_nodes.specs.declared.mdast.Paragraph.{Paragraph}
+use Rattle.markdown_nodes.specs.Kinds.{Paragraph}
 use Rattle.positions.specs.declared.unist.Point.{Point}
 use Rattle.positions.specs.declared.unist.Position.{Position}
 use Rattle.markdown_grammar.specs.Tasks.{after_blank, trimmed_text}

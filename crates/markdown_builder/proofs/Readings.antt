@@ -3,7 +3,7 @@ use Rattle.std.proofs.Common.{◌≡◌, ◌≤◌, ◌<◌, ℕ, ◌+◌, ◌*�
 use Rattle.std.proofs.lemmas.List.{length-append}
 use Rattle.markdown_nodes.specs.declared.mdast.Node.{Node}
 use Rattle.markdown_nodes.specs.declared.mdast.Node.TheVariants as nodes
-use Rattle.markdown_leaves.specs.declared.Text.{Text}
+use Rattle.markdown_kinds.specs.declared.Text.{Text}
 use Rattle.markdown_nodes.specs.Access.{children_of, items_in, label_of, nodes_in}
 use Rattle.markdown_nodes.specs.Tree.{Tree, Trees, before, nothing, plain_text}
 use Rattle.markdown_nodes.specs.View.{view, views}

@@ -2,7 +2,7 @@
 use Rattle.std.specs.Prelude.{Bool, List, None, Option, Some, [], codes, false, if◌then◌else◌, is_some, option_map, true, unwrap_or, ℕ, ◌++◌}
 use Rattle.markdown_nodes.specs.Tree.{Label, Trees, nothing, plain_text}
 use Rattle.markdown_events.specs.declared.event.Point.{Point}
-use Rattle.markdown_leaves.specs.declared.ReferenceKind.{ReferenceKind}
+use Rattle.markdown_kinds.specs.declared.ReferenceKind.{ReferenceKind}
 use Rattle.markdown_grammar.specs.Attributes.{Place, decoded, mark, inherited_after, inherited_in, value}
 use Rattle.markdown_grammar.specs.Decorated.{Decorated, Found, decorated, first, identifier, label_text, node_at, nodes_of, or_empty, text, undecorated, within}
 use Rattle.std.specs.Option.{option_and_then, option_or}
@@ -15,7 +15,7 @@ use Rattle.markdown_grammar.specs.Items.{Items, item, none}
 use Rattle.markdown_grammar.specs.Tasks.{task_if}
 use Rattle.markdown_events.specs.declared.role.ItemKind.TheVariants.{Content as content, Part as part}
 use Rattle.markdown_events.specs.declared.role.Part.TheVariants as parts
-use Rattle.markdown_leaves.specs.declared.ReferenceKind.TheVariants as reference_kind
+use Rattle.markdown_kinds.specs.declared.ReferenceKind.TheVariants as reference_kind
 use Rattle.markdown_nodes.specs.Tree as tree
 use Rattle.markdown_events.specs.declared.role.Content.TheVariants as contents
 

@@ -3,7 +3,7 @@ use Rattle.std.specs.Prelude.{List, None, Option, Some, [], option_map, string_b
 use Rattle.markdown_events.specs.declared.role.Part.TheVariants as parts
 use Rattle.markdown_nodes.specs.Tree as tree
 use Rattle.markdown_nodes.specs.Tree.{Label as TreeLabel, nothing}
-use Rattle.markdown_leaves.specs.declared.ReferenceKind.{ReferenceKind}
+use Rattle.markdown_kinds.specs.declared.ReferenceKind.{ReferenceKind}
 use Rattle.markdown_grammar.specs.Grammar as models
 use Rattle.markdown_grammar.specs.Nodes.{image_label, link_label}
 use Rattle.markdown_steps.specs.Summaries.{PartSummary, Path, identifier_of, into, itself, stood, text_of}

@@ -2,7 +2,7 @@
 use Rattle.std.proofs.Common.{◌≡◌, ◌<◌, ℕ, ◌+◌, ◌-◌, false, true, zero, suc, List, [], ◌∷◌, ◌++◌, length, slice_index_or, slice_set, Option, refl, sym, ap, ◌∙◌, arith}
 use Rattle.markdown_nodes.specs.declared.mdast.Node.{Node}
 use Rattle.markdown_nodes.specs.declared.mdast.Node.TheVariants as nodes
-use Rattle.markdown_leaves.specs.declared.Text.{Text}
+use Rattle.markdown_kinds.specs.declared.Text.{Text}
 use Rattle.positions.specs.declared.unist.Position.{Position}
 use Rattle.std.specs.List.{remove}
 use Rattle.markdown_nodes.specs.Tree.{Label, Trees, Tree, before, join, node, nothing, only, seam, text}

@@ -3,7 +3,7 @@ use Rattle.std.specs.Prelude.{ℕ, Bool, List, [], ◌++◌, Option, codes, if�
 use Rattle.std.specs.Fmt.{decimal}
 use Rattle.positions.specs.declared.unist.Point.{Point}
 use Rattle.positions.specs.declared.unist.Position.{Position}
-use Rattle.markdown_leaves.specs.Fields.{bool_text}
+use Rattle.markdown_kinds.specs.Fields.{bool_text}
 use Rattle.json_fields.specs.Fields.{align_field, association, children, field, kind, literal, maybe, or_null, position_field, reference, resource}
 use Rattle.json_fields.specs.Strings.{string}
 use Rattle.json_fields.specs.Utf16.{utf16}

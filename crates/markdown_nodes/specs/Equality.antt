@@ -6,8 +6,8 @@ use denote.Enum.Bare.{sameb}
 use mathlib.Core.Bool.{beq}
 use Rattle.markdown_events.specs.declared.infer.AlignKind.{AlignKind}
 use Rattle.markdown_events.specs.contracts.infer.AlignKind.{the_type as align_type}
-use Rattle.markdown_leaves.specs.declared.ReferenceKind.{ReferenceKind}
-use Rattle.markdown_leaves.specs.contracts.ReferenceKind.{the_type as reference_type}
+use Rattle.markdown_kinds.specs.declared.ReferenceKind.{ReferenceKind}
+use Rattle.markdown_kinds.specs.contracts.ReferenceKind.{the_type as reference_type}
 use Rattle.positions.specs.declared.unist.Point.{Point}
 use Rattle.positions.specs.declared.unist.Position.{Position}
 use Rattle.markdown_nodes.specs.Tree.{Label, Tree, Trees, node, nothing, root, paragraph, blockquote, emphasis, strong, delete, table_row, table_cell, thematic_break, «break», text, html, inline_code, inline_math, yaml, toml, heading, list, list_item, table, code, math, link, image, link_reference, image_reference, footnote_reference, footnote_definition, definition}

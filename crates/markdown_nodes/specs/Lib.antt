@@ -8,3 +8,4 @@ pub mod Written
 pub mod Shown
 pub mod Equality
 pub mod EqualityLaws
+pub mod Kinds

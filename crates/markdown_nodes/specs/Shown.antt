@@ -4,7 +4,7 @@ use Rattle.std.specs.Fmt.{comma_space, decimal}
 use Rattle.positions.specs.declared.unist.Position.{Position}
 use Rattle.positions.specs.Places.{position_text}
 use Rattle.quoted.specs.TextFields.{association, maybe, option_text, resource}
-use Rattle.markdown_leaves.specs.Fields.{align_field, code_fields, definition_fields, image_fields, image_reference_fields, item_fields, list_fields, literal_value, reference}
+use Rattle.markdown_kinds.specs.Fields.{align_field, code_fields, definition_fields, image_fields, image_reference_fields, item_fields, list_fields, literal_value, reference}
 use Rattle.markdown_nodes.specs.Written.{Notation, written}
 use Rattle.markdown_nodes.specs.Tree.{Label, Tree, root, paragraph, blockquote, emphasis, strong, delete, table_row, table_cell, thematic_break, «break», text, html, inline_code, inline_math, yaml, toml, heading, list, list_item, table, code, math, link, image, link_reference, image_reference, footnote_reference, footnote_definition, definition}
 

@@ -1,7 +1,7 @@
 -- Trees, without where they lie in memory: how two lists of them are joined, and their plain text.
 use Rattle.std.specs.Prelude.{ℕ, Bool, List, [], ◌++◌, Option, None, Some}
 use Rattle.markdown_events.specs.declared.infer.AlignKind.{AlignKind}
-use Rattle.markdown_leaves.specs.declared.ReferenceKind.{ReferenceKind}
+use Rattle.markdown_kinds.specs.declared.ReferenceKind.{ReferenceKind}
 use Rattle.positions.specs.declared.unist.Position.{Position}
 
 -- the kind of a node, with its fields but for children and position, in the order of the nodes' own

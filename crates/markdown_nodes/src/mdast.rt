@@ -2,6 +2,7 @@
 //!
 //! A `Node` is one of 29 kinds. Fifteen are parents, which have children; eight are literals, which
 //! have a value; six are neither. Each has a position in the document, or none where it was generated.
+//! The kinds are those of `markdown_kinds`; here the children of a parent are nodes.
 
 ghost use Rattle.std.specs.Prelude.{◌≡◌, [], IfOk, IsFalse, IsTrue, option_map, string_bytes};
 ghost use Rattle.markdown_nodes.specs.Access.{children_of, nodes_in, position_of, with_position};
@@ -18,7 +19,7 @@ mod reading;
 use crate::unist::Position;
 pub use escapes::escapes_of;
 pub use markdown_events::infer::AlignKind;
-pub use markdown_leaves::{
+pub use markdown_kinds::{
     Break, Code, Definition, FootnoteReference, Html, Image, ImageReference, InlineCode,
     InlineMath, Math, ReferenceKind, Text, ThematicBreak, Toml, Yaml,
 };
@@ -473,217 +474,47 @@ impl fmt::Debug for Node {
     }
 }
 
-/// A whole document (mdast).
-///
-/// The document `a` gives a root with one paragraph in it.
-#[cycle(node)]
-#[derive(PartialEq, Eq, Debug, Drop)]
-pub struct Root {
-    /// The child nodes, in order.
-    pub children: Vec<Node>,
-    /// The position in the document, or none for a generated node.
-    pub position: Option<Position>,
-}
+/// A whole document: [`markdown_kinds::Root`], whose children are nodes.
+pub type Root = markdown_kinds::Root<Node>;
 
-/// A block quote (CommonMark, block quotes).
-///
-/// `> a` is a block quote with one paragraph in it.
-#[cycle(node)]
-#[derive(PartialEq, Eq, Debug, Drop)]
-pub struct Blockquote {
-    /// The child nodes, in order.
-    pub children: Vec<Node>,
-    /// The position in the document, or none for a generated node.
-    pub position: Option<Position>,
-}
+/// A block quote: [`markdown_kinds::Blockquote`], whose children are nodes.
+pub type Blockquote = markdown_kinds::Blockquote<Node>;
 
-/// The definition of a footnote: what the footnote says (GFM, footnotes).
-///
-/// `[^a]: b` defines the footnote `a`.
-#[cycle(node)]
-#[derive(PartialEq, Eq, Debug, Drop)]
-pub struct FootnoteDefinition {
-    /// The child nodes, in order.
-    pub children: Vec<Node>,
-    /// The position in the document, or none for a generated node.
-    pub position: Option<Position>,
-    /// The normalized identifier, by which references and definitions match (as
-    /// [`normalize_identifier`](crate::text::normalize_identifier) gives it).
-    pub identifier: String,
-    /// The label as it is written, if it is known.
-    pub label: Option<String>,
-}
+/// The definition of a footnote: [`markdown_kinds::FootnoteDefinition`], whose children are nodes.
+pub type FootnoteDefinition = markdown_kinds::FootnoteDefinition<Node>;
 
-/// A list, ordered or unordered (CommonMark, lists).
-///
-/// `* a` is an unordered list of one item; `3. a` is an ordered list that starts at 3.
-#[cycle(node)]
-#[derive(PartialEq, Eq, Debug, Drop)]
-pub struct List {
-    /// The child nodes, in order.
-    pub children: Vec<Node>,
-    /// The position in the document, or none for a generated node.
-    pub position: Option<Position>,
-    /// Whether the list is ordered: its items are numbered.
-    pub ordered: bool,
-    /// The number that an ordered list starts with, which is that of the first item that has one, and
-    /// `None` for an unordered list.
-    pub start: Option<u32>,
-    /// Whether a blank line is directly in the list: between items, or after the last one
-    /// (mdast; which ones count is from markdown-rs). One directly after an item without content at
-    /// its end does not count, and neither do blank lines in the items.
-    pub spread: bool,
-}
+/// A list, ordered or unordered: [`markdown_kinds::List`], whose children are nodes.
+pub type List = markdown_kinds::List<Node>;
 
-/// Strikethrough (GFM, strikethrough).
-///
-/// `~~a~~` is a deletion with the text `a` in it.
-#[cycle(node)]
-#[derive(PartialEq, Eq, Debug, Drop)]
-pub struct Delete {
-    /// The child nodes, in order.
-    pub children: Vec<Node>,
-    /// The position in the document, or none for a generated node.
-    pub position: Option<Position>,
-}
+/// Strikethrough: [`markdown_kinds::Delete`], whose children are nodes.
+pub type Delete = markdown_kinds::Delete<Node>;
 
-/// Emphasis (CommonMark, emphasis).
-///
-/// `*a*` is an emphasis with the text `a` in it.
-#[cycle(node)]
-#[derive(PartialEq, Eq, Debug, Drop)]
-pub struct Emphasis {
-    /// The child nodes, in order.
-    pub children: Vec<Node>,
-    /// The position in the document, or none for a generated node.
-    pub position: Option<Position>,
-}
+/// Emphasis: [`markdown_kinds::Emphasis`], whose children are nodes.
+pub type Emphasis = markdown_kinds::Emphasis<Node>;
 
-/// A link with an inline URL, or an autolink (CommonMark, links and autolinks; GFM, autolinks).
-///
-/// `[a](b "c")` is a link to the URL `b` with the title `c`.
-#[cycle(node)]
-#[derive(PartialEq, Eq, Debug, Drop)]
-pub struct Link {
-    /// The child nodes, in order.
-    pub children: Vec<Node>,
-    /// The position in the document, or none for a generated node.
-    pub position: Option<Position>,
-    /// The URL.
-    pub url: String,
-    /// The title, if there is one.
-    pub title: Option<String>,
-}
+/// A link with an inline URL, or an autolink: [`markdown_kinds::Link`], whose children are nodes.
+pub type Link = markdown_kinds::Link<Node>;
 
-/// A link that refers to a definition (CommonMark, reference links).
-///
-/// `[a][b]` refers to the definition `b`.
-#[cycle(node)]
-#[derive(PartialEq, Eq, Debug, Drop)]
-pub struct LinkReference {
-    /// The child nodes, in order.
-    pub children: Vec<Node>,
-    /// The position in the document, or none for a generated node.
-    pub position: Option<Position>,
-    /// The form of the reference.
-    pub reference_kind: ReferenceKind,
-    /// The normalized identifier, by which references and definitions match (as
-    /// [`normalize_identifier`](crate::text::normalize_identifier) gives it).
-    pub identifier: String,
-    /// The label as it is written, if it is known.
-    pub label: Option<String>,
-}
+/// A link that refers to a definition: [`markdown_kinds::LinkReference`], whose children are nodes.
+pub type LinkReference = markdown_kinds::LinkReference<Node>;
 
-/// Strong emphasis (CommonMark, strong emphasis).
-///
-/// `**a**` is a strong emphasis with the text `a` in it.
-#[cycle(node)]
-#[derive(PartialEq, Eq, Debug, Drop)]
-pub struct Strong {
-    /// The child nodes, in order.
-    pub children: Vec<Node>,
-    /// The position in the document, or none for a generated node.
-    pub position: Option<Position>,
-}
+/// Strong emphasis: [`markdown_kinds::Strong`], whose children are nodes.
+pub type Strong = markdown_kinds::Strong<Node>;
 
-/// A heading (CommonMark, ATX headings and setext headings).
-///
-/// `## a` is a heading of depth 2.
-#[cycle(node)]
-#[derive(PartialEq, Eq, Debug, Drop)]
-pub struct Heading {
-    /// The child nodes, in order.
-    pub children: Vec<Node>,
-    /// The position in the document, or none for a generated node.
-    pub position: Option<Position>,
-    /// The depth, from 1, the highest rank, to 6.
-    pub depth: u8,
-}
+/// A heading: [`markdown_kinds::Heading`], whose children are nodes.
+pub type Heading = markdown_kinds::Heading<Node>;
 
-/// A table (GFM, tables). Its children are rows, and the first is its head.
-///
-/// The lines `| a |` and `| - |` are a table of one row and one column.
-#[cycle(node)]
-#[derive(PartialEq, Eq, Debug, Drop)]
-pub struct Table {
-    /// The child nodes, in order.
-    pub children: Vec<Node>,
-    /// The position in the document, or none for a generated node.
-    pub position: Option<Position>,
-    /// The alignment of each column, from the first one on.
-    pub align: Vec<AlignKind>,
-}
+/// A table: [`markdown_kinds::Table`], whose children are nodes.
+pub type Table = markdown_kinds::Table<Node>;
 
-/// A row of a table; the first row of a table is its head (GFM, tables).
-///
-/// `| a | b |` is a row of two cells.
-#[cycle(node)]
-#[derive(PartialEq, Eq, Debug, Drop)]
-pub struct TableRow {
-    /// The child nodes, in order.
-    pub children: Vec<Node>,
-    /// The position in the document, or none for a generated node.
-    pub position: Option<Position>,
-}
+/// A row of a table: [`markdown_kinds::TableRow`], whose children are nodes.
+pub type TableRow = markdown_kinds::TableRow<Node>;
 
-/// A cell of a table row (GFM, tables).
-///
-/// `| a |` is a row of one cell with the text `a` in it.
-#[cycle(node)]
-#[derive(PartialEq, Eq, Debug, Drop)]
-pub struct TableCell {
-    /// The child nodes, in order.
-    pub children: Vec<Node>,
-    /// The position in the document, or none for a generated node.
-    pub position: Option<Position>,
-}
+/// A cell of a table row: [`markdown_kinds::TableCell`], whose children are nodes.
+pub type TableCell = markdown_kinds::TableCell<Node>;
 
-/// An item of a list (CommonMark, list items; GFM, task list items).
-///
-/// `* [x] a` is an item whose task is done.
-#[cycle(node)]
-#[derive(PartialEq, Eq, Debug, Drop)]
-pub struct ListItem {
-    /// The child nodes, in order.
-    pub children: Vec<Node>,
-    /// The position in the document, or none for a generated node.
-    pub position: Option<Position>,
-    /// Whether a blank line is directly in the item: between its children, or after the last one
-    /// (mdast; which ones count is from markdown-rs). One directly after the item's prefix, or with
-    /// one span of white space between them, does not count.
-    pub spread: bool,
-    /// Whether the task is done, or none for an item that is no task.
-    pub checked: Option<bool>,
-}
+/// An item of a list: [`markdown_kinds::ListItem`], whose children are nodes.
+pub type ListItem = markdown_kinds::ListItem<Node>;
 
-/// A paragraph (CommonMark, paragraphs).
-///
-/// The line `a` is a paragraph with the text `a` in it.
-#[cycle(node)]
-#[derive(PartialEq, Eq, Debug, Drop)]
-pub struct Paragraph {
-    /// The child nodes, in order.
-    pub children: Vec<Node>,
-    /// The position in the document, or none for a generated node.
-    pub position: Option<Position>,
-}
+/// A paragraph: [`markdown_kinds::Paragraph`], whose children are nodes.
+pub type Paragraph = markdown_kinds::Paragraph<Node>;

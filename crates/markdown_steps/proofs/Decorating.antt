@@ -27,7 +27,7 @@ use Rattle.markdown_grammar.specs.Document.{Source}
 use Rattle.markdown_grammar.specs.Nodes as new
 use Rattle.markdown_steps.specs.SummaryNodes as old
 use Rattle.markdown_nodes.specs.Tree as tree
-use Rattle.markdown_leaves.specs.declared.ReferenceKind.TheVariants as reference_kind
+use Rattle.markdown_kinds.specs.declared.ReferenceKind.TheVariants as reference_kind
 use Rattle.markdown_events.specs.declared.role.Content.TheVariants as contents
 use Rattle.markdown_events.specs.declared.role.Part.TheVariants as parts
 use Rattle.markdown_events.specs.declared.role.ItemKind.TheVariants.{Content as content, Part as part}

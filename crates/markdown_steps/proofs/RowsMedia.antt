@@ -5,7 +5,7 @@ use Rattle.std.specs.Str.{is_utf8, chars}
 use lib.Utf8.{encode}
 use Rattle.caseless.proofs.Computing.{caseless}
 use Rattle.markdown_events.specs.declared.event.Name.TheVariants as n
-use Rattle.markdown_leaves.specs.declared.ReferenceKind.TheVariants as r
+use Rattle.markdown_kinds.specs.declared.ReferenceKind.TheVariants as r
 use Rattle.markdown_events.specs.Forest.{Forest, empty, span, events_of}
 use Rattle.markdown_events.specs.Slices.{slice}
 use Rattle.markdown_texts.specs.Texts.{fold}

@@ -3,7 +3,7 @@ use Rattle.std.specs.Prelude.{None, Option, Some, [], codes, false, if◌then◌
 use Rattle.std.specs.Option.{option_or}
 use Rattle.markdown_nodes.specs.Tree.{Trees, join, nothing, plain_text}
 use Rattle.markdown_events.specs.declared.event.Point.{Point}
-use Rattle.markdown_leaves.specs.declared.ReferenceKind.{ReferenceKind}
+use Rattle.markdown_kinds.specs.declared.ReferenceKind.{ReferenceKind}
 use Rattle.markdown_grammar.specs.Attributes.{Place, inherited_after, inherited_in, value}
 use Rattle.markdown_steps.specs.Summaries.{Summary, PartSummary, Path, address, count_of, identifier_of, summary_of, into, itself, path_through, path_to, text_of, words_of}
 use Rattle.markdown_grammar.specs.Decorated.{node_at}
@@ -16,7 +16,7 @@ use Rattle.markdown_grammar.specs.Items.{Items, item, none, same_part, ◌then�
 use Rattle.markdown_grammar.specs.Tasks.{task_if}
 use Rattle.markdown_events.specs.declared.role.ItemKind.TheVariants.{Content as content, Part as part}
 use Rattle.markdown_events.specs.declared.role.Part.TheVariants as parts
-use Rattle.markdown_leaves.specs.declared.ReferenceKind.TheVariants as reference_kind
+use Rattle.markdown_kinds.specs.declared.ReferenceKind.TheVariants as reference_kind
 use Rattle.markdown_nodes.specs.Tree as tree
 use Rattle.markdown_events.specs.declared.role.Content.TheVariants as contents
 

@@ -1,7 +1,7 @@
 -- A text among its siblings.
 use Rattle.std.specs.Prelude.{List, Some, string_bytes, ℕ}
 use Rattle.markdown_nodes.specs.Tree.{Trees, node, nothing, text}
-use Rattle.markdown_leaves.specs.declared.Text.{Text}
+use Rattle.markdown_kinds.specs.declared.Text.{Text}
 use Rattle.positions.specs.declared.unist.Position.{Position}
 
 -- a text alone, by its value and its place

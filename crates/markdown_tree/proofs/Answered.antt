@@ -12,7 +12,7 @@ use Rattle.markdown_nodes.specs.Tree.{Tree, only, root}
 use Rattle.markdown_nodes.specs.View.{view, views}
 use Rattle.markdown_nodes.specs.declared.mdast.Node.{Node}
 use Rattle.markdown_nodes.specs.declared.mdast.Node.TheVariants as nodes
-use Rattle.markdown_nodes.specs.declared.mdast.Root.{Root as RootNode}
+use Rattle.markdown_nodes.specs.Kinds.{Root as RootNode}
 use Rattle.markdown_nodes.proofs.Views.{view-Root}
 use Rattle.markdown_steps.specs.OneTest.{accepted}
 use Rattle.markdown_grammar.specs.Buffers.{buffered_events, buffered_nodes}

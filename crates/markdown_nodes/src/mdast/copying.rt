@@ -9,7 +9,7 @@ use crate::mdast::{
     Blockquote, Delete, Emphasis, FootnoteDefinition, Heading, Link, LinkReference, List, ListItem,
     Node, Paragraph, Root, Strong, Table, TableCell, TableRow,
 };
-use markdown_leaves::copying::{copy_align, copy_optional};
+use markdown_kinds::copying::{copy_align, copy_optional};
 use std::alloc::{AllocError, Global};
 
 /// A parent, the copies of the first nodes in it, and the nodes after the one that is copied.

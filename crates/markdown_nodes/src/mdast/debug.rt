@@ -12,7 +12,7 @@ ghost use Rattle.quoted.specs.TextFields.{option_text};
 
 use crate::mdast::Node;
 use crate::mdast::escapes::escapes_of;
-use markdown_leaves::debug::{
+use markdown_kinds::debug::{
     write_align, write_code_fields, write_definition_fields, write_depth, write_image_fields,
     write_image_reference_fields, write_item_fields, write_list_fields, write_reference,
     write_value,

@@ -1,7 +1,7 @@
 //! The characters beyond ASCII that std's Debug writes as their Unicode escape.
 
 use crate::mdast::Node;
-use markdown_leaves::escapes::{add_text, add_texts};
+use markdown_kinds::escapes::{add_text, add_texts};
 use std::alloc::{AllocError, Global};
 use std::collections::BTreeSet;
 

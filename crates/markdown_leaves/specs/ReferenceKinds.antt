@@ -1,9 +1,0 @@
--- How the kinds of references are called.
-use Rattle.std.specs.Prelude.{ℕ, List, codes}
-use Rattle.markdown_leaves.specs.declared.ReferenceKind.{ReferenceKind}
-use Rattle.markdown_leaves.specs.declared.ReferenceKind.TheVariants.{Shortcut, Collapsed, Full}
-
-abbrev pub reference_kind_name : ReferenceKind → List ℕ
-reference_kind_name Shortcut = codes "Shortcut"
-reference_kind_name Collapsed = codes "Collapsed"
-reference_kind_name Full = codes "Full"
