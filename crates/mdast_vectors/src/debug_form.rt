@@ -40,43 +40,17 @@ fn quoted(rt: &impl Abort, alloc: Global, value: &str) -> Result<usize, AllocErr
     Ok(value.chars().count())
 }
 
-/// Each character from this code point up to another one is quoted in a tree as std quotes it in a
-/// `str`, and there are so many of them.
-fn all_quoted(
-    rt: &impl Abort,
-    alloc: Global,
-    first: u32,
-    end: u32,
-    count: usize,
-) -> Result<(), AllocError> {
+/// A text is quoted in a tree as std quotes it in a `str`, whatever characters are in it. All are tried
+/// but the 2,048 surrogates, which are no characters.
+#[test]
+fn each_character_is_quoted_as_std_quotes_it(rt: HostRuntime) -> Result<(), AllocError> {
     let mut found: usize = 0;
-    for batch in first / BATCH..end / BATCH {
-        let value = characters(alloc, batch.saturating_mul(BATCH))?;
-        found = found.saturating_add(quoted(rt, alloc, value.as_str())?);
+    for batch in 0..0x11_0000 / BATCH {
+        let value = characters(rt.alloc(), batch.saturating_mul(BATCH))?;
+        found = found.saturating_add(quoted(&rt, rt.alloc(), value.as_str())?);
     }
-    same(rt, found, count);
+    same(&rt, found, 1_112_064);
     Ok(())
-}
-
-/// All but the 2,048 surrogates, which are no characters.
-#[test]
-fn characters_of_planes_0_to_3(rt: HostRuntime) -> Result<(), AllocError> {
-    all_quoted(&rt, rt.alloc(), 0, 0x40000, 260_096)
-}
-
-#[test]
-fn characters_of_planes_4_to_7(rt: HostRuntime) -> Result<(), AllocError> {
-    all_quoted(&rt, rt.alloc(), 0x40000, 0x80000, 262_144)
-}
-
-#[test]
-fn characters_of_planes_8_to_11(rt: HostRuntime) -> Result<(), AllocError> {
-    all_quoted(&rt, rt.alloc(), 0x80000, 0xC0000, 262_144)
-}
-
-#[test]
-fn characters_of_planes_12_to_16(rt: HostRuntime) -> Result<(), AllocError> {
-    all_quoted(&rt, rt.alloc(), 0xC0000, 0x11_0000, 327_680)
 }
 
 /// An emphasis of a break and the text `b`.

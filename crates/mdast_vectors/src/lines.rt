@@ -2,7 +2,7 @@
 
 ghost use Rattle.std.specs.Prelude.{◌<◌};
 
-use crate::expect::{holds, prints, same};
+use crate::expect::{prints, same};
 use command_line::program::{Program, Units};
 use command_line::request::{DocumentError, Request, json_request};
 use event_lines::lines::events;
@@ -119,10 +119,12 @@ fn prints_json(rt: HostRuntime) {
     expect_json(&rt, b"+Data 1:1:0\n+Data\n", unread, 2);
 }
 
-/// Copies of arguments.
-fn owned(alloc: Global, arguments: [Option<&str>; 3]) -> Result<[Option<String>; 3], AllocError> {
-    let [first, second, third] = arguments;
-    Ok([own(alloc, first)?, own(alloc, second)?, own(alloc, third)?])
+/// A copy of an argument.
+fn own(alloc: Global, argument: Option<&str>) -> Result<Option<String>, AllocError> {
+    match argument {
+        Some(argument) => Ok(Some(String::from_str(alloc, argument)?)),
+        None => Ok(None),
+    }
 }
 
 /// What arguments ask `mdast_json` for.
@@ -131,8 +133,12 @@ fn expect_json_request<R: Abort + AllocGlobal>(
     arguments: [Option<&str>; 3],
     request: &str,
 ) -> Result<(), AllocError> {
-    let [first, second, third] = owned(rt.alloc(), arguments)?;
-    let found = json_request(first, second, third);
+    let [first, second, third] = arguments;
+    let found = json_request(
+        own(rt.alloc(), first)?,
+        own(rt.alloc(), second)?,
+        own(rt.alloc(), third)?,
+    );
     prints(rt, rt.alloc(), &found, request)
 }
 
@@ -197,13 +203,6 @@ fn expect_check<R: Abort + AllocGlobal>(rt: &R, doc: &[u8], events: &[u8], text:
     same(rt, found, status);
 }
 
-#[test]
-fn checks_a_tree(rt: HostRuntime) {
-    expect_check(&rt, b"Hi", HI, "", 0);
-    let lines = "heading 1 \"Hi\"\nopen footnote \"a\" 2:1-2:5 (5-9)\n";
-    expect_check(&rt, b"# Hi\n[^A]", HEADING_AND_CALL, lines, 4);
-}
-
 /// The events of `# Hi *Earth*!`, a heading with emphasis.
 const HEADING: &[u8] =
     b"+HeadingAtx 1:1:0\n+HeadingAtxSequence 1:1:0\n-HeadingAtxSequence 1:2:1\n+SpaceOrTab 1:2:1\n-SpaceOrTab 1:3:2\n+HeadingAtxText 1:3:2\n+Data 1:3:2\n-Data 1:6:5\n+Emphasis 1:6:5\n+EmphasisSequence 1:6:5\n-EmphasisSequence 1:7:6\n+EmphasisText 1:7:6\n+Data 1:7:6\n-Data 1:12:11\n-EmphasisText 1:12:11\n+EmphasisSequence 1:12:11\n-EmphasisSequence 1:13:12\n-Emphasis 1:13:12\n+Data 1:13:12\n-Data 1:14:13\n-HeadingAtxText 1:14:13\n-HeadingAtx 1:14:13\n";
@@ -217,25 +216,49 @@ const LINK_AND_CALL: &[u8] =
 const SHARP_S: &[u8] =
     b"+Link 1:1:0\n+LabelText 1:2:1\n+Data 1:2:1\n-Data 1:5:4\n-LabelText 1:5:4\n-Link 1:6:5\n";
 
-#[test]
-fn checks_headings_and_references(rt: HostRuntime) {
-    expect_check(
-        &rt,
-        b"# Hi *Earth*!",
-        HEADING,
-        "heading 1 \"Hi Earth!\"\n",
-        0,
-    );
-    let open = "open footnote \"c\" 2:1-2:5 (4-8)\n";
-    expect_check(&rt, b"[A]\n[^c]\n[a]: u", LINK_AND_CALL, open, 4);
-    expect_check(
-        &rt,
-        "[ẞ]".as_bytes(),
+/// Documents, their events, what the run that checks them prints, and the status with which it ends.
+static CHECKED: [(&[u8], &[u8], &str, u8); 8] = [
+    (b"Hi", HI, "", 0),
+    (
+        b"# Hi\n[^A]",
+        HEADING_AND_CALL,
+        "heading 1 \"Hi\"\nopen footnote \"a\" 2:1-2:5 (5-9)\n",
+        4,
+    ),
+    (b"# Hi *Earth*!", HEADING, "heading 1 \"Hi Earth!\"\n", 0),
+    (
+        b"[A]\n[^c]\n[a]: u",
+        LINK_AND_CALL,
+        "open footnote \"c\" 2:1-2:5 (4-8)\n",
+        4,
+    ),
+    // `[ẞ]`
+    (
+        b"[\xE1\xBA\x9E]",
         SHARP_S,
         "open link \"ss\" 1:1-1:6 (0-5)\n",
         4,
-    );
-    expect_check(&rt, b"", b"", "", 0);
+    ),
+    (b"", b"", "", 0),
+    (
+        b"Hi",
+        b"+Data 1:1:0\n-Paragraph 1:3:2\n",
+        "1:3 (2): an exit does not match the open span, or a span is left open (events-unbalanced)\n",
+        1,
+    ),
+    (
+        b"Hi",
+        b"+Data 1:1:0\n+Data\n",
+        "mdast_show: event line 2 cannot be read\n",
+        2,
+    ),
+];
+
+#[test]
+fn checks_headings_and_references(rt: HostRuntime) {
+    for (doc, events, text, status) in &CHECKED {
+        expect_check(&rt, doc, events, text, *status);
+    }
 }
 
 /// What some arguments ask for is printed so.
@@ -244,17 +267,13 @@ fn expect_request<R: Abort + AllocGlobal>(
     arguments: [Option<&str>; 3],
     request: &str,
 ) -> Result<(), AllocError> {
-    let [first, second, third] = owned(rt.alloc(), arguments)?;
-    let found = Request::of(first, second, third);
+    let [first, second, third] = arguments;
+    let found = Request::of(
+        own(rt.alloc(), first)?,
+        own(rt.alloc(), second)?,
+        own(rt.alloc(), third)?,
+    );
     prints(rt, rt.alloc(), &found, request)
-}
-
-/// A copy of an argument.
-fn own(alloc: Global, argument: Option<&str>) -> Result<Option<String>, AllocError> {
-    match argument {
-        Some(argument) => Ok(Some(String::from_str(alloc, argument)?)),
-        None => Ok(None),
-    }
 }
 
 /// Arguments of `mdast_show`, and what they ask for.
@@ -308,15 +327,6 @@ fn says_why_there_is_no_document(rt: HostRuntime) {
 }
 
 #[test]
-fn checks_events_without_a_tree(rt: HostRuntime) {
-    let refused =
-        "1:3 (2): an exit does not match the open span, or a span is left open (events-unbalanced)\n";
-    expect_check(&rt, b"Hi", b"+Data 1:1:0\n-Paragraph 1:3:2\n", refused, 1);
-    let unread = "mdast_show: event line 2 cannot be read\n";
-    expect_check(&rt, b"Hi", b"+Data 1:1:0\n+Data\n", unread, 2);
-}
-
-#[test]
 fn prints_a_refusal(rt: HostRuntime) {
     let error_kind =
         "1:3 (2): an exit does not match the open span, or a span is left open (events-unbalanced)\n";
@@ -348,26 +358,6 @@ fn numbers_a_line_that_cannot_be_read(rt: HostRuntime) -> Result<(), AllocError>
     Ok(())
 }
 
-/// An event is this one, with as many virtual spaces.
-fn is_event(rt: &impl Abort, event: Event, kind: Kind, name: Name, vs: usize) {
-    holds(rt, event.kind == kind);
-    holds(rt, event.name == name);
-    same(rt, event.point.vs, vs);
-}
-
-#[test]
-fn reads_virtual_spaces(rt: HostRuntime) -> Result<(), Fail> {
-    let read = events(rt.alloc(), b"+Data 1:1:0:0\n\n-Data 1:3:2:7\n+Link 2:03:4")?;
-    same(&rt, read.len(), 3);
-    is_event(&rt, read[0], Kind::Enter, Name::Data, 0);
-    is_event(&rt, read[1], Kind::Exit, Name::Data, 7);
-    is_event(&rt, read[2], Kind::Enter, Name::Link, 0);
-    same(&rt, read[2].point.line, 2);
-    same(&rt, read[2].point.column, 3);
-    same(&rt, read[2].point.index, 4);
-    Ok(())
-}
-
 /// The point of a line, a column, an index and virtual spaces.
 fn point(numbers: [usize; 4]) -> Point {
     let [line, column, index, vs] = numbers;
@@ -377,6 +367,30 @@ fn point(numbers: [usize; 4]) -> Point {
         index,
         vs,
     }
+}
+
+#[test]
+fn reads_virtual_spaces(rt: HostRuntime) -> Result<(), Fail> {
+    let read = events(rt.alloc(), b"+Data 1:1:0:0\n\n-Data 1:3:2:7\n+Link 2:03:4")?;
+    let wanted = [
+        Event {
+            kind: Kind::Enter,
+            name: Name::Data,
+            point: point([1, 1, 0, 0]),
+        },
+        Event {
+            kind: Kind::Exit,
+            name: Name::Data,
+            point: point([1, 3, 2, 7]),
+        },
+        Event {
+            kind: Kind::Enter,
+            name: Name::Link,
+            point: point([2, 3, 4, 0]),
+        },
+    ];
+    same(&rt, read.as_slice(), wanted.as_slice());
+    Ok(())
 }
 
 /// Two events at one point.

@@ -4,7 +4,6 @@ use crate::expect::{same, says};
 use markdown_nodes::decimal::push_decimal;
 use markdown_nodes::text::{line_endings_to_spaces, normalize_identifier, raw_text, trim_eol};
 use std::alloc::{AllocError, Global};
-use std::process::Abort;
 
 /// A value, and the text that must come of it.
 type Case = (&'static str, &'static str);
@@ -23,32 +22,26 @@ fn one_line_ending_goes(rt: HostRuntime) {
     }
 }
 
-/// Values of inline code come out so, in a table or outside.
-fn raw(rt: &impl Abort, alloc: Global, cases: &[Case], in_table: bool) -> Result<(), AllocError> {
-    for (value, want) in cases {
-        says(rt, raw_text(alloc, value, in_table), want)?;
-    }
-    Ok(())
-}
-
-static PADDED: [Case; 5] = [
-    (" a ", "a"),
-    ("   ", "   "),
-    (" a", " a"),
-    ("  ", "  "),
-    ("  a ", " a"),
+/// Values of inline code, whether they are in a table, and the text that must come.
+static RAW: [(&str, bool, &str); 8] = [
+    (" a ", false, "a"),
+    ("   ", false, "   "),
+    (" a", false, " a"),
+    ("  ", false, "  "),
+    ("  a ", false, " a"),
+    ("a\\|b", true, "a|b"),
+    ("a\\\\|b", true, "a\\|b"),
+    (" \\| ", true, "|"),
 ];
 
 #[test]
-fn padding_goes_once(rt: HostRuntime) -> Result<(), AllocError> {
-    raw(&rt, rt.alloc(), &PADDED, false)
-}
-
-static PIPED: [Case; 3] = [("a\\|b", "a|b"), ("a\\\\|b", "a\\|b"), (" \\| ", "|")];
-
-#[test]
-fn pipes_are_escaped_in_tables(rt: HostRuntime) -> Result<(), AllocError> {
-    raw(&rt, rt.alloc(), &PIPED, true)
+fn padding_goes_once_and_pipes_of_tables_lose_their_escape(
+    rt: HostRuntime,
+) -> Result<(), AllocError> {
+    for (value, in_table, want) in &RAW {
+        says(&rt, raw_text(rt.alloc(), value, *in_table), want)?;
+    }
+    Ok(())
 }
 
 static ENDED: [Case; 3] = [("a\r\n\rb", "a  b"), ("\r\n", " "), ("", "")];
