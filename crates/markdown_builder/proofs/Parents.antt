@@ -1,20 +1,7 @@
 -- What the parents that the program makes are.
 use Rattle.std.proofs.Common.{◌≡◌, option_map}
 use Rattle.std.specs.Prelude.{string_bytes}
-use Rattle.markdown_nodes.specs.Kinds.{Blockquote}
-use Rattle.markdown_nodes.specs.Kinds.{Delete}
-use Rattle.markdown_nodes.specs.Kinds.{Emphasis}
-use Rattle.markdown_nodes.specs.Kinds.{FootnoteDefinition}
-use Rattle.markdown_nodes.specs.Kinds.{Heading}
-use Rattle.markdown_nodes.specs.Kinds.{Link}
-use Rattle.markdown_nodes.specs.Kinds.{LinkReference}
-use Rattle.markdown_nodes.specs.Kinds.{List as ListNode}
-use Rattle.markdown_nodes.specs.Kinds.{ListItem}
-use Rattle.markdown_nodes.specs.Kinds.{Paragraph}
-use Rattle.markdown_nodes.specs.Kinds.{Strong}
-use Rattle.markdown_nodes.specs.Kinds.{Table}
-use Rattle.markdown_nodes.specs.Kinds.{TableCell}
-use Rattle.markdown_nodes.specs.Kinds.{TableRow}
+use Rattle.markdown_nodes.specs.Kinds.{Blockquote, Delete, Emphasis, FootnoteDefinition, Heading, Link, LinkReference, List as ListNode, ListItem, Paragraph, Strong, Table, TableCell, TableRow}
 use Rattle.markdown_nodes.specs.declared.mdast.Node.TheVariants as nodes
 use Rattle.markdown_nodes.specs.Tree.{blockquote, delete, emphasis, footnote_definition, heading, link, link_reference, list, list_item, paragraph, strong, table, table_cell, table_row}
 use Rattle.markdown_nodes.specs.View.{view, views}

@@ -3,21 +3,7 @@ use Rattle.std.proofs.Common.{◌≡◌, ℕ, List, [], ◌∷◌, ◌++◌, ◌
 use Rattle.markdown_events.specs.declared.infer.AlignKind.{AlignKind}
 use Rattle.markdown_nodes.specs.declared.mdast.Node.{Node}
 use Rattle.markdown_nodes.specs.declared.mdast.Node.TheVariants as nodes
-use Rattle.markdown_nodes.specs.Kinds.{Root}
-use Rattle.markdown_nodes.specs.Kinds.{Blockquote}
-use Rattle.markdown_nodes.specs.Kinds.{FootnoteDefinition}
-use Rattle.markdown_nodes.specs.Kinds.{List as ListNode}
-use Rattle.markdown_nodes.specs.Kinds.{Delete}
-use Rattle.markdown_nodes.specs.Kinds.{Emphasis}
-use Rattle.markdown_nodes.specs.Kinds.{Link}
-use Rattle.markdown_nodes.specs.Kinds.{LinkReference}
-use Rattle.markdown_nodes.specs.Kinds.{Strong}
-use Rattle.markdown_nodes.specs.Kinds.{Heading}
-use Rattle.markdown_nodes.specs.Kinds.{Table}
-use Rattle.markdown_nodes.specs.Kinds.{TableRow}
-use Rattle.markdown_nodes.specs.Kinds.{TableCell}
-use Rattle.markdown_nodes.specs.Kinds.{ListItem}
-use Rattle.markdown_nodes.specs.Kinds.{Paragraph}
+use Rattle.markdown_nodes.specs.Kinds.{Root, Blockquote, FootnoteDefinition, List as ListNode, Delete, Emphasis, Link, LinkReference, Strong, Heading, Table, TableRow, TableCell, ListItem, Paragraph}
 use Rattle.markdown_nodes.specs.Access.{nodes_in}
 use Rattle.markdown_nodes.specs.Tree.{Trees, Tree, before, node, nothing, only}
 use Rattle.markdown_nodes.specs.View.{view, views}

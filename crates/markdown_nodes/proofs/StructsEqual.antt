@@ -7,35 +7,21 @@ use Rattle.std.specs.Cmp.Lexicographic.{bytes_decides, pointwise}
 use Rattle.std.proofs.lemmas.Bool.Decides.{Decides-and}
 use Rattle.markdown_nodes.specs.declared.mdast.Node.{Node}
 use Rattle.markdown_nodes.specs.declared.mdast.Node.TheVariants as nodes
-use Rattle.markdown_nodes.specs.Kinds.{Root}
-use Rattle.markdown_nodes.specs.Kinds.{Blockquote}
-use Rattle.markdown_nodes.specs.Kinds.{FootnoteDefinition}
-use Rattle.markdown_nodes.specs.Kinds.{List as ListNode}
+use Rattle.markdown_nodes.specs.Kinds.{Root, Blockquote, FootnoteDefinition, List as ListNode, Delete, Emphasis, Link, LinkReference, Strong, Heading, Table, TableRow, TableCell, ListItem, Paragraph}
 use Rattle.markdown_kinds.specs.declared.Toml.{Toml}
 use Rattle.markdown_kinds.specs.declared.Yaml.{Yaml}
 use Rattle.markdown_kinds.specs.declared.Break.{Break}
 use Rattle.markdown_kinds.specs.declared.InlineCode.{InlineCode}
 use Rattle.markdown_kinds.specs.declared.InlineMath.{InlineMath}
-use Rattle.markdown_nodes.specs.Kinds.{Delete}
-use Rattle.markdown_nodes.specs.Kinds.{Emphasis}
 use Rattle.markdown_kinds.specs.declared.FootnoteReference.{FootnoteReference}
 use Rattle.markdown_kinds.specs.declared.Html.{Html}
 use Rattle.markdown_kinds.specs.declared.Image.{Image}
 use Rattle.markdown_kinds.specs.declared.ImageReference.{ImageReference}
-use Rattle.markdown_nodes.specs.Kinds.{Link}
-use Rattle.markdown_nodes.specs.Kinds.{LinkReference}
-use Rattle.markdown_nodes.specs.Kinds.{Strong}
 use Rattle.markdown_kinds.specs.declared.Text.{Text}
 use Rattle.markdown_kinds.specs.declared.Code.{Code}
 use Rattle.markdown_kinds.specs.declared.Math.{Math}
-use Rattle.markdown_nodes.specs.Kinds.{Heading}
-use Rattle.markdown_nodes.specs.Kinds.{Table}
 use Rattle.markdown_kinds.specs.declared.ThematicBreak.{ThematicBreak}
-use Rattle.markdown_nodes.specs.Kinds.{TableRow}
-use Rattle.markdown_nodes.specs.Kinds.{TableCell}
-use Rattle.markdown_nodes.specs.Kinds.{ListItem}
 use Rattle.markdown_kinds.specs.declared.Definition.{Definition}
-use Rattle.markdown_nodes.specs.Kinds.{Paragraph}
 use Rattle.markdown_nodes.specs.Equality.{same_tree}
 use Rattle.markdown_nodes.specs.EqualityLaws.{and_true, like, tree_decides, tree_is, true_and}
 use Rattle.markdown_nodes.specs.Tree.{Tree, before, nothing, root, paragraph, blockquote, emphasis, strong, delete, table_row, table_cell, thematic_break, «break», text, html, inline_code, inline_math, yaml, toml, heading, list, list_item, table, code, math, link, image, link_reference, image_reference, footnote_reference, footnote_definition, definition}

@@ -1,15 +1,11 @@
 -- The labels of the nodes that have several fields beside children and position.
 use Rattle.std.specs.Prelude.{option_map, string_bytes}
-use Rattle.markdown_nodes.specs.Kinds.{FootnoteDefinition}
-use Rattle.markdown_nodes.specs.Kinds.{List as ListNode}
+use Rattle.markdown_nodes.specs.Kinds.{FootnoteDefinition, List as ListNode, Link, LinkReference, ListItem}
 use Rattle.markdown_kinds.specs.declared.FootnoteReference.{FootnoteReference}
 use Rattle.markdown_kinds.specs.declared.Image.{Image}
 use Rattle.markdown_kinds.specs.declared.ImageReference.{ImageReference}
-use Rattle.markdown_nodes.specs.Kinds.{Link}
-use Rattle.markdown_nodes.specs.Kinds.{LinkReference}
 use Rattle.markdown_kinds.specs.declared.Code.{Code}
 use Rattle.markdown_kinds.specs.declared.Math.{Math}
-use Rattle.markdown_nodes.specs.Kinds.{ListItem}
 use Rattle.markdown_kinds.specs.declared.Definition.{Definition}
 use Rattle.markdown_nodes.specs.Tree.{Label, footnote_definition, list, footnote_reference, image, image_reference, link, link_reference, code, math, list_item, definition}
 

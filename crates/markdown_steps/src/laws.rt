@@ -10,7 +10,7 @@ ghost use Rattle.markdown_events.specs.Forest.{Forest, events_of};
 ghost use Rattle.markdown_events.specs.declared.event.Event.{Event};
 ghost use Rattle.markdown_events.specs.declared.event.Point.{Point};
 ghost use Rattle.markdown_events.specs.declared.role.ItemKind.{ItemKind};
-ghost use Rattle.markdown_nodes.specs.Tree.{only};
+ghost use Rattle.markdown_nodes.specs.Tree.{Trees, join, only};
 ghost use Rattle.markdown_grammar.specs.Accepted.{Accepted, Occurrence, ends_with_break};
 ghost use Rattle.markdown_grammar.specs.Decorated.{nodes_of};
 ghost use Rattle.markdown_steps.specs.Consequences.{
@@ -34,6 +34,13 @@ ghost use Rattle.markdown_grammar.specs.Document.{Source};
 ghost use Rattle.markdown_grammar.specs.Sites.{Ancestor, Site, events_so_far};
 ghost use Rattle.markdown_grammar.specs.declared.error_kind.ErrorKind.{ErrorKind};
 ghost use Rattle.markdown_grammar.specs.declared.error_kind.ErrorKind.TheVariants.{UnfinishedBreak};
+
+/// Lists of nodes may be joined from either side: texts that meet become one in any order (ours).
+///
+/// Lists of one Text each, `a`, `b` and `c`, give a list of the Text `abc` either way.
+pub fn seam()
+    ensures { (a b c : Trees) → join (join a b) c ≡ join a (join b c) }
+{}
 
 /// No Text comes directly after a Text among siblings, at any depth.
 ///
