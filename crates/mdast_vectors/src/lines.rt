@@ -127,18 +127,23 @@ fn own(alloc: Global, argument: Option<&str>) -> Result<Option<String>, AllocErr
     }
 }
 
+/// Copies of arguments.
+fn owned(
+    alloc: Global,
+    arguments: [Option<&str>; 3],
+) -> Result<(Option<String>, Option<String>, Option<String>), AllocError> {
+    let [first, second, third] = arguments;
+    Ok((own(alloc, first)?, own(alloc, second)?, own(alloc, third)?))
+}
+
 /// What arguments ask `mdast_json` for.
 fn expect_json_request<R: Abort + AllocGlobal>(
     rt: &R,
     arguments: [Option<&str>; 3],
     request: &str,
 ) -> Result<(), AllocError> {
-    let [first, second, third] = arguments;
-    let found = json_request(
-        own(rt.alloc(), first)?,
-        own(rt.alloc(), second)?,
-        own(rt.alloc(), third)?,
-    );
+    let (first, second, third) = owned(rt.alloc(), arguments)?;
+    let found = json_request(first, second, third);
     prints(rt, rt.alloc(), &found, request)
 }
 
@@ -267,12 +272,8 @@ fn expect_request<R: Abort + AllocGlobal>(
     arguments: [Option<&str>; 3],
     request: &str,
 ) -> Result<(), AllocError> {
-    let [first, second, third] = arguments;
-    let found = Request::of(
-        own(rt.alloc(), first)?,
-        own(rt.alloc(), second)?,
-        own(rt.alloc(), third)?,
-    );
+    let (first, second, third) = owned(rt.alloc(), arguments)?;
+    let found = Request::of(first, second, third);
     prints(rt, rt.alloc(), &found, request)
 }
 
@@ -358,54 +359,39 @@ fn numbers_a_line_that_cannot_be_read(rt: HostRuntime) -> Result<(), AllocError>
     Ok(())
 }
 
-/// The point of a line, a column, an index and virtual spaces.
-fn point(numbers: [usize; 4]) -> Point {
+/// An event at a line, a column and an index, with virtual spaces.
+fn event(kind: Kind, name: Name, numbers: [usize; 4]) -> Event {
     let [line, column, index, vs] = numbers;
-    Point {
+    let point = Point {
         line,
         column,
         index,
         vs,
-    }
+    };
+    Event { kind, name, point }
 }
 
 #[test]
 fn reads_virtual_spaces(rt: HostRuntime) -> Result<(), Fail> {
     let read = events(rt.alloc(), b"+Data 1:1:0:0\n\n-Data 1:3:2:7\n+Link 2:03:4")?;
     let wanted = [
-        Event {
-            kind: Kind::Enter,
-            name: Name::Data,
-            point: point([1, 1, 0, 0]),
-        },
-        Event {
-            kind: Kind::Exit,
-            name: Name::Data,
-            point: point([1, 3, 2, 7]),
-        },
-        Event {
-            kind: Kind::Enter,
-            name: Name::Link,
-            point: point([2, 3, 4, 0]),
-        },
+        event(Kind::Enter, Name::Data, [1, 1, 0, 0]),
+        event(Kind::Exit, Name::Data, [1, 3, 2, 7]),
+        event(Kind::Enter, Name::Link, [2, 3, 4, 0]),
     ];
     same(&rt, read.as_slice(), wanted.as_slice());
     Ok(())
 }
 
 /// Two events at one point.
-fn events_at(point: Point) -> [Event; 2] {
+fn events_at(numbers: [usize; 4]) -> [Event; 2] {
     [
-        Event {
-            kind: Kind::Enter,
-            name: Name::Data,
-            point,
-        },
-        Event {
-            kind: Kind::Exit,
-            name: Name::CharacterReferenceMarkerHexadecimal,
-            point,
-        },
+        event(Kind::Enter, Name::Data, numbers),
+        event(
+            Kind::Exit,
+            Name::CharacterReferenceMarkerHexadecimal,
+            numbers,
+        ),
     ]
 }
 
@@ -454,8 +440,7 @@ fn text_of_points(alloc: Global) -> Result<String, AllocError> {
 fn events_of_points(alloc: Global) -> Result<Vec<Event>, AllocError> {
     let mut events = Vec::new(alloc);
     for (_, numbers) in &POINTS {
-        let point = point(*numbers);
-        events.extend_from_slice(&events_at(point))?;
+        events.extend_from_slice(&events_at(*numbers))?;
     }
     Ok(events)
 }
