@@ -7,7 +7,7 @@ TOP = os.path.join(os.path.dirname(os.path.abspath(__file__)), "..")
 DATA = os.path.join(TOP, "crates", "mdast_replay", "data")
 ROWS = os.path.join(DATA, "rows.txt")
 
-ESCAPES = {"n": "\n", "r": "\r", "t": "\t", "\\": "\\", '"': '"'}
+ESCAPES = {"n": "\n", "r": "\r", "t": "\t", "0": "\0", "\\": "\\", '"': '"'}
 
 
 def sections(path=ROWS):
@@ -33,7 +33,7 @@ def sections(path=ROWS):
             continue
         elif line.startswith('"'):
             row["document"] = line
-        elif word in ("columns", "decoder", "ordered", "json", "plain", "report"):
+        elif word in ("columns", "decoder", "values", "ordered", "json", "plain", "report"):
             row[word] = rest
         elif word == "=":
             row["tree"] = rest

@@ -1,2 +1,3 @@
 pub mod Decoder
 pub mod Named
+pub mod Html

@@ -1,7 +1,11 @@
 //! The arguments of a program, and the document that one of them names.
 
+ghost use Rattle.std.specs.Prelude.{◌≡◌, IfErr};
+ghost use Rattle.command_line.specs.declared.request.DocumentError.TheVariants.{Unreadable};
+
 use crate::input::{ReadError, read_all};
 use crate::request::DocumentError;
+use std::alloc::AllocError;
 use std::env;
 use std::fs::File;
 use std::io::ErrorKind;
@@ -24,19 +28,28 @@ pub fn arguments(rt: &HostRuntime) -> Result<[Option<String>; 3], DocumentError>
     Ok([first, second, arguments.next()])
 }
 
+/// The bytes of the document in the file of this name.
+///
+/// Fails with `DocumentError::Unreadable`, whatever keeps the file from being read: it is not there, a
+/// read fails, or memory runs out. One error for all of these is ours.
+///
+/// A name that no file has gives `Err(DocumentError::Unreadable)`.
+pub fn document(rt: &HostRuntime, name: &str) -> Result<Vec<u8>, DocumentError>
+    ensures { IfErr result (λ error. error ≡ Unreadable) }
+{
+    file(rt, name).map_err(|_| DocumentError::Unreadable)
+}
+
 /// The bytes of the file of this name.
 ///
-/// Fails with `DocumentError::Unreadable` where the file cannot be read, and with
-/// `DocumentError::Memory` where memory runs out.
-pub fn document(rt: &HostRuntime, name: &str) -> Result<Vec<u8>, DocumentError> {
-    let mut file = match File::open(rt, name) {
-        Ok(file) => file,
-        Err(error) if error.kind() == ErrorKind::OutOfMemory => return Err(DocumentError::Memory),
-        Err(_) => return Err(DocumentError::Unreadable),
-    };
-    match read_all(rt.alloc(), &mut file) {
-        Ok(bytes) => Ok(bytes),
-        Err(ReadError::Failed) => Err(DocumentError::Unreadable),
-        Err(ReadError::Memory(_)) => Err(DocumentError::Memory),
+/// Fails with `ReadError::Failed` where the file cannot be opened or read, and with `ReadError::Memory`
+/// where memory runs out.
+///
+/// A name that no file has gives `Err(ReadError::Failed)`.
+pub fn file(rt: &HostRuntime, name: &str) -> Result<Vec<u8>, ReadError> {
+    match File::open(rt, name) {
+        Ok(mut file) => read_all(rt.alloc(), &mut file),
+        Err(error) if error.kind() == ErrorKind::OutOfMemory => Err(ReadError::Memory(AllocError)),
+        Err(_) => Err(ReadError::Failed),
     }
 }

@@ -83,9 +83,9 @@ fn named(
 pub enum DocumentError {
     /// The arguments are not those of the usage line.
     Usage,
-    /// The file cannot be read.
+    /// The document cannot be read, whatever the reason. Memory that ran out is one of them.
     Unreadable,
-    /// Memory ran out.
+    /// Memory ran out while the arguments were read.
     Memory,
 }
 
@@ -103,9 +103,10 @@ impl DocumentError {
         }
     }
 
-    /// The exit status of the program: 3 where memory ran out, and else 2.
+    /// The exit status of the program: 3 where memory ran out for the arguments, and else 2. The numbers
+    /// are ours.
     ///
-    /// A document that is not there gives 2.
+    /// A document that cannot be read gives 2.
     pub fn status(&self) -> u8
         ensures { result ≡ error_status self.now }
     {

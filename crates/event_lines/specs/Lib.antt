@@ -1,3 +1,4 @@
 pub mod Lines
 pub mod Errors
 pub mod Fronts
+pub mod Written

@@ -4,3 +4,4 @@
 pub mod lines;
 mod point;
 mod search;
+pub mod written;

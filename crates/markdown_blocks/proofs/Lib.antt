@@ -1,3 +1,2 @@
 pub mod Trims
 pub mod Headings
-pub mod Numbers

@@ -4,7 +4,6 @@
 
 pub mod heading;
 pub mod list;
-mod number;
 pub mod parent;
 pub mod table;
 mod task;

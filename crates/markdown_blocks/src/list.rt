@@ -16,9 +16,9 @@ ghost use Rattle.markdown_grammar.specs.declared.error_kind.ErrorKind.TheVariant
 ghost use Rattle.markdown_nodes.specs.Tree as tree;
 ghost use Rattle.markdown_nodes.specs.View.{view, views};
 
-use crate::number::item_number;
 use crate::task::trim;
 use markdown_builder::misfits::at_most_one;
+use markdown_builder::number::item_number;
 use markdown_builder::slice::{Document, text_of};
 use markdown_grammar::error_kind::{ErrorKind, Stop};
 use markdown_nodes::event::Point;

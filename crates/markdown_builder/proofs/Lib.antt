@@ -1,4 +1,6 @@
 pub mod Readings
 pub mod TextCuts
+pub mod WholeTexts
 pub mod SliceReads
 pub mod Parents
+pub mod Numbers

@@ -1,5 +1,6 @@
 pub mod Readings
 pub mod ValueTexts
+pub mod WholeValues
 pub mod Marks
 pub mod PartsSoFar
 pub mod Labels

@@ -13,7 +13,7 @@ use Rattle.markdown_nodes.specs.Tree.{Label as TreeLabel, Tree, Trees, nothing, 
 use Rattle.markdown_nodes.specs.View.{view}
 use Rattle.markdown_nodes.specs.declared.mdast.Node.{Node}
 use Rattle.markdown_grammar.specs.Attributes.{Place, mark_given, value_given}
-use Rattle.markdown_grammar.specs.Document.{Source, source}
+use Rattle.markdown_grammar.specs.Document.{Given, Source, source_of}
 use Rattle.markdown_grammar.specs.Grammar.{ContentModel, model_after, rules}
 use Rattle.markdown_grammar.specs.Items as Kinds
 use Rattle.markdown_grammar.specs.Refusals.{value_error}
@@ -167,12 +167,12 @@ ReadsPart s p q i a b old new result =
     (λ _. Gains s p (item_kinds.Part q) a b i old new)
 
 -- the same of a part with these nodes, whatever the decoder says
-abbrev pub ReadsText : {X : Type 0} → List ℕ → Part → Trees → Point → Point
+abbrev pub ReadsText : {X : Type 0} → Given → Part → Trees → Point → Point
     → PartsSoFar → PartsSoFar → Result X Stop → Type 0
-ReadsText bytes q ts a b old new result =
-    (text : List ℕ → ℕ → Option (List ℕ)) (p : Place) → ReadsPart (source bytes text) p q (nodes_alone ts) a b old new result
+ReadsText given q ts a b old new result =
+    (text : List ℕ → ℕ → Option (List ℕ)) (p : Place) → ReadsPart (source_of given text) p q (nodes_alone ts) a b old new result
 
 -- the same of a part in which nothing stands
-abbrev pub Reads : {X : Type 0} → List ℕ → Part → Point → Point → PartsSoFar → PartsSoFar → Result X Stop → Type 0
-Reads bytes q a b old new result =
-    (text : List ℕ → ℕ → Option (List ℕ)) (p : Place) → ReadsPart (source bytes text) p q nothing_yet a b old new result
+abbrev pub Reads : {X : Type 0} → Given → Part → Point → Point → PartsSoFar → PartsSoFar → Result X Stop → Type 0
+Reads given q a b old new result =
+    (text : List ℕ → ℕ → Option (List ℕ)) (p : Place) → ReadsPart (source_of given text) p q nothing_yet a b old new result

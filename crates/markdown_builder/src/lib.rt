@@ -1,10 +1,13 @@
-//! What the nodes of a syntax tree are made with: slices of the document, texts, labels and lists of
-//! nodes.
+//! What the nodes of a syntax tree are made with: slices of the document, texts, labels, numbers, and
+//! what each item is.
 #![tactic(auto)]
 
 pub mod buffer;
+pub mod items;
 pub mod label;
 pub mod marks;
 pub mod misfits;
+pub mod number;
 pub mod slice;
 pub mod texts;
+mod whole;

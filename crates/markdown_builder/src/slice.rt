@@ -1,15 +1,21 @@
 //! A document, what stands in it between two points, and the position from one to the other.
 
-ghost use Rattle.std.specs.Prelude.{◌≡◌, ◌^◌, ◌<◌, ◌≤◌, IfErr, Some, SomeIff, IfSome, length, option_copied};
+ghost use Rattle.std.specs.Prelude.{◌≡◌, ◌&&◌, ◌^◌, ◌<◌, ◌≤◌, IfErr, Some, SomeIff, IfSome, is_some, length, option_copied, string_bytes, true};
 ghost use Rattle.std.specs.Result.{result_ok};
 ghost use Rattle.markdown_events.specs.Slices.{between, edge, slice, text_between};
-ghost use Rattle.markdown_grammar.specs.Document.{byte_at, length_between};
+ghost use Rattle.markdown_grammar.specs.Document.{byte_at, length_between, value_between};
+ghost use Rattle.markdown_grammar.specs.Whole.{without_nul};
+ghost use Rattle.markdown_builder.specs.PartsSoFar.{Makes};
+ghost use Rattle.markdown_builder.specs.WholeValues.{IsTextOf, has_nul, is_split, is_whole};
 ghost use Rattle.markdown_grammar.specs.declared.error_kind.ErrorKind.TheVariants.{InvalidSlice};
 ghost use Rattle.markdown_grammar.specs.declared.error_kind.Stop.TheVariants.{Refused};
 
+use crate::whole::whole_value;
 use markdown_grammar::error_kind::{ErrorKind, Stop};
+use markdown_grammar::values::Values;
 use markdown_nodes::event::Point;
 use markdown_nodes::unist::Position;
+use std::alloc::Global;
 use std::marker::Model;
 
 /// The offset in bytes at which a slice begins or ends. Of a point in the virtual spaces of a tab it
@@ -24,48 +30,71 @@ fn edge_of(point: Point) -> Option<usize>
     }
 }
 
-/// A document: its bytes, and the text that they are, where all of them are UTF-8.
+/// A document: its bytes, how values are read of it, and the text that the bytes are, where all of
+/// them are UTF-8.
 ///
 /// A span is then a part of that text, whose ends alone are looked at. In a document that is not all
-/// UTF-8, each span is tested for itself.
+/// UTF-8, each span is tested for itself. So it is in one with a NUL, where values are whole: its
+/// spans are not parts of it as they stand.
 #[derive(Drop)]
 pub struct Document<'a> {
     bytes: &'a [u8],
+    values: Values,
     text: Option<&'a str>,
 }
 
 impl<'a> Model for Document<'a> {
-    ghost use Rattle.std.specs.Prelude.{List, ℕ, ◌≡◌, IfSome};
+    ghost use Rattle.std.specs.Prelude.{IfSome};
+    ghost use Rattle.markdown_grammar.specs.Document.{Given};
+    ghost use Rattle.markdown_builder.specs.WholeValues.{IsTextOf};
 
-    ghost Value = { List ℕ };
+    ghost Value = { Given };
 
-    ghost view = { λ d. d.bytes.now };
+    ghost view = { λ d. record { bytes = d.bytes.now; values = d.values } };
 
-    ghost invariant = { λ d. IfSome d.text (λ text. text.now ≡ d.bytes.now) };
+    ghost invariant = { λ d. IfSome d.text (λ text. IsTextOf d.values d.bytes.now text.now) };
 }
 
 impl<'a> Document<'a> {
-    /// The document with these bytes.
-    pub fn new(bytes: &'a [u8]) -> Document<'a>
-        ensures { result ≡ bytes.now }
+    /// The document with these bytes, of which values are read so.
+    pub fn new(bytes: &'a [u8], values: Values) -> Document<'a>
+        ensures { result ≡ record { bytes = bytes.now; values = values } }
     {
         Document {
             bytes,
-            text: str::from_utf8(bytes).ok(),
+            values,
+            text: text_as_it_stands(bytes, values),
         }
+    }
+
+    /// Its bytes.
+    ///
+    /// Those of `Document::new(b"Hi", Values::Whole)` are `b"Hi"`.
+    pub fn bytes(&self) -> &'a [u8]
+        ensures { result.now ≡ self.now.bytes }
+    {
+        self.bytes
     }
 
     /// How many bytes it has.
     fn len(&self) -> usize
-        ensures { result ≡ length self.now }
+        ensures { result ≡ length self.now.bytes }
     {
         self.bytes.len()
+    }
+
+    /// Whether values are whole.
+    fn is_whole(&self) -> bool
+        ensures { result ≡ is_whole self.now.values }
+    {
+        matches!(self.values, Values::Whole)
     }
 
     /// The bytes from one index to another as a part of the document's text, or `None` where the document
     /// is not all UTF-8, or an index is outside it or inside a character.
     fn part(&self, from: usize, to: usize) -> Option<&'a str>
-        ensures { IfSome result (λ part. Some part.now ≡ text_between self.now from to) }
+        ensures part { IfSome result (λ part. Some part.now ≡ text_between self.now.bytes from to) }
+        ensures no_nul { IfSome result (λ part. is_whole self.now.values ≡ true → without_nul part.now ≡ part.now) }
     {
         let part = self.text?.get(from..to)?;
         // For the proof: what is a text is UTF-8.
@@ -77,8 +106,8 @@ impl<'a> Document<'a> {
     #[inline(never)]
     fn tested(&self, from: usize, to: usize) -> Option<&'a str>
         requires order { from ≤ to }
-        requires within { to ≤ length self.now }
-        ensures { option_copied result ≡ text_between self.now from to }
+        requires within { to ≤ length self.now.bytes }
+        ensures { option_copied result ≡ text_between self.now.bytes from to }
     {
         str::from_utf8(&self.bytes[from..to]).ok()
     }
@@ -86,7 +115,7 @@ impl<'a> Document<'a> {
 
 /// The range of bytes of a span, if its ends are in order and in the document.
 fn range_of(document: &Document<'_>, start: Point, end: Point) -> Option<(usize, usize)>
-    ensures { SomeIff result ((edge start ≤ edge end) × (edge end ≤ length document.now)) (edge start, edge end) }
+    ensures { SomeIff result ((edge start ≤ edge end) × (edge end ≤ length document.now.bytes)) (edge start, edge end) }
 {
     let length = document.len();
     let from = edge_of(start)?;
@@ -101,7 +130,7 @@ fn range_of(document: &Document<'_>, start: Point, end: Point) -> Option<(usize,
 /// lie outside the document, and where what is between them is no UTF-8.
 #[inline(always)]
 pub fn text_of<'a>(document: &Document<'a>, start: Point, end: Point) -> Result<&'a str, Stop>
-    ensures text { option_copied (result_ok result) ≡ slice document.now start end }
+    ensures text { option_copied (result_ok result) ≡ slice document.now.bytes start end }
     ensures refused { IfErr result (λ stop. stop ≡ Refused InvalidSlice) }
 {
     slice_of(document, start, end).ok_or(Stop::Refused(ErrorKind::InvalidSlice))
@@ -112,7 +141,7 @@ pub fn text_of<'a>(document: &Document<'a>, start: Point, end: Point) -> Result<
 #[inline(always)]
 #[tactic(auto, unfolding(markdown_events::specs::Slices::slice))]
 fn slice_of<'a>(document: &Document<'a>, start: Point, end: Point) -> Option<&'a str>
-    ensures { option_copied result ≡ slice document.now start end }
+    ensures { option_copied result ≡ slice document.now.bytes start end }
 {
     let (from, to) = range_of(document, start, end)?;
     if let Some(part) = document.part(from, to) {
@@ -121,10 +150,74 @@ fn slice_of<'a>(document: &Document<'a>, start: Point, end: Point) -> Option<&'a
     document.tested(from, to)
 }
 
+/// The text of a document, if spans are parts of it as they stand: all of it is UTF-8, and where
+/// values are whole it has no NUL.
+fn text_as_it_stands(bytes: &[u8], values: Values) -> Option<&str>
+    ensures { IfSome result (λ text. IsTextOf values bytes.now text.now) }
+{
+    if replaces_nul(bytes, values) {
+        return None;
+    }
+    str::from_utf8(bytes).ok()
+}
+
+/// Whether a NUL stands in a document of which values are whole.
+fn replaces_nul(bytes: &[u8], values: Values) -> bool
+    ensures { result ≡ (is_whole values && has_nul bytes.now) }
+{
+    matches!(values, Values::Whole) && bytes.contains(&0)
+}
+
+/// Whether the columns of a tab count between two points. That no virtual spaces are there is asked
+/// first, since each slice asks it.
+#[inline(always)]
+fn is_split(document: &Document<'_>, start: Point, end: Point) -> bool
+    ensures { result ≡ is_split document.now start end }
+{
+    (start.vs > 0 || end.vs > 0) && document.is_whole()
+}
+
+/// The value of a span, where it is a part of the document as it stands: nearly always.
+#[inline(always)]
+pub fn value_as_it_stands<'a>(document: &Document<'a>, start: Point, end: Point) -> Option<&'a str>
+    ensures read { IfSome result (λ value. is_some (slice document.now.bytes start end) ≡ true) }
+    ensures value { IfSome result (λ value. value.now ≡ value_between document.now start end) }
+{
+    if is_split(document, start, end) {
+        return None;
+    }
+    let (from, to) = range_of(document, start, end)?;
+    document.part(from, to)
+}
+
+/// The value of a span: a text or an address of the tree. It is refused as `ErrorKind::InvalidSlice`
+/// where its ends are not in order or lie outside the document, and where what is between them is no
+/// UTF-8.
+///
+/// Of a span that begins within a tab, the whole value begins with the columns of the tab that are
+/// left, as spaces.
+#[inline(never)]
+pub fn value_of(
+    alloc: Global,
+    document: &Document<'_>,
+    start: Point,
+    end: Point,
+) -> Result<String, Stop>
+    ensures { Makes result (is_some (slice document.now.bytes start end)) InvalidSlice
+        (λ value. string_bytes value ≡ value_between document.now start end) }
+{
+    let text = text_of(document, start, end)?;
+    if document.is_whole() {
+        Ok(whole_value(alloc, text, start, end)?)
+    } else {
+        Ok(String::from_str(alloc, text)?)
+    }
+}
+
 /// How many bytes a span has, if its ends are in order and in the document: the sequence of an ATX
 /// heading is one byte for each step of depth.
 pub fn length_between(document: &Document<'_>, start: Point, end: Point) -> Option<usize>
-    ensures { result ≡ length_between document.now start end }
+    ensures { result ≡ length_between document.now.bytes start end }
 {
     let (from, to) = range_of(document, start, end)?;
     Some(to - from)
@@ -134,7 +227,7 @@ pub fn length_between(document: &Document<'_>, start: Point, end: Point) -> Opti
 /// first byte of frontmatter says which language follows, and the first of the underline of a setext
 /// heading says the depth.
 pub fn byte_at(document: &Document<'_>, point: Point) -> Option<u8>
-    ensures { result ≡ byte_at document.now point }
+    ensures { result ≡ byte_at document.now.bytes point }
 {
     document.bytes.get(point.index).copied()
 }

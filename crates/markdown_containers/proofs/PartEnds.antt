@@ -10,7 +10,7 @@ use Rattle.markdown_events.specs.declared.role.ItemKind.TheVariants.{Part as par
 use Rattle.markdown_events.specs.declared.role.Part.{Part}
 use Rattle.markdown_events.specs.declared.role.Part.TheVariants as parts
 use Rattle.markdown_grammar.specs.Attributes.{Place, line_ending_is_text_after}
-use Rattle.markdown_grammar.specs.Document.{Source, source}
+use Rattle.markdown_grammar.specs.Document.{Given, Source, given_of, source_of}
 use Rattle.markdown_grammar.specs.Grammar as models
 use Rattle.markdown_grammar.specs.Grammar.{ContentModel, leaf}
 use Rattle.markdown_grammar.specs.Values.{is_read}
@@ -85,13 +85,13 @@ text_taken s in_table top new q ts a b children place (Err (stops.Refused why)) 
     let here = kept top.line_endings in_table in
     part_unread s in_table top models.any_content place (summary_with containers.AnyContent ts) q a b children refl here.0 ∙ ap (λ (x : ErrorKind). refused x b) (sym here.1)
 
--- the same over any source with these bytes
-pub text_is_taken : (s : Source) (bytes : List ℕ) (in_table : Bool) (top new : OpenContainer) (q : Part) (ts : Trees) (a b : Point) (children : ChildFacts) (place : Place) (r : Result (Unit {0}) Stop)
-    → s.bytes ≡ bytes → is_part_model q models.any_content ≡ true → q ≢ parts.HeadingSetextText
-    → ((text : List ℕ → ℕ → Option (List ℕ)) → KeepsPart (source bytes text) q a b (summary_with containers.AnyContent ts) top.container new.container r) → new.line_endings ≡ top.line_endings → new.nodes ≡ top.nodes
+-- the same over any source of this document
+pub text_is_taken : (s : Source) (given : Given) (in_table : Bool) (top new : OpenContainer) (q : Part) (ts : Trees) (a b : Point) (children : ChildFacts) (place : Place) (r : Result (Unit {0}) Stop)
+    → given_of s ≡ given → is_part_model q models.any_content ≡ true → q ≢ parts.HeadingSetextText
+    → ((text : List ℕ → ℕ → Option (List ℕ)) → KeepsPart (source_of given text) q a b (summary_with containers.AnyContent ts) top.container new.container r) → new.line_endings ≡ top.line_endings → new.nodes ≡ top.nodes
     → Gives (λ _. container_state_of in_table None new) b r (leave s (part q) a b children (ended_with models.any_content place (summary_with containers.AnyContent ts)) (container_state_of in_table None top))
-text_is_taken s bytes in_table top new q ts a b children place r is such other kept ending same =
-    let this : source bytes s.text ≡ s = λ t. record { bytes = sym is t; text = s.text } in
+text_is_taken s given in_table top new q ts a b children place r is such other kept ending same =
+    let this : source_of given s.text ≡ s = λ t. source_of (sym is t) s.text in
     text_taken s in_table top new q ts a b children place r such other
     (subst (λ (x : Source). KeepsPart x q a b (summary_with containers.AnyContent ts) top.container new.container r) this (kept s.text)) ending same
 

@@ -15,7 +15,7 @@ use Rattle.markdown_events.specs.declared.role.ItemKind.TheVariants as item_kind
 use Rattle.markdown_events.specs.declared.role.Part.{Part}
 use Rattle.markdown_events.specs.declared.role.Part.TheVariants as parts
 use Rattle.markdown_grammar.specs.Attributes.{Place}
-use Rattle.markdown_grammar.specs.Document.{Source, source}
+use Rattle.markdown_grammar.specs.Document.{Given, Source, source_of}
 use Rattle.markdown_grammar.specs.Grammar as models
 use Rattle.markdown_grammar.specs.Grammar.{ContentModel}
 use Rattle.markdown_grammar.specs.Refusals.{value_error}
@@ -115,9 +115,9 @@ KeepsPart s q a b i old new result =
     Makes result (is_read s (current_model_of old) p false (item_kinds.Part q) a b) (value_error s (item_kinds.Part q) a b) (λ _. Keeps s p (item_kinds.Part q) a b i old new)
 
 -- the same of a part with these nodes in it, whatever the decoder knows
-abbrev pub KeepsNodes : {X : Type 0} → List ℕ → Part → Point → Point → Trees → Container → Container → Result X Stop → Type 0
-KeepsNodes bytes q a b ts old new result =
-    (text : List ℕ → ℕ → Option (List ℕ)) → KeepsPart (source bytes text) q a b (summary_of_nodes ts) old new result
+abbrev pub KeepsNodes : {X : Type 0} → Given → Part → Point → Point → Trees → Container → Container → Result X Stop → Type 0
+KeepsNodes given q a b ts old new result =
+    (text : List ℕ → ℕ → Option (List ℕ)) → KeepsPart (source_of given text) q a b (summary_of_nodes ts) old new result
 
 -- a part with this text is kept, whatever its nodes are
 abbrev pub KeepsWords : Part → List ℕ → Container → Container → Type 0

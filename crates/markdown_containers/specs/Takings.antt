@@ -22,7 +22,7 @@ use Rattle.markdown_steps.specs.Summaries.{Summary, path_to, text_of}
 use Rattle.markdown_steps.specs.TextNodes.{one_text}
 use Rattle.markdown_steps.specs.Visits.{visits_at_end}
 use Rattle.markdown_grammar.specs.Attributes.{Place}
-use Rattle.markdown_grammar.specs.Document.{Source, source}
+use Rattle.markdown_grammar.specs.Document.{Given, Source, given_of, source_of}
 use Rattle.markdown_grammar.specs.Refusals.{missing_error}
 use Rattle.markdown_grammar.specs.declared.error_kind.Stop.{Stop}
 use Rattle.markdown_containers.specs.Containers.{initial_model_of, summary_of_nodes, summary_with}
@@ -44,30 +44,30 @@ TakesLeaf s what ending pending old after_break new result =
     (leave s what ending.start ending.end children (fresh leaf place) (container_state_of ending.in_table pending old))
 
 -- the same whatever the decoder knows
-abbrev pub TakesAnyLeaf : {X : Type 0} → List ℕ → ItemKind → Ending → Option Position → OpenContainer → Option Position → OpenContainer → Result X Stop → Type 0
-TakesAnyLeaf bytes what ending pending old after_break new result =
-    (text : List ℕ → ℕ → Option (List ℕ)) → TakesLeaf (source bytes text) what ending pending old after_break new result
+abbrev pub TakesAnyLeaf : {X : Type 0} → Given → ItemKind → Ending → Option Position → OpenContainer → Option Position → OpenContainer → Result X Stop → Type 0
+TakesAnyLeaf given what ending pending old after_break new result =
+    (text : List ℕ → ℕ → Option (List ℕ)) → TakesLeaf (source_of given text) what ending pending old after_break new result
 
 -- a part in which content stood, with these nodes, or the refusal
-abbrev pub TakesText : {X : Type 0} → List ℕ → Part → Trees → Ending → OpenContainer → OpenContainer → Result X Stop → Type 0
-TakesText bytes q nodes ending old new result =
-    (s : Source) (place : Place) (children : ChildFacts) → s.bytes ≡ bytes → Gives (λ _. container_state_of ending.in_table None new) ending.end result
+abbrev pub TakesText : {X : Type 0} → Given → Part → Trees → Ending → OpenContainer → OpenContainer → Result X Stop → Type 0
+TakesText given q nodes ending old new result =
+    (s : Source) (place : Place) (children : ChildFacts) → given_of s ≡ given → Gives (λ _. container_state_of ending.in_table None new) ending.end result
     (leave s (part q) ending.start ending.end children (ended_with any_content place (summary_of_nodes nodes)) (container_state_of ending.in_table None old))
 
 -- another container, or the refusal
-abbrev pub TakesContainer : {X : Type 0} → List ℕ → ItemKind → OpenContainer → Ending → ChildFacts → OpenContainer → OpenContainer → Result X Stop → Type 0
-TakesContainer bytes what own ending children old new result =
-    (s : Source) (inner_table : Bool) → s.bytes ≡ bytes → Gives (λ _. container_state_of ending.in_table None new) ending.end result
+abbrev pub TakesContainer : {X : Type 0} → Given → ItemKind → OpenContainer → Ending → ChildFacts → OpenContainer → OpenContainer → Result X Stop → Type 0
+TakesContainer given what own ending children old new result =
+    (s : Source) (inner_table : Bool) → given_of s ≡ given → Gives (λ _. container_state_of ending.in_table None new) ending.end result
     (leave s what ending.start ending.end children (container_state_of inner_table None own) (container_state_of ending.in_table None old))
 
 -- a part with parts of its own, whatever else stood in it
-abbrev pub TakesPart : {X : Type 0} → List ℕ → Part → OpenContainer → Ending → OpenContainer → OpenContainer → Result X Stop → Type 0
-TakesPart bytes q own ending old new result = (children : ChildFacts) → TakesContainer bytes (part q) own ending children old new result
+abbrev pub TakesPart : {X : Type 0} → Given → Part → OpenContainer → Ending → OpenContainer → OpenContainer → Result X Stop → Type 0
+TakesPart given q own ending old new result = (children : ChildFacts) → TakesContainer given (part q) own ending children old new result
 
 -- content, with what its children say of it
-abbrev pub TakesContent : {X : Type 0} → List ℕ → Content → OpenContainer → Ending → Columns → OpenContainer → OpenContainer → Result X Stop → Type 0
-TakesContent bytes c own ending columns old new result =
-    TakesContainer bytes (content c) own ending (child_facts (marks_of ending.marks) (columns_of columns)) old new result
+abbrev pub TakesContent : {X : Type 0} → Given → Content → OpenContainer → Ending → Columns → OpenContainer → OpenContainer → Result X Stop → Type 0
+TakesContent given c own ending columns old new result =
+    TakesContainer given (content c) own ending (child_facts (marks_of ending.marks) (columns_of columns)) old new result
 
 -- what is never refused: a span of that content model, in which this stood
 abbrev pub Takes : ItemKind → ContentModel → Summary → OpenContainer → OpenContainer → Type 0
@@ -106,7 +106,7 @@ abbrev pub content_visits : Content → OpenContainer → ℕ
 content_visits c own = visits_at_end (content c) (summary_of_container own)
 
 -- the node is that of content in which this stood
-abbrev pub IsNodeOf : List ℕ → Content → Ending → Columns → Summary → Node → Type 0
-IsNodeOf bytes c ending columns inner node =
-    (s : Source) (line_endings : Bool) (marker : Option ℕ) → s.bytes ≡ bytes
+abbrev pub IsNodeOf : Given → Content → Ending → Columns → Summary → Node → Type 0
+IsNodeOf given c ending columns inner node =
+    (s : Source) (line_endings : Bool) (marker : Option ℕ) → given_of s ≡ given
     → only (view node) ≡ node_of s (place_with line_endings ending.in_table marker) (content c) ending.start ending.end (child_facts (marks_of ending.marks) (columns_of columns)) inner

@@ -23,7 +23,7 @@ ghost use Rattle.markdown_events.specs.declared.role.Content.TheVariants as cont
 ghost use Rattle.markdown_events.specs.declared.role.ItemKind.TheVariants as item_kinds;
 ghost use Rattle.markdown_events.specs.declared.role.Part.TheVariants as parts;
 ghost use Rattle.markdown_grammar.specs.Buffers.{node_count};
-ghost use Rattle.markdown_grammar.specs.Document.{source};
+ghost use Rattle.markdown_grammar.specs.Document.{source_of};
 ghost use Rattle.markdown_grammar.specs.Grammar as models;
 ghost use Rattle.markdown_grammar.specs.Grammar.{ContentModel};
 ghost use Rattle.markdown_nodes.specs.View.{views};
@@ -59,7 +59,7 @@ use std::alloc::Global;
 pub enum Container<'a> {
     /// It takes any content, and no part.
     AnyContent,
-    Autolink(AutolinkParts<'a>),
+    Autolink(AutolinkParts),
     /// A link or an image.
     Media(MediaParts<'a>),
     FootnoteCall(FootnoteCallParts<'a>),
@@ -261,14 +261,14 @@ impl<'a> Container<'a> {
     ) -> Result<(), Stop>
         requires leaf { models.part_model (current_model_of self.old) part ≡ models.leaf }
         requires fits { misfit_of self.old (item_kinds.Part part) ≡ None }
-        ensures { KeepsPart (source document.now (R.text references.now)) part start end nothing_yet self.old self.new result }
+        ensures { KeepsPart (source_of document.now (R.text references.now)) part start end nothing_yet self.old self.new result }
     {
         match (self, part) {
             (Container::Autolink(parts), Part::AutolinkEmail) => {
-                parts.take_email(document, start, end)
+                parts.take_email(alloc, document, start, end)
             }
             (Container::Autolink(parts), Part::AutolinkProtocol) => {
-                parts.take_protocol(document, start, end)
+                parts.take_protocol(alloc, document, start, end)
             }
             (Container::CharacterReference(parts), Part::CharacterReferenceValue) => {
                 parts.take_value(alloc, document, references, start, end)

@@ -30,8 +30,7 @@ ghost use Rattle.markdown_containers.specs.declared.container.Container.TheVaria
 ghost use Rattle.markdown_events.specs.declared.role.Content.TheVariants as contents;
 ghost use Rattle.markdown_events.specs.declared.role.ItemKind.TheVariants as item_kinds;
 ghost use Rattle.markdown_events.specs.declared.role.Part.TheVariants as parts;
-ghost use Rattle.markdown_grammar.specs.Attributes.{line_ending_is_text, line_ending_is_text_after};
-ghost use Rattle.markdown_grammar.specs.Document.{Source, source};
+ghost use Rattle.markdown_grammar.specs.Document.{Source, source_of};
 ghost use Rattle.markdown_grammar.specs.Grammar as models;
 ghost use Rattle.markdown_grammar.specs.Items.{is_line_ending};
 ghost use Rattle.markdown_literals.specs.Autolinks.{is_literal};
@@ -46,6 +45,7 @@ use markdown_blocks::list::{ListItemParts, NumberedItemParts, list_item, unorder
 use markdown_blocks::parent::parent;
 use markdown_blocks::table::{Columns, table};
 use markdown_blocks::thematic_break::thematic_break;
+use markdown_builder::items::has_line_endings_after;
 use markdown_builder::marks::Marks;
 use markdown_builder::slice::{Document, byte_at, position_of};
 use markdown_grammar::error_kind::Stop;
@@ -84,49 +84,6 @@ pub struct Ending {
     pub marks: Marks,
 }
 
-/// Whether a line ending is text in a span: not where blocks, cells or parts alone stand, and in a
-/// block of code or math not before its first fence.
-pub fn has_line_endings(what: ItemKind) -> bool
-    ensures { result ≡ line_ending_is_text what }
-{
-    match what {
-        ItemKind::Content(content) => match content {
-            Content::Table
-            | Content::BlockQuote
-            | Content::TableRow
-            | Content::TableCell
-            | Content::ListOrdered
-            | Content::ListUnordered
-            | Content::ListItem
-            | Content::FootnoteDefinition
-            | Content::CodeFenced
-            | Content::MathFlow
-            | Content::Autolink
-            | Content::Link
-            | Content::Image
-            | Content::FootnoteCall
-            | Content::Definition => false,
-            _ => true,
-        },
-        ItemKind::Part(part) => match part {
-            Part::Resource | Part::Reference => false,
-            _ => true,
-        },
-    }
-}
-
-/// Whether a line ending is text after a part: after a fence it is, after the text of a heading it is
-/// not, and else it is what it was.
-fn has_line_endings_after(part: Part, before: bool) -> bool
-    ensures { result ≡ line_ending_is_text_after (item_kinds.Part part) before }
-{
-    match part {
-        Part::CodeFencedFence | Part::MathFlowFence => true,
-        Part::HeadingSetextText => false,
-        _ => before,
-    }
-}
-
 impl<'a> OpenContainer<'a> {
     /// Takes a leaf that has ended. `pending` is the break that waits for its line ending, if one
     /// does.
@@ -142,7 +99,7 @@ impl<'a> OpenContainer<'a> {
         requires leaf { models.model_of (current_model_of self.old.container) what ≡ models.leaf }
         requires fits { misfit_of self.old.container what ≡ None }
         requires waits { (not (is_some pending.old) || is_line_ending what) ≡ true }
-        ensures { TakesLeaf (source document.now (R.text references.now)) what ending pending.old self.old pending.new self.new result }
+        ensures { TakesLeaf (source_of document.now (R.text references.now)) what ending pending.old self.old pending.new self.new result }
     {
         match what {
             ItemKind::Content(content) => {
@@ -191,7 +148,7 @@ impl<'a> OpenContainer<'a> {
     ) -> Result<(), Stop>
         requires leaf { models.part_model (current_model_of self.old.container) part ≡ models.leaf }
         requires fits { misfit_of self.old.container (item_kinds.Part part) ≡ None }
-        ensures { TakesLeaf (source document.now (R.text references.now)) (item_kinds.Part part) ending None self.old None self.new result }
+        ensures { TakesLeaf (source_of document.now (R.text references.now)) (item_kinds.Part part) ending None self.old None self.new result }
     {
         let taken = self.container.take_leaf_part(
             alloc,

@@ -1,5 +1,5 @@
 -- What the enter of a span makes of the state, in the program and in the steps.
-use Rattle.std.proofs.Common.{◌≡◌, Bool, true, false, ◌||◌, not, is_some, List, [], ◌∷◌, ◌++◌, Bor, Option, None, Some, Result, Ok, Err, refl, sym, ap, ◌∙◌, cond, reverse, subst}
+use Rattle.std.proofs.Common.{◌≡◌, Bool, true, false, ◌||◌, not, is_some, List, [], ◌∷◌, ◌++◌, Option, None, Some, Result, Ok, Err, refl, sym, ap, ◌∙◌, cond, reverse, subst}
 use Rattle.markdown_events.specs.Names.{role_of}
 use Rattle.markdown_events.specs.declared.event.Name.{Name}
 use Rattle.markdown_events.specs.declared.event.Point.{Point}
@@ -115,13 +115,13 @@ significant_refused s name what point old why fails =
 
 -- the open spans with a leaf more
 leaf_frames : (what : ItemKind) (f : Frame) (fs fs' : List Frame) (hs : List OpenContainer) (kept : ContainerState) → role_of f.name ≡ significant what → fs' ≡ fs ++ f ∷ []
-    → opens (reverse fs') (Some kept) hs ≡ record { name = f.name; start = f.start.now; around = f.outside.around; before = marks_of f.outside.marks; outer = Some (what, kept) } ∷ opens (reverse fs) None hs
+    → opens (reverse fs') (Some kept) hs ≡ record { name = f.name; start = f.start; around = f.outside.around; before = marks_of f.outside.marks; outer = Some (what, kept) } ∷ opens (reverse fs) None hs
 leaf_frames what f fs fs' hs kept is_significant is =
     ap (λ (x : List Frame). opens (reverse x) (Some kept) hs) is
     ∙ ap (λ (x : List Frame). opens x (Some kept) hs) (turned fs f)
     ∙ (λ t. record {
       name = f.name;
-      start = f.start.now;
+      start = f.start;
       around = f.outside.around;
       before = marks_of f.outside.marks;
       outer = outer_of (is_significant t) f.in_table (Some kept) hs;
@@ -131,13 +131,13 @@ leaf_frames what f fs fs' hs kept is_significant is =
 -- the open spans with a container more
 container_frames : (what : ItemKind) (f : Frame) (fs fs' : List Frame) (h : OpenContainer) (hs hs' : List OpenContainer) → role_of f.name ≡ significant what → fs' ≡ fs ++ f ∷ [] → hs' ≡ h ∷ hs
     → opens (reverse fs') None hs'
-    ≡ record { name = f.name; start = f.start.now; around = f.outside.around; before = marks_of f.outside.marks; outer = Some (what, container_state_of f.in_table None h) } ∷ opens (reverse fs) None hs
+    ≡ record { name = f.name; start = f.start; around = f.outside.around; before = marks_of f.outside.marks; outer = Some (what, container_state_of f.in_table None h) } ∷ opens (reverse fs) None hs
 container_frames what f fs fs' h hs hs' is_significant is held =
     (λ t. opens (reverse (is t)) None (held t))
     ∙ (λ t. opens (turned fs f t) None (h ∷ hs))
     ∙ (λ t. record {
       name = f.name;
-      start = f.start.now;
+      start = f.start;
       around = f.outside.around;
       before = marks_of f.outside.marks;
       outer = outer_of (is_significant t) f.in_table None (h ∷ hs);
@@ -145,20 +145,20 @@ container_frames what f fs fs' h hs hs' is_significant is held =
     ∷ opens (reverse fs) (leaf_left (is_significant t) None) (containers_left (is_significant t) None (h ∷ hs)))
 
 -- a leaf begins
-pub leaf_entered : (s : Source) (name : Name) (what : ItemKind) (start : Bor Point) (old mid new : Context) (in_table : Bool) → role_of name ≡ significant what → OpenedLeaf s what start.now old mid
-    → Begun name (significant what) start true in_table mid new → in_table ≡ (mid.in_table || is_table what) → enter_as s (significant what) name start.now (state_of old) ≡ Ok (state_of new)
+pub leaf_entered : (s : Source) (name : Name) (what : ItemKind) (start : Point) (old mid new : Context) (in_table : Bool) → role_of name ≡ significant what → OpenedLeaf s what start old mid
+    → Begun name (significant what) start true in_table mid new → in_table ≡ (mid.in_table || is_table what) → enter_as s (significant what) name start (state_of old) ≡ Ok (state_of new)
 leaf_entered s name what start old mid new in_table is_significant o b is =
     let begun : Begun name (significant what) start true in_table old new = subst (λ (m : Context). Begun name (significant what) start true in_table m new) o.same b in
-    let flag : old.is_leaf ≡ false = no_leaf s what start.now (leaf_place old.in_table) (kept_top old) old.is_leaf o.taken in
+    let flag : old.is_leaf ≡ false = no_leaf s what start (leaf_place old.in_table) (kept_top old) old.is_leaf o.taken in
     let inside : in_table ≡ (old.in_table || is_table what) = is ∙ ap (λ (m : Context). m.in_table || is_table what) o.same in
     let same : in_table ≡ old.in_table = inside ∙ or_false old.in_table (is_table what) (leaf_no_table (current_model_of (innermost old.containers).container) what o.leaf_row) in
     let f : Frame = record { start = start; outside = old.interior; name = name; in_table = old.in_table } in
     let kept : ContainerState = container_state_of in_table old.pending (innermost old.containers) in
     let now_top : top_of old ≡ kept = (λ t. cond (flag t) (fresh leaf (leaf_place old.in_table)) (kept_top old)) ∙ sym (λ t. container_state_of (same t) old.pending (innermost old.containers)) in
     let spans : List OpenSpan = opens (reverse old.frames.items) None (around_innermost old.containers) in
-    significant_opened s name what start.now old (state_of new) o.taken
+    significant_opened s name what start old (state_of new) o.taken
     ((λ t. record {
-      frames = ((λ u. record { name = name; start = start.now; around = old.interior.around; before = marks_of old.interior.marks; outer = Some (what, now_top u) }
+      frames = ((λ u. record { name = name; start = start; around = old.interior.around; before = marks_of old.interior.marks; outer = Some (what, now_top u) }
           ∷ opens (reverse old.frames.items) (cond (flag u) (Some (kept_top old)) None) (around_innermost old.containers))
           ∙ sym (leaf_frames what f old.frames.items new.frames.items (around_innermost old.containers) kept is_significant begun.frames)) t;
       around = under old.interior.around (is_significant t);
@@ -207,24 +207,24 @@ nothing_waits None ending h e = refl
 nothing_waits (Some p) ending h e = let wrong : true ≡ false = sym h ∙ e in absurd cc
 
 -- a container begins
-pub container_entered : (s : Source) (name : Name) (what : ItemKind) (start : Bor Point) (old mid new : Context) (in_table : Bool) → role_of name ≡ significant what → OpenedContainer s what start.now old mid
-    → Begun name (significant what) start false in_table mid new → in_table ≡ (mid.in_table || is_table what) → enter_as s (significant what) name start.now (state_of old) ≡ Ok (state_of new)
+pub container_entered : (s : Source) (name : Name) (what : ItemKind) (start : Point) (old mid new : Context) (in_table : Bool) → role_of name ≡ significant what → OpenedContainer s what start old mid
+    → Begun name (significant what) start false in_table mid new → in_table ≡ (mid.in_table || is_table what) → enter_as s (significant what) name start (state_of old) ≡ Ok (state_of new)
 container_entered s name what start old mid new in_table is_significant o b is =
     let between : Context = record old { containers = mid.containers } in
     let begun : Begun name (significant what) start false in_table between new = subst (λ (m : Context). Begun name (significant what) start false in_table m new) o.others b in
-    let flag : old.is_leaf ≡ false = no_leaf s what start.now (leaf_place old.in_table) (kept_top old) old.is_leaf o.taken in
+    let flag : old.is_leaf ≡ false = no_leaf s what start (leaf_place old.in_table) (kept_top old) old.is_leaf o.taken in
     let inside : in_table ≡ (old.in_table || is_table what) = is ∙ ap (λ (m : Context). m.in_table || is_table what) o.others in
     let made : IsFresh (innermost mid.containers).container (model_of (current_model_of (innermost old.containers).container) what) = o.fresh_container in
-    let kept_taken : first_failing (enter_checks s (kept_top old) what start.now) ≡ None =
-    (λ t. first_failing (enter_checks s (cond (sym flag t) (fresh leaf (leaf_place old.in_table)) (kept_top old)) what start.now)) ∙ o.taken in
+    let kept_taken : first_failing (enter_checks s (kept_top old) what start) ≡ None =
+    (λ t. first_failing (enter_checks s (cond (sym flag t) (fresh leaf (leaf_place old.in_table)) (kept_top old)) what start)) ∙ o.taken in
     let no_break : old.pending ≡ None = nothing_waits old.pending (is_line_ending what) (first_passes (not (is_some old.pending) || is_line_ending what) _ UnfinishedBreak kept_taken)
     (container_no_ending (innermost mid.containers).container (current_model_of (innermost old.containers).container) what made.initial_model) in
     let f : Frame = record { start = start; outside = old.interior; name = name; in_table = old.in_table } in
     let now_top : top_of old ≡ container_state_of old.in_table None (innermost old.containers) =
     (λ t. cond (flag t) (fresh leaf (leaf_place old.in_table)) (kept_top old)) ∙ (λ t. container_state_of old.in_table (no_break t) (innermost old.containers)) in
-    significant_opened s name what start.now old (state_of new) o.taken
+    significant_opened s name what start old (state_of new) o.taken
     ((λ t. record {
-      frames = ((λ u. record { name = name; start = start.now; around = old.interior.around; before = marks_of old.interior.marks; outer = Some (what, now_top u) }
+      frames = ((λ u. record { name = name; start = start; around = old.interior.around; before = marks_of old.interior.marks; outer = Some (what, now_top u) }
           ∷ opens (reverse old.frames.items) (cond (flag u) (Some (kept_top old)) None) (around_innermost old.containers))
           ∙ sym (container_frames what f old.frames.items new.frames.items (innermost old.containers) (around_innermost old.containers) (around_innermost mid.containers) is_significant begun.frames o.outer)) t;
       around = under old.interior.around (is_significant t);
@@ -247,8 +247,8 @@ container_entered s name what start old mid new in_table is_significant o b is =
     }) ∙ sym (ap state_of begun.others))
 
 -- a leaf or a container begins
-pub significant_entered : (s : Source) (name : Name) (what : ItemKind) (start : Bor Point) (is_leaf : Bool) (old mid new : Context) (in_table : Bool) → role_of name ≡ significant what → Opened s what start.now old mid (Ok is_leaf)
-    → Begun name (significant what) start is_leaf in_table mid new → in_table ≡ (mid.in_table || is_table what) → enter_as s (significant what) name start.now (state_of old) ≡ Ok (state_of new)
+pub significant_entered : (s : Source) (name : Name) (what : ItemKind) (start : Point) (is_leaf : Bool) (old mid new : Context) (in_table : Bool) → role_of name ≡ significant what → Opened s what start old mid (Ok is_leaf)
+    → Begun name (significant what) start is_leaf in_table mid new → in_table ≡ (mid.in_table || is_table what) → enter_as s (significant what) name start (state_of old) ≡ Ok (state_of new)
 significant_entered s name what start true old mid new in_table is_significant o b is = leaf_entered s name what start old mid new in_table is_significant o b is
 significant_entered s name what start false old mid new in_table is_significant o b is = container_entered s name what start old mid new in_table is_significant o b is
 

@@ -91,7 +91,7 @@ stands_ends s o (significant what) in_table false c (h ∷ hs) Outside is at sta
 abbrev open_of : Frame → Context → OpenSpan
 open_of f c = record {
   name = f.name;
-  start = f.start.now;
+  start = f.start;
   around = f.outside.around;
   before = marks_of f.outside.marks;
   outer = outer_of (role_of f.name) f.in_table (leaf_container c) (around_innermost c.containers);
@@ -175,9 +175,9 @@ no_break (Some here) h = let z : ⊥ = cc in absurd z
 
 -- it goes into the container around it
 container_leaves : (s : Source) (what : ItemKind) (f : Frame) (end : Point) (c : Context) (outer : OpenContainer) (others : List OpenContainer) → c.is_leaf ≡ false → around_innermost c.containers ≡ outer ∷ others
-    → left_to s (significant what) f end c ≡ leave s what f.start.now end (child_facts (marks_of c.interior.marks) (columns_of c.columns)) (kept_top c) (container_state_of f.in_table None outer)
+    → left_to s (significant what) f end c ≡ leave s what f.start end (child_facts (marks_of c.interior.marks) (columns_of c.columns)) (kept_top c) (container_state_of f.in_table None outer)
 container_leaves s what f end c outer others grows at =
-    λ t. leave_to s f.start.now end (child_facts (marks_of c.interior.marks) (columns_of c.columns)) (cond (grows t) (fresh leaf (leaf_place c.in_table)) (kept_top c))
+    λ t. leave_to s f.start end (child_facts (marks_of c.interior.marks) (columns_of c.columns)) (cond (grows t) (fresh leaf (leaf_place c.in_table)) (kept_top c))
     (outer_of (significant what) f.in_table (cond (grows t) (Some (kept_top c)) None) (at t))
 
 -- where a break waits for its line ending
@@ -187,24 +187,24 @@ container_waits s what f end c grows h waits =
     let children : ChildFacts = child_facts (marks_of c.interior.marks) (columns_of c.columns) in
     let own : ContainerState = kept_top c in
     let top : ContainerState = container_state_of f.in_table None h.outer in
-    let out : Result ContainerState ErrorAt = Ok (with_child s top what f.start.now end children own.inner) in
+    let out : Result ContainerState ErrorAt = Ok (with_child s top what f.start end children own.inner) in
     container_leaves s what f end c h.outer h.others grows h.stack
-    ∙ (λ t. cond (not (waits t)) (checked ((all_stood own.initial_model own.inner, missing_error own.initial_model) ∷ (is_read s top.model top.place top.after_break what f.start.now end, value_error s what f.start.now end) ∷ []) end out) (refused UnfinishedBreak end))
+    ∙ (λ t. cond (not (waits t)) (checked ((all_stood own.initial_model own.inner, missing_error own.initial_model) ∷ (is_read s top.model top.place top.after_break what f.start end, value_error s what f.start end) ∷ []) end out) (refused UnfinishedBreak end))
 
 -- where none does
 pub container_left : (s : Source) (what : ItemKind) (f : Frame) (end : Point) (c : Context) (outer : OpenContainer) (others : List OpenContainer) → c.is_leaf ≡ false → around_innermost c.containers ≡ outer ∷ others → is_some c.pending ≡ false
-    → left_to s (significant what) f end c ≡ leave s what f.start.now end (child_facts (marks_of c.interior.marks) (columns_of c.columns)) (container_state_of c.in_table None (innermost c.containers)) (container_state_of f.in_table None outer)
+    → left_to s (significant what) f end c ≡ leave s what f.start end (child_facts (marks_of c.interior.marks) (columns_of c.columns)) (container_state_of c.in_table None (innermost c.containers)) (container_state_of f.in_table None outer)
 container_left s what f end c outer others grows at none =
     container_leaves s what f end c outer others grows at
-    ∙ (λ t. leave s what f.start.now end (child_facts (marks_of c.interior.marks) (columns_of c.columns)) (container_state_of c.in_table (no_break c.pending none t) (innermost c.containers)) (container_state_of f.in_table None outer))
+    ∙ (λ t. leave s what f.start end (child_facts (marks_of c.interior.marks) (columns_of c.columns)) (container_state_of c.in_table (no_break c.pending none t) (innermost c.containers)) (container_state_of f.in_table None outer))
 
 -- where it is on top then
 pub container_gives : (s : Source) (what : ItemKind) (f : Frame) (end : Point) (old new : Context) (outer : OpenContainer) (others : List OpenContainer) (result : Result (Unit {0}) Stop) → old.is_leaf ≡ false → around_innermost old.containers ≡ outer ∷ others
     → is_some old.pending ≡ false → new.is_leaf ≡ old.is_leaf → new.pending ≡ old.pending → new.in_table ≡ f.in_table
-    → Gives {X = Unit {0}} {Y = ContainerState} (λ x. container_state_of f.in_table None (innermost new.containers)) end result (leave s what f.start.now end (child_facts (marks_of old.interior.marks) (columns_of old.columns)) (container_state_of old.in_table None (innermost old.containers)) (container_state_of f.in_table None outer))
+    → Gives {X = Unit {0}} {Y = ContainerState} (λ x. container_state_of f.in_table None (innermost new.containers)) end result (leave s what f.start end (child_facts (marks_of old.interior.marks) (columns_of old.columns)) (container_state_of old.in_table None (innermost old.containers)) (container_state_of f.in_table None outer))
     → Gives {X = Unit {0}} {Y = ContainerState} (λ x. top_of new) end result (left_to s (significant what) f end old)
 container_gives s what f end old new outer others result grows at none same_leaf same_break same_table given =
-    let after : Result ContainerState ErrorAt = leave s what f.start.now end (child_facts (marks_of old.interior.marks) (columns_of old.columns)) (container_state_of old.in_table None (innermost old.containers)) (container_state_of f.in_table None outer) in
+    let after : Result ContainerState ErrorAt = leave s what f.start end (child_facts (marks_of old.interior.marks) (columns_of old.columns)) (container_state_of old.in_table None (innermost old.containers)) (container_state_of f.in_table None outer) in
     let tops : top_of new ≡ container_state_of f.in_table None (innermost new.containers) =
     (λ t. cond ((same_leaf ∙ grows) t) (fresh leaf (leaf_place new.in_table)) (kept_top new)) ∙ (λ t. container_state_of (same_table t) ((same_break ∙ no_break old.pending none) t) (innermost new.containers)) in
     gives_same (λ x. top_of new) end result after (left_to s (significant what) f end old) (container_left s what f end old outer others grows at none)
@@ -214,15 +214,15 @@ container_gives s what f end old new outer others result grows at none same_leaf
 pub closed_gives : (s : Source) (what : ItemKind) (f : Frame) (end : Point) (old new : Context) (rest : Nest OpenContainer) (own lent taken : OpenContainer) (result : Result (Unit {0}) Stop)
     → old.is_leaf ≡ false → is_some old.pending ≡ false → IsPut own rest old.containers → lent ≡ innermost rest
     → new.is_leaf ≡ old.is_leaf → new.pending ≡ old.pending → new.in_table ≡ f.in_table → new.containers ≡ with_innermost rest taken
-    → Gives {X = Unit {0}} {Y = ContainerState} (λ x. container_state_of f.in_table None taken) end result (leave s what f.start.now end (child_facts (marks_of old.interior.marks) (columns_of old.columns)) (container_state_of old.in_table None own) (container_state_of f.in_table None lent))
+    → Gives {X = Unit {0}} {Y = ContainerState} (λ x. container_state_of f.in_table None taken) end result (leave s what f.start end (child_facts (marks_of old.interior.marks) (columns_of old.columns)) (container_state_of old.in_table None own) (container_state_of f.in_table None lent))
     → Gives {X = Unit {0}} {Y = ContainerState} (λ x. top_of new) end result (left_to s (significant what) f end old)
 closed_gives s what f end old new rest own lent taken result grows none put is_lent same_leaf same_break same_table written given =
     let top : innermost new.containers ≡ taken = ap (λ (n : Nest OpenContainer). innermost n) written ∙ written_innermost rest taken in
     let children : ChildFacts = child_facts (marks_of old.interior.marks) (columns_of old.columns) in
     container_gives s what f end old new (innermost rest) (around_innermost rest) result grows (put_around rest old.containers own put) none same_leaf same_break same_table
     (gives_same (λ x. container_state_of f.in_table None (innermost new.containers)) end result _ _
-    (λ t. leave s what f.start.now end children (container_state_of old.in_table None (put_innermost rest old.containers own put t)) (container_state_of f.in_table None (sym is_lent t)))
-    (subst (λ (h : OpenContainer). Gives {X = Unit {0}} {Y = ContainerState} (λ x. container_state_of f.in_table None h) end result (leave s what f.start.now end children (container_state_of old.in_table None own) (container_state_of f.in_table None lent))) (sym top) given))
+    (λ t. leave s what f.start end children (container_state_of old.in_table None (put_innermost rest old.containers own put t)) (container_state_of f.in_table None (sym is_lent t)))
+    (subst (λ (h : OpenContainer). Gives {X = Unit {0}} {Y = ContainerState} (λ x. container_state_of f.in_table None h) end result (leave s what f.start end children (container_state_of old.in_table None own) (container_state_of f.in_table None lent))) (sym top) given))
 
 -- what is taken out is the container that ends, and what it is lent to is the one around it
 pub closed_own : (what : ItemKind) (c : Context) (rest : Nest OpenContainer) (own lent : OpenContainer) (ends : ContainerEnds what c)
@@ -252,17 +252,17 @@ closed_so what old new rest own taken grows put same_frames same_marks same_leaf
 -- the innermost container has taken it
 pub leaf_gives : (s : Source) (what : ItemKind) (f : Frame) (end : Point) (old new : Context) (lent taken : OpenContainer) (result : Result (Unit {0}) Stop)
     → old.is_leaf ≡ true → lent ≡ innermost old.containers → new.is_leaf ≡ false → new.in_table ≡ old.in_table → new.containers ≡ with_innermost old.containers taken
-    → Gives {X = Unit {0}} {Y = ContainerState} (λ x. container_state_of old.in_table new.pending taken) end result (leave s what f.start.now end (child_facts (marks_of old.interior.marks) (columns_of old.columns)) (fresh leaf (leaf_place old.in_table)) (container_state_of old.in_table old.pending lent))
+    → Gives {X = Unit {0}} {Y = ContainerState} (λ x. container_state_of old.in_table new.pending taken) end result (leave s what f.start end (child_facts (marks_of old.interior.marks) (columns_of old.columns)) (fresh leaf (leaf_place old.in_table)) (container_state_of old.in_table old.pending lent))
     → Gives {X = Unit {0}} {Y = ContainerState} (λ x. top_of new) end result (left_to s (significant what) f end old)
 leaf_gives s what f end old new lent taken result is_leaf is_lent grows same_table written given =
     let children : ChildFacts = child_facts (marks_of old.interior.marks) (columns_of old.columns) in
-    let after : Result ContainerState ErrorAt = leave s what f.start.now end children (fresh leaf (leaf_place old.in_table)) (container_state_of old.in_table old.pending lent) in
+    let after : Result ContainerState ErrorAt = leave s what f.start end children (fresh leaf (leaf_place old.in_table)) (container_state_of old.in_table old.pending lent) in
     let top : innermost new.containers ≡ taken = ap (λ (n : Nest OpenContainer). innermost n) written ∙ written_innermost old.containers taken in
     let tops : top_of new ≡ container_state_of old.in_table new.pending taken =
     (λ t. cond (grows t) (fresh leaf (leaf_place new.in_table)) (kept_top new)) ∙ (λ t. container_state_of (same_table t) new.pending (top t)) in
     gives_same (λ x. top_of new) end result after (left_to s (significant what) f end old)
-    ((λ t. leave_to s f.start.now end children (cond (is_leaf t) (fresh leaf (leaf_place old.in_table)) (kept_top old)) (outer_of (significant what) f.in_table (cond (is_leaf t) (Some (kept_top old)) None) (around_innermost old.containers)))
-    ∙ (λ t. leave s what f.start.now end children (fresh leaf (leaf_place old.in_table)) (container_state_of old.in_table old.pending (sym is_lent t))))
+    ((λ t. leave_to s f.start end children (cond (is_leaf t) (fresh leaf (leaf_place old.in_table)) (kept_top old)) (outer_of (significant what) f.in_table (cond (is_leaf t) (Some (kept_top old)) None) (around_innermost old.containers)))
+    ∙ (λ t. leave s what f.start end children (fresh leaf (leaf_place old.in_table)) (container_state_of old.in_table old.pending (sym is_lent t))))
     (subst (λ (h : ContainerState). Gives {X = Unit {0}} {Y = ContainerState} (λ x. h) end result after) (sym tops) given)
 
 -- the context after it
@@ -291,12 +291,12 @@ pub parent_taken : (s : Source) (c : Content) (f : Frame) (end : Point) (old new
     → old.is_leaf ≡ false → is_some old.pending ≡ false → (innermost old.containers).container ≡ containers.AnyContent
     → IsPut own rest old.containers → lent ≡ innermost rest
     → new.is_leaf ≡ old.is_leaf → new.pending ≡ old.pending → new.in_table ≡ f.in_table → new.containers ≡ with_innermost rest taken
-    → TakesParent c f.start.now end own.nodes lent taken → left_to s (significant (content c)) f end old ≡ Ok (top_of new)
+    → TakesParent c f.start end own.nodes lent taken → left_to s (significant (content c)) f end old ≡ Ok (top_of new)
 parent_taken s c f end old new rest own lent taken grows none any put is_lent same_leaf same_break same_table written takes =
     let children : ChildFacts = child_facts (marks_of old.interior.marks) (columns_of old.columns) in
     let is : own.container ≡ containers.AnyContent = ap (λ (h : OpenContainer). h.container) (sym (put_innermost rest old.containers own put)) ∙ any in
     closed_gives s (content c) f end old new rest own lent taken (Ok tt) grows none put is_lent same_leaf same_break same_table written
-    ((λ t. leave s (content c) f.start.now end children (container_state_of old.in_table None (record own { container = is t })) (container_state_of f.in_table None lent))
+    ((λ t. leave s (content c) f.start end children (container_state_of old.in_table None (record own { container = is t })) (container_state_of f.in_table None lent))
     ∙ takes s f.in_table old.in_table own.line_endings children)
 
 -- ---- Rows

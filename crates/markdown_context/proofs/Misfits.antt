@@ -2,17 +2,15 @@
 use Rattle.std.proofs.Common.{◌≡◌, Bool, true, false, ◌||◌, ◌&&◌, not, is_some, List, [], ◌∷◌, Option, None, Some, refl, sym, ap, ◌∙◌, cond}
 use Rattle.std.specs.Option.{option_or}
 use Rattle.markdown_events.specs.declared.role.ItemKind.{ItemKind}
-use Rattle.markdown_events.specs.declared.role.Part.{Part}
 use Rattle.markdown_containers.specs.declared.container.Container.{Container}
 use Rattle.markdown_grammar.specs.declared.error_kind.ErrorKind.{ErrorKind}
-use Rattle.markdown_steps.specs.Compiler.{allows, enter_checks, fresh, has_one_of, rule_checks}
+use Rattle.markdown_steps.specs.Compiler.{allows, enter_checks, fresh, rule_checks}
 use Rattle.markdown_grammar.specs.Refusals.{rule_error}
 use Rattle.markdown_grammar.specs.Grammar.{rules}
-use Rattle.markdown_steps.specs.Compiler.{has_stood}
 use Rattle.markdown_grammar.specs.Grammar.{ContentModel, leaf}
 use Rattle.markdown_containers.specs.Containers.{misfit_of, part_of, initial_model_of}
 use Rattle.markdown_builder.specs.PartsSoFar.{empty_but, first_failing}
-use Rattle.markdown_grammar.specs.Items.{is_frontmatter, is_line_ending, is_one_of, is_table}
+use Rattle.markdown_grammar.specs.Items.{is_frontmatter, is_line_ending, is_table}
 use Rattle.markdown_events.specs.declared.event.Point.{Point}
 use Rattle.markdown_context.specs.declared.context.Context.{Context}
 use Rattle.markdown_grammar.specs.declared.error_kind.ErrorKind.TheVariants.{InvalidSlice, Misplaced, UnfinishedBreak}
@@ -22,21 +20,9 @@ use Rattle.nest.specs.Nest.{innermost}
 use Rattle.markdown_context.specs.States.{kept_top, leaf_place, top_of}
 use Rattle.markdown_steps.specs.Summaries.{Summary}
 use Rattle.markdown_steps.specs.Checks.{passes}
-use Rattle.markdown_grammar.specs.Grammar.{Rule, none_of, at_most_one, only, only_before, only_after}
+use Rattle.markdown_grammar.specs.Grammar.{Rule}
 
--- a rule looks at nothing but the parts
-has_same : (ps : List Part) (i : Summary) → has_one_of ps i ≡ has_one_of ps (empty_but i.part)
-has_same [] i = refl
-has_same (p ∷ ps) i = ap (λ (b : Bool). has_stood p i || b) (has_same ps i)
-
-allows_same : (rule : Rule) (i : Summary) (what : ItemKind) → allows rule i what ≡ allows rule (empty_but i.part) what
-allows_same (only test) i what = refl
-allows_same (at_most_one ps) i what = ap (λ (b : Bool). not (is_one_of ps what) || not b) (has_same ps i)
-allows_same (none_of ps) i what = refl
-allows_same (only_after ps test) i what = ap (λ (b : Bool). not b || test what) (has_same ps i)
-allows_same (only_before ps test) i what = ap (λ (b : Bool). b || (is_one_of ps what || test what)) (has_same ps i)
-
--- the tests after those of the rules come after them
+-- the tests after those of the rules come after them, and a rule looks at nothing but the parts
 or_after : (b : Bool) (why : ErrorKind) (x y z : Option ErrorKind) → x ≡ option_or y z → cond b x (Some why) ≡ option_or (cond b y (Some why)) z
 or_after true why x y z h = h
 or_after false why x y z h = refl
@@ -45,8 +31,7 @@ rules_first : (h : ContentModel) (rs : List Rule) (i : Summary) (what : ItemKind
     → first_failing (rule_checks h rs i what others) ≡ option_or (first_failing (rule_checks h rs (empty_but i.part) what [])) (first_failing others)
 rules_first h [] i what others = refl
 rules_first h (rule ∷ rs) i what others =
-    ap (λ (b : Bool). cond b (first_failing (rule_checks h rs i what others)) (Some (rule_error h rule))) (allows_same rule i what)
-    ∙ or_after (allows rule (empty_but i.part) what) (rule_error h rule) (first_failing (rule_checks h rs i what others)) (first_failing (rule_checks h rs (empty_but i.part) what [])) (first_failing others)
+    or_after (allows rule i what) (rule_error h rule) (first_failing (rule_checks h rs i what others)) (first_failing (rule_checks h rs (empty_but i.part) what [])) (first_failing others)
     (rules_first h rs i what others)
 
 -- the first misfit of a container, and else the first test after it

@@ -1,6 +1,5 @@
 -- What the program's values are to the steps of a compilation.
 use Rattle.std.specs.Prelude.{◌≡◌, ◌||◌, is_some, not, ℕ, Bool, true, false, Option, Some, None, Result, Ok, Err, List, [], ◌∷◌, ◌++◌, cond, reverse}
-use Rattle.std.specs.Borrow.{Bor}
 use Rattle.markdown_events.specs.Names.{role_of}
 use Rattle.markdown_events.specs.declared.role.Content.{Content}
 use Rattle.markdown_events.specs.declared.role.ItemKind.{ItemKind}
@@ -71,7 +70,7 @@ abbrev pub opens : List Frame → Option ContainerState → List OpenContainer �
 opens [] held hs = []
 opens (f ∷ fs) held hs = record {
   name = f.name;
-  start = f.start.now;
+  start = f.start;
   around = f.outside.around;
   before = marks_of f.outside.marks;
   outer = outer_of (role_of f.name) f.in_table held hs;
@@ -134,7 +133,7 @@ Opened s what point old new (Err (stops.Refused why)) = first_failing (enter_che
 Opened s what point old new (Err (stops.Memory error)) = Unit {0}
 
 -- a span is on the stack: what was around it stays there, and what is in it begins
-pub record Begun (name : Name) (role : Role) (start : Bor Point) (is_leaf in_table : Bool) (old new : Context) : Type 0 where
+pub record Begun (name : Name) (role : Role) (start : Point) (is_leaf in_table : Bool) (old new : Context) : Type 0 where
   pub frames : new.frames.items ≡ old.frames.items ++ record { start = start; outside = old.interior; name = name; in_table = old.in_table } ∷ []
   pub marks : marks_of new.interior.marks ≡ no_marks
   pub columns : columns_of new.columns ≡ columns_entered old.in_table role (columns_of old.columns)
@@ -168,7 +167,7 @@ Ends role c = EndsAs c.is_leaf role c
 
 -- what the innermost span belongs to, and what is made of that at its end
 abbrev pub left_to : Source → Role → Frame → Point → Context → Result ContainerState ErrorAt
-left_to s role f end c = leave_to s f.start.now end (child_facts (marks_of c.interior.marks) (columns_of c.columns)) (top_of c) (outer_of role f.in_table (leaf_container c) (around_innermost c.containers))
+left_to s role f end c = leave_to s f.start end (child_facts (marks_of c.interior.marks) (columns_of c.columns)) (top_of c) (outer_of role f.in_table (leaf_container c) (around_innermost c.containers))
 
 -- the same of a significant span
 abbrev pub item_left : Source → ItemKind → Frame → Point → Context → Result ContainerState ErrorAt

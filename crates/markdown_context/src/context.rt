@@ -13,7 +13,7 @@ ghost use Rattle.markdown_containers.specs.Containers.{misfit_of};
 ghost use Rattle.nest.specs.Nest.{innermost};
 ghost use Rattle.markdown_grammar.specs.Items as Kinds;
 ghost use Rattle.markdown_grammar.specs.Document as Documents;
-ghost use Rattle.markdown_grammar.specs.Document.{Source, source};
+ghost use Rattle.markdown_grammar.specs.Document.{Source, given_of, source_of};
 ghost use Rattle.markdown_context.specs.States.{
   Begun,
   Closed,
@@ -36,12 +36,11 @@ ghost use Rattle.markdown_steps.specs.Well.{Well, is_transparent};
 use character_references::references::References;
 use markdown_blocks::parent::is_parent;
 use markdown_blocks::table::Columns;
+use markdown_builder::items::{has_line_endings, is_frontmatter, is_line_ending, is_table};
 use markdown_builder::marks::Marks;
 use markdown_builder::slice::{Document, byte_at};
 use markdown_containers::container::Container;
-use markdown_containers::open_container::{
-    Ending, OpenContainer, has_line_endings, innermost_nodes,
-};
+use markdown_containers::open_container::{Ending, OpenContainer, innermost_nodes};
 use markdown_grammar::error_kind::{ErrorKind, Stop};
 use markdown_nodes::around::Around;
 use markdown_nodes::event::{Event, Kind, Name, Point};
@@ -63,9 +62,9 @@ pub struct Interior {
 
 /// An open span, with what was around it at its enter.
 #[derive(Clone, Copy)]
-pub struct Frame<'e> {
-    /// Where it begins: the point of its enter, which stays in the list of events.
-    pub start: &'e Point,
+pub struct Frame {
+    /// Where it begins: the point of its enter.
+    pub start: Point,
     /// What it found in the span around it.
     pub outside: Interior,
     pub name: Name,
@@ -75,8 +74,8 @@ pub struct Frame<'e> {
 
 /// The open spans, with the open containers.
 #[derive(Drop)]
-pub struct Context<'a, 'e> {
-    pub frames: Vec<Frame<'e>>,
+pub struct Context<'a> {
+    pub frames: Vec<Frame>,
     /// The open containers, the root first.
     pub containers: Nest<OpenContainer<'a>>,
     pub interior: Interior,
@@ -89,31 +88,17 @@ pub struct Context<'a, 'e> {
     pub pending: Option<Position>,
 }
 
-/// Whether a span is a line ending.
-fn is_line_ending(what: ItemKind) -> bool
-    ensures { result ≡ Kinds.is_line_ending what }
-{
-    matches!(what, ItemKind::Content(Content::LineEnding))
-}
-
-/// Whether a span is a table.
-fn is_table(what: ItemKind) -> bool
-    ensures { result ≡ Kinds.is_table what }
-{
-    matches!(what, ItemKind::Content(Content::Table))
-}
-
 /// Whether a span is frontmatter, and no byte of the document stands where it begins.
 #[inline(always)]
 fn lacks_first_byte(document: &Document<'_>, what: ItemKind, point: &Point) -> bool
-    ensures { result ≡ (Kinds.is_frontmatter what && not (is_some (Documents.byte_at document.now point.now))) }
+    ensures { result ≡ (Kinds.is_frontmatter what && not (is_some (Documents.byte_at document.now.bytes point.now))) }
 {
-    matches!(what, ItemKind::Content(Content::Frontmatter)) && byte_at(document, *point).is_none()
+    is_frontmatter(what) && byte_at(document, *point).is_none()
 }
 
-impl<'a, 'e> Context<'a, 'e> {
+impl<'a> Context<'a> {
     /// Before the first event.
-    pub fn new(alloc: Global) -> Context<'a, 'e>
+    pub fn new(alloc: Global) -> Context<'a>
         ensures { state_of result ≡ opening }
     {
         Context {
@@ -168,7 +153,7 @@ impl<'a, 'e> Context<'a, 'e> {
 
     /// The rule that a significant span violates by beginning here, or `None`.
     fn misfit(&self, document: &Document<'_>, what: ItemKind, point: &Point) -> Option<ErrorKind>
-        ensures { (s : Source) → s.bytes ≡ document.now
+        ensures { (s : Source) → given_of s ≡ document.now
             → result ≡ first_failing (enter_checks s (state_of self.now).top what point.now) }
     {
         if self.is_leaf {
@@ -197,7 +182,7 @@ impl<'a, 'e> Context<'a, 'e> {
         what: ItemKind,
         point: &Point,
     ) -> Result<bool, Stop>
-        ensures { (s : Source) → s.bytes ≡ document.now → Opened s what point.now self.old self.new result }
+        ensures { (s : Source) → given_of s ≡ document.now → Opened s what point.now self.old self.new result }
     {
         if let Some(error_kind) = self.misfit(document, what, point) {
             return Err(Stop::Refused(error_kind));
@@ -222,11 +207,11 @@ impl<'a, 'e> Context<'a, 'e> {
         steps: &mut Steps<'_>,
         document: &Document<'a>,
         references: &R,
-        event: &'e Event,
+        event: &Event,
     ) -> Result<(), Stop>
-        requires { Well (source document.now (R.text references.now)) (state_of self.old) }
+        requires { Well (source_of document.now (R.text references.now)) (state_of self.old) }
         ensures gives { Reaches self.new event.now.point result
-            (Compiler.step (source document.now (R.text references.now)) event.now (state_of self.old)) }
+            (Compiler.step (source_of document.now (R.text references.now)) event.now (state_of self.old)) }
         ensures list { steps.new.events ≡ steps.old.events }
         ensures bound { steps.new.count ≤ steps.old.count + step_visits event.now (state_of self.old) + 1 }
     {
@@ -265,9 +250,9 @@ impl<'a, 'e> Context<'a, 'e> {
         alloc: Global,
         document: &Document<'_>,
         name: Name,
-        point: &'e Point,
+        point: &Point,
     ) -> Result<(), Stop>
-        ensures { (s : Source) → s.bytes ≡ document.now
+        ensures { (s : Source) → given_of s ≡ document.now
             → Reaches self.new point.now result (enter_step s name point.now (state_of self.old)) }
     {
         let role = name.role();
@@ -286,7 +271,7 @@ impl<'a, 'e> Context<'a, 'e> {
         alloc: Global,
         name: Name,
         role: Role,
-        point: &'e Point,
+        point: &Point,
     ) -> Result<(), Stop>
         requires role { role ≡ role_of name }
         requires transparent { is_transparent role ≡ true }
@@ -303,10 +288,10 @@ impl<'a, 'e> Context<'a, 'e> {
         document: &Document<'_>,
         name: Name,
         what: ItemKind,
-        point: &'e Point,
+        point: &Point,
     ) -> Result<(), Stop>
         requires { role_of name ≡ roles.Significant what }
-        ensures { (s : Source) → s.bytes ≡ document.now → Reaches self.new point.now result
+        ensures { (s : Source) → given_of s ≡ document.now → Reaches self.new point.now result
             (enter_as s (roles.Significant what) name point.now (state_of self.old)) }
     {
         let is_leaf = self.open(alloc, document, what, point)?;
@@ -329,14 +314,14 @@ impl<'a, 'e> Context<'a, 'e> {
         alloc: Global,
         name: Name,
         role: Role,
-        point: &'e Point,
+        point: &Point,
         is_leaf: bool,
         in_table: bool,
     ) -> Result<(), AllocError>
-        ensures { OnOk result (Begun name role point.entry is_leaf in_table self.old self.new) }
+        ensures { OnOk result (Begun name role point.now is_leaf in_table self.old self.new) }
     {
         self.frames.push(Frame {
-            start: point,
+            start: *point,
             outside: self.interior,
             name,
             in_table: self.in_table,
@@ -361,9 +346,9 @@ impl<'a, 'e> Context<'a, 'e> {
         name: Name,
         point: &Point,
     ) -> Result<(), Stop>
-        requires { Well (source document.now (R.text references.now)) (state_of self.old) }
+        requires { Well (source_of document.now (R.text references.now)) (state_of self.old) }
         ensures gives { Reaches self.new point.now result
-            (exit_step (source document.now (R.text references.now)) name point.now (state_of self.old)) }
+            (exit_step (source_of document.now (R.text references.now)) name point.now (state_of self.old)) }
         ensures list { steps.new.events ≡ steps.old.events }
         ensures bound { steps.new.count ≤ steps.old.count + exit_visits name (state_of self.old).frames (top_of self.old).inner + 1 }
     {
@@ -390,15 +375,15 @@ impl<'a, 'e> Context<'a, 'e> {
         document: &Document<'a>,
         references: &R,
         role: Role,
-        frame: Frame<'e>,
+        frame: Frame,
         end: &Point,
     ) -> Result<(), Stop>
         requires { Ends role self.old }
         ensures gives { ReachesTop self.new end.now result
-            (left_to (source document.now (R.text references.now)) role frame.entry end.now self.old) }
+            (left_to (source_of document.now (R.text references.now)) role frame end.now self.old) }
         ensures closed { OnOk result (Closed role self.old self.new) }
         ensures list { steps.new.events ≡ steps.old.events }
-        ensures bound { steps.new.count ≤ steps.old.count + left_visits role frame.entry self.old + 1 }
+        ensures bound { steps.new.count ≤ steps.old.count + left_visits role frame self.old + 1 }
     {
         match role {
             Role::Transparent(kind) => Ok(self.columns.exit(kind, self.interior.marks)?),
@@ -418,17 +403,17 @@ impl<'a, 'e> Context<'a, 'e> {
         document: &Document<'a>,
         references: &R,
         what: ItemKind,
-        frame: Frame<'e>,
+        frame: Frame,
         end: &Point,
     ) -> Result<(), Stop>
         requires open { self.old.is_leaf ≡ true }
         requires ends { LeafEnds what self.old }
         ensures gives { ReachesTop self.new end.now result
-            (item_left (source document.now (R.text references.now)) what frame.entry end.now self.old) }
+            (item_left (source_of document.now (R.text references.now)) what frame end.now self.old) }
         ensures closed { OnOk result (Closed (roles.Significant what) self.old self.new) }
     {
         let ending = Ending {
-            start: *frame.start,
+            start: frame.start,
             end: *end,
             in_table: self.in_table,
             marks: self.interior.marks,
@@ -452,16 +437,16 @@ impl<'a, 'e> Context<'a, 'e> {
         steps: &mut Steps<'_>,
         document: &Document<'a>,
         what: ItemKind,
-        frame: Frame<'e>,
+        frame: Frame,
         end: &Point,
     ) -> Result<(), Stop>
         requires open { self.old.is_leaf ≡ false }
         requires ends { ContainerEnds what self.old }
-        ensures gives { (s : Source) → s.bytes ≡ document.now → ReachesTop self.new end.now result
-            (item_left s what frame.entry end.now self.old) }
+        ensures gives { (s : Source) → given_of s ≡ document.now → ReachesTop self.new end.now result
+            (item_left s what frame end.now self.old) }
         ensures closed { OnOk result (Closed (roles.Significant what) self.old self.new) }
         ensures list { steps.new.events ≡ steps.old.events }
-        ensures bound { steps.new.count ≤ steps.old.count + left_visits (roles.Significant what) frame.entry self.old + 1 }
+        ensures bound { steps.new.count ≤ steps.old.count + left_visits (roles.Significant what) frame self.old + 1 }
     {
         if self.pending.is_some() {
             return Err(Stop::Refused(ErrorKind::UnfinishedBreak));
@@ -479,7 +464,7 @@ impl<'a, 'e> Context<'a, 'e> {
     fn leave_parent(
         &mut self,
         content: Content,
-        frame: Frame<'e>,
+        frame: Frame,
         end: &Point,
     ) -> Result<(), AllocError>
         requires open { self.old.is_leaf ≡ false }
@@ -488,7 +473,7 @@ impl<'a, 'e> Context<'a, 'e> {
         requires such { is_parent content ≡ true }
         requires container { (innermost self.old.containers).container ≡ containers.AnyContent }
         ensures gives { OnOk result ((s : Source) →
-            item_left s (item_kinds.Content content) frame.entry end.now self.old ≡ Ok (top_of self.new)) }
+            item_left s (item_kinds.Content content) frame end.now self.old ≡ Ok (top_of self.new)) }
         ensures closed { OnOk result (Closed (roles.Significant (item_kinds.Content content)) self.old self.new) }
     {
         let Some(own) = self.containers.inner.pop() else {
@@ -498,7 +483,7 @@ impl<'a, 'e> Context<'a, 'e> {
         self.in_table = frame.in_table;
         self.containers
             .innermost_mut()
-            .take_parent(content, nodes, *frame.start, *end)
+            .take_parent(content, nodes, frame.start, *end)
     }
 
     /// Closes any other container. It stays out of the loop over the events, which is quicker without it.
@@ -509,21 +494,21 @@ impl<'a, 'e> Context<'a, 'e> {
         steps: &mut Steps<'_>,
         document: &Document<'a>,
         what: ItemKind,
-        frame: Frame<'e>,
+        frame: Frame,
         end: &Point,
     ) -> Result<(), Stop>
         requires open { self.old.is_leaf ≡ false }
         requires ends { ContainerEnds what self.old }
         requires settled { is_some self.old.pending ≡ false }
         requires no_parent { IsNoParent what (innermost self.old.containers).container }
-        ensures gives { (s : Source) → s.bytes ≡ document.now → ReachesTop self.new end.now result
-            (item_left s what frame.entry end.now self.old) }
+        ensures gives { (s : Source) → given_of s ≡ document.now → ReachesTop self.new end.now result
+            (item_left s what frame end.now self.old) }
         ensures closed { OnOk result (Closed (roles.Significant what) self.old self.new) }
         ensures list { steps.new.events ≡ steps.old.events }
-        ensures bound { steps.new.count ≤ steps.old.count + left_visits (roles.Significant what) frame.entry self.old + 1 }
+        ensures bound { steps.new.count ≤ steps.old.count + left_visits (roles.Significant what) frame self.old + 1 }
     {
         let ending = Ending {
-            start: *frame.start,
+            start: frame.start,
             end: *end,
             in_table: frame.in_table,
             marks: self.interior.marks,

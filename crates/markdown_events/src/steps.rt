@@ -1,6 +1,6 @@
 //! A reader of a list of events that counts what `compile` does, for its contract.
 
-ghost use Rattle.std.specs.Prelude.{◌≡◌, ◌+◌, ◌^◌, ◌<◌, slice_get, IfSome, option_map};
+ghost use Rattle.std.specs.Prelude.{◌≡◌, ◌+◌, ◌^◌, ◌<◌, slice_get, IfSome};
 ghost use Rattle.markdown_events.specs.Steps.{steps_of};
 
 use crate::count::Count;
@@ -58,14 +58,14 @@ impl<'a> Steps<'a> {
     ///
     /// `Steps::new(&events).read(0)` is the first event.
     #[inline]
-    pub fn read(&mut self, index: usize) -> Option<&'a Event>
+    pub fn read(&mut self, index: usize) -> Option<Event>
         ensures list { self.new.events ≡ self.old.events }
         ensures within { IfSome result (λ _. index + 1 < 2 ^ 64) }
-        ensures event { option_map (λ event. event.now) result ≡ slice_get self.old.events index }
+        ensures event { result ≡ slice_get self.old.events index }
         ensures count { self.new.count ≡ self.old.count + steps_of result }
     {
         let event = self.events.get(index)?;
         self.tick();
-        Some(event)
+        Some(*event)
     }
 }

@@ -4,15 +4,36 @@ use Rattle.markdown_events.specs.Slices.{edge, slice}
 use Rattle.markdown_events.specs.declared.event.Point.{Point}
 use Rattle.std.specs.Str.{all_ascii_digits}
 use Rattle.std.specs.Str.Parse.{digits_value}
+use Rattle.markdown_grammar.specs.Whole.{whole}
+use Rattle.markdown_grammar.specs.declared.values.Values.{Values}
+use Rattle.markdown_grammar.specs.declared.values.Values.TheVariants.{AsInDocument, Whole}
 
--- the bytes of the document, and the text that a character reference's value and marker stand for
+-- the bytes of a document, and how values are read of them
+pub record Given : Type 0 where
+  pub bytes : List ℕ
+  pub values : Values
+
+-- the same, and the text that a character reference's value and marker stand for
 pub record Source : Type 0 where
   pub bytes : List ℕ
+  pub values : Values
   pub text : List ℕ → ℕ → Option (List ℕ)
 
 -- a document, and what a decoder says of references
+abbrev pub source_of : Given → (List ℕ → ℕ → Option (List ℕ)) → Source
+source_of given text = record { bytes = given.bytes; values = given.values; text = text }
+
+-- the document without the decoder
+abbrev pub given_of : Source → Given
+given_of s = record { bytes = s.bytes; values = s.values }
+
+-- the same of bytes of which values are read so
+abbrev pub source_with : Values → List ℕ → (List ℕ → ℕ → Option (List ℕ)) → Source
+source_with values bytes text = source_of (record { bytes = bytes; values = values }) text
+
+-- the same where they are read as they stand in the document
 abbrev pub source : List ℕ → (List ℕ → ℕ → Option (List ℕ)) → Source
-source bytes text = record { bytes = bytes; text = text }
+source bytes text = source_with AsInDocument bytes text
 
 -- how many bytes stand from one point to another, if these are in order and in the document
 abbrev pub length_between : List ℕ → Point → Point → Option ℕ
@@ -25,6 +46,19 @@ byte_at bytes point = slice_get bytes point.index
 -- the slice of a span, empty where there is none
 abbrev pub text_read : Source → Point → Point → List ℕ
 text_read s start end = unwrap_or (slice s.bytes start end) []
+
+-- a slice as a value of the tree
+abbrev pub value_as : Values → List ℕ → Point → Point → List ℕ
+value_as AsInDocument text start end = text
+value_as Whole text start end = whole text start end
+
+-- the value of a span, empty where there is no slice
+abbrev pub value_between : Given → Point → Point → List ℕ
+value_between given start end = value_as given.values (unwrap_or (slice given.bytes start end) []) start end
+
+-- the same of a source
+abbrev pub value_read : Source → Point → Point → List ℕ
+value_read s start end = value_between (given_of s) start end
 
 -- a byte at a point, compared
 abbrev pub is_byte : Source → ℕ → Point → Bool

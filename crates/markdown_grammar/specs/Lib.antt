@@ -1,3 +1,4 @@
+pub mod Whole
 pub mod Document
 pub mod Items
 pub mod Attributes

@@ -10,7 +10,7 @@ use Rattle.markdown_events.specs.Forest.{Forest}
 use Rattle.markdown_events.specs.Spread.{align, loose, loose_item}
 use Rattle.markdown_texts.specs.Texts.{raw, spaces, trim}
 use Rattle.markdown_events.specs.declared.role.ItemKind.{ItemKind}
-use Rattle.markdown_grammar.specs.Document.{Source, is_byte, length_between, text_read}
+use Rattle.markdown_grammar.specs.Document.{Source, is_byte, length_between, value_read}
 use Rattle.markdown_grammar.specs.Items.{Items, item, none}
 use Rattle.markdown_grammar.specs.Tasks.{task_if}
 use Rattle.markdown_events.specs.declared.role.ItemKind.TheVariants.{Content as content, Part as part}
@@ -54,9 +54,9 @@ pub record Span : Type 0 where
   pub mark : Option Bool
   pub number : Option ℕ
 
--- its slice
-abbrev pub slice_of : Source → Span → List ℕ
-slice_of s x = text_read s x.start x.end
+-- its value
+abbrev pub value_of : Source → Span → List ℕ
+value_of s x = value_read s x.start x.end
 
 -- the text of the nodes in it
 abbrev pub content_of : Span → List ℕ
@@ -72,8 +72,8 @@ parent x label = node_at label (nodes_of x.items) x.start x.end
 
 -- a link to an address in it, with that address for its text
 abbrev pub autolink : Source → Span → Option Found → Option Found → Trees
-autolink s x (Some email) _ = linked (codes "mailto:") (text_read s email.start email.end) x.start x.end email.start email.end
-autolink s x None (Some address) = linked [] (text_read s address.start address.end) x.start x.end address.start address.end
+autolink s x (Some email) _ = linked (codes "mailto:") (value_read s email.start email.end) x.start x.end email.start email.end
+autolink s x None (Some address) = linked [] (value_read s address.start address.end) x.start x.end address.start address.end
 autolink s x None None = literal x (tree.link [] None)
 
 -- what the decoder says of the value of a character reference
@@ -121,14 +121,14 @@ note_definition s x = tree.footnote_definition (or_empty (identifier s parts.Foo
 
 -- the nodes of one span: one node, or none. A part gives none, but for the text of a heading, which gives those of its items
 abbrev pub node_of : Source → ItemKind → Span → Trees
-node_of s (content contents.Data) x = literal x (tree.text (slice_of s x))
+node_of s (content contents.Data) x = literal x (tree.text (value_of s x))
 node_of s (content contents.CharacterReference) x = literal x (tree.text (or_empty (character s x.items)))
-node_of s (content contents.LineEnding) x = if x.place.line_endings then literal x (tree.text (slice_of s x)) else nothing
+node_of s (content contents.LineEnding) x = if x.place.line_endings then literal x (tree.text (value_of s x)) else nothing
 node_of s (content contents.HardBreak) x = literal x tree.«break»
 node_of s (content contents.Autolink) x = autolink s x (first parts.AutolinkEmail x.items) (first parts.AutolinkProtocol x.items)
-node_of s (content contents.AutolinkLiteralEmail) x = linked (codes "mailto:") (slice_of s x) x.start x.end x.start x.end
-node_of s (content contents.AutolinkLiteralWww) x = linked (codes "http://") (slice_of s x) x.start x.end x.start x.end
-node_of s (content contents.AutolinkLiteralWhole) x = linked [] (slice_of s x) x.start x.end x.start x.end
+node_of s (content contents.AutolinkLiteralEmail) x = linked (codes "mailto:") (value_of s x) x.start x.end x.start x.end
+node_of s (content contents.AutolinkLiteralWww) x = linked (codes "http://") (value_of s x) x.start x.end x.start x.end
+node_of s (content contents.AutolinkLiteralWhole) x = linked [] (value_of s x) x.start x.end x.start x.end
 node_of s (content contents.BlockQuote) x = parent x tree.blockquote
 node_of s (content contents.Emphasis) x = parent x tree.emphasis
 node_of s (content contents.Strong) x = parent x tree.strong

@@ -10,6 +10,7 @@ use Rattle.markdown_nodes.specs.Tree.{Trees, nothing, plain_label}
 use Rattle.markdown_nodes.specs.View.{views}
 use Rattle.markdown_nodes.specs.declared.mdast.Node.{Node}
 use Rattle.markdown_steps.specs.Summaries.{PartSummary, named}
+use Rattle.markdown_grammar.specs.Document.{Given}
 use Rattle.markdown_builder.specs.PartsSoFar.{PartsSoFar, ReadsText}
 use Rattle.markdown_inlines.specs.declared.label.Label.{Label}
 
@@ -27,6 +28,6 @@ abbrev pub IsLabelOf : List ℕ → Point → Point → Vec Node Global → Labe
 IsLabelOf bytes a b nodes made = (made.slice.now ≡ unwrap_or (slice bytes a b) []) × (views made.nodes.items ≡ views nodes.items)
 
 -- a label between two points, with these nodes, is kept, or refused where it is no text of the document
-abbrev pub ReadsLabel : {X : Type 0} → List ℕ → Vec Node Global → Point → Point
+abbrev pub ReadsLabel : {X : Type 0} → Given → Vec Node Global → Point → Point
     → PartsSoFar → PartsSoFar → Result X Stop → Type 0
-ReadsLabel bytes nodes a b old new result = ReadsText bytes parts.LabelText (views nodes.items) a b old new result
+ReadsLabel given nodes a b old new result = ReadsText given parts.LabelText (views nodes.items) a b old new result

@@ -7,7 +7,7 @@
 ghost use Rattle.std.specs.Prelude.{◌≡◌, None, Some, is_some, string_bytes};
 ghost use Rattle.markdown_events.specs.declared.role.ItemKind.TheVariants as item_kinds;
 ghost use Rattle.markdown_events.specs.declared.role.Part.TheVariants as parts;
-ghost use Rattle.markdown_grammar.specs.Document.{source};
+ghost use Rattle.markdown_grammar.specs.Document.{source_of};
 ghost use Rattle.markdown_grammar.specs.Grammar as models;
 ghost use Rattle.markdown_grammar.specs.declared.error_kind.ErrorKind.TheVariants.{IncompleteReference};
 ghost use Rattle.markdown_steps.specs.Summaries.{text_of as text_in};
@@ -117,7 +117,7 @@ impl CharacterReferenceParts {
         end: Point,
     ) -> Result<(), Stop>
         requires { misfit_in (character_reference self.old) (item_kinds.Part parts.CharacterReferenceValue) ≡ None }
-        ensures { ReadsValue (source document.now (R.text references.now)) start end self.old self.new result }
+        ensures { ReadsValue (source_of document.now (R.text references.now)) start end self.old self.new result }
     {
         // `misfit` has refused a value without a marker before it.
         let Some(markers) = self.markers else {

@@ -44,7 +44,7 @@ impl<'a> Label<'a> {
         start: Point,
         end: Point,
     ) -> Result<Label<'a>, Stop>
-        ensures { Makes result (is_some (slice document.now start end)) InvalidSlice (IsLabelOf document.now start end nodes) }
+        ensures { Makes result (is_some (slice document.now.bytes start end)) InvalidSlice (IsLabelOf document.now.bytes start end nodes) }
     {
         let slice = text_of(document, start, end)?;
         Ok(Label { slice, nodes })

@@ -10,9 +10,9 @@ ghost use Rattle.markdown_nodes.specs.Tree.{join, nothing};
 ghost use Rattle.markdown_nodes.specs.View.{view, views};
 ghost use Rattle.markdown_grammar.specs.declared.error_kind.ErrorKind.TheVariants.{InvalidSlice};
 ghost use Rattle.markdown_builder.specs.PartsSoFar.{Makes, placed};
-ghost use Rattle.markdown_inlines.specs.Texts.{text_between};
+ghost use Rattle.markdown_inlines.specs.Texts.{data_text};
 
-use markdown_builder::slice::{Document, position_of, text_of};
+use markdown_builder::slice::{Document, position_of, value_as_it_stands, value_of};
 use markdown_grammar::error_kind::Stop;
 use markdown_joining::put_text;
 use markdown_nodes::event::Point;
@@ -32,11 +32,16 @@ pub fn put_slice(
     start: Point,
     end: Point,
 ) -> Result<(), Stop>
-    ensures { Makes result (is_some (slice document.now start end)) InvalidSlice
-        (λ _. views nodes.new.items ≡ join (views nodes.old.items) (text_between document.now start end)) }
+    ensures { Makes result (is_some (slice document.now.bytes start end)) InvalidSlice
+        (λ _. views nodes.new.items ≡ join (views nodes.old.items) (data_text document.now start end)) }
 {
-    let value = text_of(document, start, end)?;
-    put_text(alloc, nodes, value, position_of(start, end))?;
+    let position = position_of(start, end);
+    if let Some(value) = value_as_it_stands(document, start, end) {
+        put_text(alloc, nodes, value, position)?;
+        return Ok(());
+    }
+    let value = value_of(alloc, document, start, end)?;
+    put_text(alloc, nodes, value.as_str(), position)?;
     Ok(())
 }
 

@@ -1,5 +1,5 @@
 -- What has stood so far in an autolink.
-use Rattle.std.specs.Prelude.{◌≡◌, Bool, List, None, Option, Some, false, true, ℕ}
+use Rattle.std.specs.Prelude.{◌≡◌, Bool, List, None, Option, Some, false, string_bytes, true, ℕ}
 use Rattle.markdown_events.specs.declared.event.Point.{Point}
 use Rattle.markdown_events.specs.declared.role.Content.{Content}
 use Rattle.markdown_events.specs.declared.role.Content.TheVariants as contents
@@ -9,7 +9,7 @@ use Rattle.markdown_nodes.specs.Tree.{Trees, only}
 use Rattle.markdown_nodes.specs.View.{view}
 use Rattle.markdown_nodes.specs.declared.mdast.Node.{Node}
 use Rattle.markdown_grammar.specs.Attributes.{Place}
-use Rattle.markdown_grammar.specs.Document.{Source, source, text_read}
+use Rattle.markdown_grammar.specs.Document.{Given, Source, source_of, value_read}
 use Rattle.markdown_grammar.specs.Grammar as models
 use Rattle.markdown_grammar.specs.Nodes.{linked}
 use Rattle.markdown_steps.specs.ChildFacts.{ChildFacts}
@@ -23,7 +23,7 @@ use Rattle.markdown_literals.specs.declared.autolink.AutolinkParts.TheVariants a
 
 -- an address, and where it stands
 abbrev pub address_kept : Address → Option PartSummary
-address_kept x = Some (address x.start x.end x.value.now)
+address_kept x = Some (address x.start x.end (string_bytes x.value))
 
 -- the address, where it is one of mail
 abbrev pub email_kept : AutolinkParts → Option PartSummary
@@ -60,10 +60,10 @@ is_literal _ = false
 abbrev pub IsSchemeOf : Content → List ℕ → Type 0
 IsSchemeOf content scheme =
     (s : Source) (p : Place) (a b : Point) (children : ChildFacts) (i : Summary)
-    → node_of s p (item_kinds.Content content) a b children i ≡ linked scheme (text_read s a b) a b a b
+    → node_of s p (item_kinds.Content content) a b children i ≡ linked scheme (value_read s a b) a b a b
 
 -- a node is what such an address gives between two points, whatever is known of where it stands
-abbrev pub IsLiteral : List ℕ → Content → Point → Point → Node → Type 0
-IsLiteral bytes content start end made =
+abbrev pub IsLiteral : Given → Content → Point → Point → Node → Type 0
+IsLiteral given content start end made =
     (text : List ℕ → ℕ → Option (List ℕ)) (p : Place) (children : ChildFacts) (i : Summary)
-    → only (view made) ≡ node_of (source bytes text) p (item_kinds.Content content) start end children i
+    → only (view made) ≡ node_of (source_of given text) p (item_kinds.Content content) start end children i

@@ -17,7 +17,7 @@ ghost use Rattle.markdown_builder.specs.PartsSoFar.{IsFresh, IsNode, Makes, Read
 ghost use Rattle.markdown_literals.specs.Autolinks.{IsLiteral, IsSchemeOf, autolink, autolink_nodes, is_literal};
 
 use markdown_builder::misfits::at_most_one;
-use markdown_builder::slice::{Document, position_of, text_of};
+use markdown_builder::slice::{Document, position_of, value_of};
 use markdown_builder::texts::address;
 use markdown_grammar::error_kind::{ErrorKind, Stop};
 use markdown_joining::new_text;
@@ -27,28 +27,28 @@ use markdown_nodes::role::{Content, ItemKind, Part};
 use markdown_nodes::unist::Position;
 use std::alloc::{AllocError, Global};
 
-/// An address as it stands in the document, and where: `a@b.c` in `<a@b.c>`.
-#[derive(Clone, Copy)]
-pub struct Address<'a> {
+/// An address, and where it stands: `a@b.c` in `<a@b.c>`.
+#[derive(Drop)]
+pub struct Address {
     pub start: Point,
     pub end: Point,
-    pub value: &'a str,
+    pub value: String,
 }
 
 /// What has stood in an autolink, which has at most one address.
-#[derive(Clone, Copy)]
-pub enum AutolinkParts<'a> {
+#[derive(Drop)]
+pub enum AutolinkParts {
     /// No address so far.
     Empty,
     /// An email address, as in `<a@b.c>`.
-    Email(Address<'a>),
+    Email(Address),
     /// An address with its scheme, as in `<https://a.b>`.
-    Protocol(Address<'a>),
+    Protocol(Address),
 }
 
-impl<'a> AutolinkParts<'a> {
+impl AutolinkParts {
     /// An autolink at its enter, as at the `<` of `<a@b.c>`.
-    pub fn new() -> AutolinkParts<'a>
+    pub fn new() -> AutolinkParts
         ensures { IsFresh (autolink result) models.autolink }
     {
         AutolinkParts::Empty
@@ -73,14 +73,15 @@ impl<'a> AutolinkParts<'a> {
     /// document is refused as `ErrorKind::InvalidSlice`.
     pub fn take_email(
         &mut self,
-        document: &Document<'a>,
+        alloc: Global,
+        document: &Document<'_>,
         start: Point,
         end: Point,
     ) -> Result<(), Stop>
         requires { misfit_in (autolink self.old) (item_kinds.Part parts.AutolinkEmail) ≡ None }
         ensures { Reads document.now parts.AutolinkEmail start end (autolink self.old) (autolink self.new) result }
     {
-        let value = text_of(document, start, end)?;
+        let value = value_of(alloc, document, start, end)?;
         *self = AutolinkParts::Email(Address { start, end, value });
         Ok(())
     }
@@ -89,14 +90,15 @@ impl<'a> AutolinkParts<'a> {
     /// that is no text of the document is refused as `ErrorKind::InvalidSlice`.
     pub fn take_protocol(
         &mut self,
-        document: &Document<'a>,
+        alloc: Global,
+        document: &Document<'_>,
         start: Point,
         end: Point,
     ) -> Result<(), Stop>
         requires { misfit_in (autolink self.old) (item_kinds.Part parts.AutolinkProtocol) ≡ None }
         ensures { Reads document.now parts.AutolinkProtocol start end (autolink self.old) (autolink self.new) result }
     {
-        let value = text_of(document, start, end)?;
+        let value = value_of(alloc, document, start, end)?;
         *self = AutolinkParts::Protocol(Address { start, end, value });
         Ok(())
     }
@@ -106,17 +108,17 @@ impl<'a> AutolinkParts<'a> {
     ///
     /// For `<a@b.c>` it is a link to `mailto:a@b.c`, with the text `a@b.c` in it.
     pub fn node(self, alloc: Global, start: Point, end: Point) -> Result<Node, AllocError>
-        ensures { IfOk result (λ node. only (view node) ≡ autolink_nodes self.entry start end) }
+        ensures { IfOk result (λ node. only (view node) ≡ autolink_nodes self start end) }
     {
         let position = position_of(start, end);
         match self {
             AutolinkParts::Email(address) => {
                 let place = position_of(address.start, address.end);
-                linked(alloc, "mailto:", address.value, position, place)
+                linked(alloc, "mailto:", address.value.as_str(), position, place)
             }
             AutolinkParts::Protocol(address) => {
                 let place = position_of(address.start, address.end);
-                linked(alloc, "", address.value, position, place)
+                linked(alloc, "", address.value.as_str(), position, place)
             }
             AutolinkParts::Empty => {
                 Ok(link_to(Vec::new(alloc), position, String::new(alloc), None))
@@ -137,11 +139,17 @@ pub fn literal(
     end: Point,
 ) -> Result<Node, Stop>
     requires { is_literal content ≡ true }
-    ensures { Makes result (is_some (slice document.now start end)) InvalidSlice (IsLiteral document.now content start end) }
+    ensures { Makes result (is_some (slice document.now.bytes start end)) InvalidSlice (IsLiteral document.now content start end) }
 {
-    let value = text_of(document, start, end)?;
+    let value = value_of(alloc, document, start, end)?;
     let position = position_of(start, end);
-    Ok(linked(alloc, scheme_of(content), value, position, position)?)
+    Ok(linked(
+        alloc,
+        scheme_of(content),
+        value.as_str(),
+        position,
+        position,
+    )?)
 }
 
 /// The scheme that an address leaves out where it stands in the text as it is (GFM, autolinks).

@@ -1,6 +1,8 @@
 //! Laws of the definitions, each the contract of a function that takes and gives nothing.
 
+ghost use Rattle.std.specs.Prelude.{◌≡◌};
 ghost use Rattle.markdown_nodes.specs.Equality.{Tells};
+ghost use Rattle.markdown_nodes.specs.Tree.{Trees, join};
 ghost use Rattle.markdown_nodes.specs.View.{view};
 ghost use Rattle.markdown_nodes.specs.declared.mdast.Node.TheVariants as nodes;
 
@@ -11,6 +13,13 @@ use crate::mdast::{
     Toml, Yaml,
 };
 pub use markdown_events::laws::one_forest;
+
+/// Lists of nodes may be joined from either side: texts that meet become one in any order (ours).
+///
+/// Lists of one Text each, `a`, `b` and `c`, give a list of the Text `abc` either way.
+pub fn seam()
+    ensures { (a b c : Trees) → join (join a b) c ≡ join a (join b c) }
+{}
 
 /// Two nodes are equal exactly where they are of one kind and all their fields are equal,
 /// positions included (as Rust derives it).

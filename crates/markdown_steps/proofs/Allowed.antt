@@ -1,5 +1,5 @@
 -- One more item is taken exactly where what a container keeps allows it.
-use Rattle.std.proofs.Common.{◌≡◌, Bool, true, false, not, cond, ◌&&◌, ◌||◌, List, [], ◌∷◌, ◌++◌, Option, Some, None, refl, sym, ◌∙◌, ap}
+use Rattle.std.proofs.Common.{◌≡◌, Bool, true, false, cond, ◌&&◌, ◌||◌, List, [], ◌∷◌, ◌++◌, Option, Some, None, refl, sym, ◌∙◌, ap}
 use Rattle.std.specs.Prelude.{is_some, option_map}
 use Rattle.std.specs.List.{list_all}
 use Rattle.markdown_events.specs.Forest.{Forest}
@@ -9,15 +9,15 @@ use Rattle.markdown_events.specs.declared.role.Part.{Part}
 use Rattle.markdown_steps.proofs.SummaryLaws.{inner_at}
 use Rattle.markdown_steps.proofs.ItemLists.{kinds-then}
 use Rattle.markdown_steps.proofs.RuleLists.{keeps-snoc, lets}
-use Rattle.markdown_steps.specs.Compiler.{all_stood, allows, has_one_of, has_stood}
+use Rattle.markdown_steps.specs.Compiler.{all_stood, allows, allows_after, has_one_of, has_stood, part_with}
 use Rattle.markdown_grammar.specs.Grammar.{has_part, has_required, rules, conforms}
 use Rattle.markdown_grammar.specs.Grammar.{ContentModel, character_reference, code_fenced, heading_atx, heading_setext, list_ordered, math_flow}
 use Rattle.markdown_grammar.specs.Items.{Items, item, kinds, none, same_part, ◌then◌}
 use Rattle.markdown_grammar.specs.Items.{is_one_of, is_part}
 use Rattle.markdown_steps.specs.SummaryNodes.{nodes}
-use Rattle.markdown_steps.specs.Summaries.{Summary, FoundPart, first_part, kept_at, path_to}
+use Rattle.markdown_steps.specs.Summaries.{Summary, FoundPart, PartSummary, Path, first_part, kept_at, kept_from, path_to}
 use Rattle.markdown_grammar.specs.Attributes.{Place, inherited_after}
-use Rattle.markdown_grammar.specs.Grammar.{Rule, any_item, keeps, none_of, at_most_one, only, only_before, only_after}
+use Rattle.markdown_grammar.specs.Grammar.{Rule, any_item, keeps}
 use Rattle.markdown_grammar.specs.Document.{Source}
 use Rattle.markdown_events.specs.declared.role.Part.TheVariants as parts
 use Rattle.markdown_events.specs.declared.role.ItemKind.TheVariants.{Content as content, Part as part}
@@ -57,6 +57,15 @@ is_some-map f (Some x) = refl
 pub stood-is : (q : Part) (s : Source) (p : Place) (xs : Items) → has_stood q (inner_at s p xs) ≡ has_part q xs
 stood-is q s p xs = is_some-map (λ (x : FoundPart). kept_at s (path_to q) x (nodes s (path_to q) p xs)) (first_part q p xs) ∙ sym (any-first q p xs)
 
+-- after one more item, a part has stood if it had, or if it is that item
+picked : (old kept : Option PartSummary) (same : Bool) (x : PartSummary) → is_some kept ≡ is_some old → is_some (elim old [ Some k ↦ kept | None ↦ cond same (Some x) None ]) ≡ (is_some old || same)
+picked None kept true x h = refl
+picked None kept false x h = refl
+picked (Some k) kept same x h = h
+
+pub stood-with : (s : Source) (p : Place) (q : Part) (what : ItemKind) (a b : Point) (i : Summary) (old : Path → Option PartSummary) → is_some (part_with s p what a b i old (path_to q)) ≡ (is_some (old (path_to q)) || is_part q what)
+stood-with s p q what a b i old = picked (old (path_to q)) (old (path_to q)) (is_part q what) (kept_from s p q a b i.nodes) refl
+
 -- and what must stand does
 pub complete-is : (h : ContentModel) (s : Source) (p : Place) (xs : Items) → all_stood h (inner_at s p xs) ≡ has_required s h xs
 complete-is character_reference s p xs = stood-is parts.CharacterReferenceValue s p xs
@@ -74,18 +83,13 @@ any-has (q ∷ ps) s p xs =
     ∙ (λ t. sym (stood-is q s p xs) t || any-has ps s p xs t)
 
 pub lets-is : (r : Rule) (s : Source) (p : Place) (xs : Items) (what : ItemKind) → lets r (kinds xs) what ≡ allows r (inner_at s p xs) what
-lets-is (only test) s p xs what = refl
-lets-is (at_most_one ps) s p xs what = ap (λ b. not (is_one_of ps what) || not b) (any-has ps s p xs)
-lets-is (none_of ps) s p xs what = refl
-lets-is (only_after ps test) s p xs what = ap (λ b. not b || test what) (any-has ps s p xs)
-lets-is (only_before ps test) s p xs what = ap (λ b. b || (is_one_of ps what || test what)) (any-has ps s p xs)
+lets-is r s p xs what = λ t. allows_after (λ ps. any-has ps s p xs t) r what
 
 -- ---- All rules of a container
 
 -- all rules allow one more item
 abbrev pub all_allow : List Rule → Summary → ItemKind → Bool
-all_allow [] i what = true
-all_allow (r ∷ rs) i what = allows r i what && all_allow rs i what
+all_allow rs i what = list_all (λ r. allows r i what) rs
 
 kinds-snoc : (xs : Items) (what : ItemKind) (a b : Point) (d : Forest) (i : Items) → kinds (xs then item what a b d i none) ≡ kinds xs ++ what ∷ []
 kinds-snoc xs what a b d i = kinds-then xs (item what a b d i none)

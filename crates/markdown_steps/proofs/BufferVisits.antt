@@ -19,7 +19,7 @@ use Rattle.markdown_steps.proofs.ForestSteps.{Reached, begun, ended, eval, eval-
 use Rattle.markdown_steps.proofs.Decorating.{nodes-are}
 use Rattle.markdown_steps.proofs.SummaryLaws.{container_state}
 use Rattle.markdown_steps.proofs.ItemSteps.{fresh-is, tested, walk, walk-is}
-use Rattle.markdown_steps.proofs.Outcomes.{bind_ok, checked_ok, done, ok, ok-inv, ok_is, one_ok, same_name_refl, some_is, then-inv, when, when-some}
+use Rattle.markdown_steps.proofs.Outcomes.{bind_ok, checked_ok, checked_passes, done, ok, ok-inv, ok_is, one_ok, passing_checked, same_name_refl, some_is, then-inv, when, when-some}
 use Rattle.markdown_steps.proofs.RuleLists.{and-assoc}
 use Rattle.markdown_steps.proofs.WellFormed.{is_well_formed_in}
 use Rattle.markdown_steps.proofs.SiblingMarks.{marks, marks_onto}
@@ -96,10 +96,7 @@ closing-walks s f b more fs around m x t h = rw (same_name_refl f.name, h) refl
 
 -- tests that pass let another result pass
 passing : {A B : Type 0} (cs : List (Bool × ErrorKind)) (p : Point) (r : Result A ErrorAt) (y : A) (x : B) → checked cs p r ≡ Ok y → checked cs p (done x) ≡ Ok x
-passing [] p r y x h = refl
-passing (c ∷ cs) p r y x h =
-    let g = one_ok c.0 (checked cs p r) y (record { error_kind = c.1; point = p }) h in
-    rw (g.0) (passing cs p r y x g.1)
+passing cs p r y x h = passing_checked cs p (done x) (checked_passes cs p r y h)
 
 -- what is shown of a forest: what is walked, and the label kept after it, come from the label before and from what its buffers hold
 abbrev Over : Source → Forest → Type 0

@@ -12,7 +12,7 @@ use Rattle.positions.specs.declared.unist.Point.{Point as UnistPoint}
 use Rattle.positions.specs.declared.unist.Position.{Position}
 use Rattle.markdown_steps.proofs.Decorating.{nodes-are}
 use Rattle.markdown_steps.specs.Consequences.{Everywhere}
-use Rattle.markdown_grammar.specs.Document.{text_read}
+use Rattle.markdown_grammar.specs.Document.{value_read}
 use Rattle.markdown_grammar.specs.Items.{Items, item, items, none, same_part}
 use Rattle.markdown_grammar.specs.Items.{marker_of}
 use Rattle.markdown_grammar.specs.Meaning.{extent, meaning}
@@ -161,9 +161,9 @@ node-so : (Is : Label → Position → Type 0) → AsksNoMore Is → (s : Source
     → IfAsked Is (between a b) (asked_label what shown i) → Everywhere (At Is) i.nodes → Everywhere (At Is) i.label → AllSo Is (node_of s p what a b shown i)
 node-so Is asks s p (content contents.LineEnding) a b shown i own below label = if-so Is p.line_endings _ (bare-so Is asks _ a b refl)
 node-so Is asks s p (content contents.Autolink) a b shown i own below label = autolink-so Is asks _ _ a b
-node-so Is asks s p (content contents.AutolinkLiteralEmail) a b shown i own below label = linked-so Is asks (codes "mailto:") (text_read s a b) a b a b
-node-so Is asks s p (content contents.AutolinkLiteralWww) a b shown i own below label = linked-so Is asks (codes "http://") (text_read s a b) a b a b
-node-so Is asks s p (content contents.AutolinkLiteralWhole) a b shown i own below label = linked-so Is asks [] (text_read s a b) a b a b
+node-so Is asks s p (content contents.AutolinkLiteralEmail) a b shown i own below label = linked-so Is asks (codes "mailto:") (value_read s a b) a b a b
+node-so Is asks s p (content contents.AutolinkLiteralWww) a b shown i own below label = linked-so Is asks (codes "http://") (value_read s a b) a b a b
+node-so Is asks s p (content contents.AutolinkLiteralWhole) a b shown i own below label = linked-so Is asks [] (value_read s a b) a b a b
 node-so Is asks s p (content contents.BlockQuote) a b shown i own below label = full-so Is asks _ _ a b refl below
 node-so Is asks s p (content contents.Emphasis) a b shown i own below label = full-so Is asks _ _ a b refl below
 node-so Is asks s p (content contents.Strong) a b shown i own below label = full-so Is asks _ _ a b refl below

@@ -12,7 +12,7 @@ use Rattle.markdown_events.specs.declared.role.Part.{Part}
 use Rattle.markdown_steps.proofs.SummaryLaws.{is-that-part}
 use Rattle.markdown_grammar.specs.Decorated.{Decorated, Found, decorated, first, identifier, nodes_of, or_empty, text, undecorated, within}
 use Rattle.markdown_grammar.specs.Attributes.{decoded, mark, value}
-use Rattle.markdown_grammar.specs.Document.{text_read}
+use Rattle.markdown_grammar.specs.Document.{text_read, value_read}
 use Rattle.markdown_grammar.specs.Items.{Items, item, none, same_part}
 use Rattle.markdown_grammar.specs.Items.{is_part, marker_of}
 use Rattle.markdown_steps.specs.SummaryNodes.{media_of, reference_kind_of}
@@ -185,7 +185,7 @@ abbrev pub span_at : Source → Place → ItemKind → Point → Point → Fores
 span_at s p what a b d inner = record { start = a; end = b; place = p; children = d; items = decorate s (inherited_in what p) inner; mark = mark inner; number = value s inner }
 
 autolink-is : (s : Source) (x : Span) (o o' : Option Found)
-    → old.autolink (option_map (λ (y : Found). address y.start y.end (text_read s y.start y.end)) o) (option_map (λ (y : Found). address y.start y.end (text_read s y.start y.end)) o') x.start x.end ≡ new.autolink s x o o'
+    → old.autolink (option_map (λ (y : Found). address y.start y.end (value_read s y.start y.end)) o) (option_map (λ (y : Found). address y.start y.end (value_read s y.start y.end)) o') x.start x.end ≡ new.autolink s x o o'
 autolink-is s x (Some y) o' = refl
 autolink-is s x None (Some y) = refl
 autolink-is s x None None = refl

@@ -7,8 +7,8 @@ mod ItemLists
 mod RuleLists
 pub mod BreakEnds
 mod SummaryLaws
-mod Allowed
-mod ItemSteps
+pub mod Allowed
+pub mod ItemSteps
 mod SiblingMarks
 mod ColumnKinds
 mod TableSteps
@@ -45,4 +45,5 @@ mod RowsTasks
 mod RowsMedia
 mod RowsTables
 mod RowsHostile
+mod RowsValues
 mod RowWords

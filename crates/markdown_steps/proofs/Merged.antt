@@ -12,7 +12,7 @@ use Rattle.markdown_steps.specs.Consequences.{NoTextAfterText, begins_with_text}
 use Rattle.markdown_steps.proofs.Decorating.{nodes-are}
 use Rattle.markdown_steps.specs.Consequences.{is_text}
 use Rattle.markdown_grammar.specs.Attributes.{mark}
-use Rattle.markdown_grammar.specs.Document.{text_read}
+use Rattle.markdown_grammar.specs.Document.{value_read}
 use Rattle.markdown_steps.specs.SummaryNodes.{autolink, media_of}
 use Rattle.markdown_grammar.specs.Nodes.{link_label}
 use Rattle.markdown_grammar.specs.Decorated.{node_at}
@@ -67,7 +67,7 @@ and-false false = refl
 one-merged : (l : Label) (k : Trees) (a b : Point) → NoTextAfterText k → Whole (node_at l k a b)
 one-merged l k a b h = record { ok = (h, and-false (is_text l), tt) }
 
-autolink-merged : (s : Source) (x y : Option FoundPart) (a b : Point) → Whole (autolink (option_map (λ (z : FoundPart). address z.start z.end (text_read s z.start z.end)) x) (option_map (λ (z : FoundPart). address z.start z.end (text_read s z.start z.end)) y) a b)
+autolink-merged : (s : Source) (x y : Option FoundPart) (a b : Point) → Whole (autolink (option_map (λ (z : FoundPart). address z.start z.end (value_read s z.start z.end)) x) (option_map (λ (z : FoundPart). address z.start z.end (value_read s z.start z.end)) y) a b)
 autolink-merged s (Some x) y a b = record { ok = ((tt, refl, tt), refl, tt) }
 autolink-merged s None (Some y) a b = record { ok = ((tt, refl, tt), refl, tt) }
 autolink-merged s None None a b = record { ok = (tt, refl, tt) }

@@ -146,6 +146,14 @@ checked_passes (c ∷ cs) p r y h =
     let g = one_ok c.0 (checked cs p r) y (record { error_kind = c.1; point = p }) h in
     and-both c.0 (passes cs) g.0 (checked_passes cs p r y g.1)
 
+pub one_passing : {A : Type 0} (b passing : Bool) (x r : Result A ErrorAt) (e : ErrorAt) → (b && passing) ≡ true → (passing ≡ true → x ≡ r) → cond b x (Err e) ≡ r
+one_passing true passing x r e h rest = rest h
+one_passing false passing x r e h rest = absurd cc
+
+pub passing_checked : {A : Type 0} (cs : List (Bool × ErrorKind)) (p : Point) (r : Result A ErrorAt) → passes cs ≡ true → checked cs p r ≡ r
+passing_checked [] p r h = refl
+passing_checked (c ∷ cs) p r h = one_passing c.0 (passes cs) (checked cs p r) r (record { error_kind = c.1; point = p }) h (λ rest. passing_checked cs p r rest)
+
 -- ---- What is refused
 
 pub err_clash : {A : Type 0} (r : Result A ErrorAt) (x : A) (why : ErrorAt) → r ≡ Ok x → r ≡ Err why → ⊥

@@ -11,7 +11,8 @@ use Rattle.markdown_nodes.specs.Tree.{Tree}
 use Rattle.positions.specs.declared.unist.Point.{Point as UnistPoint}
 use Rattle.markdown_grammar.specs.Refusals.{rule_of}
 use Rattle.markdown_grammar.specs.Refusals.{ErrorAt}
-use Rattle.markdown_grammar.specs.Document.{Source}
+use Rattle.markdown_grammar.specs.Document.{Source, source, source_with}
+use Rattle.markdown_grammar.specs.declared.values.Values.TheVariants.{Whole}
 
 abbrev pub at : ℕ → ℕ → ℕ → Point
 at line column index = record { line = line; column = column; index = index; vs = 0 }
@@ -52,11 +53,15 @@ abbrev pub decoded : List ℕ → ℕ → Option (List ℕ)
 decoded value marker = if marker == 38 then named value else (if marker == 35 then numeric 10 7 is_decimal value else (if marker == 120 then numeric 16 6 is_hexadecimal value else None))
 
 abbrev pub over : List ℕ → Source
-over bytes = record { bytes = bytes; text = decoded }
+over bytes = source bytes decoded
+
+-- the same where values are whole
+abbrev pub over_whole : List ℕ → Source
+over_whole bytes = source_with Whole bytes decoded
 
 -- a decoder that gives one space for the empty value
 abbrev pub over_blank : List ℕ → Source
-over_blank bytes = record { bytes = bytes; text = λ value marker. if length value == 0 then Some (32 ∷ []) else None }
+over_blank bytes = source bytes (λ value marker. if length value == 0 then Some (32 ∷ []) else None)
 
 -- the rule and the place of a refusal
 abbrev pub error_kind_of : Result Tree ErrorAt → Option (List ℕ × UnistPoint)

@@ -6,6 +6,7 @@ use Rattle.std.proofs.lemmas.List.{append-nil}
 use Rattle.std.specs.List.{list_all}
 use Rattle.markdown_events.specs.declared.role.ItemKind.{ItemKind}
 use Rattle.markdown_grammar.specs.Items.{is_one_of}
+use Rattle.markdown_steps.specs.Compiler.{allows_after}
 use Rattle.markdown_grammar.specs.Grammar.{Rule, any_item, keeps, none_of, at_most_one, only, only_before, only_after}
 
 pub and-assoc : (a b c : Bool) → ((a && b) && c) ≡ (a && (b && c))
@@ -22,11 +23,7 @@ some-append p (x ∷ xs) ys = elim (p x) as (λ b. (b || any_item p (xs ++ ys)) 
 
 -- whether one more item keeps the rule after these
 abbrev pub lets : Rule → List ItemKind → ItemKind → Bool
-lets (only test) xs what = test what
-lets (at_most_one ps) xs what = not (is_one_of ps what) || not (any_item (is_one_of ps) xs)
-lets (none_of ps) xs what = not (is_one_of ps what)
-lets (only_after ps test) xs what = not (any_item (is_one_of ps) xs) || test what
-lets (only_before ps test) xs what = any_item (is_one_of ps) xs || (is_one_of ps what || test what)
+lets rule xs what = allows_after (λ ps. any_item (is_one_of ps) xs) rule what
 
 once-bools : (a b c d : Bool) → ((not a || not (b || (c || false))) && (d && (not c || not b))) ≡ (((not a || not b) && d) && (not c || not (a || b)))
 once-bools false b c d = refl

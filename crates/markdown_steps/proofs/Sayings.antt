@@ -21,7 +21,7 @@ use Rattle.markdown_grammar.specs.Attributes.{Place}
 use Rattle.markdown_grammar.specs.Document.{byte_at, length_between}
 use Rattle.markdown_grammar.specs.Values.{is_read}
 use Rattle.markdown_grammar.specs.Reasons.{ViolatesFirst, IsWrongAtEnter, IsWrongAtExit, against_a_rule, after_a_break, break_is_last, table_in_a_table, without_its_byte, without_its_parts, without_its_value}
-use Rattle.markdown_steps.specs.Consequences.{EnterSays, ExitSays}
+use Rattle.markdown_steps.specs.Consequences.{EnterSays, ExitSays, SomeRule, StandsAlready}
 use Rattle.markdown_grammar.specs.Grammar.{Rule, any_item, keeps, none_of, at_most_one, only, only_before, only_after}
 use Rattle.markdown_grammar.specs.Document.{Source}
 use Rattle.markdown_grammar.specs.Sites.{Site}
@@ -150,8 +150,32 @@ violation-says h [] xs why b = absurd b
 violation-says h (r ∷ rs) xs why (inl b) = subst (λ (w : ErrorKind). OfRules h w) (sym b.1) (rule-says h r)
 violation-says h (r ∷ rs) xs why (inr b) = violation-says h rs xs why b.1
 
--- one more item of a reference, which its marker rule alone refuses, is a value
-value-alone : (xs : List ItemKind) (what : ItemKind) → conforms character_reference xs ≡ true → ViolatesFirst character_reference (rules character_reference) (xs ++ what ∷ []) IncompleteReference → what ≡ part parts.CharacterReferenceValue
+-- one more item that a rule refuses may not follow the items before
+not-let : (r : Rule) (xs : List ItemKind) (what : ItemKind) → keeps r xs ≡ true → keeps r (xs ++ what ∷ []) ≡ false → lets r xs what ≡ false
+not-let r xs what kept broken = (λ t. sym kept t && lets r xs what) ∙ sym (keeps-snoc r xs what) ∙ broken
+
+both-so : (a b : Bool) → (not a || not b) ≡ false → (a ≡ true) × (b ≡ true)
+both-so true true h = (refl, refl)
+both-so true false h = absurd cc
+both-so false b h = absurd cc
+
+-- a part that may stand once stood already
+rule-repeats : (h : ContentModel) (r : Rule) (xs : List ItemKind) (what : ItemKind) → lets r xs what ≡ false → Repeated ≡ rule_error h r → StandsAlready xs what r
+rule-repeats h (at_most_one ps) xs what none_let w = both-so (is_one_of ps what) (any_item (is_one_of ps) xs) none_let
+rule-repeats h (none_of ps) xs what none_let w = not-false (is_one_of ps what) none_let
+rule-repeats character_reference (only_before ps test) xs what none_let w = let z : Repeated ≡ IncompleteReference = w in absurd cc
+rule-repeats h (only_before ps test) xs what none_let w = let z : Repeated ≡ Misplaced = w in absurd cc
+rule-repeats h (only_after ps test) xs what none_let w = let z : Repeated ≡ Misplaced = w in absurd cc
+rule-repeats h (only test) xs what none_let w = let z : Repeated ≡ Misplaced = w in absurd cc
+
+violation-repeats : (h : ContentModel) (rs : List Rule) (xs : List ItemKind) (what : ItemKind) → list_all (λ r. keeps r xs) rs ≡ true → ViolatesFirst h rs (xs ++ what ∷ []) Repeated → SomeRule (StandsAlready xs what) rs
+violation-repeats h [] xs what taken b = absurd b
+violation-repeats h (r ∷ rs) xs what taken (inl b) = inl (rule-repeats h r xs what (not-let r xs what (and-left (keeps r xs) (list_all (λ r'. keeps r' xs) rs) taken) b.0) b.1)
+violation-repeats h (r ∷ rs) xs what taken (inr b) = inr (violation-repeats h rs xs what (and-right (keeps r xs) (list_all (λ r'. keeps r' xs) rs) taken) b.1)
+
+-- one more item of a reference, which its marker rule alone refuses, is a value, and no marker is before it
+value-alone : (xs : List ItemKind) (what : ItemKind) → conforms character_reference xs ≡ true → ViolatesFirst character_reference (rules character_reference) (xs ++ what ∷ []) IncompleteReference
+    → (what ≡ part parts.CharacterReferenceValue) × (any_item (is_one_of markers) xs ≡ false)
 value-alone xs what taken (inl b) = absurd (let z : IncompleteReference ≡ Repeated = b.1 in cc)
 value-alone xs what taken (inr (k, inl b)) = absurd (let z : IncompleteReference ≡ Misplaced = b.1 in cc)
 value-alone xs what taken (inr (k, inr (l, inl b))) = absurd (let z : IncompleteReference ≡ Misplaced = b.1 in cc)
@@ -161,8 +185,11 @@ value-alone xs what taken (inr (k, inr (l, inr (m, inl b)))) =
     let one : such what ≡ true = and-right (keeps (only such) xs) (such what) (sym (keeps-snoc (only such) xs what) ∙ l) in
     let kept : keeps rule xs ≡ true =
     fourth-of (keeps (at_most_one (parts.CharacterReferenceValue ∷ [])) xs) (keeps (only such) xs) (keeps (only_after (parts.CharacterReferenceValue ∷ []) no_item) xs) (keeps rule xs) taken in
-    let none_let : lets rule xs what ≡ false = (λ t. sym kept t && lets rule xs what) ∙ sym (keeps-snoc rule xs what) ∙ b.0 in
-    sym (is-that-part parts.CharacterReferenceValue what (other-of (is_one_of markers what) (is_part parts.CharacterReferenceValue what) one (first-false (is_one_of markers what) false (or-false-right (any_item (is_one_of markers) xs) (is_one_of markers what || false) none_let))))
+    let none_let : lets rule xs what ≡ false = not-let rule xs what kept b.0 in
+    let no_marker : is_one_of markers what ≡ false = first-false (is_one_of markers what) false (or-false-right (any_item (is_one_of markers) xs) (is_one_of markers what || false) none_let) in (
+      sym (is-that-part parts.CharacterReferenceValue what (other-of (is_one_of markers what) (is_part parts.CharacterReferenceValue what) one no_marker)),
+      first-false (any_item (is_one_of markers) xs) (is_one_of markers what || false) none_let,
+    )
   where
     other-of : (a b : Bool) → (a || b) ≡ true → a ≡ false → b ≡ true
     other-of true b h k = absurd cc
@@ -177,7 +204,9 @@ value-alone xs what taken (inr (k, inr (l, inr (m, inl b)))) =
 value-alone xs what taken (inr (k, inr (l, inr (m, inr b)))) = absurd b.1
 
 violation-at-enter : (s : Source) (site : Site) (what : ItemKind) (a : Point) (why : ErrorKind) → conforms site.initial_model (kinds site.before) ≡ true → ViolatesFirst site.initial_model (rules site.initial_model) (kinds site.before ++ what ∷ []) why → OfRules site.initial_model why → EnterSays s site what a why
-violation-at-enter s site what a why taken b (repeated w) = subst (λ (r : ErrorKind). EnterSays s site what a r) (sym w) (violation-fails site.initial_model (rules site.initial_model) (kinds site.before ++ what ∷ []) why b)
+violation-at-enter s site what a why taken b (repeated w) =
+    subst (λ (r : ErrorKind). EnterSays s site what a r) (sym w)
+    (violation-repeats site.initial_model (rules site.initial_model) (kinds site.before) what taken (subst (λ (r : ErrorKind). ViolatesFirst site.initial_model (rules site.initial_model) (kinds site.before ++ what ∷ []) r) w b))
 violation-at-enter s site what a why taken b (misplaced w) = subst (λ (r : ErrorKind). EnterSays s site what a r) (sym w) (inl (violation-fails site.initial_model (rules site.initial_model) (kinds site.before ++ what ∷ []) why b))
 violation-at-enter s site what a why taken b (incomplete w h) =
     subst (λ (r : ErrorKind). EnterSays s site what a r) (sym w)

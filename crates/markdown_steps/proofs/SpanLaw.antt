@@ -20,7 +20,7 @@ use Rattle.positions.specs.declared.unist.Point.{Point as UnistPoint}
 use Rattle.positions.specs.declared.unist.Position.{Position}
 use Rattle.markdown_steps.proofs.ItemLists.{regroup}
 use Rattle.markdown_grammar.specs.Attributes.{mark}
-use Rattle.markdown_grammar.specs.Document.{text_read}
+use Rattle.markdown_grammar.specs.Document.{value_read}
 use Rattle.markdown_steps.specs.SummaryNodes.{autolink, media_of}
 use Rattle.markdown_grammar.specs.Nodes.{Media, image_label, link_label, linked}
 use Rattle.markdown_grammar.specs.Decorated.{node_at}
@@ -208,9 +208,9 @@ linked-ordered scheme value a b c d h h' h'' =
     one-ordered (tree.link (scheme ++ value) None) (node_at (text value) nothing c d) a b (omega arith) (widen elsewhere c.index d.index a.index b.index (node_at (text value) nothing c d) h h'' (one-ordered (text value) nothing c d h' tt).ok)
 
 autolink-ordered : (s : Source) (x y : Option FoundPart) (a b : Point) → a.index ≤ b.index → LiesIn a.index b.index x → LiesIn a.index b.index y
-    → Fine a.index b.index (autolink (option_map (λ (z : FoundPart). address z.start z.end (text_read s z.start z.end)) x) (option_map (λ (z : FoundPart). address z.start z.end (text_read s z.start z.end)) y) a b)
-autolink-ordered s (Some x) y a b le h h' = linked-ordered (codes "mailto:") (text_read s x.start x.end) a b x.start x.end h.0 h.1 h.2
-autolink-ordered s None (Some y) a b le h h' = linked-ordered [] (text_read s y.start y.end) a b y.start y.end h'.0 h'.1 h'.2
+    → Fine a.index b.index (autolink (option_map (λ (z : FoundPart). address z.start z.end (value_read s z.start z.end)) x) (option_map (λ (z : FoundPart). address z.start z.end (value_read s z.start z.end)) y) a b)
+autolink-ordered s (Some x) y a b le h h' = linked-ordered (codes "mailto:") (value_read s x.start x.end) a b x.start x.end h.0 h.1 h.2
+autolink-ordered s None (Some y) a b le h h' = linked-ordered [] (value_read s y.start y.end) a b y.start y.end h'.0 h'.1 h'.2
 autolink-ordered s None None a b le h h' = one-ordered (tree.link [] None) nothing a b le tt
 
 item-ordered : (x : Bool) (m : Option Bool) (k : Trees) (a b : Point) → a.index ≤ b.index → b.index < 2 ^ 64 → InOrder elsewhere false a.index b.index k → Fine a.index b.index (node_at (tree.list_item x m) (task_if m k) a b)
@@ -241,11 +241,11 @@ media-image alt m a b le = elim m.resource as (λ o. Fine a.index b.index (node_
 node-ordered : (s : Source) (p from : Place) (what : ItemKind) (a b : Point) (d : Forest) (i : Items) (under : Path → Trees) → b.index < 2 ^ 64 → Rises a.index i b.index → ((w : Path) → InOrder elsewhere false a.index b.index (under w)) → Fine a.index b.index (node_of s p what a b (child_facts_of d) (summary_of s from i under))
 node-ordered s p from (content contents.Data) a b d i under small h k = one-ordered _ nothing a b (rises-le _ i _ h) tt
 node-ordered s p from (content contents.CharacterReference) a b d i under small h k = one-ordered _ nothing a b (rises-le _ i _ h) tt
-node-ordered s p from (content contents.LineEnding) a b d i under small h k = if-ordered p.line_endings a.index b.index _ (one-ordered (text (text_read s a b)) nothing a b (rises-le _ i _ h) tt)
+node-ordered s p from (content contents.LineEnding) a b d i under small h k = if-ordered p.line_endings a.index b.index _ (one-ordered (text (value_read s a b)) nothing a b (rises-le _ i _ h) tt)
 node-ordered s p from (content contents.Autolink) a b d i under small h k = autolink-ordered s _ _ a b (rises-le _ i _ h) (part-lies parts.AutolinkEmail from _ i _ h) (part-lies parts.AutolinkProtocol from _ i _ h)
-node-ordered s p from (content contents.AutolinkLiteralEmail) a b d i under small h k = linked-ordered (codes "mailto:") (text_read s a b) a b a b (omega arith) (rises-le _ i _ h) (omega arith)
-node-ordered s p from (content contents.AutolinkLiteralWww) a b d i under small h k = linked-ordered (codes "http://") (text_read s a b) a b a b (omega arith) (rises-le _ i _ h) (omega arith)
-node-ordered s p from (content contents.AutolinkLiteralWhole) a b d i under small h k = linked-ordered [] (text_read s a b) a b a b (omega arith) (rises-le _ i _ h) (omega arith)
+node-ordered s p from (content contents.AutolinkLiteralEmail) a b d i under small h k = linked-ordered (codes "mailto:") (value_read s a b) a b a b (omega arith) (rises-le _ i _ h) (omega arith)
+node-ordered s p from (content contents.AutolinkLiteralWww) a b d i under small h k = linked-ordered (codes "http://") (value_read s a b) a b a b (omega arith) (rises-le _ i _ h) (omega arith)
+node-ordered s p from (content contents.AutolinkLiteralWhole) a b d i under small h k = linked-ordered [] (value_read s a b) a b a b (omega arith) (rises-le _ i _ h) (omega arith)
 node-ordered s p from (content contents.ListItem) a b d i under small h k = item-ordered (loose_item d) (mark i) (under itself) a b (rises-le _ i _ h) small (k itself)
 node-ordered s p from (content contents.Frontmatter) a b d i under small h k = matter-ordered _ _ a b (rises-le _ i _ h)
 node-ordered s p from (content contents.Link) a b d i under small h k = media-link (media_of (summary_of s from i under)) _ a b (rises-le _ i _ h) (k (path_to parts.LabelText))

@@ -1,5 +1,6 @@
 -- The steps of a compilation on values: what a container keeps, what goes down to a span at its enter, and what comes up at its exit.
 use Rattle.std.specs.Prelude.{Bool, List, None, Ok, Option, Result, Some, [], cond, false, is_some, not, true, ◌&&◌, ◌||◌, ◌∷◌}
+use Rattle.std.specs.List.{list_any}
 use Rattle.std.specs.Option.{option_or}
 use Rattle.markdown_events.specs.Names.{is_same_name, role_of}
 use Rattle.markdown_events.specs.Slices.{to_unist}
@@ -67,16 +68,19 @@ has_stood p i = is_some (i.part (path_to p))
 
 -- one of the parts has stood
 abbrev pub has_one_of : List Part → Summary → Bool
-has_one_of [] i = false
-has_one_of (p ∷ ps) i = has_stood p i || has_one_of ps i
+has_one_of ps i = list_any (λ p. has_stood p i) ps
+
+-- one more item keeps the rule, where this says whether one of some parts has stood
+abbrev pub allows_after : (List Part → Bool) → Rule → ItemKind → Bool
+allows_after stood (only test) what = test what
+allows_after stood (at_most_one ps) what = not (is_one_of ps what) || not (stood ps)
+allows_after stood (none_of ps) what = not (is_one_of ps what)
+allows_after stood (only_after ps test) what = not (stood ps) || test what
+allows_after stood (only_before ps test) what = stood ps || (is_one_of ps what || test what)
 
 -- one more item keeps the rule, after those that gave this
 abbrev pub allows : Rule → Summary → ItemKind → Bool
-allows (only test) i what = test what
-allows (at_most_one ps) i what = not (is_one_of ps what) || not (has_one_of ps i)
-allows (none_of ps) i what = not (is_one_of ps what)
-allows (only_after ps test) i what = not (has_one_of ps i) || test what
-allows (only_before ps test) i what = has_one_of ps i || (is_one_of ps what || test what)
+allows rule i what = allows_after (λ ps. has_one_of ps i) rule what
 
 -- the tests of these rules, before others
 abbrev pub rule_checks : ContentModel → List Rule → Summary → ItemKind → List (Bool × ErrorKind) → List (Bool × ErrorKind)

@@ -20,9 +20,9 @@ use Rattle.markdown_nodes.specs.Tree as tree
 use Rattle.markdown_grammar.specs.Accepted.{Occurrence, ends_with_break, has_its_value, is_no_inner_table}
 use Rattle.markdown_events.specs.declared.role.Part.{Part}
 use Rattle.markdown_grammar.specs.Attributes.{decoded, value}
-use Rattle.markdown_grammar.specs.Items.{is_hard_break, is_line_ending, kinds}
+use Rattle.markdown_grammar.specs.Items.{is_hard_break, is_line_ending, is_one_of, kinds}
 use Rattle.markdown_grammar.specs.Document.{Source, byte_at, is_depth, is_item_number, length_between}
-use Rattle.markdown_grammar.specs.Grammar.{has_part, heading_atx, conforms}
+use Rattle.markdown_grammar.specs.Grammar.{Rule, any_item, at_most_one, conforms, has_part, heading_atx, markers, none_of, rules}
 use Rattle.markdown_grammar.specs.Sites.{Site}
 use Rattle.markdown_grammar.specs.declared.error_kind.ErrorKind.{ErrorKind}
 use Rattle.markdown_grammar.specs.declared.error_kind.ErrorKind.TheVariants.{HeadingDepth, IncompleteReference, InvalidListValue, InvalidSlice, Misplaced, MissingFence, MissingListValue, Repeated, UnfinishedBreak, UnknownReference}
@@ -114,12 +114,24 @@ pub record IsLinkBefore (nodes : Trees) (start end : Point) (others : Trees) : T
 
 -- ---- Refusals
 
+-- one of the rules is so
+abbrev pub SomeRule : (Rule → Type 0) → List Rule → Type 0
+SomeRule Is [] = ⊥
+SomeRule Is (rule ∷ others) = Is rule ⊎ SomeRule Is others
+
+-- the item is one of parts that may stand once, and one of them stands already; or it is one of parts that may not stand again,
+-- as a mark in a Paragraph of an item that has a mark
+abbrev pub StandsAlready : List ItemKind → ItemKind → Rule → Type 0
+StandsAlready before what (at_most_one ps) = (is_one_of ps what ≡ true) × (any_item (is_one_of ps) before ≡ true)
+StandsAlready before what (none_of ps) = is_one_of ps what ≡ true
+StandsAlready before what _ = ⊥
+
 -- what a refusal says of an item that begins
 abbrev pub EnterSays : Source → Site → ItemKind → Point → ErrorKind → Type 0
 EnterSays s site what start UnfinishedBreak = (ends_with_break site.before ≡ true) × (is_line_ending what ≡ false)
-EnterSays s site what start Repeated = conforms site.initial_model (kinds site.before ++ what ∷ []) ≡ false
+EnterSays s site what start Repeated = SomeRule (StandsAlready (kinds site.before) what) (rules site.initial_model)
 EnterSays s site what start Misplaced = (conforms site.initial_model (kinds site.before ++ what ∷ []) ≡ false) ⊎ (is_no_inner_table (beginning site what start) ≡ false)
-EnterSays s site what start IncompleteReference = what ≡ part parts.CharacterReferenceValue
+EnterSays s site what start IncompleteReference = (what ≡ part parts.CharacterReferenceValue) × (any_item (is_one_of markers) (kinds site.before) ≡ false)
 EnterSays s site what start InvalidSlice = (what ≡ content contents.Frontmatter) × (byte_at s.bytes start ≡ None)
 EnterSays s site what start _ = ⊥
 

@@ -6,7 +6,7 @@ use Rattle.markdown_nodes.specs.Tree.{Trees, plain_label, plain_text}
 use Rattle.markdown_events.specs.declared.event.Point.{Point}
 use Rattle.markdown_events.specs.declared.role.Part.{Part}
 use Rattle.markdown_grammar.specs.Attributes.{Place, decoded, mark, inherited_after, inherited_in, value}
-use Rattle.markdown_grammar.specs.Document.{Source, is_byte, length_between, text_read}
+use Rattle.markdown_grammar.specs.Document.{Source, is_byte, length_between, text_read, value_read}
 use Rattle.markdown_grammar.specs.Items.{Items, item, none, same_part, ◌then◌}
 use Rattle.markdown_events.specs.declared.role.ItemKind.TheVariants.{Content as content, Part as part}
 use Rattle.markdown_events.specs.declared.role.Part.TheVariants as parts
@@ -58,8 +58,8 @@ pub data PartSummary : Type 0 where
 
 -- what a part between two points gives, by where it stands and the nodes of its items
 abbrev pub kept_from : Source → Place → Part → Point → Point → Trees → PartSummary
-kept_from s p parts.AutolinkEmail a b ts = address a b (text_read s a b)
-kept_from s p parts.AutolinkProtocol a b ts = address a b (text_read s a b)
+kept_from s p parts.AutolinkEmail a b ts = address a b (value_read s a b)
+kept_from s p parts.AutolinkProtocol a b ts = address a b (value_read s a b)
 kept_from s p parts.CharacterReferenceValue a b ts = words (unwrap_or (decoded s p a b) [])
 kept_from s p parts.CodeFencedFenceInfo a b ts = words (plain_text ts)
 kept_from s p parts.CodeFencedFenceMeta a b ts = words (plain_text ts)

@@ -11,7 +11,7 @@ use Rattle.markdown_grammar.specs.Nodes.{Media, frontmatter, image_label, link_l
 use Rattle.markdown_steps.specs.ChildFacts.{ChildFacts, child_facts_of}
 use Rattle.markdown_texts.specs.Texts.{raw, spaces, trim}
 use Rattle.markdown_events.specs.declared.role.ItemKind.{ItemKind}
-use Rattle.markdown_grammar.specs.Document.{Source, is_byte, text_read}
+use Rattle.markdown_grammar.specs.Document.{Source, is_byte, value_read}
 use Rattle.markdown_grammar.specs.Items.{Items, item, none, same_part, ◌then◌}
 use Rattle.markdown_grammar.specs.Tasks.{task_if}
 use Rattle.markdown_events.specs.declared.role.ItemKind.TheVariants.{Content as content, Part as part}
@@ -46,14 +46,14 @@ media_of i =
 
 -- the node of one span; a part gives none, but for the text of a heading, which gives its nodes
 abbrev pub node_of : Source → Place → ItemKind → Point → Point → ChildFacts → Summary → Trees
-node_of s p (content contents.Data) a b _ i = node_at (tree.text (text_read s a b)) nothing a b
+node_of s p (content contents.Data) a b _ i = node_at (tree.text (value_read s a b)) nothing a b
 node_of s p (content contents.CharacterReference) a b _ i = node_at (tree.text (text_of (i.part (path_to parts.CharacterReferenceValue)))) nothing a b
-node_of s p (content contents.LineEnding) a b _ i = if p.line_endings then node_at (tree.text (text_read s a b)) nothing a b else nothing
+node_of s p (content contents.LineEnding) a b _ i = if p.line_endings then node_at (tree.text (value_read s a b)) nothing a b else nothing
 node_of s p (content contents.HardBreak) a b _ i = node_at tree.«break» nothing a b
 node_of s p (content contents.Autolink) a b _ i = autolink (i.part (path_to parts.AutolinkEmail)) (i.part (path_to parts.AutolinkProtocol)) a b
-node_of s p (content contents.AutolinkLiteralEmail) a b _ i = linked (codes "mailto:") (text_read s a b) a b a b
-node_of s p (content contents.AutolinkLiteralWww) a b _ i = linked (codes "http://") (text_read s a b) a b a b
-node_of s p (content contents.AutolinkLiteralWhole) a b _ i = linked [] (text_read s a b) a b a b
+node_of s p (content contents.AutolinkLiteralEmail) a b _ i = linked (codes "mailto:") (value_read s a b) a b a b
+node_of s p (content contents.AutolinkLiteralWww) a b _ i = linked (codes "http://") (value_read s a b) a b a b
+node_of s p (content contents.AutolinkLiteralWhole) a b _ i = linked [] (value_read s a b) a b a b
 node_of s p (content contents.BlockQuote) a b _ i = node_at tree.blockquote i.nodes a b
 node_of s p (content contents.Emphasis) a b _ i = node_at tree.emphasis i.nodes a b
 node_of s p (content contents.Strong) a b _ i = node_at tree.strong i.nodes a b

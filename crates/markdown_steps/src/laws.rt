@@ -10,7 +10,7 @@ ghost use Rattle.markdown_events.specs.Forest.{Forest, events_of};
 ghost use Rattle.markdown_events.specs.declared.event.Event.{Event};
 ghost use Rattle.markdown_events.specs.declared.event.Point.{Point};
 ghost use Rattle.markdown_events.specs.declared.role.ItemKind.{ItemKind};
-ghost use Rattle.markdown_nodes.specs.Tree.{Trees, join, only};
+ghost use Rattle.markdown_nodes.specs.Tree.{only};
 ghost use Rattle.markdown_grammar.specs.Accepted.{Accepted, Occurrence, ends_with_break};
 ghost use Rattle.markdown_grammar.specs.Decorated.{nodes_of};
 ghost use Rattle.markdown_steps.specs.Consequences.{
@@ -35,12 +35,7 @@ ghost use Rattle.markdown_grammar.specs.Sites.{Ancestor, Site, events_so_far};
 ghost use Rattle.markdown_grammar.specs.declared.error_kind.ErrorKind.{ErrorKind};
 ghost use Rattle.markdown_grammar.specs.declared.error_kind.ErrorKind.TheVariants.{UnfinishedBreak};
 
-/// Lists of nodes may be joined from either side: texts that meet become one in any order (ours).
-///
-/// Lists of one Text each, `a`, `b` and `c`, give a list of the Text `abc` either way.
-pub fn seam()
-    ensures { (a b c : Trees) → join (join a b) c ≡ join a (join b c) }
-{}
+pub use markdown_nodes::laws::{one_forest, seam};
 
 /// No Text comes directly after a Text among siblings, at any depth.
 ///
@@ -122,11 +117,15 @@ pub fn autolinks_give_links()
 
 /// A significant span that is refused where it begins has what the refusal's reason says.
 ///
-/// It is no line ending, and a hard break is before it (`break-unfinished`). The container does not
-/// take the span after what stands in it (`part-repeated`, `name-misplaced`), or the span is a table in a
-/// table (`name-misplaced`). The value of a character reference has no marker before it
-/// (`reference-incomplete`). A Frontmatter begins at no byte of the document (`slice-invalid`). No
-/// other refusal comes there. The reasons are ours.
+/// - `break-unfinished`: it is no line ending, and a hard break is before it.
+/// - `part-repeated`: it is one of parts that may stand once, and one of them stands already. Or it is
+///   a mark, in a paragraph of an item that has a mark.
+/// - `name-misplaced`: the container does not take it after what stands there, or it is a table in a
+///   table.
+/// - `reference-incomplete`: it is the value of a character reference, and no marker is before it.
+/// - `slice-invalid`: it is a Frontmatter, and it begins at no byte of the document.
+///
+/// No other refusal comes there. The reasons are ours.
 ///
 /// A second `LabelText` in a Link is refused by `part-repeated`.
 pub fn refused_enters_are_as_said()

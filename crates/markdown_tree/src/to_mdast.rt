@@ -9,7 +9,7 @@ ghost use Rattle.markdown_steps.specs.Compiler.{compiled, opening, point_of, run
 ghost use Rattle.markdown_grammar.specs.Correct.{FailsRightly, IsMeaning};
 ghost use Rattle.markdown_steps.specs.Extents.{extent_of, last_event};
 ghost use Rattle.markdown_grammar.specs.Ordered.{IsOrdered, NeverGoesBack};
-ghost use Rattle.markdown_grammar.specs.Document.{source};
+ghost use Rattle.markdown_grammar.specs.Document.{source, source_of, source_with};
 ghost use Rattle.markdown_context.specs.States.{Completes, state_of};
 ghost use Rattle.markdown_events.specs.Steps.{event_count};
 ghost use Rattle.markdown_steps.specs.Visits.{run_visits};
@@ -18,6 +18,7 @@ pub use character_references::references::References;
 use markdown_builder::slice::{Document, position_of};
 use markdown_context::context::Context;
 use markdown_grammar::error_kind::Stop;
+pub use markdown_grammar::values::Values;
 use markdown_nodes::event::{Event, Point};
 use markdown_nodes::mdast::{Node, Root};
 use markdown_nodes::message::Fault;
@@ -74,7 +75,34 @@ pub fn compile<R: References>(
     // Without events a tree comes, whatever the allocator does.
     ensures empty { events.now ≡ [] → IsOk result }
 {
-    compile_counted(alloc, &mut Steps::new(events), bytes, references)
+    compile_with(alloc, events, bytes, references, Values::AsInDocument)
+}
+
+/// Does what [`compile`] does, with values that are read so.
+///
+/// [`Values::AsInDocument`] gives what [`compile`] gives. With [`Values::Whole`] texts and addresses
+/// have the columns of a split tab as spaces, and U+FFFD for each NUL, as CommonMark has them. Which
+/// lists have a tree, and why others are refused, is the same for both.
+///
+/// For the events of `>→→foo`, where `→` is a tab, whole values give a code `␠␠foo`.
+pub fn compile_with<R: References>(
+    alloc: Global,
+    events: &[Event],
+    bytes: &[u8],
+    references: &R,
+    values: Values,
+) -> Result<Node, Fault>
+    // A tree is the meaning of an accepted forest that has these events.
+    ensures found { IfOk result (λ tree. IsMeaning tree events.now (source_with values bytes.now (R.text references.now))) }
+    // A message comes only where there is no such forest.
+    ensures refused { IfErr result (λ fault. FailsRightly fault events.now (source_with values bytes.now (R.text references.now))) }
+    // Where the offsets never go back, spans nest and siblings stand in order, but for the starts in
+    // the first paragraphs of task items.
+    ensures ordered { IfOk result (λ tree. NeverGoesBack events.now → IsOrdered (only (view tree))) }
+    // Without events a tree comes, whatever the allocator does.
+    ensures empty { events.now ≡ [] → IsOk result }
+{
+    compile_counted_with(alloc, &mut Steps::new(events), bytes, references, values)
 }
 
 /// Does what [`compile`] does for the list in `steps`, which it reads through `steps` alone, and adds
@@ -112,24 +140,62 @@ pub fn compile_counted<R: References>(
     ensures bound_without { IfErr result (λ fault.
         steps.new.count ≤ steps.old.count + 4 * length steps.old.events + buffered_events steps.old.events) }
 {
-    compile_list(alloc, steps, bytes, references)
+    compile_counted_with(alloc, steps, bytes, references, Values::AsInDocument)
 }
 
-/// Does what [`compile_counted`] does; its contract says it by the compilation on values.
+/// Does what [`compile_counted`] does, with values that are read so: the steps are the same.
+///
+/// For the events of `Hi` it adds at most 16 steps, however values are read.
+pub fn compile_counted_with<R: References>(
+    alloc: Global,
+    steps: &mut Steps<'_>,
+    bytes: &[u8],
+    references: &R,
+    values: Values,
+) -> Result<Node, Fault>
+    // A tree is the meaning of an accepted forest that has these events.
+    ensures found { IfOk result (λ tree. IsMeaning tree steps.old.events (source_with values bytes.now (R.text references.now))) }
+    // A message comes only where there is no such forest.
+    ensures refused { IfErr result (λ fault. FailsRightly fault steps.old.events (source_with values bytes.now (R.text references.now))) }
+    // Where the offsets never go back, spans nest and siblings stand in order, but for the starts in
+    // the first paragraphs of task items.
+    ensures ordered { IfOk result (λ tree. NeverGoesBack steps.old.events → IsOrdered (only (view tree))) }
+    // Without events a tree comes, whatever the allocator does.
+    ensures empty { steps.old.events ≡ [] → IsOk result }
+    // The list is kept.
+    ensures list { steps.new.events ≡ steps.old.events }
+    // Each event takes at most four steps, and each node in a buffer one.
+    ensures bound { IfOk result (λ tree. (forest : Forest) → events_of forest ≡ steps.old.events
+        → steps.new.count ≤ steps.old.count + 4 * length steps.old.events
+        + buffered_nodes (source_with values bytes.now (R.text references.now)) forest) }
+    // Without a tree, each event inside a span with a buffer's name takes at most one more.
+    ensures bound_without { IfErr result (λ fault.
+        steps.new.count ≤ steps.old.count + 4 * length steps.old.events + buffered_events steps.old.events) }
+{
+    compile_list(alloc, steps, bytes, references, values)
+}
+
+/// Does what [`compile_counted_with`] does; its contract says it by the compilation on values.
 fn compile_list<R: References>(
     alloc: Global,
     steps: &mut Steps<'_>,
     bytes: &[u8],
     references: &R,
+    values: Values,
 ) -> Result<Node, Fault>
-    ensures gives { Completes view result (compiled (source bytes.now (R.text references.now)) steps.old.events) }
+    ensures gives { Completes view result (compiled (source_with values bytes.now (R.text references.now)) steps.old.events) }
     ensures fits { IfOk result (λ tree. (extent_of steps.old.events).end.offset < 2 ^ 64) }
     ensures empty { steps.old.events ≡ [] → IsOk result }
     ensures list { steps.new.events ≡ steps.old.events }
     ensures bound { steps.new.count ≤ steps.old.count + 4 * length steps.old.events
-        + run_visits (source bytes.now (R.text references.now)) steps.old.events opening }
+        + run_visits (source_with values bytes.now (R.text references.now)) steps.old.events opening }
 {
-    let Taken { context, outcome } = take_all(alloc, steps, &Document::new(bytes), references);
+    let Taken { context, outcome } = take_all(
+        alloc,
+        steps,
+        &Document::new(bytes, values),
+        references,
+    );
     let length = match outcome {
         Ok(length) => length,
         Err(fault) => {
@@ -152,32 +218,32 @@ fn compile_list<R: References>(
 /// The context after the last event that was taken, and how many events there are, or why one of them
 /// was refused.
 #[derive(Drop)]
-struct Taken<'a, 'e> {
-    context: Context<'a, 'e>,
+struct Taken<'a> {
+    context: Context<'a>,
     outcome: Result<usize, Fault>,
 }
 
 /// Takes all events, one after the other. It stays out of its callers, whose code would crowd the loop, and
 /// hands the context out in any case, so that the loop has nothing to drop.
 #[inline(never)]
-fn take_all<'a, 'e, R: References>(
+fn take_all<'a, R: References>(
     alloc: Global,
-    steps: &mut Steps<'e>,
+    steps: &mut Steps<'_>,
     document: &Document<'a>,
     references: &R,
-) -> Taken<'a, 'e>
+) -> Taken<'a>
     ensures gives { Completes (λ _. state_of result.context) result.outcome
-        (run (source document.now (R.text references.now)) steps.old.events opening) }
+        (run (source_of document.now (R.text references.now)) steps.old.events opening) }
     ensures empty { steps.old.events ≡ [] → IsOk result.outcome }
     ensures length { IfOk result.outcome (λ count. count ≡ length steps.old.events) }
     ensures list { steps.new.events ≡ steps.old.events }
     ensures bound { steps.new.count ≤ steps.old.count + 2 * length steps.old.events
-        + run_visits (source document.now (R.text references.now)) steps.old.events opening }
+        + run_visits (source_of document.now (R.text references.now)) steps.old.events opening }
 {
     let mut context = Context::new(alloc);
     let mut index = 0;
     while let Some(event) = steps.read(index) {
-        if let Err(stop) = context.step(alloc, steps, document, references, event) {
+        if let Err(stop) = context.step(alloc, steps, document, references, &event) {
             return Taken {
                 context,
                 outcome: Err(stop.at(event.point)),

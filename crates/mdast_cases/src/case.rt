@@ -4,6 +4,7 @@ use crate::decoder::CaseDecoder;
 use crate::document::Document;
 use crate::sums::Checksum;
 use markdown_nodes::event::Event;
+use markdown_tree::to_mdast::Values;
 
 /// A list of events over a document, and what `compile` must give.
 #[derive(Drop)]
@@ -16,12 +17,16 @@ pub struct Case<'a> {
     pub document: Document,
     /// What its character references stand for.
     pub decoder: CaseDecoder,
+    /// How values are read.
+    pub values: Values,
     /// The events.
     pub events: Vec<Event>,
     /// The tree as Debug prints it, after `= `, or the rule and the place of the refusal, after `! `.
     pub answer: &'a str,
     /// Whether its tree is ordered, where a line says it.
     pub ordered: Option<bool>,
+    /// Whether the writer of events writes its list, where a line says it.
+    pub written: Option<bool>,
     /// What else is made of its tree, where lines say it.
     pub forms: Forms<'a>,
     /// The checksum of its lines.

@@ -20,6 +20,8 @@ pub enum LineKind {
     Columns,
     /// The decoder that the case has: `decoder blank`, the one that knows the empty value.
     Decoder,
+    /// How values are read: `values whole`.
+    Values,
     /// The spans of the list: `Paragraph 0-2 { Data 0-2 }`.
     Spans,
     /// An event of the list: `+Data 1:1:0`.
@@ -28,6 +30,8 @@ pub enum LineKind {
     Answer,
     /// Whether the tree is ordered: `ordered yes`.
     Ordered,
+    /// Whether the writer of events writes this list: `written yes`.
+    Written,
     /// The tree as JSON: `json {"type":"root","children":[]}`.
     Json,
     /// The plain text of the tree, between quotes and with escapes: `plain "Hi"`.
@@ -116,7 +120,9 @@ fn word_kind(word: &str) -> Option<LineKind> {
         "doc" => Some(LineKind::Hexadecimal),
         "columns" => Some(LineKind::Columns),
         "decoder" => Some(LineKind::Decoder),
+        "values" => Some(LineKind::Values),
         "ordered" => Some(LineKind::Ordered),
+        "written" => Some(LineKind::Written),
         "json" => Some(LineKind::Json),
         "plain" => Some(LineKind::Plain),
         "report" => Some(LineKind::Report),

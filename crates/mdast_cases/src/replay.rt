@@ -1,12 +1,16 @@
 //! What is compiled of a case, and compared with what must come.
 
 use crate::case::{Case, Forms};
+use crate::counts::{Counts, count};
+use crate::rewrite::rewritten;
 use markdown_grammar::ordered::ordered;
 use markdown_json::to_json;
 use markdown_nodes::event::{Event, Kind, Point};
 use markdown_nodes::mdast::Node;
 use markdown_nodes::message::{Fault, Message, Place};
-use markdown_tree::to_mdast::{Steps, compile, compile_counted};
+use markdown_tree::to_mdast::{
+    Steps, Values, compile, compile_counted, compile_counted_with, compile_with,
+};
 use mdast_check::report::report_of;
 use std::alloc::{AllocError, AllocFailed, Global};
 
@@ -56,9 +60,13 @@ impl<T: Drop> From<AllocFailed<T>> for ReplayError {
     }
 }
 
-/// The line of a case that is not as it must be, if it is not.
-pub fn difference(alloc: Global, case: &Case<'_>) -> Result<Option<String>, AllocError> {
-    match replay(alloc, case) {
+/// The line of a case that is not as it must be, if it is not. It counts what was compared.
+pub fn difference(
+    alloc: Global,
+    case: &Case<'_>,
+    counts: &mut Counts,
+) -> Result<Option<String>, AllocError> {
+    match replay(alloc, case, counts) {
         Ok(()) => Ok(None),
         Err(ReplayError::Differs(list, answer)) => {
             let name = case.name;
@@ -71,24 +79,30 @@ pub fn difference(alloc: Global, case: &Case<'_>) -> Result<Option<String>, Allo
 
 /// Compiles a case, looks at what is made of its tree, and compiles what comes of the list when it is
 /// cut or its exits are swapped.
-fn replay(alloc: Global, case: &Case<'_>) -> Result<(), ReplayError> {
+fn replay(alloc: Global, case: &Case<'_>, counts: &mut Counts) -> Result<(), ReplayError> {
     let outcome = outcome(alloc, case, case.events.as_slice());
     expect(List::Whole, answer(alloc, &outcome), case.answer)?;
     expect(List::Counted, counted(alloc, case), case.answer)?;
     match &outcome {
-        Ok(tree) => replay_tree(alloc, case, tree),
+        Ok(tree) => replay_tree(alloc, case, tree, counts),
         Err(_) => Ok(()),
     }
 }
 
 /// Looks at what is made of the tree of a case, and compiles what comes of the list when it is cut or
 /// its exits are swapped.
-fn replay_tree(alloc: Global, case: &Case<'_>, tree: &Node) -> Result<(), ReplayError> {
+fn replay_tree(
+    alloc: Global,
+    case: &Case<'_>,
+    tree: &Node,
+    counts: &mut Counts,
+) -> Result<(), ReplayError> {
     order(alloc, case, tree)?;
-    copy(alloc, case, tree)?;
-    forms(alloc, &case.forms, tree)?;
-    cut(alloc, case)?;
-    swap(alloc, case)
+    written(alloc, case)?;
+    copy(alloc, case, tree, &mut counts.copies)?;
+    forms(alloc, &case.forms, tree, &mut counts.forms)?;
+    cut(alloc, case, &mut counts.cuts)?;
+    swap(alloc, case, &mut counts.swaps)
 }
 
 /// Compares an answer with the one that must come.
@@ -112,14 +126,48 @@ fn order(alloc: Global, case: &Case<'_>, tree: &Node) -> Result<(), ReplayError>
     Ok(())
 }
 
+/// The writer of events writes the list of the case, or refuses a part of it, where the case says which.
+fn written(alloc: Global, case: &Case<'_>) -> Result<(), ReplayError> {
+    let Some(want) = case.written else {
+        return Ok(());
+    };
+    let bytes = case.document.bytes.as_slice();
+    let events = case.events.as_slice();
+    let is_written = match rewritten(alloc, bytes, &case.decoder, events)? {
+        Some(written) => written.as_slice() == events,
+        None => false,
+    };
+    if is_written == want {
+        return Ok(());
+    }
+    let answer = String::from_str(alloc, written_text(is_written))?;
+    Err(ReplayError::Differs(List::Whole, answer))
+}
+
+/// How a line says whether the writer of events writes a list.
+fn written_text(is_written: bool) -> &'static str {
+    if is_written {
+        "a list that the writer writes"
+    } else {
+        "a list that the writer does not write"
+    }
+}
+
 /// A copy of the tree equals it, and `to_debug_string` gives the answer of the case.
-fn copy(alloc: Global, case: &Case<'_>, tree: &Node) -> Result<(), ReplayError> {
+fn copy(
+    alloc: Global,
+    case: &Case<'_>,
+    tree: &Node,
+    copies: &mut usize,
+) -> Result<(), ReplayError> {
     let copy = tree.clone(alloc)?;
     if copy != *tree {
         let answer = format!(in alloc; "another copy, {copy:?}")?;
         return Err(ReplayError::Differs(List::Whole, answer));
     }
-    expect(List::Whole, line_answer(alloc, &copy), case.answer)
+    expect(List::Whole, line_answer(alloc, &copy), case.answer)?;
+    count(copies);
+    Ok(())
 }
 
 /// The answer of a case with this tree, by `to_debug_string`.
@@ -129,15 +177,21 @@ fn line_answer(alloc: Global, tree: &Node) -> Result<String, AllocError> {
 }
 
 /// The JSON, the plain text and the report of the tree are as the case says.
-fn forms(alloc: Global, forms: &Forms<'_>, tree: &Node) -> Result<(), ReplayError> {
+fn forms(
+    alloc: Global,
+    forms: &Forms<'_>,
+    tree: &Node,
+    compared: &mut usize,
+) -> Result<(), ReplayError> {
     if let Some(want) = forms.json {
-        expect_form(alloc, "JSON", to_json(alloc, tree), want.as_bytes())?;
+        let json = to_json(alloc, tree);
+        expect_form(alloc, "JSON", json, want.as_bytes(), compared)?;
     }
     if let Some(want) = &forms.plain {
-        expect_form(alloc, "plain text", tree.to_string(alloc), want)?;
+        expect_form(alloc, "plain text", tree.to_string(alloc), want, compared)?;
     }
     if let Some(want) = &forms.report {
-        expect_form(alloc, "report", report(alloc, tree), want)?;
+        expect_form(alloc, "report", report(alloc, tree), want, compared)?;
     }
     Ok(())
 }
@@ -147,15 +201,17 @@ fn report(alloc: Global, tree: &Node) -> Result<String, AllocError> {
     Ok(report_of(alloc, tree)?.text)
 }
 
-/// Compares what is made of a tree with what must be made.
+/// Compares what is made of a tree with what must be made, and counts it.
 fn expect_form(
     alloc: Global,
     what: &str,
     form: Result<String, AllocError>,
     want: &[u8],
+    compared: &mut usize,
 ) -> Result<(), ReplayError> {
     let form = form?;
     if form.as_bytes() == want {
+        count(compared);
         return Ok(());
     }
     let answer = format!(in alloc; "the {what} {form}")?;
@@ -184,7 +240,7 @@ fn never_goes_back(events: &[Event]) -> bool {
 }
 
 /// Each beginning of the list that leaves a span open is unbalanced at its last event.
-fn cut(alloc: Global, case: &Case<'_>) -> Result<(), ReplayError> {
+fn cut(alloc: Global, case: &Case<'_>, cuts: &mut usize) -> Result<(), ReplayError> {
     let events = case.events.as_slice();
     let mut open: usize = 0;
     for index in 0..events.len() {
@@ -194,8 +250,9 @@ fn cut(alloc: Global, case: &Case<'_>) -> Result<(), ReplayError> {
             Kind::Exit => open.saturating_sub(1),
         };
         if open > 0 {
-            let count = index + 1;
-            expect_unbalanced(alloc, case, List::First(count), &events[..count], event)?;
+            let length = index + 1;
+            let list = List::First(length);
+            expect_unbalanced(alloc, case, list, &events[..length], event, cuts)?;
         }
     }
     Ok(())
@@ -203,36 +260,34 @@ fn cut(alloc: Global, case: &Case<'_>) -> Result<(), ReplayError> {
 
 /// With two neighbouring exits of different names swapped, the list is unbalanced at the first of
 /// them.
-fn swap(alloc: Global, case: &Case<'_>) -> Result<(), ReplayError> {
+fn swap(alloc: Global, case: &Case<'_>, swaps: &mut usize) -> Result<(), ReplayError> {
     let events = case.events.as_slice();
     for index in 1..events.len() {
         let first = events[index - 1];
         let second = events[index];
         if are_unlike_exits(first, second) {
+            let list = List::Swapped(index);
             let swapped = swapped(alloc, events, index)?;
-            expect_unbalanced(
-                alloc,
-                case,
-                List::Swapped(index),
-                swapped.as_slice(),
-                second,
-            )?;
+            expect_unbalanced(alloc, case, list, swapped.as_slice(), second, swaps)?;
         }
     }
     Ok(())
 }
 
-/// A list that is compiled for a case is unbalanced at this event.
+/// A list that is compiled for a case is unbalanced at this event. It is counted.
 fn expect_unbalanced(
     alloc: Global,
     case: &Case<'_>,
     list: List,
     events: &[Event],
     event: Event,
+    compared: &mut usize,
 ) -> Result<(), ReplayError> {
     let want = unbalanced(alloc, event.point)?;
     let outcome = outcome(alloc, case, events);
-    expect(list, answer(alloc, &outcome), want.as_str())
+    expect(list, answer(alloc, &outcome), want.as_str())?;
+    count(compared);
+    Ok(())
 }
 
 /// Whether two events are exits of different names.
@@ -252,14 +307,20 @@ fn swapped(alloc: Global, events: &[Event], index: usize) -> Result<Vec<Event>, 
 /// What `compile` gives for events over the document of a case.
 fn outcome(alloc: Global, case: &Case<'_>, events: &[Event]) -> Result<Node, Fault> {
     let bytes = case.document.bytes.as_slice();
-    compile(alloc, events, bytes, &case.decoder)
+    match case.values {
+        Values::AsInDocument => compile(alloc, events, bytes, &case.decoder),
+        values => compile_with(alloc, events, bytes, &case.decoder, values),
+    }
 }
 
 /// The answer of a case by `compile_counted`.
 fn counted(alloc: Global, case: &Case<'_>) -> Result<String, AllocError> {
     let mut steps = Steps::new(case.events.as_slice());
     let bytes = case.document.bytes.as_slice();
-    let outcome = compile_counted(alloc, &mut steps, bytes, &case.decoder);
+    let outcome = match case.values {
+        Values::AsInDocument => compile_counted(alloc, &mut steps, bytes, &case.decoder),
+        values => compile_counted_with(alloc, &mut steps, bytes, &case.decoder, values),
+    };
     answer(alloc, &outcome)
 }
 

@@ -1,6 +1,7 @@
 //! One run of the program over the files that its arguments name.
 
 use crate::case::Case;
+use crate::counts::Counts;
 use crate::replay::difference;
 use crate::sums::{SumsDifference, sums_difference};
 use crate::table::{TableError, cases};
@@ -138,7 +139,9 @@ impl<'a> Table<'a> {
 /// Replays the tables among the files, and compares the files of checksums, whose names end in
 /// `.sums`, with the table before them.
 ///
-/// It writes a line for each file, and before it one for each case that is not as it must be.
+/// It writes a line for each file, and before it one for each case that is not as it must be. Where all
+/// cases of a table are, its line says how much was compared for those with a tree: trees with their
+/// copies, forms of trees, lists cut where a span is open, and pairs of exits swapped.
 pub fn run<O: Write>(alloc: Global, inputs: &[Input], output: &mut O) -> Result<Verdict, RunError> {
     let mut verdict = Verdict::Right;
     let mut last_table = None;
@@ -158,8 +161,9 @@ pub fn run<O: Write>(alloc: Global, inputs: &[Input], output: &mut O) -> Result<
 /// Replays the cases of a table.
 fn replay<O: Write>(alloc: Global, table: &Table<'_>, output: &mut O) -> Result<Verdict, RunError> {
     let mut wrong: usize = 0;
+    let mut counts = Counts::new();
     for case in &table.cases {
-        if let Some(difference) = difference(alloc, case)? {
+        if let Some(difference) = difference(alloc, case, &mut counts)? {
             wrong = wrong.saturating_add(1);
             write(
                 output,
@@ -167,7 +171,7 @@ fn replay<O: Write>(alloc: Global, table: &Table<'_>, output: &mut O) -> Result<
             )?;
         }
     }
-    write(output, count_line(alloc, table, wrong))?;
+    write(output, count_line(alloc, table, wrong, counts))?;
     Ok(if wrong == 0 {
         Verdict::Right
     } else {
@@ -180,12 +184,18 @@ fn difference_line(alloc: Global, name: &str, difference: &str) -> Result<String
     format!(in alloc; "{name}: {difference}\n")
 }
 
-/// The line of a table of which so many cases are not as they must be.
-fn count_line(alloc: Global, table: &Table<'_>, wrong: usize) -> Result<String, AllocError> {
+/// The line of a table of which so many cases are not as they must be, and what was compared.
+fn count_line(
+    alloc: Global,
+    table: &Table<'_>,
+    wrong: usize,
+    counts: Counts,
+) -> Result<String, AllocError> {
     let name = table.name;
     let count = table.cases.len();
     if wrong == 0 {
-        format!(in alloc; "{name}: {count} cases, each as it must be\n")
+        let compared = counts.text(alloc)?;
+        format!(in alloc; "{name}: {count} cases, each as it must be: {compared}\n")
     } else {
         format!(in alloc; "{name}: {count} cases, {wrong} not as they must be\n")
     }

@@ -28,6 +28,7 @@ use crate::sums::Checksum;
 use crate::unquoted::unquoted;
 use event_lines::lines::events;
 use markdown_nodes::event::Event;
+use markdown_tree::to_mdast::Values;
 use std::alloc::{AllocError, AllocFailed, Global};
 
 /// Why a table was not read.
@@ -153,12 +154,16 @@ struct Draft<'a> {
     document: Option<Document>,
     /// What its character references stand for.
     decoder: CaseDecoder,
+    /// How values are read.
+    values: Values,
     /// The events so far.
     events: Vec<Event>,
     /// The answer, after the line that says it.
     answer: Option<&'a str>,
     /// Whether the tree is ordered, after the line that says it.
     ordered: Option<bool>,
+    /// Whether the writer of events writes the list, after the line that says it.
+    written: Option<bool>,
     /// What else is made of the tree, after the lines that say it.
     forms: Forms<'a>,
     /// The checksum of its lines so far.
@@ -173,9 +178,11 @@ impl<'a> Draft<'a> {
             name,
             document: None,
             decoder: CaseDecoder::Usual,
+            values: Values::AsInDocument,
             events: Vec::new(alloc),
             answer: None,
             ordered: None,
+            written: None,
             forms: Forms::new(),
             checksum: Checksum::new().with_line(name),
         }
@@ -190,10 +197,12 @@ impl<'a> Draft<'a> {
             LineKind::Hexadecimal => self.add_document(alloc, bytes_of_digits(alloc, text)),
             LineKind::Columns => self.join_lines(text),
             LineKind::Decoder => self.add_decoder(text),
+            LineKind::Values => self.add_values(text),
             LineKind::Spans => self.add_spans(alloc, text),
             LineKind::Event => self.add_events(events_of_line(alloc, text)),
             LineKind::Answer => once(&mut self.answer, text),
             LineKind::Ordered => once_read(&mut self.ordered, answer_to(text)),
+            LineKind::Written => once_read(&mut self.written, answer_to(text)),
             LineKind::Json => once(&mut self.forms.json, text),
             LineKind::Plain => once_read(&mut self.forms.plain, unquoted(alloc, text)),
             LineKind::Report => once_read(&mut self.forms.report, unquoted(alloc, text)),
@@ -235,6 +244,16 @@ impl<'a> Draft<'a> {
         }
     }
 
+    /// Values are read as this word says.
+    fn add_values(&mut self, name: &str) -> Result<(), LineError> {
+        if name == "whole" {
+            self.values = Values::Whole;
+            Ok(())
+        } else {
+            Err(LineError::Unread)
+        }
+    }
+
     /// Adds the events of spans, for which the document must be known.
     fn add_spans(&mut self, alloc: Global, text: &str) -> Result<(), LineError> {
         let events = match &self.document {
@@ -256,9 +275,11 @@ impl<'a> Draft<'a> {
             name: self.name,
             document: self.document?,
             decoder: self.decoder,
+            values: self.values,
             events: self.events,
             answer: self.answer?,
             ordered: self.ordered,
+            written: self.written,
             forms: self.forms,
             checksum: self.checksum,
         })

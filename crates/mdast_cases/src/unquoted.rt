@@ -3,7 +3,7 @@
 use crate::line::LineError;
 use std::alloc::Global;
 
-/// The bytes that a text between quotes says: `\n`, `\r`, `\t`, `\\` and `\"` are one byte.
+/// The bytes that a text between quotes says: `\n`, `\r`, `\t`, `\0`, `\\` and `\"` are one byte.
 pub fn unquoted(alloc: Global, text: &str) -> Result<Vec<u8>, LineError> {
     match between_quotes(text) {
         Some(text) => unescaped(alloc, text),
@@ -50,6 +50,7 @@ fn escaped(letter: u8) -> Option<u8> {
         b'n' => Some(b'\n'),
         b'r' => Some(b'\r'),
         b't' => Some(b'\t'),
+        b'0' => Some(0),
         b'\\' | b'"' => Some(letter),
         _ => None,
     }

@@ -1,6 +1,9 @@
 -- The nodes of a tree in order.
-use Rattle.std.specs.Prelude.{List, [], ◌∷◌, ◌++◌}
+use Rattle.std.specs.Prelude.{◌≡◌, List, [], ◌∷◌, ◌++◌, MatchOption, Option}
+use denote.Ref.{Bor}
+use Rattle.markdown_nodes.specs.declared.mdast.Node.{Node}
 use Rattle.markdown_nodes.specs.Tree.{Trees, Tree, nothing, node}
+use Rattle.markdown_nodes.specs.View.{view}
 
 -- the nodes of a list in order: each, then all that is in it
 abbrev pub walks : Trees → List Tree
@@ -10,3 +13,7 @@ walks (node label children position rest) = (record { label = label; children = 
 -- a node, then all that is in it
 abbrev pub walk : Tree → List Tree
 walk tree = tree ∷ walks tree.children
+
+-- the next node is the first of those that were to come, and the others come after it; without a next node none was to come
+abbrev pub Yields : List Tree → List Tree → Option (Bor Node) → Type 0
+Yields before after next = MatchOption next ((before ≡ []) × (after ≡ [])) (λ found. before ≡ view found.now ∷ after)

@@ -28,7 +28,7 @@ pub fn headings(alloc: Global, tree: &Node) -> Result<Vec<Title>, AllocError>
     ensures { IfOk result (λ found. map said found.items ≡ titles (view tree.now)) }
 {
     let mut found = Vec::new(alloc);
-    let mut walk = Walk::new(alloc, tree)?;
+    let mut walk = Walk::new(alloc, tree);
     'nodes: while let Some(node) = walk.next()? {
         if let Some(title) = title_of(alloc, node)? {
             found.push(title)?;

@@ -55,7 +55,7 @@ pub fn open_references(alloc: Global, tree: &Node) -> Result<Vec<Open>, AllocErr
 {
     let known = known_in(alloc, tree)?;
     let mut found = Vec::new(alloc);
-    let mut walk = Walk::new(alloc, tree)?;
+    let mut walk = Walk::new(alloc, tree);
     'nodes: while let Some(node) = walk.next()? {
         if let Some(open) = open_at(alloc, node, &known)? {
             found.push(open)?;
@@ -79,7 +79,7 @@ fn known_in<'a>(alloc: Global, tree: &'a Node) -> Result<Known<'a>, AllocError>
 {
     let mut definitions = BTreeSet::new(alloc);
     let mut footnotes = BTreeSet::new(alloc);
-    let mut walk = Walk::new(alloc, tree)?;
+    let mut walk = Walk::new(alloc, tree);
     'nodes: while let Some(node) = walk.next()? {
         put(&mut definitions, definition_identifier(node))?;
         put(&mut footnotes, footnote_identifier(node))?;

@@ -1,42 +1,61 @@
 //! The nodes of a tree, one after the other.
 
-ghost use Rattle.std.specs.Prelude.{◌≡◌, IfOk};
+ghost use Rattle.std.specs.Prelude.{◌≡◌, IfOk, OnErr};
 ghost use Rattle.markdown_nodes.specs.View.{view};
-ghost use Rattle.mdast_check.specs.Walk.{walk};
-ghost use Rattle.mdast_check.specs.Levels.{Yields, to_come};
+ghost use Rattle.mdast_check.specs.Levels.{coming};
+ghost use Rattle.mdast_check.specs.Walk.{Yields, walk};
 
 use markdown_nodes::mdast::Node;
 use std::alloc::{AllocError, Global};
 use std::slice;
 
-/// A walk over a tree, each node before those in it. It keeps what is left of each level on the heap,
-/// so that it takes no more of the stack for a deep tree.
+/// A walk over a tree: the node itself, then all nodes in it, each before its children (preorder, as
+/// unist-util-visit goes).
+///
+/// Contracts speak of the nodes that are still to come (`coming`). What is left of each level is kept
+/// on the heap, so a deep tree takes no more of the stack.
+///
+/// The walk over a paragraph with the text `Hi` gives the paragraph, then the text, then `None`.
 #[derive(Drop)]
 pub struct Walk<'a> {
-    levels: Vec<&'a [Node]>,
+    /// What is left of the level in hand.
+    level: &'a [Node],
+    /// What is left of the levels around it, the outermost first.
+    outer: Vec<&'a [Node]>,
 }
 
 impl<'a> Walk<'a> {
-    /// A walk that begins at a node.
-    pub fn new(alloc: Global, tree: &'a Node) -> Result<Walk<'a>, AllocError>
-        ensures { IfOk result (λ walk_from. to_come walk_from.levels.items ≡ walk (view tree.now)) }
+    /// A walk that begins at a node. No memory is asked for.
+    ///
+    /// The first node that it gives is `tree`.
+    pub fn new(alloc: Global, tree: &'a Node) -> Walk<'a>
+        ensures { coming result ≡ walk (view tree.now) }
     {
-        let mut levels = Vec::new(alloc);
-        levels.push(slice::from_ref(tree))?;
-        Ok(Walk { levels })
+        Walk {
+            level: slice::from_ref(tree),
+            outer: Vec::new(alloc),
+        }
     }
 
-    /// The next node, or `None` after the last. After an error it is not to be called again.
+    /// The next node, or `None` after the last.
+    ///
+    /// The only error is that memory ran out. Then the same node is still to come.
+    ///
+    /// After the last node each call gives `None`.
     pub fn next(&mut self) -> Result<Option<&'a Node>, AllocError>
-        ensures { IfOk result (Yields self.old.levels.items self.new.levels.items) }
+        ensures next { IfOk result (Yields (coming self.old) (coming self.new)) }
+        ensures unchanged { OnErr result (coming self.new ≡ coming self.old) }
     {
-        'levels: while let Some(level) = self.levels.pop() {
-            if let Some((first, rest)) = level.split_first() {
-                self.levels.push(rest)?;
-                self.levels.push(first.child_nodes())?;
+        'levels: loop {
+            if let Some((first, rest)) = self.level.split_first() {
+                self.outer.push(rest)?;
+                self.level = first.child_nodes();
                 return Ok(Some(first));
             }
+            match self.outer.pop() {
+                Some(level) => self.level = level,
+                None => return Ok(None),
+            }
         }
-        Ok(None)
     }
 }

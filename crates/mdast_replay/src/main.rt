@@ -3,12 +3,13 @@
 //!
 //! `mdast_replay FILE..` reads each file, a table or, where its name ends in `.sums`, the checksums
 //! of the table before it. It prints a line for each file, and one for each case that is not as it
-//! must be. It ends with 0 where all are, with 1 where one is not, with 2 where the arguments are
-//! wrong or a file cannot be read, and with 3 where memory ran out.
+//! must be. The line of a table whose cases all are says how much was compared. The program ends with 0
+//! where all are, with 1 where one is not, with 2 where the arguments are wrong or a file cannot be
+//! read, and with 3 where memory ran out.
 #![tactic(auto)]
 
-use command_line::document::document;
-use command_line::request::DocumentError;
+use command_line::document::file;
+use command_line::input::ReadError;
 use mdast_cases::run::{Input, RunError, run, status};
 use std::alloc::AllocError;
 use std::env;
@@ -46,9 +47,9 @@ fn inputs(rt: &HostRuntime) -> Result<Vec<Input>, RunError> {
 
 /// The file of this name.
 fn input(rt: &HostRuntime, name: String) -> Result<Input, RunError> {
-    match document(rt, name.as_str()) {
+    match file(rt, name.as_str()) {
         Ok(bytes) => Ok(Input { name, bytes }),
-        Err(DocumentError::Memory) => Err(RunError::Memory(AllocError)),
-        Err(DocumentError::Usage | DocumentError::Unreadable) => Err(RunError::UnreadFile(name)),
+        Err(ReadError::Memory(error)) => Err(RunError::Memory(error)),
+        Err(ReadError::Failed) => Err(RunError::UnreadFile(name)),
     }
 }

@@ -2,6 +2,7 @@
 
 use crate::expect::same;
 use character_references::decoder::{Decoder, NoReferences};
+use character_references::html::HtmlReferences;
 use character_references::named::NamedReferences;
 use character_references::references::References;
 use std::alloc::AllocError;
@@ -85,6 +86,27 @@ fn decodes_names_and_numbers(rt: HostRuntime) -> Result<(), AllocError> {
 #[test]
 fn decodes_the_names_of_a_table(rt: HostRuntime) -> Result<(), AllocError> {
     expect(&rt, &NamedReferences { table: TABLE }, &NAMED)
+}
+
+/// What the decoder of HTML's names says. The texts are those of the HTML Standard's table.
+static HTML: [Known; 12] = [
+    ("copy", b'&', Some("\u{A9}")),
+    ("amp", b'&', Some("&")),
+    ("AMP", b'&', Some("&")),
+    ("NewLine", b'&', Some("\n")),
+    ("fjlig", b'&', Some("fj")),
+    ("NotEqualTilde", b'&', Some("\u{2242}\u{338}")),
+    ("ClockwiseContourIntegral", b'&', Some("\u{2232}")),
+    ("zwnj", b'&', Some("\u{200C}")),
+    ("65", b'#', Some("A")),
+    ("Copy", b'&', None),
+    ("\u{E9}", b'&', None),
+    ("", b'&', None),
+];
+
+#[test]
+fn decodes_the_names_of_html(rt: HostRuntime) -> Result<(), AllocError> {
+    expect(&rt, &HtmlReferences, &HTML)
 }
 
 /// What each other decoder knows.

@@ -59,5 +59,7 @@ mod texts;
 mod trees;
 #[cfg(test)]
 mod unbalanced;
+#[cfg(test)]
+mod writer;
 
 pub use markdown_grammar::ordered::ordered;

@@ -2,10 +2,11 @@
 
 ghost use Rattle.std.specs.Prelude.{◌<◌};
 
-use crate::expect::{prints, same};
+use crate::expect::{prints, same, says};
 use command_line::program::{Program, Units};
 use command_line::request::{DocumentError, Request, json_request};
 use event_lines::lines::events;
+use event_lines::written::lines_of;
 use markdown_nodes::event::{Event, Kind, Name, Point};
 use mdast_programs::check::run_check;
 use mdast_programs::run::{run, run_as, run_json};
@@ -380,6 +381,16 @@ fn reads_virtual_spaces(rt: HostRuntime) -> Result<(), Fail> {
         event(Kind::Enter, Name::Link, [2, 3, 4, 0]),
     ];
     same(&rt, read.as_slice(), wanted.as_slice());
+    Ok(())
+}
+
+/// Events are written as they are read: a sign, a name, and numbers without zeros before them.
+#[test]
+fn writes_lines(rt: HostRuntime) -> Result<(), Fail> {
+    let lines = "+SpaceOrTab 1:1:0\n-SpaceOrTab 1:3:0:2\n+Data 12:1:345\n-Data 12:3:347\n";
+    let read = events(rt.alloc(), lines.as_bytes())?;
+    says(&rt, lines_of(rt.alloc(), &read), lines)?;
+    says(&rt, lines_of(rt.alloc(), &[]), "")?;
     Ok(())
 }
 

@@ -1,11 +1,13 @@
-//! What the calls on nodes give, and how nodes without a position are printed. The cases of
-//! `mdast_replay` have trees of each kind of node.
+//! What the calls on nodes give, and how nodes are printed: a test for each of the 29 kinds, by their
+//! names, and then larger trees. The cases of `mdast_replay` have trees of each kind, too.
+
+mod literals;
+mod parents;
+mod voids;
 
 use crate::expect::{holds, holds_in, prints, same, same_in, says};
 use crate::trees::{add, alone, own, paragraph, quoted, text};
-use markdown_nodes::mdast::{
-    AlignKind, Break, Emphasis, Html, Image, ImageReference, InlineCode, Node, ReferenceKind, Table,
-};
+use markdown_nodes::mdast::{AlignKind, Break, Emphasis, Html, Image, InlineCode, Node, Table};
 use markdown_nodes::unist::Position;
 use std::alloc::{AllocError, Global};
 use std::process::Abort;
@@ -49,45 +51,6 @@ fn carried(
     node.position_set(Some(Position::new(1, 1, 0, 1, 2, 1)));
     let somewhere = line(alloc, prefix, "Some(1:1-1:2 (0-1))", back)?;
     printed(rt, alloc, node, somewhere.as_str())
-}
-
-/// A node with the empty list of children.
-#[test]
-fn a_parent(rt: HostRuntime) -> Result<(), AllocError> {
-    let mut node = paragraph(Vec::new(rt.alloc()));
-    let prefix = "Paragraph { children: [], ";
-    has_children(&rt, &mut node, Some(0), prefix);
-    carried(&rt, rt.alloc(), &mut node, "", prefix, " }")
-}
-
-/// A node of the value `a`.
-#[test]
-fn a_literal(rt: HostRuntime) -> Result<(), AllocError> {
-    let mut node = text(rt.alloc(), "a")?;
-    let prefix = "Text { value: \"a\", ";
-    has_children(&rt, &mut node, None, prefix);
-    carried(&rt, rt.alloc(), &mut node, "a", prefix, " }")
-}
-
-/// An image by reference.
-fn image_reference(alloc: Global) -> Result<Node, AllocError> {
-    Ok(Node::ImageReference(ImageReference {
-        position: None,
-        alt: own(alloc, "a")?,
-        reference_kind: ReferenceKind::Full,
-        identifier: own(alloc, "b")?,
-        label: Some(own(alloc, "c")?),
-    }))
-}
-
-/// A node with neither children nor a value.
-#[test]
-fn neither_a_parent_nor_a_literal(rt: HostRuntime) -> Result<(), AllocError> {
-    let mut node = image_reference(rt.alloc())?;
-    let prefix = "ImageReference { ";
-    let back = ", alt: \"a\", reference_kind: Full, identifier: \"b\", label: Some(\"c\") }";
-    has_children(&rt, &mut node, None, prefix);
-    carried(&rt, rt.alloc(), &mut node, "", prefix, back)
 }
 
 /// The code `c`.

@@ -23,6 +23,10 @@ HardBreakTrailing 0-1
 ! break-unfinished 1:2 (1)
 "#;
 
+/// What is said of that table: the list of its tree is cut in both spans, whose exits are no neighbours.
+const ROWS_LINE: &str =
+    "x: 2 cases, each as it must be: 1 trees copied, 0 forms, 2 lists cut, 0 pairs of exits swapped";
+
 /// A file of this name and text.
 fn input(alloc: Global, name: &str, text: &str) -> Result<Input, AllocError> {
     Ok(Input {
@@ -76,6 +80,79 @@ fn names_turned_answers_and_orders(rt: HostRuntime) -> Result<(), AllocError> {
     Ok(())
 }
 
+/// A row, the same with one thing turned at a time, and what is said to be compared of each: the tree,
+/// the forms that the row has, the events after which a span is open, and the neighbouring exits of
+/// different names.
+static COMPARED: [(&str, &str); 6] = [
+    (
+        r#"row a
+""
+BlockQuote 0-0 { Paragraph 0-0 }
+= Root { children: [Blockquote { children: [Paragraph { children: [], position: Some(1:1-1:1 (0-0)) }], position: Some(1:1-1:1 (0-0)) }], position: Some(1:1-1:1 (0-0)) }
+plain ""
+"#,
+        "1 trees copied, 1 forms, 3 lists cut, 1 pairs of exits swapped",
+    ),
+    // Without its plain text.
+    (
+        r#"row a
+""
+BlockQuote 0-0 { Paragraph 0-0 }
+= Root { children: [Blockquote { children: [Paragraph { children: [], position: Some(1:1-1:1 (0-0)) }], position: Some(1:1-1:1 (0-0)) }], position: Some(1:1-1:1 (0-0)) }
+"#,
+        "1 trees copied, 0 forms, 3 lists cut, 1 pairs of exits swapped",
+    ),
+    // With exits of one name.
+    (
+        r#"row a
+""
+BlockQuote 0-0 { BlockQuote 0-0 }
+= Root { children: [Blockquote { children: [Blockquote { children: [], position: Some(1:1-1:1 (0-0)) }], position: Some(1:1-1:1 (0-0)) }], position: Some(1:1-1:1 (0-0)) }
+plain ""
+"#,
+        "1 trees copied, 1 forms, 3 lists cut, 0 pairs of exits swapped",
+    ),
+    // With one span after the other.
+    (
+        r#"row a
+""
+BlockQuote 0-0, Paragraph 0-0
+= Root { children: [Blockquote { children: [], position: Some(1:1-1:1 (0-0)) }, Paragraph { children: [], position: Some(1:1-1:1 (0-0)) }], position: Some(1:1-1:1 (0-0)) }
+plain ""
+"#,
+        "1 trees copied, 1 forms, 2 lists cut, 0 pairs of exits swapped",
+    ),
+    // Without a span, and with all forms.
+    (
+        r#"row a
+""
+= Root { children: [], position: Some(1:1-1:1 (0-0)) }
+json {"type":"root","children":[],"position":{"start":{"line":1,"column":1,"offset":0},"end":{"line":1,"column":1,"offset":0}}}
+plain ""
+report ""
+"#,
+        "1 trees copied, 3 forms, 0 lists cut, 0 pairs of exits swapped",
+    ),
+    // With a break in place of the paragraph, which has no line ending after it: there is no tree.
+    (
+        r#"row a
+""
+BlockQuote 0-0 { HardBreakTrailing 0-0 }
+! break-unfinished 1:1 (0)
+"#,
+        "0 trees copied, 0 forms, 0 lists cut, 0 pairs of exits swapped",
+    ),
+];
+
+#[test]
+fn counts_what_is_compared(rt: HostRuntime) -> Result<(), AllocError> {
+    for (table, compared) in &COMPARED {
+        let said = format!(in rt.alloc(); "x: 1 cases, each as it must be: {compared}\n")?;
+        expect(&rt, &[("x", table)], said.as_str(), 0)?;
+    }
+    Ok(())
+}
+
 /// Checksums for the rows above, what is said of them, and the status.
 static CHECKSUMS: [(&str, &str, u8); 4] = [
     (
@@ -103,7 +180,7 @@ static CHECKSUMS: [(&str, &str, u8); 4] = [
 #[test]
 fn names_rows_with_another_checksum(rt: HostRuntime) -> Result<(), AllocError> {
     for (sums, told, ended) in &CHECKSUMS {
-        let said = format!(in rt.alloc(); "x: 2 cases, each as it must be\n{told}")?;
+        let said = format!(in rt.alloc(); "{ROWS_LINE}\n{told}")?;
         expect(&rt, &[("x", ROWS), ("y.sums", sums)], said.as_str(), *ended)?;
     }
     Ok(())

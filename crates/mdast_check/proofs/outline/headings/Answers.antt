@@ -2,8 +2,8 @@ use Rattle.std.proofs.Common.{arith}
 use Rattle.std.proofs.lemmas.Grind.{common_steps}
 use Rattle.mdast_check.proofs.outline.headings.Goals as goal
 
-pub nodes-smaller-in-Continue-branch-6 : goal.nodes-smaller-in-Continue-branch-6
-nodes-smaller-in-Continue-branch-6 c = grind (arith, common_steps)
+pub nodes-smaller-in-Continue-branch-5 : goal.nodes-smaller-in-Continue-branch-5
+nodes-smaller-in-Continue-branch-5 c = grind (arith, common_steps)
 
 pub returns : goal.returns
 returns c = grind (arith, common_steps)
@@ -17,5 +17,5 @@ nodes-init c = grind (arith, common_steps)
 pub nodes-smaller : goal.nodes-smaller
 nodes-smaller c = grind (arith, common_steps)
 
-pub nodes-preserved-in-Continue-branch-6 : goal.nodes-preserved-in-Continue-branch-6
-nodes-preserved-in-Continue-branch-6 c = grind (arith, common_steps)
+pub nodes-preserved-in-Continue-branch-5 : goal.nodes-preserved-in-Continue-branch-5
+nodes-preserved-in-Continue-branch-5 c = grind (arith, common_steps)

@@ -3,7 +3,7 @@ use Rattle.std.proofs.lemmas.Grind.{common_steps}
 use Rattle.markdown_builder.specs.PartsSoFar.{place_with}
 use Rattle.markdown_events.specs.declared.event.Point.{Point}
 use Rattle.markdown_events.specs.declared.role.Part.{Part}
-use Rattle.markdown_grammar.specs.Document.{Source, source}
+use Rattle.markdown_grammar.specs.Document.{Source, source_of}
 use Rattle.markdown_steps.specs.Compiler.{nothing_yet}
 use Rattle.markdown_containers.proofs.Kept.{later_code_fence, later_math_fence, leaf_here, part_kept}
 use Rattle.markdown_containers.proofs.container.Container.take_leaf_part.Goals as goal
@@ -12,7 +12,7 @@ use Rattle.markdown_containers.proofs.container.Container.take_leaf_part.Goals.{
 pub returns : goal.returns
 returns g c line_endings in_table =
     let text : List ℕ → ℕ → Option (List ℕ) = g.R.References.text c.args.references.now in
-    let s : Source = source c.args.document.now text in
+    let s : Source = source_of c.args.document.now text in
     let a : Point = c.args.start in
     let b : Point = c.args.end in
     let q : Part = c.args.part in

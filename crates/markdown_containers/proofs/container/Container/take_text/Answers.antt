@@ -1,7 +1,7 @@
 use Rattle.std.proofs.Common.{arith, true, ◌≡◌}
 use Rattle.std.proofs.lemmas.Grind.{common_steps}
 use Rattle.markdown_builder.specs.PartsSoFar.{place_with}
-use Rattle.markdown_grammar.specs.Document.{source}
+use Rattle.markdown_grammar.specs.Document.{source_of}
 use Rattle.markdown_nodes.specs.View.{views}
 use Rattle.markdown_containers.specs.Containers.{current_model_of, is_text_part, marker_of, summary_with}
 use Rattle.markdown_containers.specs.declared.container.Container.TheVariants as containers
@@ -15,8 +15,8 @@ returns-in_ok-text-in_default c =
     let bound = c.values_of.ensures.bound in
     record {
       taken = λ text line_endings in_table. let p = place_with line_endings in_table (marker_of c.args.self.now) in (
-        text_is_read (source c.args.document.now text) (current_model_of c.args.self.now) p c.args.part c.args.start c.args.end such,
-        c.take_value.ensures (views c.args.nodes.items) c.in_ok-text-in_default.ensures.text (source c.args.document.now text) p c.args.start c.args.end,
+        text_is_read (source_of c.args.document.now text) (current_model_of c.args.self.now) p c.args.part c.args.start c.args.end such,
+        c.take_value.ensures (views c.args.nodes.items) c.in_ok-text-in_default.ensures.text (source_of c.args.document.now text) p c.args.start c.args.end,
       );
       list = c.values_of.ensures.list;
       bound = omega (arith, visits, bound);

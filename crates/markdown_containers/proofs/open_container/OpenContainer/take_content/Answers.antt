@@ -13,7 +13,7 @@ use Rattle.markdown_grammar.specs.Attributes.{Place}
 use Rattle.markdown_containers.proofs.Stopping.{made_gives, nothing_on_err, passed_on}
 use Rattle.markdown_events.specs.declared.role.ItemKind.TheVariants.{Content as content}
 use Rattle.markdown_containers.specs.Containers.{Keeps, marker_of, initial_model_of}
-use Rattle.markdown_grammar.specs.Document.{source}
+use Rattle.markdown_grammar.specs.Document.{source_of}
 use Rattle.markdown_containers.specs.ContainerStates.{summary_of_container, place_of}
 use Rattle.markdown_blocks.specs.Columns.{columns_of}
 use Rattle.markdown_builder.specs.Marks.{marks_of}
@@ -23,8 +23,8 @@ use Rattle.markdown_containers.proofs.open_container.OpenContainer.take_content.
 
 pub put-requires : goal.put-requires
 put-requires c =
-    made_no_text (source c.args.document.now (λ v m. None)) (place_with false c.args.ending.in_table None) c.args.content c.args.ending.start c.args.ending.end _ (summary_of_container c.args.own) (initial_model_of c.args.own.container) _
-    c.requires.such c.in_default.not-CharacterReference (c.in_ok-node-in_default.ensures.node.1 (source c.args.document.now (λ v m. None)) false None refl)
+    made_no_text (source_of c.args.document.now (λ v m. None)) (place_with false c.args.ending.in_table None) c.args.content c.args.ending.start c.args.ending.end _ (summary_of_container c.args.own) (initial_model_of c.args.own.container) _
+    c.requires.such c.in_default.not-CharacterReference (c.in_ok-node-in_default.ensures.node.1 (source_of c.args.document.now (λ v m. None)) false None refl)
 
 pub returns-in_err-node-in_default : goal.returns-in_err-node-in_default
 returns-in_err-node-in_default c = record {

@@ -5,7 +5,7 @@ use Rattle.markdown_events.specs.Slices.{slice}
 use Rattle.positions.specs.declared.unist.Position.{Position}
 use Rattle.markdown_nodes.specs.Tree.{Tree, join, only}
 use Rattle.markdown_nodes.specs.View.{views}
-use Rattle.markdown_grammar.specs.Document.{Source, source}
+use Rattle.markdown_grammar.specs.Document.{Source, source_of}
 use Rattle.markdown_containers.specs.declared.open_container.OpenContainer.{OpenContainer}
 use Rattle.markdown_grammar.specs.declared.error_kind.ErrorKind.TheVariants.{InvalidSlice}
 use Rattle.markdown_containers.proofs.LeafEnds.{break_ends, known_in, known_unread, nothing_in, text_in, text_unread}
@@ -14,7 +14,7 @@ use Rattle.markdown_containers.proofs.Stopping.{made_gives}
 
 pub returns-in-Some : goal.returns-in-Some
 returns-in-Some c text children place =
-    let s : Source = source c.args.document.now text in
+    let s : Source = source_of c.args.document.now text in
     let top : OpenContainer = c.args.self.now in
     let new : OpenContainer = record { container = top.container; line_endings = top.line_endings; nodes = c.put.new.nodes } in
     let here : Position = c.in-Some.position in
@@ -24,10 +24,10 @@ returns-in-Some c text children place =
 
 pub returns-then-self : goal.returns-then-self
 returns-then-self c text children place =
-    let s : Source = source c.args.document.now text in
+    let s : Source = source_of c.args.document.now text in
     let top : OpenContainer = c.args.self.now in
     let new : OpenContainer = record { container = top.container; line_endings = top.line_endings; nodes = c.put_slice.new.nodes } in
-    made_gives _ c.args.ending.end c.put_slice.result (is_some (slice c.args.document.now c.args.ending.start c.args.ending.end)) InvalidSlice _ _ c.put_slice.ensures
+    made_gives _ c.args.ending.end c.put_slice.result (is_some (slice c.args.document.now.bytes c.args.ending.start c.args.ending.end)) InvalidSlice _ _ c.put_slice.ensures
     (λ x read made. known_in s c.args.ending.in_table None c.args.pending.now c.take.new.self top new c.args.ending.start c.args.ending.end children place c.in_default.ensures.value c.in_default.ensures.after
     (text_in s c.args.ending.in_table top new c.args.ending.start c.args.ending.end children place c.if-self.true refl refl made read))
     (λ value_error. known_unread s c.args.ending.in_table None c.args.pending.now top c.args.ending.start c.args.ending.end children place InvalidSlice c.in_default.ensures.value
@@ -35,7 +35,7 @@ returns-then-self c text children place =
 
 pub returns : goal.returns
 returns c text children place =
-    let s : Source = source c.args.document.now text in
+    let s : Source = source_of c.args.document.now text in
     let top : OpenContainer = c.args.self.now in
     known_in s c.args.ending.in_table None c.args.pending.now c.take.new.self top top c.args.ending.start c.args.ending.end children place c.in_default.ensures.value c.in_default.ensures.after
     (nothing_in s c.args.ending.in_table top c.args.ending.start c.args.ending.end children place c.if-self.false)

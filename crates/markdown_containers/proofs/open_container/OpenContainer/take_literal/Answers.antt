@@ -9,7 +9,7 @@ use Rattle.markdown_builder.specs.Marks.{marks_of}
 use Rattle.markdown_builder.specs.PartsSoFar.{place_with}
 use Rattle.markdown_containers.specs.Containers.{current_model_of}
 use Rattle.markdown_grammar.specs.Attributes.{Place}
-use Rattle.markdown_grammar.specs.Document.{Source, source}
+use Rattle.markdown_grammar.specs.Document.{Source, source_of}
 use Rattle.markdown_containers.specs.ContainerStates.{place_of}
 use Rattle.markdown_containers.specs.declared.open_container.OpenContainer.{OpenContainer}
 use Rattle.markdown_containers.proofs.LeafEnds.{content_in, leaf_unread, literal_alone, literal_no_text, literal_read}
@@ -21,11 +21,11 @@ pub put-requires : goal.put-requires
 put-requires c =
     let children : ChildFacts = child_facts (marks_of c.args.ending.marks) no_columns in
     let p : Place = place_with false c.args.ending.in_table None in
-    literal_no_text (source c.args.document.now (λ v m. None)) p c.args.content c.args.ending.start c.args.ending.end children nothing_yet _ c.requires (c.in_ok-node.ensures.1 (λ v m. None) p children nothing_yet)
+    literal_no_text (source_of c.args.document.now (λ v m. None)) p c.args.content c.args.ending.start c.args.ending.end children nothing_yet _ c.requires (c.in_ok-node.ensures.1 (λ v m. None) p children nothing_yet)
 
 pub returns-in_err-node : goal.returns-in_err-node
 returns-in_err-node c text children place =
-    let s : Source = (source c.args.document.now text) in
+    let s : Source = (source_of c.args.document.now text) in
     let top : OpenContainer = c.args.self.now in
     passed_on _ c.args.ending.end c.from_residual.result _ _ c.from_residual.ensures
     (unmade_stops _ _ _ _ c.args.ending.end _ c.in_err-node.ensures
@@ -34,7 +34,7 @@ returns-in_err-node c text children place =
 
 pub returns : goal.returns
 returns c text children place =
-    let s : Source = (source c.args.document.now text) in
+    let s : Source = (source_of c.args.document.now text) in
     let top : OpenContainer = c.args.self.now in
     let p : Place = place_of c.args.ending.in_table top in
     content_in s c.args.ending.in_table top (record { container = top.container; line_endings = c.args.self.now.line_endings; nodes = c.put.new.nodes }) c.args.content c.args.ending.start c.args.ending.end children place (literal_alone c.args.content c.requires).0 refl refl

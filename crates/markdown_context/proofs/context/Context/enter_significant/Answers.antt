@@ -8,4 +8,4 @@ returns-in_err-is_leaf c s same =
 
 pub returns : goal.returns
 returns c s same =
-    significant_entered s c.args.name c.args.what c.args.point c.in_ok-is_leaf.is_leaf c.args.self.now c.«open».new.self _ c.is_in_table-in_table.result c.requires (c.in_ok-is_leaf.ensures s same) c.in_ok-begin.ensures c.is_in_table-in_table.ensures
+    significant_entered s c.args.name c.args.what c.args.point.now c.in_ok-is_leaf.is_leaf c.args.self.now c.«open».new.self _ c.is_in_table-in_table.result c.requires (c.in_ok-is_leaf.ensures s same) c.in_ok-begin.ensures c.is_in_table-in_table.ensures

@@ -67,7 +67,7 @@ returns-in-Part-clause-gives c s same =
     (record c.args.self.now { containers = with_innermost rest c.take_part.new.self; in_table = c.args.frame.in_table })
     rest c.in-Some.own c.innermost_mut-top.result.now c.take_part.new.self c.take_part.result c.requires.«open» c.requires.settled (taken_out _ _ _ c.in-Some.ensures.items) c.innermost_mut-top.ensures.value refl refl refl refl
     (gives_same (λ x. container_state_of c.args.frame.in_table None c.take_part.new.self) c.args.end.now c.take_part.result _ _
-    (λ t. leave s (c.in-Part.is t) c.args.frame.start.now c.args.end.now children (container_state_of c.args.self.now.in_table None c.in-Some.own) (container_state_of c.args.frame.in_table None c.innermost_mut-top.result.now))
+    (λ t. leave s (c.in-Part.is t) c.args.frame.start c.args.end.now children (container_state_of c.args.self.now.in_table None c.in-Some.own) (container_state_of c.args.frame.in_table None c.innermost_mut-top.result.now))
     (c.take_part.ensures.left children s c.args.self.now.in_table same))
 
 pub returns-in-Content-clause-gives : goal.returns-in-Content-clause-gives
@@ -78,7 +78,7 @@ returns-in-Content-clause-gives c s same =
     (record c.args.self.now { containers = with_innermost rest c.take_content.new.self; in_table = c.args.frame.in_table; columns = c.take_content.new.columns })
     rest c.in-Some.own c.innermost_mut-top.result.now c.take_content.new.self c.take_content.result c.requires.«open» c.requires.settled (taken_out _ _ _ c.in-Some.ensures.items) c.innermost_mut-top.ensures.value refl refl refl refl
     (gives_same (λ x. container_state_of c.args.frame.in_table None c.take_content.new.self) c.args.end.now c.take_content.result _ _
-    (λ t. leave s (c.in-Content.is t) c.args.frame.start.now c.args.end.now children (container_state_of c.args.self.now.in_table None c.in-Some.own) (container_state_of c.args.frame.in_table None c.innermost_mut-top.result.now))
+    (λ t. leave s (c.in-Content.is t) c.args.frame.start c.args.end.now children (container_state_of c.args.self.now.in_table None c.in-Some.own) (container_state_of c.args.frame.in_table None c.innermost_mut-top.result.now))
     (c.take_content.ensures.left s c.args.self.now.in_table same))
 
 pub returns-in-Content-clause-bound : goal.returns-in-Content-clause-bound

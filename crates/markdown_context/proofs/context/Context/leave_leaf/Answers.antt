@@ -1,6 +1,6 @@
 use Rattle.std.proofs.Common.{Ok, false, refl, arith}
 use Rattle.std.proofs.lemmas.Grind.{common_steps}
-use Rattle.markdown_grammar.specs.Document.{source}
+use Rattle.markdown_grammar.specs.Document.{source_of}
 use Rattle.markdown_steps.specs.Columns.{child_facts}
 use Rattle.markdown_blocks.specs.Columns.{columns_of}
 use Rattle.markdown_builder.specs.Marks.{marks_of}
@@ -12,7 +12,7 @@ use Rattle.markdown_context.proofs.context.Context.leave_leaf.Goals as goal
 
 pub returns-clause-gives : goal.returns-clause-gives
 returns-clause-gives g c =
-    leaf_gives (source c.args.document.now (g.R.References.text c.args.references.now)) c.args.what c.args.frame c.args.end.now c.args.self.now
+    leaf_gives (source_of c.args.document.now (g.R.References.text c.args.references.now)) c.args.what c.args.frame c.args.end.now c.args.self.now
     (record c.args.self.now { containers = with_innermost c.args.self.now.containers c.take_leaf.new.self; is_leaf = false; pending = c.take_leaf.new.pending })
     c.innermost_mut.result.now c.take_leaf.new.self (Ok tt) c.requires.«open» c.innermost_mut.ensures.value refl refl refl
     (c.in_ok-take_leaf.ensures (child_facts (marks_of c.args.self.now.interior.marks) (columns_of c.args.self.now.columns)) (leaf_place c.args.self.now.in_table))

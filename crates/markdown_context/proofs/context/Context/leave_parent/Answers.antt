@@ -19,7 +19,7 @@ returns-clause-gives c =
     on_ok c.take_parent.result _ _
     (λ takes s. parent_taken s c.args.content c.args.frame c.args.end.now c.args.self.now new rest c.in-Some.own c.innermost_mut.result.now c.take_parent.new.self
     c.requires.«open» c.requires.settled c.requires.container (taken_out _ _ _ c.in-Some.ensures.items) c.innermost_mut.ensures.value refl refl refl refl
-    (subst (λ (nodes : Vec Node Global). TakesParent c.args.content c.args.frame.start.now c.args.end.now nodes c.innermost_mut.result.now c.take_parent.new.self) c.into_nodes-nodes.ensures takes))
+    (subst (λ (nodes : Vec Node Global). TakesParent c.args.content c.args.frame.start c.args.end.now nodes c.innermost_mut.result.now c.take_parent.new.self) c.into_nodes-nodes.ensures takes))
     c.take_parent.ensures
 
 pub returns-clause-closed : goal.returns-clause-closed

@@ -1,0 +1,16 @@
+//! Processing instructions of HTML (CommonMark).
+
+ghost use Rattle.std.specs.Prelude.{◌≤◌, ◌<◌, length, IfSome};
+
+use crate::bytes::length_through;
+
+/// The length of the processing instruction that a text begins with (CommonMark): `<?` up to the first `?>`
+/// after it.
+///
+/// In `<?a?> b` it is 5.
+pub fn scan(text: &[u8]) -> Option<usize>
+    ensures most { IfSome result (λ size. size ≤ length text.now) }
+    ensures least { IfSome result (λ size. 3 < size) }
+{
+    Some(2 + length_through(text.strip_prefix(b"<?")?, b"?>")?)
+}

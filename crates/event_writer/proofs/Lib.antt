@@ -1,0 +1,5 @@
+mod Walks
+mod Tilings
+mod Holding
+mod Misfits
+mod Consequences

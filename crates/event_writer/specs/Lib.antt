@@ -1,0 +1,6 @@
+pub mod Places
+pub mod Tilings
+pub mod Finished
+pub mod Written
+pub mod Invariants
+pub mod Calls

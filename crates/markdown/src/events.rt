@@ -1,0 +1,55 @@
+//! The events of a document.
+
+use character_references::html::HtmlReferences;
+use event_writer::error::WriteError;
+use event_writer::writer::Writer;
+use markdown_events::event::{Event, Point};
+use markdown_events::message::{Fault, Message, Place};
+use markdown_flow::document;
+use markdown_options::ParseOptions;
+use markdown_text::document::{Reading, write};
+use std::alloc::{AllocError, Global};
+
+/// The events of a document: where each span begins and where it ends (the names are those of
+/// micromark).
+///
+/// The list is that of a forest which the grammar accepts. Its tokens, the spans that hold no span,
+/// are the document, from the first byte to the last. In each event `line` and `column` count from 1,
+/// and `index` counts bytes from 0; a tab goes to the next column that is one more than a multiple of
+/// four.
+///
+/// The error is `Fault::Memory` where memory runs out. It is a `Fault::Message` with the rule
+/// `tokenizer-misfit` where the tokenizer wants to write what the grammar does not take. That is a
+/// fault of the tokenizer, and none is known.
+///
+/// The document `Hi` has four: a paragraph begins at 1:1, and data in it, and both end at 1:3.
+pub fn to_events(alloc: Global, value: &str, options: &ParseOptions) -> Result<Vec<Event>, Fault> {
+    let text = value.as_bytes();
+    let blocks = document::read(alloc, text, options)?;
+    let reading = Reading {
+        alloc,
+        document: text,
+        options: *options,
+        identifiers: &blocks.identifiers,
+        references: &HtmlReferences,
+    };
+    let mut writer = Writer::new(alloc, text, &HtmlReferences)?;
+    let written = write(&reading, blocks.pieces.as_slice(), &mut writer);
+    let cursor = writer.cursor();
+    match written {
+        Ok(()) => {}
+        Err(WriteError::Misfit) => return Err(misfit(cursor)),
+        Err(WriteError::Memory(error)) => return Err(Fault::Memory(error)),
+    }
+    writer.finish().ok_or(misfit(cursor))
+}
+
+/// The error of a tokenizer that cannot write on at a point.
+fn misfit(point: Point) -> Fault {
+    Fault::Message(Message {
+        place: Some(Place::Point(point.to_unist())),
+        reason: "the tokenizer writes an event that the grammar does not take",
+        rule_id: "tokenizer-misfit",
+        source: "markdown-rs",
+    })
+}

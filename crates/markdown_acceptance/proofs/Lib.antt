@@ -1,0 +1,8 @@
+mod SetParts
+mod Popping
+mod Tests
+mod Showing
+mod Stepping
+pub mod Leading
+pub mod Accepting
+pub mod Refusing

@@ -1,0 +1,45 @@
+//! Fenced code: its first fence (CommonMark).
+
+ghost use Rattle.std.specs.Prelude.{◌≤◌, length};
+
+use crate::line::Line;
+use crate::output::Output;
+use crate::raw_flow::{Fence, RawFlow};
+use crate::space_or_tab::after_spaces;
+use commonmark_syntax::bytes::{after, count_while, is_space_or_tab, run_length};
+use markdown_events::event::Name;
+use std::alloc::AllocError;
+
+/// How many signs a fence has at least (CommonMark).
+const SIGNS_LEAST: usize = 3;
+
+/// The fence of code that a line opens, if it opens one: backticks with none after them, or tildes
+/// (CommonMark). Always `None` with `code_fenced` off.
+///
+/// In `~~~ a` it has three tildes.
+pub fn begins(line: &Line<'_>) -> Option<Fence> {
+    let sign = *line.text().first()?;
+    let size = run_length(line.text(), sign);
+    let is_fence = match sign {
+        b'`' => !after(line.text(), size).contains(&b'`'),
+        b'~' => true,
+        _ => false,
+    };
+    let fits = line.constructs().code_fenced && size >= SIGNS_LEAST;
+    (fits && is_fence).then_some(Fence {
+        content: RawFlow::Code,
+        sign,
+        size,
+        indent: line.indent(),
+    })
+}
+
+/// Writes the info and the meta of a fence (micromark). `info` is the end of the line from the info on.
+pub fn write_info(info: &[u8], line: &Line<'_>, output: &mut Output) -> Result<(), AllocError>
+    requires { length info.now ≤ line.now.end }
+{
+    let rest = after(info, count_while(info, |byte| !is_space_or_tab(byte)));
+    output.string(Name::CodeFencedFenceInfo, line.before(rest))?;
+    output.token(Name::SpaceOrTab, line.before(after_spaces(rest)))?;
+    output.string(Name::CodeFencedFenceMeta, line.end())
+}

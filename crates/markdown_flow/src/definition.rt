@@ -1,0 +1,152 @@
+//! Definitions of links: how they are found (CommonMark).
+
+ghost use Rattle.std.specs.Prelude.{◌≡◌, ◌+◌, ◌^◌, ◌≤◌, ◌<◌, length, IfSome};
+
+use commonmark_syntax::bytes::{after, count_while, is_space_or_tab, white_space_length};
+use commonmark_syntax::{destination, label, title};
+
+/// A part of a definition. Its fields are offsets in the text.
+#[derive(Clone, Copy)]
+pub struct Part {
+    /// Where it begins.
+    pub start: usize,
+    /// Where its string begins, after the mark before it.
+    pub string_start: usize,
+    /// Where its string ends, before the mark after it.
+    pub string_end: usize,
+    /// Where it ends.
+    pub end: usize,
+}
+
+/// A definition. Its offsets are those in the text.
+#[derive(Clone, Copy)]
+pub struct Definition {
+    /// Its label, with its brackets.
+    pub label: Part,
+    /// Where the colon after its label ends.
+    pub marker_end: usize,
+    /// Its destination, with its angle brackets where it has them.
+    pub destination: Part,
+    /// Its title with its marks, if it has one.
+    pub title: Option<Part>,
+    /// Where the line feed stands that ends its last line.
+    pub end: usize,
+}
+
+impl Part {
+    /// A part of so many bytes that has a mark of one byte on each side.
+    fn marked(start: usize, size: usize) -> Part
+        requires filled { 0 < size }
+        requires fits { start + size < 2 ^ 64 }
+        ensures end { result.end ≡ start + size }
+        ensures string_start { result.string_start ≡ start + 1 }
+        ensures string_end { result.string_end + 1 ≡ start + size }
+    {
+        let end = start + size;
+        Part {
+            start,
+            string_start: start + 1,
+            string_end: end - 1,
+            end,
+        }
+    }
+
+    /// A part of so many bytes that has no marks.
+    fn bare(start: usize, size: usize) -> Part
+        requires fits { start + size < 2 ^ 64 }
+        ensures { result.end ≡ start + size }
+    {
+        let end = start + size;
+        Part {
+            start,
+            string_start: start,
+            string_end: end,
+            end,
+        }
+    }
+
+    /// Whether it has marks.
+    pub fn is_marked(&self) -> bool {
+        self.start < self.string_start
+    }
+
+    /// Whether its string is empty.
+    pub fn is_empty(&self) -> bool {
+        self.string_start >= self.string_end
+    }
+}
+
+/// The definition that begins at an offset of a text, if one does. Each line of the text ends with a
+/// line feed.
+///
+/// In `[a]: b "c"` and a line feed it begins at 0 and ends at 10.
+pub fn scan(text: &[u8], start: usize) -> Option<Definition>
+    ensures most { IfSome result (λ found. found.end < length text.now) }
+    ensures least { IfSome result (λ found. start < found.end) }
+    ensures label { IfSome result (λ found. found.label.string_start ≤ found.label.string_end) }
+    ensures label_end { IfSome result (λ found. found.label.string_end ≤ length text.now) }
+{
+    let size = label::scan(after(text, start))?;
+    let label = Part::marked(start, size);
+    if *text.get(label.end)? != b':' {
+        return None;
+    }
+    let marker_end = label.end + 1;
+    let space = white_space_length(after(text, marker_end));
+    let destination = scan_destination(text, marker_end + space)?;
+    let title = scan_title(text, destination.end);
+    let end = match title {
+        Some(title) => line_end(text, title.end)?,
+        None => line_end(text, destination.end)?,
+    };
+    Some(Definition {
+        label,
+        marker_end,
+        destination,
+        title,
+        end,
+    })
+}
+
+/// The destination that begins at an offset of a text.
+fn scan_destination(text: &[u8], start: usize) -> Option<Part>
+    ensures most { IfSome result (λ found. found.end ≤ length text.now) }
+    ensures least { IfSome result (λ found. start < found.end) }
+{
+    let rest = after(text, start);
+    let size = destination::scan(rest)?;
+    Some(match rest.first()? {
+        b'<' => Part::marked(start, size),
+        _ => Part::bare(start, size),
+    })
+}
+
+/// The title that comes after white space at an offset of a text. Only spaces and tabs may come after it in
+/// its last line (CommonMark).
+fn scan_title(text: &[u8], offset: usize) -> Option<Part>
+    ensures most { IfSome result (λ found. found.end ≤ length text.now) }
+    ensures least { IfSome result (λ found. offset < found.end) }
+{
+    let space = white_space_length(after(text, offset));
+    if space == 0 {
+        return None;
+    }
+    let start = offset + space;
+    let size = title::scan(after(text, start))?;
+    let title = Part::marked(start, size);
+    line_end(text, title.end)?;
+    Some(title)
+}
+
+/// The offset of the line feed that ends a line, if only spaces and tabs come before it from an offset on.
+fn line_end(text: &[u8], offset: usize) -> Option<usize>
+    ensures most { IfSome result (λ end. end < length text.now) }
+    ensures least { IfSome result (λ end. offset ≤ end) }
+{
+    let rest = after(text, offset);
+    let size = count_while(rest, is_space_or_tab);
+    if *rest.get(size)? != b'\n' {
+        return None;
+    }
+    Some(offset + size)
+}

@@ -1,0 +1,63 @@
+//! Leaves: what the flow of a document is made of, but for containers (CommonMark).
+
+use crate::html_flow::Html;
+use crate::line::Line;
+use crate::raw_flow::Fence;
+use crate::{heading_atx, thematic_break};
+
+/// The leaf that is open.
+#[derive(Clone, Copy)]
+pub enum Leaf {
+    /// There is none.
+    None,
+    /// A paragraph. Its lines are kept, since they may turn out to be definitions, a heading or a table.
+    Paragraph,
+    /// Indented code. Blank lines that came last are kept, since they may not be in it.
+    CodeIndented,
+    /// Code or math between fences.
+    RawFlow {
+        /// The fence that opened it.
+        fence: Fence,
+        /// Whether there is nothing in its last line.
+        ends_empty: bool,
+    },
+    /// A block of HTML.
+    Html(Html),
+    /// A table.
+    Table {
+        /// Whether a row came after its head.
+        has_body: bool,
+    },
+}
+
+/// What a leaf begins with, unless it is a paragraph.
+#[derive(Clone, Copy)]
+pub enum LeafStart {
+    /// The indentation of code.
+    CodeIndented,
+    /// A fence.
+    RawFlow(Fence),
+    /// A tag, or what else a block of HTML begins with.
+    Html(Html),
+    /// So many number signs.
+    HeadingAtx(usize),
+    /// A thematic break, which is all of it.
+    ThematicBreak,
+}
+
+impl LeafStart {
+    /// The leaf that begins at the cursor of a line that is not blank, unless it is a paragraph.
+    ///
+    /// Indented code and some HTML cannot interrupt a paragraph (CommonMark).
+    pub fn find(line: &Line<'_>, interrupts: bool) -> Option<LeafStart> {
+        if line.is_indented() {
+            return (!interrupts).then_some(LeafStart::CodeIndented);
+        }
+        match line.text().first()? {
+            b'`' | b'~' | b'$' => Fence::find(line).map(LeafStart::RawFlow),
+            b'<' => Html::find(line, interrupts).map(LeafStart::Html),
+            b'#' => heading_atx::begins(line).map(LeafStart::HeadingAtx),
+            _ => thematic_break::begins(line).then_some(LeafStart::ThematicBreak),
+        }
+    }
+}

@@ -1,0 +1,166 @@
+//! Items, and the lists that they make (CommonMark).
+
+ghost use Rattle.std.specs.Prelude.{◌≤◌, length, IfSome};
+
+use crate::container::Container;
+use crate::line::{Line, TAB_SIZE};
+use crate::output::{Output, piece_to};
+use crate::space_or_tab::{is_at_space_or_end, is_blank};
+use crate::thematic_break;
+use commonmark_syntax::bytes::{after, count_while};
+use markdown_events::event::Name;
+use markdown_pieces::piece::PieceKind;
+use std::alloc::AllocError;
+
+/// How many digits the number of an item may have (CommonMark).
+const DIGITS_MOST: usize = 9;
+
+/// How far an item has come.
+#[derive(Clone, Copy, PartialEq, Eq)]
+enum Progress {
+    /// There is nothing in its first line, and no other line yet.
+    BeganBlank,
+    /// There is something in it.
+    Filled,
+    /// It began blank, and a blank line came next. It has ended, but its list may go on (CommonMark).
+    Ended,
+}
+
+/// An open item.
+#[derive(Clone, Copy)]
+pub struct Item {
+    /// The bullet, or the delimiter after the number. Items with the same one make a list.
+    pub marker: u8,
+    /// How many columns its lines are indented.
+    size: usize,
+    /// How far it has come.
+    progress: Progress,
+}
+
+/// What an item begins with.
+#[derive(Clone, Copy)]
+pub struct ItemStart {
+    /// The bullet, or the delimiter after the number.
+    pub marker: u8,
+    /// How many digits come before it.
+    digits: usize,
+}
+
+/// The name of the list of items with a marker.
+pub fn list_name(marker: u8) -> Name {
+    match marker {
+        b'.' | b')' => Name::ListOrdered,
+        _ => Name::ListUnordered,
+    }
+}
+
+/// The item that begins at the cursor of a line, if one does. Always `None` with `list_item` off.
+///
+/// An item can interrupt a paragraph only if it is not blank, and only if its number is 1, where it has one
+/// (CommonMark).
+pub fn begins(line: &Line<'_>, interrupts: bool) -> Option<ItemStart> {
+    if !line.constructs().list_item || thematic_break::begins(line) {
+        return None;
+    }
+    let digits = count_while(line.text(), |byte| byte.is_ascii_digit());
+    let (number, rest) = line.text().split_at_checked(digits)?;
+    let (marker, rest) = rest.split_first()?;
+    let is_marker = match *marker {
+        b'*' | b'-' | b'+' => digits == 0,
+        b'.' | b')' => 0 < digits && digits <= DIGITS_MOST,
+        _ => false,
+    };
+    let may_interrupt = !is_blank(rest) && (digits == 0 || is_one(number));
+    let begins = is_marker && is_at_space_or_end(rest) && (may_interrupt || !interrupts);
+    begins.then_some(ItemStart {
+        marker: *marker,
+        digits,
+    })
+}
+
+/// Whether digits say the number 1.
+fn is_one(digits: &[u8]) -> bool {
+    match digits {
+        [zeros @ .., b'1'] => zeros.iter().all(|digit| *digit == b'0'),
+        _ => false,
+    }
+}
+
+impl Item {
+    /// Whether it goes on in a line. If it does, its indentation is read.
+    pub fn continues(
+        &mut self,
+        line: &mut Line<'_>,
+        output: &mut Output,
+    ) -> Result<bool, AllocError> {
+        if line.is_blank() && self.progress != Progress::Filled {
+            self.progress = Progress::Ended;
+        }
+        let is_indented = line.is_blank() || line.indent() >= self.size;
+        if self.is_ended() || !is_indented {
+            return Ok(false);
+        }
+        self.progress = Progress::Filled;
+        output.prefix_columns(line, self.size)?;
+        Ok(true)
+    }
+
+    /// Whether it has ended, while its list may go on.
+    pub fn is_ended(&self) -> bool {
+        self.progress == Progress::Ended
+    }
+}
+
+/// Writes the start of an item at the cursor of a line.
+pub fn open(
+    start: ItemStart,
+    line: &mut Line<'_>,
+    output: &mut Output,
+) -> Result<Container, AllocError> {
+    let before = line.columns();
+    output.push(piece_to(PieceKind::Enter(Name::ListItem), line))?;
+    output.white_space(line)?;
+    output.enter(Name::ListItemPrefix)?;
+    write_marker(start, line, output)?;
+    let is_blank = line.is_blank();
+    if !is_blank {
+        let indent = line.indent();
+        output.columns(line, padding(indent))?;
+    }
+    output.exit(Name::ListItemPrefix)?;
+    let size = line.columns().saturating_sub(before);
+    Ok(Container::ListItem(Item {
+        marker: start.marker,
+        size: if is_blank {
+            size.saturating_add(1)
+        } else {
+            size
+        },
+        progress: if is_blank {
+            Progress::BeganBlank
+        } else {
+            Progress::Filled
+        },
+    }))
+}
+
+/// Writes the number and the marker of an item.
+fn write_marker(
+    start: ItemStart,
+    line: &mut Line<'_>,
+    output: &mut Output,
+) -> Result<(), AllocError> {
+    let text = line.text();
+    let marker = after(text, start.digits);
+    output.token(Name::ListItemValue, line.before(marker))?;
+    let rest = after(marker, 1);
+    output.token(Name::ListItemMarker, line.before(rest))?;
+    line.skip_to(rest);
+    Ok(())
+}
+
+/// How many columns of the white space after a marker belong to the item: all, unless what comes is
+/// indented code (CommonMark).
+fn padding(indent: usize) -> usize {
+    if indent > TAB_SIZE { 1 } else { indent }
+}

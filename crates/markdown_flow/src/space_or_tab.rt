@@ -1,0 +1,37 @@
+//! Spaces and tabs (micromark).
+
+ghost use Rattle.std.specs.Prelude.{◌≤◌, length};
+
+use commonmark_syntax::bytes::{after, count_back, count_while, is_space_or_tab};
+
+/// What comes after the spaces and tabs that a text begins with.
+///
+/// After ` a ` it is `a `.
+pub fn after_spaces(text: &[u8]) -> &[u8]
+    ensures { length result.now ≤ length text.now }
+{
+    after(text, count_while(text, is_space_or_tab))
+}
+
+/// How many bytes come before the spaces and tabs that a text ends with.
+///
+/// In ` a ` it is 2.
+pub fn trimmed_size(text: &[u8]) -> usize
+    ensures { result ≤ length text.now }
+{
+    text.len() - count_back(text, is_space_or_tab)
+}
+
+/// Whether a text is nothing but spaces and tabs.
+///
+/// It is true of the empty text.
+pub fn is_blank(text: &[u8]) -> bool {
+    count_while(text, is_space_or_tab) == text.len()
+}
+
+/// Whether a text is empty, or begins with a space or a tab.
+///
+/// It is false of `a`.
+pub fn is_at_space_or_end(text: &[u8]) -> bool {
+    text.first().is_none_or(|byte| is_space_or_tab(*byte))
+}

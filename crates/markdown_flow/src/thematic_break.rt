@@ -1,0 +1,64 @@
+//! Thematic breaks (CommonMark).
+
+ghost use Rattle.std.specs.Prelude.{◌≤◌, length};
+
+use crate::line::Line;
+use crate::output::Output;
+use commonmark_syntax::bytes::{after, count_while, is_space_or_tab, run_length};
+use markdown_events::event::Name;
+use std::alloc::AllocError;
+
+/// How many signs make a thematic break (CommonMark).
+const SIGNS_LEAST: usize = 3;
+
+/// The size of the longest end of a line that has only white space and one of the signs of thematic breaks.
+///
+/// In `- a **` it is 3.
+pub fn tail_size(line: &[u8]) -> usize
+    ensures { result ≤ length line.now }
+{
+    let mut sign = None;
+    for (size, byte) in line.iter().rev().enumerate() {
+        if is_space_or_tab(*byte) {
+            continue;
+        }
+        if !is_sign(*byte) || sign.is_some_and(|sign| sign != *byte) {
+            return size;
+        }
+        sign = Some(*byte);
+    }
+    line.len()
+}
+
+/// Whether a byte is a sign of thematic breaks.
+fn is_sign(byte: u8) -> bool {
+    matches!(byte, b'*' | b'-' | b'_')
+}
+
+/// Whether the text of a line is a thematic break (CommonMark). Never, with `thematic_break` off.
+pub fn begins(line: &Line<'_>) -> bool {
+    line.constructs().thematic_break && line.is_in_tail() && has_enough(line.text())
+}
+
+/// Whether a text has enough signs for a thematic break.
+fn has_enough(text: &[u8]) -> bool {
+    let signs = text.iter().filter(|byte| is_sign(**byte));
+    signs.take(SIGNS_LEAST).count() == SIGNS_LEAST
+}
+
+/// Writes the thematic break in a line.
+pub fn write(line: &mut Line<'_>, output: &mut Output) -> Result<(), AllocError> {
+    output.enter(Name::ThematicBreak)?;
+    output.white_space(line)?;
+    let mut text = line.text();
+    'runs: while let [first, rest @ ..] = text {
+        let (name, size) = if is_space_or_tab(*first) {
+            (Name::SpaceOrTab, count_while(rest, is_space_or_tab))
+        } else {
+            (Name::ThematicBreakSequence, run_length(rest, *first))
+        };
+        text = after(rest, size);
+        output.token(name, line.before(text))?;
+    }
+    output.exit(Name::ThematicBreak)
+}

@@ -1,0 +1,194 @@
+//! Which constructs of markdown a document is read with. Names and defaults are those of the crate
+//! `markdown`, without MDX.
+#![tactic(auto)]
+
+ghost use Rattle.std.specs.Prelude.{◌≡◌};
+ghost use Rattle.markdown_options.specs.Options.{commonmark, gfm, options};
+
+/// Which constructs there are.
+///
+/// `Constructs::default()` has those of CommonMark, and `Constructs::gfm()` those of GFM besides.
+/// Frontmatter and math are in neither.
+#[derive(Clone, Copy, PartialEq, Eq, Debug)]
+pub struct Constructs {
+    /// Emphasis and strong emphasis, and with `gfm_strikethrough` also struck text: `*a*`, `**a**`, `~a~`.
+    pub attention: bool,
+    /// Autolinks in angle brackets: `<https://a.b>`.
+    pub autolink: bool,
+    /// Block quotes: `> a`.
+    pub block_quote: bool,
+    /// Escapes of punctuation: `\\*`.
+    pub character_escape: bool,
+    /// Character references: `&amp;`.
+    pub character_reference: bool,
+    /// Code that is indented by four columns. Without it, other blocks may be indented by any number.
+    pub code_indented: bool,
+    /// Code between fences of backticks or tildes.
+    pub code_fenced: bool,
+    /// Code in a text: `` `a` ``.
+    pub code_text: bool,
+    /// Definitions of links: `[a]: b`.
+    pub definition: bool,
+    /// Frontmatter at the start of a document, between lines of `---` or `+++`.
+    pub frontmatter: bool,
+    /// Addresses that stand in the text as they are: `www.a.b`, `https://a.b`, `a@b.c` (GFM).
+    pub gfm_autolink_literal: bool,
+    /// Definitions of footnotes: `[^a]: b` (GFM).
+    pub gfm_footnote_definition: bool,
+    /// Calls of footnotes: `[^a]` (GFM).
+    pub gfm_label_start_footnote: bool,
+    /// Struck text: `~a~`, `~~a~~` (GFM).
+    pub gfm_strikethrough: bool,
+    /// Tables (GFM).
+    pub gfm_table: bool,
+    /// Marks of tasks: `* [x] a` (GFM).
+    pub gfm_task_list_item: bool,
+    /// A hard break by a backslash at the end of a line.
+    pub hard_break_escape: bool,
+    /// A hard break by two spaces at the end of a line.
+    pub hard_break_trailing: bool,
+    /// Headings that begin with number signs: `# a`.
+    pub heading_atx: bool,
+    /// Headings with a line of `=` or `-` under them.
+    pub heading_setext: bool,
+    /// Blocks of HTML.
+    pub html_flow: bool,
+    /// HTML in a text.
+    pub html_text: bool,
+    /// The start of an image: `![`.
+    pub label_start_image: bool,
+    /// The start of a link: `[`.
+    pub label_start_link: bool,
+    /// The end of a link, an image or a call of a footnote: `]` and what follows it.
+    pub label_end: bool,
+    /// Items of lists: `* a`, `1. a`.
+    pub list_item: bool,
+    /// Math between fences of dollars.
+    pub math_flow: bool,
+    /// Math in a text: `$a$`.
+    pub math_text: bool,
+    /// Thematic breaks: `***`.
+    pub thematic_break: bool,
+}
+
+impl Constructs {
+    /// The constructs of CommonMark and of GFM: autolink literals, footnotes, struck text, tables and
+    /// the marks of tasks.
+    ///
+    /// `Constructs::gfm().gfm_table` is true.
+    pub fn gfm() -> Constructs
+        ensures { result ≡ gfm }
+    {
+        Constructs {
+            attention: true,
+            autolink: true,
+            block_quote: true,
+            character_escape: true,
+            character_reference: true,
+            code_indented: true,
+            code_fenced: true,
+            code_text: true,
+            definition: true,
+            frontmatter: false,
+            gfm_autolink_literal: true,
+            gfm_footnote_definition: true,
+            gfm_label_start_footnote: true,
+            gfm_strikethrough: true,
+            gfm_table: true,
+            gfm_task_list_item: true,
+            hard_break_escape: true,
+            hard_break_trailing: true,
+            heading_atx: true,
+            heading_setext: true,
+            html_flow: true,
+            html_text: true,
+            label_start_image: true,
+            label_start_link: true,
+            label_end: true,
+            list_item: true,
+            math_flow: false,
+            math_text: false,
+            thematic_break: true,
+        }
+    }
+}
+
+/// The constructs of CommonMark.
+impl Default for Constructs {
+    ghost is_default = { λ constructs. constructs ≡ commonmark };
+
+    fn default() -> Constructs {
+        Constructs {
+            attention: true,
+            autolink: true,
+            block_quote: true,
+            character_escape: true,
+            character_reference: true,
+            code_indented: true,
+            code_fenced: true,
+            code_text: true,
+            definition: true,
+            frontmatter: false,
+            gfm_autolink_literal: false,
+            gfm_footnote_definition: false,
+            gfm_label_start_footnote: false,
+            gfm_strikethrough: false,
+            gfm_table: false,
+            gfm_task_list_item: false,
+            hard_break_escape: true,
+            hard_break_trailing: true,
+            heading_atx: true,
+            heading_setext: true,
+            html_flow: true,
+            html_text: true,
+            label_start_image: true,
+            label_start_link: true,
+            label_end: true,
+            list_item: true,
+            math_flow: false,
+            math_text: false,
+            thematic_break: true,
+        }
+    }
+}
+
+/// How a document is read.
+///
+/// `ParseOptions::default()` reads CommonMark, and `ParseOptions::gfm()` GFM.
+#[derive(Clone, Copy, PartialEq, Eq, Debug)]
+pub struct ParseOptions {
+    /// Which constructs there are.
+    pub constructs: Constructs,
+    /// Whether a single tilde strikes a text, too: `~a~` (as GitHub does).
+    pub gfm_strikethrough_single_tilde: bool,
+    /// Whether a single dollar begins math in a text, too: `$a$`.
+    pub math_text_single_dollar: bool,
+}
+
+impl ParseOptions {
+    /// How GFM is read.
+    ///
+    /// `ParseOptions::gfm().constructs` is `Constructs::gfm()`.
+    pub fn gfm() -> ParseOptions
+        ensures { result ≡ options gfm }
+    {
+        ParseOptions {
+            constructs: Constructs::gfm(),
+            gfm_strikethrough_single_tilde: true,
+            math_text_single_dollar: true,
+        }
+    }
+}
+
+/// How CommonMark is read.
+impl Default for ParseOptions {
+    ghost is_default = { λ read. read ≡ options commonmark };
+
+    fn default() -> ParseOptions {
+        ParseOptions {
+            constructs: Constructs::default(),
+            gfm_strikethrough_single_tilde: true,
+            math_text_single_dollar: true,
+        }
+    }
+}

@@ -1,0 +1,8 @@
+//! What the block structure of a document comes to: pieces, in the order of the document, and the
+//! identifiers that it defines.
+//!
+//! `markdown_flow` makes them, and `markdown_text` reads the inlines in them.
+#![tactic(auto)]
+
+pub mod identifiers;
+pub mod piece;

@@ -1,0 +1,48 @@
+//! Pieces of a document.
+
+use markdown_events::event::Name;
+
+/// What a piece is (ours).
+#[derive(Clone, Copy, PartialEq, Eq, Debug)]
+pub enum PieceKind {
+    /// A span begins here. The piece has no length.
+    Enter(Name),
+    /// A span ends here. The piece has no length.
+    Exit(Name),
+    /// A span with no span in it.
+    Token(Name),
+    /// The end of a line.
+    LineEnding,
+    /// The end of a blank line, or of a line that has only markers of containers.
+    BlankLineEnding,
+    /// The part of a line that belongs to a content whose inlines are still to be read.
+    Text,
+}
+
+/// A piece of a document. It begins where the piece before it ends, and the first one at the start of
+/// the document, so the pieces tile the document (ours).
+///
+/// Of `# a` the pieces are `Enter(HeadingAtx)`, `Token(HeadingAtxSequence)` up to 1, `Token(SpaceOrTab)` up
+/// to 2, `Enter(HeadingAtxText)`, `Text` up to 3, `Exit(HeadingAtxText)` and `Exit(HeadingAtx)`.
+#[derive(Clone, Copy, PartialEq, Eq, Debug)]
+pub struct Piece {
+    /// What it is.
+    pub kind: PieceKind,
+    /// Where it ends: an offset, which counts bytes from 0.
+    pub end: usize,
+    /// How many columns of the tab at its end belong to it, where it ends within a tab, and else 0.
+    pub virtual_spaces: usize,
+}
+
+impl Piece {
+    /// A piece that ends before a byte.
+    ///
+    /// `Piece::new(PieceKind::Text, 3)` ends at offset 3, within no tab.
+    pub fn new(kind: PieceKind, end: usize) -> Piece {
+        Piece {
+            kind,
+            end,
+            virtual_spaces: 0,
+        }
+    }
+}

@@ -1,0 +1,32 @@
+//! The start of the label of an image (CommonMark).
+
+ghost use Rattle.std.specs.Prelude.{◌≤◌, ◌<◌, length, IfSome};
+
+use crate::output::Output;
+use character_references::references::References;
+use markdown_events::event::Name;
+use markdown_options::Constructs;
+use std::alloc::AllocError;
+
+/// The length of the start of the label of an image that a text begins with. Where calls of footnotes
+/// are a construct, no image begins before a caret (micromark).
+pub fn scan(text: &[u8], constructs: &Constructs) -> Option<usize>
+    ensures most { IfSome result (λ size. size ≤ length text.now) }
+    ensures least { IfSome result (λ size. 0 < size) }
+{
+    match text {
+        [b'!', b'[', b'^', ..] if constructs.gfm_label_start_footnote => None,
+        [b'!', b'[', ..] if constructs.label_start_image => Some(2),
+        _ => None,
+    }
+}
+
+/// Writes the start of the label of an image.
+pub fn write<R: References>(output: &mut Output<'_, R>) -> Result<(), AllocError> {
+    output.enter(Name::Image)?;
+    output.enter(Name::Label)?;
+    output.enter(Name::LabelImage)?;
+    output.token(Name::LabelImageMarker, 1)?;
+    output.token(Name::LabelMarker, 1)?;
+    output.exit(Name::LabelImage)
+}

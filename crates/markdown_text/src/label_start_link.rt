@@ -1,0 +1,29 @@
+//! The start of the label of a link (CommonMark).
+
+ghost use Rattle.std.specs.Prelude.{◌≤◌, ◌<◌, length, IfSome};
+
+use crate::output::Output;
+use character_references::references::References;
+use markdown_events::event::Name;
+use markdown_options::Constructs;
+use std::alloc::AllocError;
+
+/// The length of the start of the label of a link that a text begins with.
+pub fn scan(text: &[u8], constructs: &Constructs) -> Option<usize>
+    ensures most { IfSome result (λ size. size ≤ length text.now) }
+    ensures least { IfSome result (λ size. 0 < size) }
+{
+    match text {
+        [b'[', ..] if constructs.label_start_link => Some(1),
+        _ => None,
+    }
+}
+
+/// Writes the start of the label of a link.
+pub fn write<R: References>(output: &mut Output<'_, R>) -> Result<(), AllocError> {
+    output.enter(Name::Link)?;
+    output.enter(Name::Label)?;
+    output.enter(Name::LabelLink)?;
+    output.token(Name::LabelMarker, 1)?;
+    output.exit(Name::LabelLink)
+}

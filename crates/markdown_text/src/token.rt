@@ -1,0 +1,116 @@
+//! Tokens: what the first pass over a text finds, in order.
+
+ghost use Rattle.std.specs.Prelude.{◌≡◌, ◌<◌};
+
+use crate::character_reference::ReferenceKind;
+use crate::resource::Resource;
+use markdown_events::event::Name;
+
+/// What a label belongs to (CommonMark, GFM).
+#[derive(Clone, Copy, PartialEq, Eq, Debug)]
+pub enum Labelled {
+    /// A link: `[a](b)`.
+    Link,
+    /// An image: `![a](b)`.
+    Image,
+    /// A call of a footnote: `[^a]`.
+    FootnoteCall,
+}
+
+impl Labelled {
+    /// The name of its span.
+    pub fn group(self) -> Name {
+        match self {
+            Labelled::Link => Name::Link,
+            Labelled::Image => Name::Image,
+            Labelled::FootnoteCall => Name::GfmFootnoteCall,
+        }
+    }
+}
+
+/// What comes after the label of a link or an image (CommonMark).
+#[derive(Clone, Copy, PartialEq, Eq, Debug)]
+pub enum Target {
+    /// Nothing: the label itself is the reference.
+    Shortcut,
+    /// An empty label: `[]`.
+    Collapsed,
+    /// A label: `[b]`.
+    Full,
+    /// A resource: `(b "c")`.
+    Resource(Resource),
+}
+
+/// What a token is.
+#[derive(Clone, Copy, PartialEq, Eq, Debug)]
+pub enum TokenKind {
+    /// A line ending.
+    LineEnding,
+    /// A backslash before a line ending.
+    HardBreakEscape,
+    /// A backslash and the character after it.
+    CharacterEscape,
+    /// A character reference.
+    CharacterReference(ReferenceKind),
+    /// Code, between sequences of so many backticks.
+    CodeText(usize),
+    /// Math, between sequences of so many dollars.
+    MathText(usize),
+    /// An autolink, by the name of the address in it: `Name::AutolinkProtocol` or `Name::AutolinkEmail`.
+    Autolink(Name),
+    /// HTML.
+    HtmlText,
+    /// An autolink literal, by its name.
+    AutolinkLiteral(Name),
+    /// A run of asterisks, underscores or tildes.
+    Attention,
+    /// The start of a label, with what the label belongs to, once that is known.
+    LabelStart(Option<Labelled>),
+    /// The end of a label, with what the label belongs to and what comes after it.
+    LabelEnd(Labelled, Target),
+    /// The mark of a task, and whether it is checked.
+    TaskListItemCheck(bool),
+}
+
+/// A construct that a text begins with, or data.
+#[derive(Clone, Copy, PartialEq, Eq, Debug)]
+pub struct Found {
+    /// What it is. None is data.
+    pub kind: Option<TokenKind>,
+    /// How many bytes it takes.
+    pub size: usize,
+    ghost filled: { 0 < size },
+}
+
+impl Found {
+    /// A construct of so many bytes.
+    pub fn token(kind: TokenKind, size: usize) -> Found
+        requires { 0 < size }
+        ensures { result.size ≡ size }
+    {
+        Found {
+            kind: Some(kind),
+            size,
+        }
+    }
+
+    /// So many bytes of data.
+    pub fn data(size: usize) -> Found
+        requires { 0 < size }
+        ensures { result.size ≡ size }
+    {
+        Found { kind: None, size }
+    }
+}
+
+/// A construct in a text. What lies between two tokens is data.
+#[derive(Clone, Copy, PartialEq, Eq, Debug)]
+pub struct Token {
+    /// What it is.
+    pub kind: TokenKind,
+    /// The offset in the content at which it begins.
+    pub start: usize,
+    /// The offset in the content at which it ends.
+    pub end: usize,
+    ghost filled: { start < end },
+}
