@@ -11,7 +11,7 @@ ghost use Rattle.markdown_options.specs.Options.{commonmark, gfm, options};
 /// Frontmatter and math are in neither.
 #[derive(Clone, Copy, PartialEq, Eq, Debug)]
 pub struct Constructs {
-    /// Emphasis and strong emphasis, and with `gfm_strikethrough` also struck text: `*a*`, `**a**`, `~a~`.
+    /// Emphasis and strong emphasis: `*a*`, `**a**`.
     pub attention: bool,
     /// Autolinks in angle brackets: `<https://a.b>`.
     pub autolink: bool,
@@ -80,35 +80,13 @@ impl Constructs {
         ensures { result ≡ gfm }
     {
         Constructs {
-            attention: true,
-            autolink: true,
-            block_quote: true,
-            character_escape: true,
-            character_reference: true,
-            code_indented: true,
-            code_fenced: true,
-            code_text: true,
-            definition: true,
-            frontmatter: false,
             gfm_autolink_literal: true,
             gfm_footnote_definition: true,
             gfm_label_start_footnote: true,
             gfm_strikethrough: true,
             gfm_table: true,
             gfm_task_list_item: true,
-            hard_break_escape: true,
-            hard_break_trailing: true,
-            heading_atx: true,
-            heading_setext: true,
-            html_flow: true,
-            html_text: true,
-            label_start_image: true,
-            label_start_link: true,
-            label_end: true,
-            list_item: true,
-            math_flow: false,
-            math_text: false,
-            thematic_break: true,
+            ..Constructs::default()
         }
     }
 }
