@@ -3,6 +3,7 @@
 use crate::decoder::CaseDecoder;
 use crate::document::Document;
 use crate::sums::Checksum;
+use markdown::ParseOptions;
 use markdown_nodes::event::Event;
 use markdown_tree::to_mdast::Values;
 
@@ -19,6 +20,8 @@ pub struct Case<'a> {
     pub decoder: CaseDecoder,
     /// How values are read.
     pub values: Values,
+    /// How the tokenizer reads the document, where the events are its own.
+    pub options: Option<ParseOptions>,
     /// The events.
     pub events: Vec<Event>,
     /// The tree as Debug prints it, after `= `, or the rule and the place of the refusal, after `! `.

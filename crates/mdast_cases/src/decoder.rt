@@ -1,6 +1,7 @@
 //! What the character references of the cases stand for.
 
 use character_references::decoder::Decoder;
+use character_references::html::HtmlReferences;
 use markdown_tree::to_mdast::References;
 use std::alloc::{AllocError, Global};
 
@@ -11,6 +12,8 @@ pub enum CaseDecoder {
     Usual,
     /// It gives one space for the empty value, and knows nothing else.
     Blank,
+    /// That of the tokenizer, which knows the names of HTML.
+    Html,
 }
 
 impl References for CaseDecoder {
@@ -23,6 +26,7 @@ impl References for CaseDecoder {
             CaseDecoder::Usual => Decoder.decode(alloc, value, marker),
             CaseDecoder::Blank if value == "" => Ok(Some(String::from_str(alloc, " ")?)),
             CaseDecoder::Blank => Ok(None),
+            CaseDecoder::Html => HtmlReferences.decode(alloc, value, marker),
         }
     }
 }

@@ -19,6 +19,11 @@ impl Document {
         Ok(Document { bytes, line_starts })
     }
 
+    /// Its text, if its bytes are UTF-8.
+    pub fn text(&self) -> Option<&str> {
+        str::from_utf8(self.bytes.as_slice()).ok()
+    }
+
     /// Makes one line of it.
     pub fn join_lines(&mut self) {
         self.line_starts.truncate(1);

@@ -26,6 +26,8 @@ pub enum LineKind {
     Spans,
     /// An event of the list: `+Data 1:1:0`.
     Event,
+    /// That the list is that of the tokenizer, and which constructs this reads: `read gfm`.
+    Read,
     /// What `compile` must give: `= Root { .. }` or `! slice-invalid 1:2 (1)`.
     Answer,
     /// Whether the tree is ordered: `ordered yes`.
@@ -121,6 +123,7 @@ fn word_kind(word: &str) -> Option<LineKind> {
         "columns" => Some(LineKind::Columns),
         "decoder" => Some(LineKind::Decoder),
         "values" => Some(LineKind::Values),
+        "read" => Some(LineKind::Read),
         "ordered" => Some(LineKind::Ordered),
         "written" => Some(LineKind::Written),
         "json" => Some(LineKind::Json),

@@ -3,6 +3,7 @@
 use crate::case::{Case, Forms};
 use crate::counts::{Counts, count};
 use crate::rewrite::rewritten;
+use markdown::to_mdast;
 use markdown_grammar::ordered::ordered;
 use markdown_json::to_json;
 use markdown_nodes::event::{Event, Kind, Point};
@@ -80,12 +81,24 @@ pub fn difference(
 /// Compiles a case, looks at what is made of its tree, and compiles what comes of the list when it is
 /// cut or its exits are swapped.
 fn replay(alloc: Global, case: &Case<'_>, counts: &mut Counts) -> Result<(), ReplayError> {
+    read(alloc, case)?;
     let outcome = outcome(alloc, case, case.events.as_slice());
     expect(List::Whole, answer(alloc, &outcome), case.answer)?;
     expect(List::Counted, counted(alloc, case), case.answer)?;
     match &outcome {
         Ok(tree) => replay_tree(alloc, case, tree, counts),
         Err(_) => Ok(()),
+    }
+}
+
+/// The tree of the document is the answer of the case, where its events are those of the tokenizer.
+fn read(alloc: Global, case: &Case<'_>) -> Result<(), ReplayError> {
+    match (&case.options, case.document.text()) {
+        (Some(options), Some(text)) => {
+            let outcome = to_mdast(alloc, text, options);
+            expect(List::Whole, answer(alloc, &outcome), case.answer)
+        }
+        _ => Ok(()),
     }
 }
 

@@ -17,16 +17,27 @@
 //! -Paragraph 1:3:2
 //! = Root { .. }
 //! ```
+//!
+//! In place of events a line may say how the tokenizer reads the document:
+//!
+//! ```text
+//! row a-paragraph
+//! "Hi"
+//! read commonmark
+//! = Root { .. }
+//! ```
 
 use crate::case::{Case, Forms};
 use crate::decoder::CaseDecoder;
 use crate::document::Document;
 use crate::hexadecimal::bytes_of_digits;
 use crate::line::{Line, LineError, LineKind, read_line};
+use crate::reading::{events_of_document, options_of_word};
 use crate::spans::events_of_spans;
 use crate::sums::Checksum;
 use crate::unquoted::unquoted;
 use event_lines::lines::events;
+use markdown::ParseOptions;
 use markdown_nodes::event::Event;
 use markdown_tree::to_mdast::Values;
 use std::alloc::{AllocError, AllocFailed, Global};
@@ -156,6 +167,8 @@ struct Draft<'a> {
     decoder: CaseDecoder,
     /// How values are read.
     values: Values,
+    /// How the tokenizer reads the document, after the line that says it.
+    options: Option<ParseOptions>,
     /// The events so far.
     events: Vec<Event>,
     /// The answer, after the line that says it.
@@ -179,6 +192,7 @@ impl<'a> Draft<'a> {
             document: None,
             decoder: CaseDecoder::Usual,
             values: Values::AsInDocument,
+            options: None,
             events: Vec::new(alloc),
             answer: None,
             ordered: None,
@@ -200,6 +214,7 @@ impl<'a> Draft<'a> {
             LineKind::Values => self.add_values(text),
             LineKind::Spans => self.add_spans(alloc, text),
             LineKind::Event => self.add_events(events_of_line(alloc, text)),
+            LineKind::Read => self.add_reading(alloc, text),
             LineKind::Answer => once(&mut self.answer, text),
             LineKind::Ordered => once_read(&mut self.ordered, answer_to(text)),
             LineKind::Written => once_read(&mut self.written, answer_to(text)),
@@ -263,6 +278,21 @@ impl<'a> Draft<'a> {
         self.add_events(events)
     }
 
+    /// Adds the events of the tokenizer, for which the document must be known. The case then has its
+    /// decoder, and reads values as it does.
+    fn add_reading(&mut self, alloc: Global, word: &str) -> Result<(), LineError> {
+        let options = options_of_word(word).ok_or(LineError::Unread)?;
+        let text = match &self.document {
+            Some(document) => document.text().ok_or(LineError::Unread)?,
+            None => return Err(LineError::Unread),
+        };
+        let events = events_of_document(alloc, text, &options);
+        self.decoder = CaseDecoder::Html;
+        self.values = Values::Whole;
+        once(&mut self.options, options)?;
+        self.add_events(events)
+    }
+
     /// Adds events, if they were read.
     fn add_events(&mut self, events: Result<Vec<Event>, LineError>) -> Result<(), LineError> {
         Ok(self.events.append(&mut events?)?)
@@ -276,6 +306,7 @@ impl<'a> Draft<'a> {
             document: self.document?,
             decoder: self.decoder,
             values: self.values,
+            options: self.options,
             events: self.events,
             answer: self.answer?,
             ordered: self.ordered,

@@ -1,5 +1,6 @@
-//! Replays tables of cases: lists of events over documents, and what `compile` must give for each. A
-//! tree must be ordered where the offsets of the events never go back, and else as the table says.
+//! Replays tables of cases: lists of events over documents, and what `compile` must give for each; and
+//! documents, and the tree that `to_mdast` must give for each. A tree must be ordered where the offsets
+//! of the events never go back, and else as the table says.
 //!
 //! `mdast_replay FILE..` reads each file, a table or, where its name ends in `.sums`, the checksums
 //! of the table before it. It prints a line for each file, and one for each case that is not as it

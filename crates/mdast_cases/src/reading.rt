@@ -1,0 +1,44 @@
+//! What the tokenizer makes of the document of a case.
+
+use crate::line::LineError;
+use markdown::{Constructs, ParseOptions, to_events};
+use markdown_nodes::event::Event;
+use markdown_nodes::message::Fault;
+use std::alloc::{AllocError, Global};
+
+/// How a document is read, as the word of a line `read` says.
+pub fn options_of_word(word: &str) -> Option<ParseOptions> {
+    match word {
+        "commonmark" => Some(ParseOptions::default()),
+        "gfm" => Some(ParseOptions::gfm()),
+        "all" => Some(everything()),
+        _ => None,
+    }
+}
+
+/// GFM with frontmatter and math.
+fn everything() -> ParseOptions {
+    ParseOptions {
+        constructs: Constructs {
+            frontmatter: true,
+            math_flow: true,
+            math_text: true,
+            ..Constructs::gfm()
+        },
+        ..ParseOptions::gfm()
+    }
+}
+
+/// The events of a document. There are none where the tokenizer refuses it: then the answer of
+/// `to_mdast` says so.
+pub fn events_of_document(
+    alloc: Global,
+    text: &str,
+    options: &ParseOptions,
+) -> Result<Vec<Event>, LineError> {
+    match to_events(alloc, text, options) {
+        Ok(events) => Ok(events),
+        Err(Fault::Message(_)) => Ok(Vec::new(alloc)),
+        Err(Fault::Memory(_)) => Err(LineError::Memory(AllocError)),
+    }
+}
