@@ -1,8 +1,6 @@
 -- What the code asks of a document before it takes a part of it for a value.
-use Rattle.std.specs.Prelude.{◌≡◌, ℕ, ◌==◌, Bool, true, false, List, ◌&&◌, ◌||◌, nat_lt}
+use Rattle.std.specs.Prelude.{◌≡◌, ℕ, ◌==◌, Bool, true, false, List}
 use Rattle.std.specs.List.{list_any}
-use Rattle.markdown_events.specs.declared.event.Point.{Point}
-use Rattle.markdown_grammar.specs.Document.{Given}
 use Rattle.markdown_grammar.specs.declared.values.Values.{Values}
 use Rattle.markdown_grammar.specs.declared.values.Values.TheVariants.{AsInDocument, Whole}
 
@@ -19,7 +17,3 @@ has_nul text = list_any (λ b. b == 0) text
 pub record IsTextOf (values : Values) (bytes text : List ℕ) : Type 0 where
   pub is : text ≡ bytes
   pub no_nul : is_whole values ≡ true → has_nul bytes ≡ false
-
--- whether the columns of a tab count between two points
-abbrev pub is_split : Given → Point → Point → Bool
-is_split given start end = (nat_lt 0 start.vs || nat_lt 0 end.vs) && is_whole given.values

@@ -1,12 +1,12 @@
 //! A document, what stands in it between two points, and the position from one to the other.
 
-ghost use Rattle.std.specs.Prelude.{◌≡◌, ◌&&◌, ◌^◌, ◌<◌, ◌≤◌, IfErr, Some, SomeIff, IfSome, is_some, length, option_copied, string_bytes, true};
+ghost use Rattle.std.specs.Prelude.{◌≡◌, ◌&&◌, ◌^◌, ◌<◌, ◌≤◌, IfErr, Some, SomeIff, IfSome, is_some, length, nat_lt, option_copied, string_bytes, true};
 ghost use Rattle.std.specs.Result.{result_ok};
 ghost use Rattle.markdown_events.specs.Slices.{between, edge, slice, text_between};
 ghost use Rattle.markdown_grammar.specs.Document.{byte_at, length_between, value_between};
 ghost use Rattle.markdown_grammar.specs.Whole.{without_nul};
 ghost use Rattle.markdown_builder.specs.PartsSoFar.{Makes};
-ghost use Rattle.markdown_builder.specs.WholeValues.{IsTextOf, has_nul, is_split, is_whole};
+ghost use Rattle.markdown_builder.specs.WholeValues.{IsTextOf, has_nul, is_whole};
 ghost use Rattle.markdown_grammar.specs.declared.error_kind.ErrorKind.TheVariants.{InvalidSlice};
 ghost use Rattle.markdown_grammar.specs.declared.error_kind.Stop.TheVariants.{Refused};
 
@@ -92,6 +92,7 @@ impl<'a> Document<'a> {
 
     /// The bytes from one index to another as a part of the document's text, or `None` where the document
     /// is not all UTF-8, or an index is outside it or inside a character.
+    #[inline(always)]
     fn part(&self, from: usize, to: usize) -> Option<&'a str>
         ensures part { IfSome result (λ part. Some part.now ≡ text_between self.now.bytes from to) }
         ensures no_nul { IfSome result (λ part. is_whole self.now.values ≡ true → without_nul part.now ≡ part.now) }
@@ -168,22 +169,34 @@ fn replaces_nul(bytes: &[u8], values: Values) -> bool
     matches!(values, Values::Whole) && bytes.contains(&0)
 }
 
-/// Whether the columns of a tab count between two points. That no virtual spaces are there is asked
-/// first, since each slice asks it.
+/// Whether a point stands within a tab.
 #[inline(always)]
-fn is_split(document: &Document<'_>, start: Point, end: Point) -> bool
-    ensures { result ≡ is_split document.now start end }
+fn is_in_tab(point: Point) -> bool
+    ensures { result ≡ nat_lt 0 point.vs }
 {
-    (start.vs > 0 || end.vs > 0) && document.is_whole()
+    point.vs > 0
 }
 
-/// The value of a span, where it is a part of the document as it stands: nearly always.
+/// The value of a span, where it is a part of the document as it stands: nearly always. That no end is
+/// within a tab is asked first, since the edges of such a span are its indices.
 #[inline(always)]
 pub fn value_as_it_stands<'a>(document: &Document<'a>, start: Point, end: Point) -> Option<&'a str>
     ensures read { IfSome result (λ value. is_some (slice document.now.bytes start end) ≡ true) }
     ensures value { IfSome result (λ value. value.now ≡ value_between document.now start end) }
 {
-    if is_split(document, start, end) {
+    if is_in_tab(start) || is_in_tab(end) {
+        return value_in_tab(document, start, end);
+    }
+    document.part(start.index, end.index)
+}
+
+/// The same of a span with an end within a tab: only whole values count the columns of the tab.
+#[inline(never)]
+fn value_in_tab<'a>(document: &Document<'a>, start: Point, end: Point) -> Option<&'a str>
+    ensures read { IfSome result (λ value. is_some (slice document.now.bytes start end) ≡ true) }
+    ensures value { IfSome result (λ value. value.now ≡ value_between document.now start end) }
+{
+    if document.is_whole() {
         return None;
     }
     let (from, to) = range_of(document, start, end)?;
