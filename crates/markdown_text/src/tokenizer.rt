@@ -290,7 +290,7 @@ impl<'c, R: References> Tokenizer<'c, R> {
     fn close(&mut self, bracket: &Bracket, found: &Match) -> Result<Found, AllocError>
         ensures { IfOk result (λ token. token.size ≡ found.now.size) }
     {
-        if found.labelled != Labelled::Image {
+        if found.labelled == Labelled::Link {
             self.brackets.found_link();
         }
         let size = self.source.bytes.len();
