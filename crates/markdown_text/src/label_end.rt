@@ -10,7 +10,7 @@ use crate::source::Source;
 use crate::token::{Labelled, Target};
 use crate::{reference, resource};
 use character_references::references::References;
-use commonmark_syntax::bytes::after;
+use commonmark_syntax::bytes::{after, is_space_or_line_ending};
 use commonmark_syntax::label;
 use markdown_events::event::Name;
 use std::alloc::AllocError;
@@ -37,7 +37,9 @@ pub fn scan<R: References>(
     ensures { IfOk result (λ found. IfSome found (λ found. found.size ≤ bytes_from cursor.entry)) }
 {
     let label = after(after(cursor.before(), bracket.start), bracket.form.prefix());
-    let is_footnote = bracket.form == LabelForm::Footnote && !bracket.has_bracket;
+    let is_footnote = bracket.form == LabelForm::Footnote
+        && !bracket.has_bracket
+        && !has_white_space(label);
     if is_footnote
         && source
             .identifiers
@@ -61,6 +63,11 @@ pub fn scan<R: References>(
         Some(label)
     };
     with_target(source, labelled, own, after(cursor.content, cursor.at + 1))
+}
+
+/// Whether there is white space in a label. No label of a footnote has any (micromark).
+fn has_white_space(label: &[u8]) -> bool {
+    label.iter().any(|byte| is_space_or_line_ending(*byte))
 }
 
 /// What a label makes with what comes after it. Its own text counts where it may be defined. The only
