@@ -3,12 +3,15 @@
 ghost use Rattle.std.specs.Prelude.{◌≤◌, ◌<◌, ◌-◌, length, IfSome, IsTrue};
 ghost use Rattle.markdown_text.specs.Cursors.{bytes_from};
 
+use crate::character_kind::{CharacterKind, kind_after};
 use crate::cursor::Cursor;
 use crate::gfm_autolink_literal_address::address_length;
 use crate::token::{Found, TokenKind};
+use commonmark_syntax::bytes::after;
 use markdown_events::event::Name;
 
-/// The autolink literal that begins at the cursor.
+/// The autolink literal that begins at the cursor. No address begins with white space or punctuation
+/// (micromark).
 ///
 /// Where a domain is refused for an underscore, `barred` becomes the offset of that. A domain that begins
 /// before it is refused, too, and is not read again, so that all searches together are linear.
@@ -19,6 +22,7 @@ pub fn scan(cursor: Cursor<'_>, barred: &mut usize) -> Option<Found>
     let before = cursor.before().last().copied();
     if let Some(protocol) = protocol_length(text)
         && !before.is_some_and(|byte| byte.is_ascii_alphabetic())
+        && kind_after(after(text, protocol)) == CharacterKind::Other
     {
         let size = address_length(cursor.content, cursor.at + protocol, barred)?;
         let kind = TokenKind::AutolinkLiteral(Name::GfmAutolinkLiteralProtocol);
