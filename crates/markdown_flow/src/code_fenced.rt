@@ -4,7 +4,7 @@ ghost use Rattle.std.specs.Prelude.{◌≤◌, length};
 
 use crate::line::Line;
 use crate::output::Output;
-use crate::raw_flow::{Fence, RawFlow};
+use crate::raw_flow::{Fence, RawFlow, write_meta};
 use crate::space_or_tab::after_spaces;
 use commonmark_syntax::bytes::{after, count_while, is_space_or_tab, run_length};
 use markdown_events::event::Name;
@@ -40,6 +40,7 @@ pub fn write_info(info: &[u8], line: &Line<'_>, output: &mut Output) -> Result<(
 {
     let rest = after(info, count_while(info, |byte| !is_space_or_tab(byte)));
     output.string(Name::CodeFencedFenceInfo, line.before(rest))?;
-    output.token(Name::SpaceOrTab, line.before(after_spaces(rest)))?;
-    output.string(Name::CodeFencedFenceMeta, line.end())
+    let meta = after_spaces(rest);
+    output.token(Name::SpaceOrTab, line.before(meta))?;
+    write_meta(Name::CodeFencedFenceMeta, meta, line, output)
 }

@@ -1,11 +1,8 @@
 //! Math between fences: its first fence (micromark).
 
 use crate::line::Line;
-use crate::output::Output;
 use crate::raw_flow::{Fence, RawFlow};
 use commonmark_syntax::bytes::{after, run_length};
-use markdown_events::event::Name;
-use std::alloc::AllocError;
 
 /// The sign of a fence.
 const SIGN: u8 = b'$';
@@ -26,9 +23,4 @@ pub fn begins(line: &Line<'_>) -> Option<Fence> {
         size,
         indent: line.indent(),
     })
-}
-
-/// Writes the meta of the math, up to the end of the line.
-pub fn write_meta(line: &Line<'_>, output: &mut Output) -> Result<(), AllocError> {
-    output.string(Name::MathFlowFenceMeta, line.end())
 }

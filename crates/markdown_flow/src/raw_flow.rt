@@ -1,8 +1,10 @@
 //! Code and math between fences (micromark, raw flow).
 
+ghost use Rattle.std.specs.Prelude.{◌≤◌, length};
+
 use crate::line::Line;
 use crate::output::Output;
-use crate::space_or_tab::{after_spaces, is_blank};
+use crate::space_or_tab::{after_spaces, is_blank, trimmed_size};
 use crate::{code_fenced, math_flow};
 use commonmark_syntax::bytes::{after, run_length};
 use markdown_events::event::Name;
@@ -96,7 +98,7 @@ impl Fence {
         output.token(Name::SpaceOrTab, line.before(info))?;
         match self.content {
             RawFlow::Code => code_fenced::write_info(info, line, output)?,
-            RawFlow::Math => math_flow::write_meta(line, output)?,
+            RawFlow::Math => write_meta(Name::MathFlowFenceMeta, info, line, output)?,
         }
         output.exit(names.fence)
     }
@@ -148,4 +150,19 @@ impl Fence {
     pub fn end(self, output: &mut Output) -> Result<(), AllocError> {
         output.exit(self.content.names().whole)
     }
+}
+
+/// Writes the meta of a fence, with which the line ends. White space after it is no part of it
+/// (CommonMark).
+pub fn write_meta(
+    name: Name,
+    meta: &[u8],
+    line: &Line<'_>,
+    output: &mut Output,
+) -> Result<(), AllocError>
+    requires { length meta.now ≤ line.now.end }
+{
+    let white_space = after(meta, trimmed_size(meta));
+    output.string(name, line.before(white_space))?;
+    output.token(Name::SpaceOrTab, line.end())
 }
