@@ -12,7 +12,7 @@ pub fn write<R: References>(
     end: usize,
     next: Next,
 ) -> Result<(), AllocError> {
-    let constructs = output.source().options.constructs;
+    let constructs = output.source().reading.options.constructs;
     let space = whitespace::scan(
         output.rest_to(end),
         output.kind(),

@@ -74,12 +74,14 @@ pub fn write<'c, R: References>(
     Ok(())
 }
 
-/// Whether the mark of a task may come after a piece: in the first paragraph of an item, at its start
-/// (GFM).
+/// Whether the mark of a task may come after a piece: in the first block of an item, if it is a paragraph, at
+/// its start (GFM). The item may begin with a line ending.
 fn may_be_task(kind: PieceKind, was: bool) -> bool {
     match kind {
         PieceKind::Exit(Name::ListItemPrefix) => true,
-        PieceKind::Enter(Name::Paragraph) => was,
+        PieceKind::Enter(Name::Paragraph)
+        | PieceKind::Token(Name::SpaceOrTab)
+        | PieceKind::BlankLineEnding => was,
         _ => false,
     }
 }
@@ -144,7 +146,7 @@ fn inlines_of<'c, R: References>(
     name: Option<Name>,
     is_task: bool,
 ) -> Result<Vec<Piece>, AllocError> {
-    let source = Source::new(reading, bytes);
+    let source = Source { reading, bytes };
     match content_kind(name) {
         ContentKind::Text => {
             let is_task = is_task && reading.options.constructs.gfm_task_list_item;

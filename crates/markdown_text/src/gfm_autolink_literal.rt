@@ -10,8 +10,7 @@ use crate::token::{Found, TokenKind};
 use commonmark_syntax::bytes::after;
 use markdown_events::event::Name;
 
-/// The autolink literal that begins at the cursor. No address begins with white space or punctuation
-/// (micromark).
+/// The autolink literal that begins at the cursor.
 ///
 /// Where a domain is refused for an underscore, `barred` becomes the offset of that. A domain that begins
 /// before it is refused, too, and is not read again, so that all searches together are linear.
@@ -22,7 +21,7 @@ pub fn scan(cursor: Cursor<'_>, barred: &mut usize) -> Option<Found>
     let before = cursor.before().last().copied();
     if let Some(protocol) = protocol_length(text)
         && !before.is_some_and(|byte| byte.is_ascii_alphabetic())
-        && kind_after(after(text, protocol)) == CharacterKind::Other
+        && begins_domain(after(text, protocol))
     {
         let size = address_length(cursor.content, cursor.at + protocol, barred)?;
         let kind = TokenKind::AutolinkLiteral(Name::GfmAutolinkLiteralProtocol);
@@ -51,9 +50,17 @@ fn protocol_length(text: &[u8]) -> Option<usize>
     }
 }
 
-/// Whether a text begins with `www.` and has more.
+/// Whether a text begins with `www.` and a domain.
 fn begins_with_www(text: &[u8]) -> bool {
-    text.len() > 4 && begins_with(text, b"www.")
+    begins_with(text, b"www.") && begins_domain(after(text, 4))
+}
+
+/// Whether a text begins as a domain does: with a letter or a digit, or a hyphen or an underscore (GFM).
+fn begins_domain(text: &[u8]) -> bool {
+    match text.first() {
+        Some(b'-' | b'_') => true,
+        _ => kind_after(text) == CharacterKind::Other,
+    }
 }
 
 /// Whether a text begins with another, but for the case of letters.

@@ -42,8 +42,9 @@ pub fn scan<R: References>(
         && !has_white_space(label);
     if is_footnote
         && source
+            .reading
             .identifiers
-            .defines_footnote(source.alloc, after(label, 1))?
+            .defines_footnote(source.reading.alloc, after(label, 1))?
     {
         return Ok(Some(Match {
             labelled: Labelled::FootnoteCall,
@@ -54,7 +55,7 @@ pub fn scan<R: References>(
     let labelled = match bracket.form {
         LabelForm::Image => Labelled::Image,
         LabelForm::Link => Labelled::Link,
-        LabelForm::Footnote if source.options.constructs.label_start_link => Labelled::Link,
+        LabelForm::Footnote if source.reading.options.constructs.label_start_link => Labelled::Link,
         LabelForm::Footnote => return Ok(None),
     };
     let own = if bracket.has_bracket {
@@ -89,8 +90,9 @@ fn with_target<R: References>(
     }
     if let Some(size) = label::scan(rest) {
         let is_defined = source
+            .reading
             .identifiers
-            .defines(source.alloc, &rest[1..size - 1])?;
+            .defines(source.reading.alloc, &rest[1..size - 1])?;
         return Ok(is_defined.then_some(Match {
             labelled,
             target: Target::Full,
@@ -98,7 +100,10 @@ fn with_target<R: References>(
         }));
     }
     let is_defined = match own {
-        Some(own) => source.identifiers.defines(source.alloc, own)?,
+        Some(own) => source
+            .reading
+            .identifiers
+            .defines(source.reading.alloc, own)?,
         None => false,
     };
     Ok(is_defined.then_some(with_own_label(labelled, rest)))

@@ -64,7 +64,7 @@ impl<'c, R: References> Output<'c, R> {
     ) -> Self {
         Output {
             source,
-            pieces: Vec::new(source.alloc),
+            pieces: Vec::new(source.reading.alloc),
             lines,
             ahead: start,
             at: 0,

@@ -40,12 +40,16 @@ fn scan<R: References>(source: &Source<'_, R>, text: &[u8]) -> Result<Found, All
     requires { 0 < length text.now }
     ensures { IfOk result (λ found. found.size ≤ length text.now) }
 {
-    let constructs = &source.options.constructs;
+    let constructs = &source.reading.options.constructs;
     match text {
         [b'\n', ..] => Ok(Found::token(TokenKind::LineEnding, 1)),
         [b'\\', ..] if constructs.character_escape => Ok(escape_or_data(text)),
         [b'&', ..] if constructs.character_reference => {
-            let found = character_reference::scan(source.alloc, text, source.references)?;
+            let found = character_reference::scan(
+                source.reading.alloc,
+                text,
+                source.reading.references,
+            )?;
             Ok(found.unwrap_or(Found::data(1)))
         }
         _ => Ok(Found::data(1 + count_while(after(text, 1), is_plain))),

@@ -37,7 +37,7 @@ pub fn inlines<'c, R: References>(
 ) -> Result<Vec<Piece>, AllocError> {
     let found = tokenize(source, is_task)?;
     let mut output = Output::new(source, lines, start, ContentKind::Text);
-    let mut open = Vec::new(source.alloc);
+    let mut open = Vec::new(source.reading.alloc);
     write_tokens(&mut output, &found, &mut open)?;
     output.data(source.bytes.len());
     'open: while let Some(last) = open.pop() {

@@ -49,7 +49,9 @@ pub fn tokenize<R: References>(
         tokenizer.push(cursor, found)?;
         at += found.size;
     }
-    tokenizer.attention.resolve(source.alloc, content.len(), 0)?;
+    tokenizer
+        .attention
+        .resolve(source.reading.alloc, content.len(), 0)?;
     Ok(Tokens {
         tokens: tokenizer.tokens,
         delimiters: tokenizer.attention.into_delimiters(),
@@ -80,7 +82,7 @@ struct Tokenizer<'c, R> {
 impl<'c, R: References> Tokenizer<'c, R> {
     /// At the start of a content.
     fn new(source: &'c Source<'c, R>) -> Self {
-        let alloc = source.alloc;
+        let alloc = source.reading.alloc;
         Tokenizer {
             source,
             tokens: Vec::new(alloc),
@@ -95,7 +97,7 @@ impl<'c, R: References> Tokenizer<'c, R> {
 
     /// Which constructs there are.
     fn constructs(&self) -> &'c Constructs {
-        &self.source.options.constructs
+        &self.source.reading.options.constructs
     }
 
     /// Adds what was found at the cursor. Data is not kept. The only error is that memory ran out.
@@ -168,7 +170,11 @@ impl<'c, R: References> Tokenizer<'c, R> {
             return Ok(Found::data(1));
         }
         let source = self.source;
-        let found = character_reference::scan(source.alloc, cursor.rest(), source.references)?;
+        let found = character_reference::scan(
+            source.reading.alloc,
+            cursor.rest(),
+            source.reading.references,
+        )?;
         Ok(found.unwrap_or(Found::data(1)))
     }
 
@@ -180,7 +186,7 @@ impl<'c, R: References> Tokenizer<'c, R> {
         if !self.constructs().code_text {
             return Ok(Found::data(sequence));
         }
-        let alloc = self.source.alloc;
+        let alloc = self.source.reading.alloc;
         match raw_text::scan(alloc, cursor, sequence, &mut self.backtick_runs)? {
             Some(size) => Ok(Found::token(TokenKind::CodeText(sequence), size)),
             None => Ok(Found::data(sequence)),
@@ -192,11 +198,11 @@ impl<'c, R: References> Tokenizer<'c, R> {
         ensures { IfOk result (λ found. found.size ≤ bytes_from cursor.entry) }
     {
         let sequence = cursor.run_length();
-        let is_short = sequence == 1 && !self.source.options.math_text_single_dollar;
+        let is_short = sequence == 1 && !self.source.reading.options.math_text_single_dollar;
         if !self.constructs().math_text || is_short {
             return Ok(Found::data(sequence));
         }
-        let alloc = self.source.alloc;
+        let alloc = self.source.reading.alloc;
         match raw_text::scan(alloc, cursor, sequence, &mut self.dollar_runs)? {
             Some(size) => Ok(Found::token(TokenKind::MathText(sequence), size)),
             None => Ok(Found::data(sequence)),
@@ -208,7 +214,7 @@ impl<'c, R: References> Tokenizer<'c, R> {
         ensures { IfOk result (λ found. found.size ≤ bytes_from cursor.entry) }
     {
         let size = cursor.run_length();
-        if !is_delimiter_run(cursor.byte(), size, &self.source.options) {
+        if !is_delimiter_run(cursor.byte(), size, &self.source.reading.options) {
             return Ok(Found::data(size));
         }
         self.attention.push(Run::new(cursor, size))?;
@@ -293,9 +299,9 @@ impl<'c, R: References> Tokenizer<'c, R> {
         if found.labelled == Labelled::Link {
             self.brackets.found_link();
         }
+        let alloc = self.source.reading.alloc;
         let size = self.source.bytes.len();
-        self.attention
-            .resolve(self.source.alloc, size, bracket.waiting)?;
+        self.attention.resolve(alloc, size, bracket.waiting)?;
         if let Some(start) = self.tokens.get_mut(bracket.token) {
             start.kind = TokenKind::LabelStart(Some(found.labelled));
         }
