@@ -1,0 +1,196 @@
+//! Escapes, references, code, attention, autolinks, HTML, breaks and math (micromark's spans).
+
+use crate::reading::shows;
+use markdown_events::message::Fault;
+
+#[test]
+fn escapes(rt: HostRuntime) -> Result<(), Fault> {
+    let alloc = rt.alloc();
+    shows(
+        &rt,
+        alloc,
+        "\\*a",
+        "(Paragraph (CharacterEscape CharacterEscapeMarker:1 CharacterEscapeValue:2 ) Data:3 ) ",
+    )?;
+    shows(&rt, alloc, "a\\b", "(Paragraph Data:3 ) ")
+}
+
+#[test]
+fn references(rt: HostRuntime) -> Result<(), Fault> {
+    let alloc = rt.alloc();
+    shows(
+        &rt,
+        alloc,
+        "&amp;",
+        "(Paragraph (CharacterReference CharacterReferenceMarker:1 CharacterReferenceValue:4 CharacterReferenceMarkerSemi:5 ) ) ",
+    )?;
+    shows(
+        &rt,
+        alloc,
+        "&#65;",
+        "(Paragraph (CharacterReference CharacterReferenceMarker:1 CharacterReferenceMarkerNumeric:2 CharacterReferenceValue:4 CharacterReferenceMarkerSemi:5 ) ) ",
+    )?;
+    shows(
+        &rt,
+        alloc,
+        "&#x41;",
+        "(Paragraph (CharacterReference CharacterReferenceMarker:1 CharacterReferenceMarkerNumeric:2 CharacterReferenceMarkerHexadecimal:3 CharacterReferenceValue:5 CharacterReferenceMarkerSemi:6 ) ) ",
+    )?;
+    shows(&rt, alloc, "&amp", "(Paragraph Data:4 ) ")?;
+    shows(&rt, alloc, "&nope;", "(Paragraph Data:6 ) ")
+}
+
+#[test]
+fn code_and_math(rt: HostRuntime) -> Result<(), Fault> {
+    let alloc = rt.alloc();
+    shows(
+        &rt,
+        alloc,
+        "`a`",
+        "(Paragraph (CodeText CodeTextSequence:1 CodeTextData:2 CodeTextSequence:3 ) ) ",
+    )?;
+    shows(
+        &rt,
+        alloc,
+        "``a\nb``",
+        "(Paragraph (CodeText CodeTextSequence:2 CodeTextData:3 LineEnding:4 CodeTextData:5 CodeTextSequence:7 ) ) ",
+    )?;
+    shows(&rt, alloc, "``a`", "(Paragraph Data:4 ) ")?;
+    shows(
+        &rt,
+        alloc,
+        "$a$",
+        "(Paragraph (MathText MathTextSequence:1 MathTextData:2 MathTextSequence:3 ) ) ",
+    )
+}
+
+#[test]
+fn emphasis(rt: HostRuntime) -> Result<(), Fault> {
+    let alloc = rt.alloc();
+    shows(
+        &rt,
+        alloc,
+        "*a*",
+        "(Paragraph (Emphasis EmphasisSequence:1 (EmphasisText Data:2 ) EmphasisSequence:3 ) ) ",
+    )?;
+    shows(
+        &rt,
+        alloc,
+        "__a__",
+        "(Paragraph (Strong StrongSequence:2 (StrongText Data:3 ) StrongSequence:5 ) ) ",
+    )?;
+    shows(
+        &rt,
+        alloc,
+        "***a***",
+        "(Paragraph (Emphasis EmphasisSequence:1 (EmphasisText (Strong StrongSequence:3 (StrongText Data:4 ) StrongSequence:6 ) ) EmphasisSequence:7 ) ) ",
+    )?;
+    shows(
+        &rt,
+        alloc,
+        "**a*",
+        "(Paragraph Data:1 (Emphasis EmphasisSequence:2 (EmphasisText Data:3 ) EmphasisSequence:4 ) ) ",
+    )?;
+    shows(&rt, alloc, "a_b_c", "(Paragraph Data:5 ) ")?;
+    shows(
+        &rt,
+        alloc,
+        "* a*",
+        "(ListUnordered (ListItem (ListItemPrefix ListItemMarker:1 SpaceOrTab:2 ) (Paragraph Data:4 ) ) ) ",
+    )
+}
+
+#[test]
+fn struck_text(rt: HostRuntime) -> Result<(), Fault> {
+    let alloc = rt.alloc();
+    for (document, open, text, end) in [("~a~", 1, 2, 3), ("~~a~~", 2, 3, 5)] {
+        let want = format!(in alloc;
+            "(Paragraph (GfmStrikethrough GfmStrikethroughSequence:{open} (GfmStrikethroughText Data:{text} ) GfmStrikethroughSequence:{end} ) ) "
+        )?;
+        shows(&rt, alloc, document, want.as_str())?;
+    }
+    shows(
+        &rt,
+        alloc,
+        "~~~a",
+        "(CodeFenced (CodeFencedFence CodeFencedFenceSequence:3 (CodeFencedFenceInfo Data:4 ) ) ) ",
+    )?;
+    shows(&rt, alloc, "~a~~", "(Paragraph Data:4 ) ")
+}
+
+#[test]
+fn autolinks(rt: HostRuntime) -> Result<(), Fault> {
+    let alloc = rt.alloc();
+    shows(
+        &rt,
+        alloc,
+        "<a@b.c>",
+        "(Paragraph (Autolink AutolinkMarker:1 AutolinkEmail:6 AutolinkMarker:7 ) ) ",
+    )?;
+    shows(
+        &rt,
+        alloc,
+        "<ab:c>",
+        "(Paragraph (Autolink AutolinkMarker:1 AutolinkProtocol:5 AutolinkMarker:6 ) ) ",
+    )?;
+    shows(&rt, alloc, "<a:c >", "(Paragraph Data:6 ) ")?;
+    shows(
+        &rt,
+        alloc,
+        "www.a.b.",
+        "(Paragraph GfmAutolinkLiteralWww:7 Data:8 ) ",
+    )?;
+    shows(
+        &rt,
+        alloc,
+        "(http://a.b)",
+        "(Paragraph Data:1 GfmAutolinkLiteralProtocol:11 Data:12 ) ",
+    )?;
+    shows(
+        &rt,
+        alloc,
+        "a@b.c!",
+        "(Paragraph GfmAutolinkLiteralEmail:5 Data:6 ) ",
+    )
+}
+
+#[test]
+fn html(rt: HostRuntime) -> Result<(), Fault> {
+    let alloc = rt.alloc();
+    shows(
+        &rt,
+        alloc,
+        "a<b\nc>",
+        "(Paragraph Data:1 (HtmlText HtmlTextData:3 LineEnding:4 HtmlTextData:6 ) ) ",
+    )?;
+    shows(
+        &rt,
+        alloc,
+        "a<!-- -->",
+        "(Paragraph Data:1 (HtmlText HtmlTextData:9 ) ) ",
+    )?;
+    shows(&rt, alloc, "a<b", "(Paragraph Data:3 ) ")
+}
+
+#[test]
+fn breaks(rt: HostRuntime) -> Result<(), Fault> {
+    let alloc = rt.alloc();
+    shows(
+        &rt,
+        alloc,
+        "a\\\nb",
+        "(Paragraph Data:1 HardBreakEscape:2 LineEnding:3 Data:4 ) ",
+    )?;
+    shows(
+        &rt,
+        alloc,
+        "a  \r\nb",
+        "(Paragraph Data:1 HardBreakTrailing:3 LineEnding:5 Data:6 ) ",
+    )?;
+    shows(
+        &rt,
+        alloc,
+        "a \n b",
+        "(Paragraph Data:1 SpaceOrTab:2 LineEnding:3 SpaceOrTab:4 Data:5 ) ",
+    )
+}

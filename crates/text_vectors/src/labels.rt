@@ -1,0 +1,104 @@
+//! Links, images, calls of footnotes, and the marks of tasks (micromark's spans).
+
+use crate::reading::shows;
+use markdown_events::message::Fault;
+
+#[test]
+fn resources(rt: HostRuntime) -> Result<(), Fault> {
+    let alloc = rt.alloc();
+    shows(
+        &rt,
+        alloc,
+        "[a](b)",
+        "(Paragraph (Link (Label (LabelLink LabelMarker:1 ) (LabelText Data:2 ) (LabelEnd LabelMarker:3 ) ) (Resource ResourceMarker:4 (ResourceDestination (ResourceDestinationRaw (ResourceDestinationString Data:5 ) ) ) ResourceMarker:6 ) ) ) ",
+    )?;
+    shows(
+        &rt,
+        alloc,
+        "![a](<b>)",
+        "(Paragraph (Image (Label (LabelImage LabelImageMarker:1 LabelMarker:2 ) (LabelText Data:3 ) (LabelEnd LabelMarker:4 ) ) (Resource ResourceMarker:5 (ResourceDestination (ResourceDestinationLiteral ResourceDestinationLiteralMarker:6 (ResourceDestinationString Data:7 ) ResourceDestinationLiteralMarker:8 ) ) ResourceMarker:9 ) ) ) ",
+    )?;
+    shows(
+        &rt,
+        alloc,
+        "[a](b 'c')",
+        "(Paragraph (Link (Label (LabelLink LabelMarker:1 ) (LabelText Data:2 ) (LabelEnd LabelMarker:3 ) ) (Resource ResourceMarker:4 (ResourceDestination (ResourceDestinationRaw (ResourceDestinationString Data:5 ) ) ) SpaceOrTab:6 (ResourceTitle ResourceTitleMarker:7 (ResourceTitleString Data:8 ) ResourceTitleMarker:9 ) ResourceMarker:10 ) ) ) ",
+    )?;
+    shows(&rt, alloc, "[a](b", "(Paragraph Data:5 ) ")
+}
+
+#[test]
+fn references_need_a_definition(rt: HostRuntime) -> Result<(), Fault> {
+    let alloc = rt.alloc();
+    shows(&rt, alloc, "[a][b]", "(Paragraph Data:6 ) ")?;
+    shows(
+        &rt,
+        alloc,
+        "[a][b]\n\n[B]: c",
+        "(Paragraph (Link (Label (LabelLink LabelMarker:1 ) (LabelText Data:2 ) (LabelEnd LabelMarker:3 ) ) (Reference ReferenceMarker:4 (ReferenceString Data:5 ) ReferenceMarker:6 ) ) ) LineEnding:7 BlankLineEnding:8 (Definition (DefinitionLabel DefinitionLabelMarker:9 (DefinitionLabelString Data:10 ) DefinitionLabelMarker:11 ) DefinitionMarker:12 SpaceOrTab:13 (DefinitionDestination (DefinitionDestinationRaw (DefinitionDestinationString Data:14 ) ) ) ) ",
+    )?;
+    shows(
+        &rt,
+        alloc,
+        "[a]\n\n[a]: c",
+        "(Paragraph (Link (Label (LabelLink LabelMarker:1 ) (LabelText Data:2 ) (LabelEnd LabelMarker:3 ) ) ) ) LineEnding:4 BlankLineEnding:5 (Definition (DefinitionLabel DefinitionLabelMarker:6 (DefinitionLabelString Data:7 ) DefinitionLabelMarker:8 ) DefinitionMarker:9 SpaceOrTab:10 (DefinitionDestination (DefinitionDestinationRaw (DefinitionDestinationString Data:11 ) ) ) ) ",
+    )
+}
+
+#[test]
+fn calls_need_a_definition(rt: HostRuntime) -> Result<(), Fault> {
+    let alloc = rt.alloc();
+    shows(&rt, alloc, "[^a]", "(Paragraph Data:4 ) ")?;
+    shows(
+        &rt,
+        alloc,
+        "[^a]\n\n[^a]: b",
+        "(Paragraph (GfmFootnoteCall (Label (GfmFootnoteCallLabel LabelMarker:1 GfmFootnoteCallMarker:2 ) (LabelText Data:3 ) (LabelEnd LabelMarker:4 ) ) ) ) LineEnding:5 BlankLineEnding:6 (GfmFootnoteDefinition (GfmFootnoteDefinitionPrefix (GfmFootnoteDefinitionLabel GfmFootnoteDefinitionLabelMarker:7 GfmFootnoteDefinitionMarker:8 (GfmFootnoteDefinitionLabelString Data:9 ) GfmFootnoteDefinitionLabelMarker:10 ) DefinitionMarker:11 SpaceOrTab:12 ) (Paragraph Data:13 ) ) ",
+    )
+}
+
+#[test]
+fn no_link_stands_in_a_link(rt: HostRuntime) -> Result<(), Fault> {
+    let alloc = rt.alloc();
+    shows(
+        &rt,
+        alloc,
+        "[[a](b)](c)",
+        "(Paragraph Data:1 (Link (Label (LabelLink LabelMarker:2 ) (LabelText Data:3 ) (LabelEnd LabelMarker:4 ) ) (Resource ResourceMarker:5 (ResourceDestination (ResourceDestinationRaw (ResourceDestinationString Data:6 ) ) ) ResourceMarker:7 ) ) Data:11 ) ",
+    )
+}
+
+#[test]
+fn marks_of_tasks(rt: HostRuntime) -> Result<(), Fault> {
+    let alloc = rt.alloc();
+    shows(
+        &rt,
+        alloc,
+        "* [x] a",
+        "(ListUnordered (ListItem (ListItemPrefix ListItemMarker:1 SpaceOrTab:2 ) (Paragraph (GfmTaskListItemCheck GfmTaskListItemMarker:3 GfmTaskListItemValueChecked:4 GfmTaskListItemMarker:5 ) Data:7 ) ) ) ",
+    )?;
+    shows(
+        &rt,
+        alloc,
+        "* [ ]",
+        "(ListUnordered (ListItem (ListItemPrefix ListItemMarker:1 SpaceOrTab:2 ) (Paragraph Data:5 ) ) ) ",
+    )?;
+    shows(&rt, alloc, "[ ] a", "(Paragraph Data:5 ) ")
+}
+
+#[test]
+fn strings_have_escapes_and_references_alone(rt: HostRuntime) -> Result<(), Fault> {
+    let alloc = rt.alloc();
+    shows(
+        &rt,
+        alloc,
+        "```*a*\\*",
+        "(CodeFenced (CodeFencedFence CodeFencedFenceSequence:3 (CodeFencedFenceInfo Data:6 (CharacterEscape CharacterEscapeMarker:7 CharacterEscapeValue:8 ) ) ) ) ",
+    )?;
+    shows(
+        &rt,
+        alloc,
+        "~~~&lt;",
+        "(CodeFenced (CodeFencedFence CodeFencedFenceSequence:3 (CodeFencedFenceInfo (CharacterReference CharacterReferenceMarker:4 CharacterReferenceValue:6 CharacterReferenceMarkerSemi:7 ) ) ) ) ",
+    )
+}

@@ -1,0 +1,88 @@
+//! What the tests ask of the events of a document.
+
+use markdown::{Constructs, ParseOptions, to_events};
+use markdown_events::event::{Event, Kind, Name};
+use markdown_events::message::Fault;
+use std::alloc::{AllocError, Global};
+use std::process::Abort;
+
+/// All constructs.
+pub fn all() -> Constructs {
+    Constructs {
+        frontmatter: true,
+        math_flow: true,
+        math_text: true,
+        ..Constructs::gfm()
+    }
+}
+
+/// The events of a document with these constructs.
+pub fn events(alloc: Global, document: &str, constructs: Constructs) -> Result<Vec<Event>, Fault> {
+    let options = ParseOptions {
+        constructs,
+        ..ParseOptions::gfm()
+    };
+    to_events(alloc, document, &options)
+}
+
+/// Whether a document has a span of a name, with these constructs.
+pub fn has(
+    alloc: Global,
+    document: &str,
+    constructs: Constructs,
+    name: Name,
+) -> Result<bool, Fault> {
+    let events = events(alloc, document, constructs)?;
+    Ok(events.iter().any(|event| event.name == name))
+}
+
+/// The events of a document as a text, with all constructs. `(A` begins a span, `)` ends one, and `A:1` is a
+/// token up to offset 1.
+pub fn shown(alloc: Global, document: &str) -> Result<String, Fault> {
+    let events = events(alloc, document, all())?;
+    let mut text = String::new(alloc);
+    let mut entered = None;
+    for event in events.iter() {
+        entered = show(&mut text, event, entered)?;
+    }
+    Ok(text)
+}
+
+/// Adds an event to a text, and gives the name that it enters. `entered` is the one before it, if that is an
+/// enter: it is a token where this is an exit.
+fn show(
+    text: &mut String,
+    event: &Event,
+    entered: Option<Name>,
+) -> Result<Option<Name>, AllocError> {
+    match (event.kind, entered) {
+        (Kind::Enter, None) => Ok(Some(event.name)),
+        (Kind::Enter, Some(outer)) => {
+            let name = outer.text();
+            write!(text, "({name} ")?;
+            Ok(Some(event.name))
+        }
+        (Kind::Exit, Some(token)) => {
+            let name = token.text();
+            let end = event.point.index;
+            write!(text, "{name}:{end} ")?;
+            Ok(None)
+        }
+        (Kind::Exit, None) => {
+            text.push_str(") ")?;
+            Ok(None)
+        }
+    }
+}
+
+/// Stops the test where a document does not have these events.
+pub fn shows(rt: &impl Abort, alloc: Global, document: &str, want: &str) -> Result<(), Fault> {
+    let found = shown(alloc, document)?;
+    assert_eq!(rt; found.as_str(), want, "{document}");
+    Ok(())
+}
+
+/// Stops the test where something does not hold.
+pub fn holds(rt: &impl Abort, fact: bool, case: &str) {
+    assert!(rt; fact, "{case}");
+}
