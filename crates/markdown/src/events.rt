@@ -1,11 +1,16 @@
 //! The events of a document.
 
+ghost use Rattle.std.specs.Prelude.{IfOk, ◌≡◌};
+ghost use Rattle.character_references.specs.Html.{html};
+ghost use Rattle.event_writer.specs.Finished.{IsFinished};
+ghost use Rattle.markdown_grammar.specs.Document.{source};
+
 use character_references::html::HtmlReferences;
 use event_writer::error::WriteError;
 use event_writer::writer::Writer;
 use markdown_events::event::{Event, Point};
 use markdown_events::message::{Fault, Message, Place};
-use markdown_flow::document;
+use markdown_flow::document::read;
 use markdown_options::ParseOptions;
 use markdown_text::document::{Reading, write};
 use std::alloc::{AllocError, Global};
@@ -23,25 +28,40 @@ use std::alloc::{AllocError, Global};
 /// fault of the tokenizer, and none is known.
 ///
 /// The document `Hi` has four: a paragraph begins at 1:1, and data in it, and both end at 1:3.
-pub fn to_events(alloc: Global, value: &str, options: &ParseOptions) -> Result<Vec<Event>, Fault> {
-    let text = value.as_bytes();
-    let blocks = document::read(alloc, text, options)?;
+pub fn to_events(alloc: Global, value: &str, options: &ParseOptions) -> Result<Vec<Event>, Fault>
+    // The grammar accepts the events, their tokens tile the document, and each stands at a true point.
+    ensures finished { IfOk result (λ events. IsFinished (source value.now html) events.items) }
+{
+    let writer = written(alloc, value.as_bytes(), options)?;
+    let cursor = writer.cursor();
+    match writer.finish() {
+        Some(events) => Ok(events),
+        None => Err(misfit(cursor)),
+    }
+}
+
+/// A writer that has written a document.
+fn written<'d>(
+    alloc: Global,
+    document: &'d [u8],
+    options: &ParseOptions,
+) -> Result<Writer<'d, HtmlReferences>, Fault>
+    ensures { IfOk result (λ writer. writer.given.bytes ≡ document.now) }
+{
+    let blocks = read(alloc, document, options)?;
     let reading = Reading {
         alloc,
-        document: text,
+        document,
         options: *options,
         identifiers: &blocks.identifiers,
         references: &HtmlReferences,
     };
-    let mut writer = Writer::new(alloc, text, &HtmlReferences)?;
-    let written = write(&reading, blocks.pieces.as_slice(), &mut writer);
-    let cursor = writer.cursor();
-    match written {
-        Ok(()) => {}
-        Err(WriteError::Misfit) => return Err(misfit(cursor)),
-        Err(WriteError::Memory(error)) => return Err(Fault::Memory(error)),
+    let mut writer = Writer::new(alloc, document, &HtmlReferences)?;
+    match write(&reading, blocks.pieces.as_slice(), &mut writer) {
+        Ok(()) => Ok(writer),
+        Err(WriteError::Misfit) => Err(misfit(writer.cursor())),
+        Err(WriteError::Memory(error)) => Err(Fault::Memory(error)),
     }
-    writer.finish().ok_or(misfit(cursor))
 }
 
 /// The error of a tokenizer that cannot write on at a point.

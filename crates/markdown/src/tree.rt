@@ -1,7 +1,19 @@
 //! The tree of a document.
 
+ghost use Rattle.std.specs.Prelude.{IfOk, List, ◌≡◌};
+ghost use Rattle.character_references.specs.Html.{html};
+ghost use Rattle.event_writer.specs.Finished.{IsFinished};
+ghost use Rattle.markdown_events.specs.declared.event.Event.{Event};
+ghost use Rattle.markdown_grammar.specs.Correct.{IsMeaning};
+ghost use Rattle.markdown_grammar.specs.Document.{source, source_with};
+ghost use Rattle.markdown_grammar.specs.Ordered.{IsOrdered};
+ghost use Rattle.markdown_grammar.specs.declared.values.Values.TheVariants.{Whole};
+ghost use Rattle.markdown_nodes.specs.Tree.{only};
+ghost use Rattle.markdown_nodes.specs.View.{view};
+
 use crate::events::to_events;
 use character_references::html::HtmlReferences;
+use event_writer::laws::offsets_never_go_back;
 use markdown_nodes::mdast::Node;
 use markdown_nodes::message::Fault;
 use markdown_options::ParseOptions;
@@ -17,7 +29,15 @@ use std::alloc::Global;
 /// The errors are those of `to_events`.
 ///
 /// `to_mdast(alloc, "# Hi", &ParseOptions::default())?` is a root with a heading of depth 1.
-pub fn to_mdast(alloc: Global, value: &str, options: &ParseOptions) -> Result<Node, Fault> {
+pub fn to_mdast(alloc: Global, value: &str, options: &ParseOptions) -> Result<Node, Fault>
+    // The tree is the meaning of finished events, with whole values.
+    ensures tree { IfOk result (λ tree. (events : List Event) × IsFinished (source value.now html) events
+        × IsMeaning tree events (source_with Whole value.now html)) }
+    // Spans nest and siblings stand in order, but for the starts in the first paragraphs of task items.
+    ensures ordered { IfOk result (λ tree. IsOrdered (only (view tree))) }
+{
+    // For the proof: so the tree is ordered.
+    offsets_never_go_back();
     let events = to_events(alloc, value, options)?;
     compile_with(
         alloc,
