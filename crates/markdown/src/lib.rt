@@ -5,8 +5,10 @@
 #![tactic(auto)]
 
 mod events;
+mod hidden;
 mod tree;
 
 pub use events::to_events;
+pub use hidden::hidden_bytes;
 pub use markdown_options::{Constructs, ParseOptions};
 pub use tree::to_mdast;

@@ -5,45 +5,44 @@ ghost use Rattle.character_references.specs.Html.{html};
 ghost use Rattle.event_writer.specs.Finished.{IsFinished};
 ghost use Rattle.markdown_events.specs.declared.event.Event.{Event};
 ghost use Rattle.markdown_grammar.specs.Correct.{IsMeaning};
-ghost use Rattle.markdown_grammar.specs.Document.{source, source_with};
+ghost use Rattle.markdown.specs.Hidden.{hidden};
+ghost use Rattle.markdown_grammar.specs.Document.{source, source_hiding};
 ghost use Rattle.markdown_grammar.specs.Ordered.{IsOrdered};
-ghost use Rattle.markdown_grammar.specs.declared.values.Values.TheVariants.{Whole};
 ghost use Rattle.markdown_nodes.specs.Tree.{only};
 ghost use Rattle.markdown_nodes.specs.View.{view};
 
 use crate::events::to_events;
+use crate::hidden::hidden_bytes;
 use character_references::html::HtmlReferences;
 use event_writer::laws::offsets_never_go_back;
 use markdown_nodes::mdast::Node;
 use markdown_nodes::message::Fault;
 use markdown_options::ParseOptions;
-use markdown_tree::to_mdast::{Values, compile_with};
+use markdown_tree::to_mdast::{Document, Steps, compile_document};
 use std::alloc::Global;
 
 /// The syntax tree of a document, as mdast has it.
 ///
 /// It is the meaning of the events that [`to_events`] gives, with whole values: tabs that a marker of a
-/// list shares are spaces in code, and NUL is U+FFFD (CommonMark). In positions `line` and `column` count
-/// from 1, and `offset` counts bytes from 0.
+/// list shares are spaces in code, and NUL is U+FFFD (CommonMark). Hidden bytes are left out: the marker
+/// of a block quote from a label over lines (CommonMark), and in a table the backslash before a pipe
+/// (GFM). In positions `line` and `column` count from 1, and `offset` counts bytes from 0.
 ///
 /// The errors are those of `to_events`.
 ///
 /// `to_mdast(alloc, "# Hi", &ParseOptions::default())?` is a root with a heading of depth 1.
 pub fn to_mdast(alloc: Global, value: &str, options: &ParseOptions) -> Result<Node, Fault>
-    // The tree is the meaning of finished events, with whole values.
+    // The tree is the meaning of finished events, with whole values and without what is hidden.
     ensures tree { IfOk result (λ tree. (events : List Event) × IsFinished (source value.now html) events
-        × IsMeaning tree events (source_with Whole value.now html)) }
+        × IsMeaning tree events (source_hiding (hidden value.now events) value.now html)) }
     // Spans nest and siblings stand in order, but for the starts in the first paragraphs of task items.
     ensures ordered { IfOk result (λ tree. IsOrdered (only (view tree))) }
 {
     // For the proof: so the tree is ordered.
     offsets_never_go_back();
     let events = to_events(alloc, value, options)?;
-    compile_with(
-        alloc,
-        &events,
-        value.as_bytes(),
-        &HtmlReferences,
-        Values::Whole,
-    )
+    let bytes = value.as_bytes();
+    let hidden = hidden_bytes(alloc, bytes, &events)?;
+    let document = Document::hiding(bytes, &hidden);
+    compile_document(alloc, &mut Steps::new(&events), &document, &HtmlReferences)
 }

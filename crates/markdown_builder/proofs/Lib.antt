@@ -4,3 +4,4 @@ pub mod WholeTexts
 pub mod SliceReads
 pub mod Parents
 pub mod Numbers
+pub mod HiddenWalk

@@ -1,17 +1,19 @@
 -- Whole values, and texts that are whole as they stand.
 use Rattle.std.proofs.Common.{◌≡◌, ℕ, zero, suc, ◌+◌, ◌-◌, ◌<◌, Bool, true, false, cond, ◌&&◌, ◌||◌, List, [], ◌∷◌, ◌++◌, length, take, drop, get_or, append_assoc, ◌≢◌, Option, Some, None, Result, Ok, Err, refl, sym, ap, ◌∙◌, arith}
-use Rattle.std.specs.Prelude.{◌==◌, if◌then◌else◌, IfSome, OnOk, is_ok, is_some, nat_lt, slice_range, replicate, unwrap_or}
+use Rattle.std.specs.Prelude.{◌==◌, IfSome, OnOk, is_ok, is_some, nat_lt, slice_range, replicate, unwrap_or}
 use Rattle.std.specs.Borrow.{Bor}
-use Rattle.std.proofs.lemmas.Bool.{ne_eqb}
+use Rattle.std.proofs.lemmas.Bool.{lt-ltb, ne_eqb}
 use Rattle.std.proofs.lemmas.List.{replicate-append-replicate}
 use Rattle.markdown_events.specs.Slices.{edge, slice, text_between}
 use Rattle.markdown_events.specs.declared.event.Point.{Point}
 use Rattle.markdown_texts.specs.TextWalks.{before_last}
-use Rattle.markdown_grammar.specs.Document.{Given, value_as, value_between}
+use Rattle.markdown_grammar.specs.Document.{Given, value_as, value_between, visible_between}
 use Rattle.markdown_grammar.specs.Whole.{blanks, ended, left_of_tab, tab_width, used_of_tab, whole, without_nul}
 use Rattle.markdown_grammar.specs.declared.values.Values.{Values}
 use Rattle.markdown_grammar.specs.declared.values.Values.TheVariants.{AsInDocument, Whole}
-use Rattle.markdown_builder.specs.WholeValues.{has_nul, is_whole}
+use Rattle.markdown_builder.specs.WholeValues.{has_nul, is_split, is_whole}
+use Rattle.markdown_grammar.specs.Hidden.{hides, visible}
+use Rattle.markdown_builder.proofs.HiddenWalk.{no_flags, visible_all}
 
 or-left : (a b : Bool) → (a || b) ≡ false → a ≡ false
 or-left true b h = h
@@ -63,20 +65,16 @@ whole_as_it_stands [] start end at_start at_end same = λ i. replicate (no_colum
 whole_as_it_stands (b ∷ bytes) start end at_start at_end same =
     (λ i. replicate (no_columns start at_start i) 32 ++ ends_outside (b ∷ bytes) end at_end i) ∙ same
 
-value_outside_tabs : (values : Values) (text : List ℕ) (start end : Point) → nat_lt 0 start.vs ≡ false → nat_lt 0 end.vs ≡ false → (is_whole values ≡ true → without_nul text ≡ text) → value_as values text start end ≡ text
-value_outside_tabs AsInDocument text start end at_start at_end same = refl
-value_outside_tabs Whole text start end at_start at_end same = whole_as_it_stands text start end at_start at_end (same refl)
+both-false : (a b : Bool) → ((a || b) && true) ≡ false → (a ≡ false) × (b ≡ false)
+both-false true b h = let z : true ≡ false = h in absurd cc
+both-false false true h = let z : true ≡ false = h in absurd cc
+both-false false false h = (refl, refl)
 
-value_in_document : (values : Values) (text : List ℕ) (start end : Point) → is_whole values ≡ false → value_as values text start end ≡ text
-value_in_document AsInDocument text start end h = refl
-value_in_document Whole text start end h = let z : true ≡ false = h in absurd cc
-
-plain_edge : (p : Point) → nat_lt 0 p.vs ≡ false → p.index ≡ edge p
-plain_edge p h = let none : ◌≡◌ {A = ℕ} (if nat_lt 0 p.vs then 1 else 0) 0 = ap (λ (t : Bool). if t then 1 else 0) h in omega (arith, none)
-
--- the edges of a span outside tabs are its indices
-pub plain_edges : (start end : Point) → nat_lt 0 start.vs ≡ false → nat_lt 0 end.vs ≡ false → ◌≡◌ {A = ℕ × ℕ} (start.index, end.index) (edge start, edge end)
-plain_edges start end at_start at_end = λ i. (plain_edge start at_start i, plain_edge end at_end i)
+value_as_it_stands : (values : Values) (text : List ℕ) (start end : Point) → ((nat_lt 0 start.vs || nat_lt 0 end.vs) && is_whole values) ≡ false → (is_whole values ≡ true → without_nul text ≡ text) → value_as values text start end ≡ text
+value_as_it_stands AsInDocument text start end split same = refl
+value_as_it_stands Whole text start end split same =
+    let outside = both-false (nat_lt 0 start.vs) (nat_lt 0 end.vs) split in
+    whole_as_it_stands text start end outside.0 outside.1 (same refl)
 
 -- a part that is taken has a slice
 pub part_read : (given : Given) (start end : Point) (from to : ℕ) (r : Option (Bor (List ℕ))) → ◌≡◌ {A = ℕ × ℕ} (from, to) (edge start, edge end) → IfSome r (λ (p : Bor (List ℕ)). Some p.now ≡ text_between given.bytes from to)
@@ -85,24 +83,31 @@ unfolding slice
 part_read given start end from to None at is = tt
 part_read given start end from to (Some part) at is = ap is_some (sym (is ∙ ap (λ (e : ℕ × ℕ). text_between given.bytes e.0 e.1) at))
 
-value_taken : (given : Given) (start end : Point) (from to : ℕ) (r : Option (Bor (List ℕ))) → ◌≡◌ {A = ℕ × ℕ} (from, to) (edge start, edge end)
-    → ((text : List ℕ) → (is_whole given.values ≡ true → without_nul text ≡ text) → value_as given.values text start end ≡ text) → IfSome r (λ (p : Bor (List ℕ)). Some p.now ≡ text_between given.bytes from to)
-    → IfSome r (λ (p : Bor (List ℕ)). is_whole given.values ≡ true → without_nul p.now ≡ p.now) → IfSome r (λ (p : Bor (List ℕ)). p.now ≡ value_between given start end)
+-- where nothing is hidden, all of a text is visible
+visible_as_it_stands : (flags : List Bool) (n : ℕ) (text : List ℕ) → flags ≡ [] → visible (drop n flags) text ≡ text
+visible_as_it_stands flags n text none = ap (λ (f : List Bool). visible (drop n f) text) none ∙ ap (λ (f : List Bool). visible f text) (no_flags n) ∙ visible_all text
+
+none_hidden : (flags : List Bool) → hides flags ≡ false → flags ≡ []
+none_hidden [] h = refl
+none_hidden (flag ∷ flags) h = let z : true ≡ false = sym (lt-ltb 0 (length (flag ∷ flags)) (omega arith)) ∙ h in absurd cc
+
+-- where nothing is hidden, a slice is its visible bytes
+pub slice_visible : (given : Given) (start end : Point) (text : List ℕ) → Some text ≡ slice given.bytes start end → hides given.hidden ≡ false
+    → (is_some (slice given.bytes start end) ≡ true) × (text ≡ visible_between given start end)
+slice_visible given start end text is h = (
+  ap is_some (sym is),
+  sym (visible_as_it_stands given.hidden (edge start) text (none_hidden given.hidden h)) ∙ ap (λ (o : Option (List ℕ)). visible (drop (edge start) given.hidden) (unwrap_or o [])) is,
+)
+
+-- and is the value
+pub part_taken : (given : Given) (start end : Point) (from to : ℕ) (r : Option (Bor (List ℕ))) → ◌≡◌ {A = ℕ × ℕ} (from, to) (edge start, edge end) → is_split given start end ≡ false → IfSome r (λ (p : Bor (List ℕ)). Some p.now ≡ text_between given.bytes from to)
+    → IfSome r (λ (p : Bor (List ℕ)). is_whole given.values ≡ true → without_nul p.now ≡ p.now) → IfSome r (λ (p : Bor (List ℕ)). given.hidden ≡ []) → IfSome r (λ (p : Bor (List ℕ)). p.now ≡ value_between given start end)
 unfolding slice
-value_taken given start end from to None at stands is same = tt
-value_taken given start end from to (Some part) at stands is same =
-    sym (ap (λ (o : Option (List ℕ)). value_as given.values (unwrap_or o []) start end) (sym (is ∙ ap (λ (e : ℕ × ℕ). text_between given.bytes e.0 e.1) at)) ∙ stands part.now same)
-
--- and is the value outside tabs
-pub taken_outside_tabs : (given : Given) (start end : Point) (r : Option (Bor (List ℕ))) → nat_lt 0 start.vs ≡ false → nat_lt 0 end.vs ≡ false → IfSome r (λ (p : Bor (List ℕ)). Some p.now ≡ text_between given.bytes start.index end.index)
-    → IfSome r (λ (p : Bor (List ℕ)). is_whole given.values ≡ true → without_nul p.now ≡ p.now) → IfSome r (λ (p : Bor (List ℕ)). p.now ≡ value_between given start end)
-taken_outside_tabs given start end r at_start at_end =
-    value_taken given start end start.index end.index r (plain_edges start end at_start at_end) (λ text. value_outside_tabs given.values text start end at_start at_end)
-
--- and everywhere, where values are as in the document
-pub taken_in_document : (given : Given) (start end : Point) (from to : ℕ) (r : Option (Bor (List ℕ))) → ◌≡◌ {A = ℕ × ℕ} (from, to) (edge start, edge end) → is_whole given.values ≡ false → IfSome r (λ (p : Bor (List ℕ)). Some p.now ≡ text_between given.bytes from to)
-    → IfSome r (λ (p : Bor (List ℕ)). is_whole given.values ≡ true → without_nul p.now ≡ p.now) → IfSome r (λ (p : Bor (List ℕ)). p.now ≡ value_between given start end)
-taken_in_document given start end from to r at h = value_taken given start end from to r at (λ text same. value_in_document given.values text start end h)
+part_taken given start end from to None at split is same shown = tt
+part_taken given start end from to (Some part) at split is same shown =
+    sym (ap (λ (o : Option (List ℕ)). value_as given.values (visible (drop (edge start) given.hidden) (unwrap_or o [])) start end) (sym (is ∙ ap (λ (e : ℕ × ℕ). text_between given.bytes e.0 e.1) at))
+    ∙ ap (λ (text : List ℕ). value_as given.values text start end) (visible_as_it_stands given.hidden (edge start) part.now shown)
+    ∙ value_as_it_stands given.values part.now start end split same)
 
 -- a document has no NUL, if that was asked
 pub has_none : (values : Values) (bytes : List ℕ) → (is_whole values && has_nul bytes) ≡ false → is_whole values ≡ true → has_nul bytes ≡ false

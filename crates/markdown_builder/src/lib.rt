@@ -10,4 +10,6 @@ pub mod misfits;
 pub mod number;
 pub mod slice;
 pub mod texts;
+pub mod value;
+mod visible;
 mod whole;

@@ -1,21 +1,20 @@
 //! A document, what stands in it between two points, and the position from one to the other.
 
-ghost use Rattle.std.specs.Prelude.{◌≡◌, ◌&&◌, ◌^◌, ◌<◌, ◌≤◌, IfErr, Some, SomeIff, IfSome, is_some, length, nat_lt, option_copied, string_bytes, true};
+ghost use Rattle.std.specs.Prelude.{◌≡◌, ◌&&◌, ◌^◌, ◌<◌, ◌≤◌, [], IfErr, Some, SomeIff, IfSome, drop, length, option_copied, true};
 ghost use Rattle.std.specs.Result.{result_ok};
 ghost use Rattle.markdown_events.specs.Slices.{between, edge, slice, text_between};
-ghost use Rattle.markdown_grammar.specs.Document.{byte_at, length_between, value_between};
+ghost use Rattle.markdown_grammar.specs.Document.{byte_at, length_between};
+ghost use Rattle.markdown_grammar.specs.Hidden.{hides};
 ghost use Rattle.markdown_grammar.specs.Whole.{without_nul};
-ghost use Rattle.markdown_builder.specs.PartsSoFar.{Makes};
+ghost use Rattle.markdown_grammar.specs.declared.values.Values.TheVariants.{Whole};
 ghost use Rattle.markdown_builder.specs.WholeValues.{IsTextOf, has_nul, is_whole};
 ghost use Rattle.markdown_grammar.specs.declared.error_kind.ErrorKind.TheVariants.{InvalidSlice};
 ghost use Rattle.markdown_grammar.specs.declared.error_kind.Stop.TheVariants.{Refused};
 
-use crate::whole::whole_value;
 use markdown_grammar::error_kind::{ErrorKind, Stop};
 use markdown_grammar::values::Values;
 use markdown_nodes::event::Point;
 use markdown_nodes::unist::Position;
-use std::alloc::Global;
 use std::marker::Model;
 
 /// The offset in bytes at which a slice begins or ends. Of a point in the virtual spaces of a tab it
@@ -30,16 +29,18 @@ fn edge_of(point: Point) -> Option<usize>
     }
 }
 
-/// A document: its bytes, how values are read of it, and the text that the bytes are, where all of
-/// them are UTF-8.
+/// A document: its bytes, how values are read of it, which bytes are hidden, and the text that the
+/// bytes are, where all of them are UTF-8.
 ///
 /// A span is then a part of that text, whose ends alone are looked at. In a document that is not all
-/// UTF-8, each span is tested for itself. So it is in one with a NUL, where values are whole: its
-/// spans are not parts of it as they stand.
+/// UTF-8, each span is tested for itself. So it is in one with hidden bytes, or with a NUL where
+/// values are whole: its values are not parts of it as they stand.
 #[derive(Drop)]
 pub struct Document<'a> {
     bytes: &'a [u8],
     values: Values,
+    /// A flag for each byte, or none at all.
+    hidden: &'a [bool],
     text: Option<&'a str>,
 }
 
@@ -50,20 +51,34 @@ impl<'a> Model for Document<'a> {
 
     ghost Value = { Given };
 
-    ghost view = { λ d. record { bytes = d.bytes.now; values = d.values } };
+    ghost view = { λ d. record { bytes = d.bytes.now; values = d.values; hidden = d.hidden.now } };
 
-    ghost invariant = { λ d. IfSome d.text (λ text. IsTextOf d.values d.bytes.now text.now) };
+    ghost invariant = { λ d. IfSome d.text (λ text. IsTextOf d.values d.hidden.now d.bytes.now text.now) };
 }
 
 impl<'a> Document<'a> {
-    /// The document with these bytes, of which values are read so.
+    /// The document with these bytes, of which values are read so, and none is hidden.
     pub fn new(bytes: &'a [u8], values: Values) -> Document<'a>
-        ensures { result ≡ record { bytes = bytes.now; values = values } }
+        ensures { result ≡ record { bytes = bytes.now; values = values; hidden = [] } }
     {
         Document {
             bytes,
             values,
-            text: text_as_it_stands(bytes, values),
+            hidden: &[],
+            text: text_as_it_stands(bytes, values, &[]),
+        }
+    }
+
+    /// The document with these bytes, of which values are whole, and those are hidden that have a flag
+    /// which is set. The first flag is that of the first byte; a byte without a flag is not hidden.
+    pub fn hiding(bytes: &'a [u8], hidden: &'a [bool]) -> Document<'a>
+        ensures { result ≡ record { bytes = bytes.now; values = Whole; hidden = hidden.now } }
+    {
+        Document {
+            bytes,
+            values: Values::Whole,
+            hidden,
+            text: text_as_it_stands(bytes, Values::Whole, hidden),
         }
     }
 
@@ -84,18 +99,37 @@ impl<'a> Document<'a> {
     }
 
     /// Whether values are whole.
-    fn is_whole(&self) -> bool
+    pub(crate) fn is_whole(&self) -> bool
         ensures { result ≡ is_whole self.now.values }
     {
         matches!(self.values, Values::Whole)
     }
 
+    /// Whether there are flags that say which bytes are hidden.
+    pub fn hides(&self) -> bool
+        ensures { result ≡ hides self.now.hidden }
+    {
+        !self.hidden.is_empty()
+    }
+
+    /// The flags of hidden bytes from the index of a point on, after the tab that it stands in.
+    pub(crate) fn hidden_from(&self, point: Point) -> &'a [bool]
+        ensures { result.now ≡ drop (edge point) self.now.hidden }
+    {
+        let flags = flags_after(self.hidden, point.index);
+        if point.vs > 0 {
+            flags_after(flags, 1)
+        } else {
+            flags
+        }
+    }
+
     /// The bytes from one index to another as a part of the document's text, or `None` where the document
-    /// is not all UTF-8, or an index is outside it or inside a character.
-    #[inline(always)]
-    fn part(&self, from: usize, to: usize) -> Option<&'a str>
+    /// is not all UTF-8, its values are not parts of it, or an index is outside it or inside a character.
+    pub(crate) fn part(&self, from: usize, to: usize) -> Option<&'a str>
         ensures part { IfSome result (λ part. Some part.now ≡ text_between self.now.bytes from to) }
         ensures no_nul { IfSome result (λ part. is_whole self.now.values ≡ true → without_nul part.now ≡ part.now) }
+        ensures shown { IfSome result (λ part. self.now.hidden ≡ []) }
     {
         let part = self.text?.get(from..to)?;
         // For the proof: what is a text is UTF-8.
@@ -115,7 +149,7 @@ impl<'a> Document<'a> {
 }
 
 /// The range of bytes of a span, if its ends are in order and in the document.
-fn range_of(document: &Document<'_>, start: Point, end: Point) -> Option<(usize, usize)>
+pub(crate) fn range_of(document: &Document<'_>, start: Point, end: Point) -> Option<(usize, usize)>
     ensures { SomeIff result ((edge start ≤ edge end) × (edge end ≤ length document.now.bytes)) (edge start, edge end) }
 {
     let length = document.len();
@@ -151,12 +185,12 @@ fn slice_of<'a>(document: &Document<'a>, start: Point, end: Point) -> Option<&'a
     document.tested(from, to)
 }
 
-/// The text of a document, if spans are parts of it as they stand: all of it is UTF-8, and where
-/// values are whole it has no NUL.
-fn text_as_it_stands(bytes: &[u8], values: Values) -> Option<&str>
-    ensures { IfSome result (λ text. IsTextOf values bytes.now text.now) }
+/// The text of a document, if values are parts of it as they stand: all of it is UTF-8, none of it is
+/// hidden, and where values are whole it has no NUL.
+fn text_as_it_stands<'a>(bytes: &'a [u8], values: Values, hidden: &[bool]) -> Option<&'a str>
+    ensures { IfSome result (λ text. IsTextOf values hidden.now bytes.now text.now) }
 {
-    if replaces_nul(bytes, values) {
+    if !hidden.is_empty() || replaces_nul(bytes, values) {
         return None;
     }
     str::from_utf8(bytes).ok()
@@ -169,62 +203,11 @@ fn replaces_nul(bytes: &[u8], values: Values) -> bool
     matches!(values, Values::Whole) && bytes.contains(&0)
 }
 
-/// Whether a point stands within a tab.
-#[inline(always)]
-fn is_in_tab(point: Point) -> bool
-    ensures { result ≡ nat_lt 0 point.vs }
+/// The flags after so many of them.
+pub(crate) fn flags_after(flags: &[bool], count: usize) -> &[bool]
+    ensures { result.now ≡ drop count flags.now }
 {
-    point.vs > 0
-}
-
-/// The value of a span, where it is a part of the document as it stands: nearly always. That no end is
-/// within a tab is asked first, since the edges of such a span are its indices.
-#[inline(always)]
-pub fn value_as_it_stands<'a>(document: &Document<'a>, start: Point, end: Point) -> Option<&'a str>
-    ensures read { IfSome result (λ value. is_some (slice document.now.bytes start end) ≡ true) }
-    ensures value { IfSome result (λ value. value.now ≡ value_between document.now start end) }
-{
-    if is_in_tab(start) || is_in_tab(end) {
-        return value_in_tab(document, start, end);
-    }
-    document.part(start.index, end.index)
-}
-
-/// The same of a span with an end within a tab: only whole values count the columns of the tab.
-#[inline(never)]
-fn value_in_tab<'a>(document: &Document<'a>, start: Point, end: Point) -> Option<&'a str>
-    ensures read { IfSome result (λ value. is_some (slice document.now.bytes start end) ≡ true) }
-    ensures value { IfSome result (λ value. value.now ≡ value_between document.now start end) }
-{
-    if document.is_whole() {
-        return None;
-    }
-    let (from, to) = range_of(document, start, end)?;
-    document.part(from, to)
-}
-
-/// The value of a span: a text or an address of the tree. It is refused as `ErrorKind::InvalidSlice`
-/// where its ends are not in order or lie outside the document, and where what is between them is no
-/// UTF-8.
-///
-/// Of a span that begins within a tab, the whole value begins with the columns of the tab that are
-/// left, as spaces.
-#[inline(never)]
-pub fn value_of(
-    alloc: Global,
-    document: &Document<'_>,
-    start: Point,
-    end: Point,
-) -> Result<String, Stop>
-    ensures { Makes result (is_some (slice document.now.bytes start end)) InvalidSlice
-        (λ value. string_bytes value ≡ value_between document.now start end) }
-{
-    let text = text_of(document, start, end)?;
-    if document.is_whole() {
-        Ok(whole_value(alloc, text, start, end)?)
-    } else {
-        Ok(String::from_str(alloc, text)?)
-    }
+    flags.get(count..).unwrap_or(&[])
 }
 
 /// How many bytes a span has, if its ends are in order and in the document: the sequence of an ATX

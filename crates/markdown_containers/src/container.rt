@@ -59,7 +59,7 @@ use std::alloc::Global;
 pub enum Container<'a> {
     /// It takes any content, and no part.
     AnyContent,
-    Autolink(AutolinkParts),
+    Autolink(AutolinkParts<'a>),
     /// A link or an image.
     Media(MediaParts<'a>),
     FootnoteCall(FootnoteCallParts<'a>),
@@ -328,7 +328,7 @@ impl<'a> Container<'a> {
         ensures bound { steps.new.count ≤ steps.old.count + visits_at_end (item_kinds.Part part) (summary_of_nodes (views nodes.items)) }
     {
         match part {
-            Part::LabelText => self.take_label(document, nodes, start, end),
+            Part::LabelText => self.take_label(alloc, document, nodes, start, end),
             Part::ReferenceString
             | Part::DefinitionLabelString
             | Part::FootnoteDefinitionLabelString => {
@@ -345,6 +345,7 @@ impl<'a> Container<'a> {
     /// Takes the label of a link, an image or a footnote call.
     fn take_label(
         &mut self,
+        alloc: Global,
         document: &Document<'a>,
         nodes: Vec<Node>,
         start: Point,
@@ -354,8 +355,8 @@ impl<'a> Container<'a> {
         ensures { KeepsNodes document.now parts.LabelText start end (views nodes.items) self.old self.new result }
     {
         match self {
-            Container::Media(parts) => parts.take_label(document, nodes, start, end),
-            Container::FootnoteCall(parts) => parts.take_label(document, nodes, start, end),
+            Container::Media(parts) => parts.take_label(alloc, document, nodes, start, end),
+            Container::FootnoteCall(parts) => parts.take_label(alloc, document, nodes, start, end),
             _ => unreachable!(),
         }
     }

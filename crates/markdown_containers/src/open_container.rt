@@ -1,6 +1,6 @@
 //! An open span with the nodes made in it: what it takes at the exit of each span in it.
 
-ghost use Rattle.std.specs.Prelude.{◌≡◌, ◌≢◌, ◌≤◌, ◌+◌, ◌||◌, IfOk, None, Ok, OnOk, Option, Some, false, is_some, not, true};
+ghost use Rattle.std.specs.Prelude.{◌≡◌, ◌≢◌, ◌≤◌, ◌+◌, ◌&&◌, ◌||◌, IfOk, None, Ok, OnOk, Option, Some, false, is_some, not, true};
 ghost use Rattle.markdown_blocks.specs.Parents.{is_parent};
 ghost use Rattle.markdown_containers.specs.Containers.{
   current_model_of,
@@ -32,6 +32,7 @@ ghost use Rattle.markdown_events.specs.declared.role.ItemKind.TheVariants as ite
 ghost use Rattle.markdown_events.specs.declared.role.Part.TheVariants as parts;
 ghost use Rattle.markdown_grammar.specs.Document.{Source, source_of};
 ghost use Rattle.markdown_grammar.specs.Grammar as models;
+ghost use Rattle.markdown_grammar.specs.Hidden.{hides};
 ghost use Rattle.markdown_grammar.specs.Items.{is_line_ending};
 ghost use Rattle.markdown_literals.specs.Autolinks.{is_literal};
 ghost use Rattle.markdown_nodes.specs.Tree.{join};
@@ -478,6 +479,14 @@ impl<'a> OpenContainer<'a> {
     }
 }
 
+/// Whether the backslashes before pipes go from inline code and math: in a table, but where bytes are
+/// hidden they are among these.
+fn unescapes(document: &Document<'_>, ending: Ending) -> bool
+    ensures { result ≡ (ending.in_table && not (hides document.now.hidden)) }
+{
+    ending.in_table && !document.hides()
+}
+
 /// The node of content in which any content may stand, and which is no parent.
 #[tactic(auto, unfolding(markdown_nodes::specs::View::view))]
 fn any_content_node(
@@ -501,8 +510,20 @@ fn any_content_node(
         Content::Table => Ok(table(nodes, position, columns.take(alloc))),
         Content::ListUnordered => Ok(unordered_list(nodes, position, ending.marks.is_loose_list)),
         Content::CodeIndented => indented_code(alloc, steps, nodes, position),
-        Content::CodeText => inline_code(alloc, steps, nodes, position, ending.in_table),
-        Content::MathText => inline_math(alloc, steps, nodes, position, ending.in_table),
+        Content::CodeText => inline_code(
+            alloc,
+            steps,
+            nodes,
+            position,
+            unescapes(document, ending),
+        ),
+        Content::MathText => inline_math(
+            alloc,
+            steps,
+            nodes,
+            position,
+            unescapes(document, ending),
+        ),
         Content::Html => html(alloc, steps, nodes, position),
         Content::Frontmatter => {
             let is_toml = byte_at(document, ending.start) == Some(b'+');

@@ -14,7 +14,8 @@ ghost use Rattle.markdown_nodes.specs.View.{view, views};
 
 use markdown_builder::label::{Identified, identify, named};
 use markdown_builder::misfits::at_most_one;
-use markdown_builder::slice::{Document, text_of};
+use markdown_builder::slice::Document;
+use markdown_builder::value::visible_of;
 use markdown_grammar::error_kind::{ErrorKind, Stop};
 use markdown_nodes::event::Point;
 use markdown_nodes::mdast::{FootnoteDefinition, Node};
@@ -71,8 +72,8 @@ impl FootnoteDefinitionParts {
         ensures list { steps.new.events ≡ steps.old.events }
         ensures bound { steps.new.count ≤ steps.old.count + node_count (views nodes.items) }
     {
-        let slice = text_of(document, start, end)?;
-        self.label = Some(identify(alloc, steps, slice, nodes)?);
+        let visible = visible_of(alloc, document, start, end)?;
+        self.label = Some(identify(alloc, steps, visible.as_str(), nodes)?);
         Ok(())
     }
 

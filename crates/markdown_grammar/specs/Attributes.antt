@@ -1,11 +1,12 @@
 -- What an item has from where it stands, and what it gives to the span around it.
-use Rattle.std.specs.Prelude.{Bool, List, None, Option, Some, false, true, ℕ, ◌||◌}
+use Rattle.std.specs.Prelude.{Bool, List, None, Option, Some, false, not, true, ℕ, ◌&&◌, ◌||◌}
 use Rattle.std.specs.Option.{option_and_then, option_or}
 use Rattle.markdown_events.specs.declared.role.ItemKind.{ItemKind}
 use Rattle.markdown_grammar.specs.Items.{Items, is_table, item, marker_of, none}
 use Rattle.markdown_events.specs.declared.role.ItemKind.TheVariants.{Content as content, Part as part}
 use Rattle.markdown_events.specs.declared.event.Point.{Point}
 use Rattle.markdown_grammar.specs.Document.{Source, number, text_read}
+use Rattle.markdown_grammar.specs.Hidden.{hides}
 use Rattle.markdown_events.specs.declared.role.Content.TheVariants as contents
 use Rattle.markdown_events.specs.declared.role.Part.TheVariants as parts
 
@@ -63,6 +64,10 @@ inherited_at_root = record { line_endings = false; in_table = false; marker = No
 -- what the decoder says of a value and the last marker before it
 abbrev pub decoded : Source → Place → Point → Point → Option (List ℕ)
 decoded s p a b = option_and_then (λ marker. s.text (text_read s a b) marker) p.marker
+
+-- whether the backslashes before pipes go from inline code and math: in a table, but where bytes are hidden they are among these
+abbrev pub unescapes : Source → Place → Bool
+unescapes s p = p.in_table && not (hides s.hidden)
 
 -- the number that an item gives to its container: an item value its own, and a ListItem that of its value
 abbrev pub value_given : Source → ItemKind → Point → Point → Option ℕ → Option ℕ

@@ -6,7 +6,7 @@ use Rattle.markdown_events.specs.declared.event.Point.{Point}
 use Rattle.markdown_texts.specs.Texts.{fold}
 use Rattle.markdown_events.specs.declared.role.ItemKind.{ItemKind}
 use Rattle.markdown_events.specs.declared.role.Part.{Part}
-use Rattle.markdown_grammar.specs.Document.{Source, text_read}
+use Rattle.markdown_grammar.specs.Document.{Source, label_read}
 use Rattle.markdown_grammar.specs.Items.{is_part}
 use Rattle.markdown_grammar.specs.Attributes.{Place}
 use Rattle.markdown_events.specs.declared.role.ItemKind.TheVariants.{Content as content}
@@ -56,9 +56,9 @@ text q xs = option_map (λ (x : Found). plain_text (nodes_of x.inner)) (first q 
 abbrev pub label_text : Decorated → Option (List ℕ)
 label_text xs = option_map (λ (x : Found). plain_label (nodes_of x.inner)) (first parts.LabelText xs)
 
--- the identifier that its slice spells
+-- the identifier that its visible bytes spell
 abbrev pub identifier : Source → Part → Decorated → Option (List ℕ)
-identifier s q xs = option_map (λ (x : Found). fold (text_read s x.start x.end)) (first q xs)
+identifier s q xs = option_map (λ (x : Found). fold (label_read s x.start x.end)) (first q xs)
 
 -- a text, empty where there is none
 abbrev pub or_empty : Option (List ℕ) → List ℕ

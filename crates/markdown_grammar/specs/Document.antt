@@ -1,39 +1,46 @@
 -- What is read of a document: texts, ranges, single bytes and numbers.
-use Rattle.std.specs.Prelude.{Bool, List, None, Option, Some, [], false, if◌then◌else◌, length, nat_le, nat_lt, slice_get, unwrap_or, ℕ, ◌&&◌, ◌-◌, ◌==◌, ◌^◌}
+use Rattle.std.specs.Prelude.{Bool, List, None, Option, Some, [], drop, false, if◌then◌else◌, length, nat_le, nat_lt, slice_get, unwrap_or, ℕ, ◌&&◌, ◌-◌, ◌==◌, ◌^◌}
 use Rattle.markdown_events.specs.Slices.{edge, slice}
 use Rattle.markdown_events.specs.declared.event.Point.{Point}
 use Rattle.std.specs.Str.{all_ascii_digits}
 use Rattle.std.specs.Str.Parse.{digits_value}
+use Rattle.markdown_grammar.specs.Hidden.{visible}
 use Rattle.markdown_grammar.specs.Whole.{whole}
 use Rattle.markdown_grammar.specs.declared.values.Values.{Values}
 use Rattle.markdown_grammar.specs.declared.values.Values.TheVariants.{AsInDocument, Whole}
 
--- the bytes of a document, and how values are read of them
+-- the bytes of a document, how values are read of them, and which bytes are hidden: a flag for each, as far as there are flags
 pub record Given : Type 0 where
   pub bytes : List ℕ
   pub values : Values
+  pub hidden : List Bool
 
 -- the same, and the text that a character reference's value and marker stand for
 pub record Source : Type 0 where
   pub bytes : List ℕ
   pub values : Values
+  pub hidden : List Bool
   pub text : List ℕ → ℕ → Option (List ℕ)
 
 -- a document, and what a decoder says of references
 abbrev pub source_of : Given → (List ℕ → ℕ → Option (List ℕ)) → Source
-source_of given text = record { bytes = given.bytes; values = given.values; text = text }
+source_of given text = record { bytes = given.bytes; values = given.values; hidden = given.hidden; text = text }
 
 -- the document without the decoder
 abbrev pub given_of : Source → Given
-given_of s = record { bytes = s.bytes; values = s.values }
+given_of s = record { bytes = s.bytes; values = s.values; hidden = s.hidden }
 
--- the same of bytes of which values are read so
+-- the same of bytes of which values are read so, and none is hidden
 abbrev pub source_with : Values → List ℕ → (List ℕ → ℕ → Option (List ℕ)) → Source
-source_with values bytes text = source_of (record { bytes = bytes; values = values }) text
+source_with values bytes text = source_of (record { bytes = bytes; values = values; hidden = [] }) text
 
 -- the same where they are read as they stand in the document
 abbrev pub source : List ℕ → (List ℕ → ℕ → Option (List ℕ)) → Source
 source bytes text = source_with AsInDocument bytes text
+
+-- the same where values are whole, and these bytes are hidden
+abbrev pub source_hiding : List Bool → List ℕ → (List ℕ → ℕ → Option (List ℕ)) → Source
+source_hiding hidden bytes text = source_of (record { bytes = bytes; values = Whole; hidden = hidden }) text
 
 -- how many bytes stand from one point to another, if these are in order and in the document
 abbrev pub length_between : List ℕ → Point → Point → Option ℕ
@@ -47,14 +54,22 @@ byte_at bytes point = slice_get bytes point.index
 abbrev pub text_read : Source → Point → Point → List ℕ
 text_read s start end = unwrap_or (slice s.bytes start end) []
 
--- a slice as a value of the tree
+-- the visible bytes of a span, none where there is no slice
+abbrev pub visible_between : Given → Point → Point → List ℕ
+visible_between given start end = visible (drop (edge start) given.hidden) (unwrap_or (slice given.bytes start end) [])
+
+-- a label as definitions and references are matched by it
+abbrev pub label_read : Source → Point → Point → List ℕ
+label_read s start end = visible_between (given_of s) start end
+
+-- visible bytes as a value of the tree
 abbrev pub value_as : Values → List ℕ → Point → Point → List ℕ
 value_as AsInDocument text start end = text
 value_as Whole text start end = whole text start end
 
 -- the value of a span, empty where there is no slice
 abbrev pub value_between : Given → Point → Point → List ℕ
-value_between given start end = value_as given.values (unwrap_or (slice given.bytes start end) []) start end
+value_between given start end = value_as given.values (visible_between given start end) start end
 
 -- the same of a source
 abbrev pub value_read : Source → Point → Point → List ℕ

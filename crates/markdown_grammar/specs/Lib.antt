@@ -1,3 +1,4 @@
+pub mod Hidden
 pub mod Whole
 pub mod Document
 pub mod Items

@@ -3,7 +3,7 @@ use Rattle.std.specs.Prelude.{Bool, List, None, Option, Some, [], codes, false, 
 use Rattle.markdown_nodes.specs.Tree.{Label, Trees, nothing, plain_text}
 use Rattle.markdown_events.specs.declared.event.Point.{Point}
 use Rattle.markdown_kinds.specs.declared.ReferenceKind.{ReferenceKind}
-use Rattle.markdown_grammar.specs.Attributes.{Place, decoded, mark, inherited_after, inherited_in, value}
+use Rattle.markdown_grammar.specs.Attributes.{Place, decoded, mark, inherited_after, inherited_in, unescapes, value}
 use Rattle.markdown_grammar.specs.Decorated.{Decorated, Found, decorated, first, identifier, label_text, node_at, nodes_of, or_empty, text, undecorated, within}
 use Rattle.std.specs.Option.{option_and_then, option_or}
 use Rattle.markdown_events.specs.Forest.{Forest}
@@ -147,8 +147,8 @@ node_of s (content contents.ListItem) x = node_at (tree.list_item (loose_item x.
 node_of s (content contents.CodeFenced) x = literal x (fenced_code x)
 node_of s (content contents.CodeIndented) x = literal x (tree.code (trim (content_of x) false true) None None)
 node_of s (content contents.MathFlow) x = literal x (tree.math (trim (content_of x) true true) (text parts.MathFlowFenceMeta (within parts.MathFlowFence x.items)))
-node_of s (content contents.CodeText) x = literal x (tree.inline_code (raw (spaces (content_of x)) x.place.in_table))
-node_of s (content contents.MathText) x = literal x (tree.inline_math (raw (spaces (content_of x)) x.place.in_table))
+node_of s (content contents.CodeText) x = literal x (tree.inline_code (raw (spaces (content_of x)) (unescapes s x.place)))
+node_of s (content contents.MathText) x = literal x (tree.inline_math (raw (spaces (content_of x)) (unescapes s x.place)))
 node_of s (content contents.Html) x = literal x (tree.html (content_of x))
 node_of s (content contents.Frontmatter) x = literal x (frontmatter (is_byte s 43 x.start) (trim (content_of x) true true))
 node_of s (content contents.Definition) x = literal x (link_definition s x)

@@ -15,7 +15,8 @@ ghost use Rattle.markdown_inlines.specs.Labels.{IsLabelOf, label_kept};
 
 use markdown_builder::buffer::label_of;
 use markdown_builder::label::Identified;
-use markdown_builder::slice::{Document, text_of};
+use markdown_builder::slice::Document;
+use markdown_builder::value::{Value, visible_of};
 use markdown_grammar::error_kind::Stop;
 use markdown_nodes::event::Point;
 use markdown_nodes::mdast::Node;
@@ -27,8 +28,8 @@ use std::alloc::{AllocError, Global};
 /// where a node asks for them.
 #[derive(Drop)]
 pub struct Label<'a> {
-    /// Its slice of the document.
-    pub slice: &'a str,
+    /// Its visible bytes, by which it is matched.
+    pub visible: Value<'a>,
     /// The nodes made in it.
     pub nodes: Vec<Node>,
 }
@@ -37,17 +38,18 @@ impl<'a> Label<'a> {
     /// The label between two points, with the nodes made in it. One that is no text of the document
     /// is refused as `ErrorKind::InvalidSlice`.
     ///
-    /// In `[a *b*](c)` its slice is `a *b*`, and its nodes are a text and an emphasis.
+    /// In `[a *b*](c)` its visible bytes are `a *b*`, and its nodes are a text and an emphasis.
     pub fn read(
+        alloc: Global,
         document: &Document<'a>,
         nodes: Vec<Node>,
         start: Point,
         end: Point,
     ) -> Result<Label<'a>, Stop>
-        ensures { Makes result (is_some (slice document.now.bytes start end)) InvalidSlice (IsLabelOf document.now.bytes start end nodes) }
+        ensures { Makes result (is_some (slice document.now.bytes start end)) InvalidSlice (IsLabelOf document.now start end nodes) }
     {
-        let slice = text_of(document, start, end)?;
-        Ok(Label { slice, nodes })
+        let visible = visible_of(alloc, document, start, end)?;
+        Ok(Label { visible, nodes })
     }
 }
 
@@ -59,7 +61,7 @@ pub(crate) fn label_identifier(
     ensures { IfOk result (λ made. string_bytes made ≡ identifier_of (label_kept label.now)) }
 {
     match label {
-        Some(label) => normalize_identifier(alloc, label.slice),
+        Some(label) => normalize_identifier(alloc, label.visible.as_str()),
         None => Ok(String::new(alloc)),
     }
 }

@@ -19,7 +19,8 @@ ghost use Rattle.markdown_inlines.specs.Media.{media, reference, resource};
 use crate::label::Label;
 use markdown_builder::label::{Identified, identify};
 use markdown_builder::misfits::at_most_one;
-use markdown_builder::slice::{Document, text_of};
+use markdown_builder::slice::Document;
+use markdown_builder::value::visible_of;
 use markdown_grammar::error_kind::{ErrorKind, Stop};
 use markdown_nodes::event::Point;
 use markdown_nodes::mdast::Node;
@@ -144,8 +145,8 @@ impl ReferenceParts {
         ensures list { steps.new.events ≡ steps.old.events }
         ensures bound { steps.new.count ≤ steps.old.count + node_count (views nodes.items) }
     {
-        let slice = text_of(document, start, end)?;
-        self.string = Some(identify(alloc, steps, slice, nodes)?);
+        let visible = visible_of(alloc, document, start, end)?;
+        self.string = Some(identify(alloc, steps, visible.as_str(), nodes)?);
         Ok(())
     }
 }
@@ -184,6 +185,7 @@ impl<'a> MediaParts<'a> {
     /// no text of the document is refused as `ErrorKind::InvalidSlice`.
     pub fn take_label(
         &mut self,
+        alloc: Global,
         document: &Document<'a>,
         nodes: Vec<Node>,
         start: Point,
@@ -192,7 +194,7 @@ impl<'a> MediaParts<'a> {
         requires { misfit_in (media self.old) (item_kinds.Part parts.LabelText) ≡ None }
         ensures { ReadsLabel document.now nodes start end (media self.old) (media self.new) result }
     {
-        self.label = Some(Label::read(document, nodes, start, end)?);
+        self.label = Some(Label::read(alloc, document, nodes, start, end)?);
         Ok(())
     }
 

@@ -12,7 +12,8 @@ ghost use Rattle.markdown_grammar.specs.declared.error_kind.ErrorKind.TheVariant
 ghost use Rattle.markdown_builder.specs.PartsSoFar.{Makes, placed};
 ghost use Rattle.markdown_inlines.specs.Texts.{data_text};
 
-use markdown_builder::slice::{Document, position_of, value_as_it_stands, value_of};
+use markdown_builder::slice::{Document, position_of};
+use markdown_builder::value::{value_as_it_stands, value_of};
 use markdown_grammar::error_kind::Stop;
 use markdown_joining::put_text;
 use markdown_nodes::event::Point;

@@ -1,5 +1,5 @@
 -- What has stood so far in an autolink.
-use Rattle.std.specs.Prelude.{◌≡◌, Bool, List, None, Option, Some, false, string_bytes, true, ℕ}
+use Rattle.std.specs.Prelude.{◌≡◌, Bool, List, None, Option, Some, false, true, ℕ}
 use Rattle.markdown_events.specs.declared.event.Point.{Point}
 use Rattle.markdown_events.specs.declared.role.Content.{Content}
 use Rattle.markdown_events.specs.declared.role.Content.TheVariants as contents
@@ -17,13 +17,14 @@ use Rattle.markdown_steps.specs.Summaries.{PartSummary, Path, Summary, address, 
 use Rattle.markdown_steps.specs.SummaryNodes
 use Rattle.markdown_steps.specs.SummaryNodes.{node_of}
 use Rattle.markdown_builder.specs.PartsSoFar.{PartsSoFar, ending, with_parts}
+use Rattle.markdown_builder.specs.WholeValues.{value_text}
 use Rattle.markdown_literals.specs.declared.autolink.Address.{Address}
 use Rattle.markdown_literals.specs.declared.autolink.AutolinkParts.{AutolinkParts}
 use Rattle.markdown_literals.specs.declared.autolink.AutolinkParts.TheVariants as autolinks
 
 -- an address, and where it stands
 abbrev pub address_kept : Address → Option PartSummary
-address_kept x = Some (address x.start x.end (string_bytes x.value))
+address_kept x = Some (address x.start x.end (value_text x.value))
 
 -- the address, where it is one of mail
 abbrev pub email_kept : AutolinkParts → Option PartSummary

@@ -17,8 +17,9 @@ ghost use Rattle.markdown_builder.specs.PartsSoFar.{IsFresh, IsNode, Makes, Read
 ghost use Rattle.markdown_literals.specs.Autolinks.{IsLiteral, IsSchemeOf, autolink, autolink_nodes, is_literal};
 
 use markdown_builder::misfits::at_most_one;
-use markdown_builder::slice::{Document, position_of, value_of};
+use markdown_builder::slice::{Document, position_of};
 use markdown_builder::texts::address;
+use markdown_builder::value::{Value, value_of};
 use markdown_grammar::error_kind::{ErrorKind, Stop};
 use markdown_joining::new_text;
 use markdown_nodes::event::Point;
@@ -29,26 +30,26 @@ use std::alloc::{AllocError, Global};
 
 /// An address, and where it stands: `a@b.c` in `<a@b.c>`.
 #[derive(Drop)]
-pub struct Address {
+pub struct Address<'a> {
     pub start: Point,
     pub end: Point,
-    pub value: String,
+    pub value: Value<'a>,
 }
 
 /// What has stood in an autolink, which has at most one address.
 #[derive(Drop)]
-pub enum AutolinkParts {
+pub enum AutolinkParts<'a> {
     /// No address so far.
     Empty,
     /// An email address, as in `<a@b.c>`.
-    Email(Address),
+    Email(Address<'a>),
     /// An address with its scheme, as in `<https://a.b>`.
-    Protocol(Address),
+    Protocol(Address<'a>),
 }
 
-impl AutolinkParts {
+impl<'a> AutolinkParts<'a> {
     /// An autolink at its enter, as at the `<` of `<a@b.c>`.
-    pub fn new() -> AutolinkParts
+    pub fn new() -> AutolinkParts<'a>
         ensures { IsFresh (autolink result) models.autolink }
     {
         AutolinkParts::Empty
@@ -74,7 +75,7 @@ impl AutolinkParts {
     pub fn take_email(
         &mut self,
         alloc: Global,
-        document: &Document<'_>,
+        document: &Document<'a>,
         start: Point,
         end: Point,
     ) -> Result<(), Stop>
@@ -91,7 +92,7 @@ impl AutolinkParts {
     pub fn take_protocol(
         &mut self,
         alloc: Global,
-        document: &Document<'_>,
+        document: &Document<'a>,
         start: Point,
         end: Point,
     ) -> Result<(), Stop>
@@ -108,7 +109,7 @@ impl AutolinkParts {
     ///
     /// For `<a@b.c>` it is a link to `mailto:a@b.c`, with the text `a@b.c` in it.
     pub fn node(self, alloc: Global, start: Point, end: Point) -> Result<Node, AllocError>
-        ensures { IfOk result (λ node. only (view node) ≡ autolink_nodes self start end) }
+        ensures { IfOk result (λ node. only (view node) ≡ autolink_nodes self.entry start end) }
     {
         let position = position_of(start, end);
         match self {

@@ -12,7 +12,7 @@ use Rattle.markdown_events.specs.declared.role.Part.{Part}
 use Rattle.markdown_steps.proofs.SummaryLaws.{is-that-part}
 use Rattle.markdown_grammar.specs.Decorated.{Decorated, Found, decorated, first, identifier, nodes_of, or_empty, text, undecorated, within}
 use Rattle.markdown_grammar.specs.Attributes.{decoded, mark, value}
-use Rattle.markdown_grammar.specs.Document.{text_read, value_read}
+use Rattle.markdown_grammar.specs.Document.{label_read, value_read}
 use Rattle.markdown_grammar.specs.Items.{Items, item, none, same_part}
 use Rattle.markdown_grammar.specs.Items.{is_part, marker_of}
 use Rattle.markdown_steps.specs.SummaryNodes.{media_of, reference_kind_of}
@@ -118,18 +118,18 @@ text-through s q r p xs e =
     ∙ words-are (λ (x : Found). plain_text (nodes_of x.inner)) (first r (within q (decorate s p xs)))
 
 -- a part that gives an identifier and a text
-part-named : (s : Source) (q : Part) (g : Trees → List ℕ) (p : Place) (xs : Items) → ((p : Place) (a b : Point) (ts : Trees) → kept_from s p q a b ts ≡ named (fold (text_read s a b)) (g ts))
-    → (kept s p xs).part (path_to q) ≡ option_map (λ (x : Found). named (fold (text_read s x.start x.end)) (g (nodes_of x.inner))) (first q (decorate s p xs))
+part-named : (s : Source) (q : Part) (g : Trees → List ℕ) (p : Place) (xs : Items) → ((p : Place) (a b : Point) (ts : Trees) → kept_from s p q a b ts ≡ named (fold (label_read s a b)) (g ts))
+    → (kept s p xs).part (path_to q) ≡ option_map (λ (x : Found). named (fold (label_read s x.start x.end)) (g (nodes_of x.inner))) (first q (decorate s p xs))
 part-named s q g p xs e = found-is (λ a b p ts. kept_from s p q a b ts) s q p xs ∙ (λ t. option_map (λ (x : Found). e x.place x.start x.end (nodes_of x.inner) t) (first q (decorate s p xs)))
 
-identifier-is : (s : Source) (q : Part) (g : Trees → List ℕ) (p : Place) (xs : Items) → ((p : Place) (a b : Point) (ts : Trees) → kept_from s p q a b ts ≡ named (fold (text_read s a b)) (g ts))
+identifier-is : (s : Source) (q : Part) (g : Trees → List ℕ) (p : Place) (xs : Items) → ((p : Place) (a b : Point) (ts : Trees) → kept_from s p q a b ts ≡ named (fold (label_read s a b)) (g ts))
     → identifier_of ((kept s p xs).part (path_to q)) ≡ or_empty (identifier s q (decorate s p xs))
 identifier-is s q g p xs e =
-    ap identifier_of (part-named s q g p xs e) ∙ named-identifier (λ (x : Found). fold (text_read s x.start x.end)) (λ (x : Found). g (nodes_of x.inner)) (first q (decorate s p xs))
+    ap identifier_of (part-named s q g p xs e) ∙ named-identifier (λ (x : Found). fold (label_read s x.start x.end)) (λ (x : Found). g (nodes_of x.inner)) (first q (decorate s p xs))
 
-named-is : (s : Source) (q : Part) (g : Trees → List ℕ) (p : Place) (xs : Items) → ((p : Place) (a b : Point) (ts : Trees) → kept_from s p q a b ts ≡ named (fold (text_read s a b)) (g ts))
+named-is : (s : Source) (q : Part) (g : Trees → List ℕ) (p : Place) (xs : Items) → ((p : Place) (a b : Point) (ts : Trees) → kept_from s p q a b ts ≡ named (fold (label_read s a b)) (g ts))
     → words_of ((kept s p xs).part (path_to q)) ≡ option_map (λ (x : Found). g (nodes_of x.inner)) (first q (decorate s p xs))
-named-is s q g p xs e = ap words_of (part-named s q g p xs e) ∙ named-words (λ (x : Found). fold (text_read s x.start x.end)) (λ (x : Found). g (nodes_of x.inner)) (first q (decorate s p xs))
+named-is s q g p xs e = ap words_of (part-named s q g p xs e) ∙ named-words (λ (x : Found). fold (label_read s x.start x.end)) (λ (x : Found). g (nodes_of x.inner)) (first q (decorate s p xs))
 
 -- ---- Links and images
 
@@ -158,7 +158,7 @@ stood-map y (Some x) = refl
 target-is : (s : Source) (p : Place) (xs : Items) → media_of (kept s p xs) ≡ new.target s (decorate s p xs)
 target-is s p xs =
     let d : Decorated = decorate s p xs in
-    let folded : Found → List ℕ = λ x. fold (text_read s x.start x.end) in
+    let folded : Found → List ℕ = λ x. fold (label_read s x.start x.end) in
     let plain : Found → List ℕ = λ x. plain_text (nodes_of x.inner) in
     let as_label : Found → List ℕ = λ x. plain_label (nodes_of x.inner) in
     let string_at : Option Found = first parts.ReferenceString (within parts.Reference d) in

@@ -6,7 +6,7 @@ use Rattle.markdown_nodes.specs.Tree.{Trees, plain_label, plain_text}
 use Rattle.markdown_events.specs.declared.event.Point.{Point}
 use Rattle.markdown_events.specs.declared.role.Part.{Part}
 use Rattle.markdown_grammar.specs.Attributes.{Place, decoded, mark, inherited_after, inherited_in, value}
-use Rattle.markdown_grammar.specs.Document.{Source, is_byte, length_between, text_read, value_read}
+use Rattle.markdown_grammar.specs.Document.{Source, is_byte, label_read, length_between, value_read}
 use Rattle.markdown_grammar.specs.Items.{Items, item, none, same_part, ◌then◌}
 use Rattle.markdown_events.specs.declared.role.ItemKind.TheVariants.{Content as content, Part as part}
 use Rattle.markdown_events.specs.declared.role.Part.TheVariants as parts
@@ -68,10 +68,10 @@ kept_from s p parts.DefinitionDestinationString a b ts = words (plain_text ts)
 kept_from s p parts.DefinitionTitleString a b ts = words (plain_text ts)
 kept_from s p parts.ResourceDestinationString a b ts = words (plain_text ts)
 kept_from s p parts.ResourceTitleString a b ts = words (plain_text ts)
-kept_from s p parts.DefinitionLabelString a b ts = named (fold (text_read s a b)) (plain_text ts)
-kept_from s p parts.FootnoteDefinitionLabelString a b ts = named (fold (text_read s a b)) (plain_text ts)
-kept_from s p parts.ReferenceString a b ts = named (fold (text_read s a b)) (plain_text ts)
-kept_from s p parts.LabelText a b ts = named (fold (text_read s a b)) (plain_label ts)
+kept_from s p parts.DefinitionLabelString a b ts = named (fold (label_read s a b)) (plain_text ts)
+kept_from s p parts.FootnoteDefinitionLabelString a b ts = named (fold (label_read s a b)) (plain_text ts)
+kept_from s p parts.ReferenceString a b ts = named (fold (label_read s a b)) (plain_text ts)
+kept_from s p parts.LabelText a b ts = named (fold (label_read s a b)) (plain_label ts)
 kept_from s p parts.HeadingAtxSequence a b ts = count (unwrap_or (length_between s.bytes a b) 0)
 kept_from s p parts.HeadingSetextUnderlineSequence a b ts = count (if is_byte s 45 a then 2 else 1)
 kept_from s p _ a b ts = stood

@@ -4,7 +4,7 @@ use Rattle.std.specs.Option.{option_or}
 use Rattle.markdown_nodes.specs.Tree.{Trees, join, nothing, plain_text}
 use Rattle.markdown_events.specs.declared.event.Point.{Point}
 use Rattle.markdown_kinds.specs.declared.ReferenceKind.{ReferenceKind}
-use Rattle.markdown_grammar.specs.Attributes.{Place, inherited_after, inherited_in, value}
+use Rattle.markdown_grammar.specs.Attributes.{Place, inherited_after, inherited_in, unescapes, value}
 use Rattle.markdown_steps.specs.Summaries.{Summary, PartSummary, Path, address, count_of, identifier_of, summary_of, into, itself, path_through, path_to, text_of, words_of}
 use Rattle.markdown_grammar.specs.Decorated.{node_at}
 use Rattle.markdown_grammar.specs.Nodes.{Media, frontmatter, image_label, link_label, linked}
@@ -72,8 +72,8 @@ node_of s p (content contents.CodeFenced) a b _ i =
     node_at (tree.code (trim (plain_text i.nodes) true true) (words_of (i.part (path_through parts.CodeFencedFence parts.CodeFencedFenceInfo))) (words_of (i.part (path_through parts.CodeFencedFence parts.CodeFencedFenceMeta)))) nothing a b
 node_of s p (content contents.MathFlow) a b _ i = node_at (tree.math (trim (plain_text i.nodes) true true) (words_of (i.part (path_through parts.MathFlowFence parts.MathFlowFenceMeta)))) nothing a b
 node_of s p (content contents.CodeIndented) a b _ i = node_at (tree.code (trim (plain_text i.nodes) false true) None None) nothing a b
-node_of s p (content contents.CodeText) a b _ i = node_at (tree.inline_code (raw (spaces (plain_text i.nodes)) p.in_table)) nothing a b
-node_of s p (content contents.MathText) a b _ i = node_at (tree.inline_math (raw (spaces (plain_text i.nodes)) p.in_table)) nothing a b
+node_of s p (content contents.CodeText) a b _ i = node_at (tree.inline_code (raw (spaces (plain_text i.nodes)) (unescapes s p))) nothing a b
+node_of s p (content contents.MathText) a b _ i = node_at (tree.inline_math (raw (spaces (plain_text i.nodes)) (unescapes s p))) nothing a b
 node_of s p (content contents.Html) a b _ i = node_at (tree.html (plain_text i.nodes)) nothing a b
 node_of s p (content contents.Frontmatter) a b _ i = node_at (frontmatter (is_byte s 43 a) (trim (plain_text i.nodes) true true)) nothing a b
 node_of s p (content contents.Definition) a b _ i =

@@ -58,6 +58,11 @@ impl Brackets {
         }
     }
 
+    /// Whether there are any.
+    pub fn are_open(&self) -> bool {
+        !self.stack.is_empty()
+    }
+
     /// Opens a bracket. The only error is that memory ran out.
     pub fn push(&mut self, bracket: Bracket) -> Result<(), AllocError> {
         if let Some(outer) = self.stack.last_mut() {

@@ -146,7 +146,11 @@ fn inlines_of<'c, R: References>(
     name: Option<Name>,
     is_task: bool,
 ) -> Result<Vec<Piece>, AllocError> {
-    let source = Source { reading, bytes };
+    let source = Source {
+        reading,
+        bytes,
+        is_cell: name == Some(Name::GfmTableCellText),
+    };
     match content_kind(name) {
         ContentKind::Text => {
             let is_task = is_task && reading.options.constructs.gfm_task_list_item;
@@ -176,9 +180,25 @@ fn write_piece<R: References>(writer: &mut Writer<'_, R>, piece: &Piece) -> Resu
     match piece.kind {
         PieceKind::Enter(name) => writer.enter(name),
         PieceKind::Exit(_) => writer.exit(),
+        PieceKind::Token(Name::GfmTaskListItemValueUnchecked) => write_unchecked(writer, piece),
         PieceKind::Token(name) => writer.token(name, piece.end, piece.virtual_spaces),
         PieceKind::LineEnding => writer.line_ending(Name::LineEnding),
         PieceKind::BlankLineEnding => writer.line_ending(Name::BlankLineEnding),
         PieceKind::Text => writer.token(Name::Data, piece.end, 0),
+    }
+}
+
+/// Writes what stands between the brackets of a task that is not checked. It may be a line ending, which is
+/// no token within a line.
+fn write_unchecked<R: References>(
+    writer: &mut Writer<'_, R>,
+    piece: &Piece,
+) -> Result<(), WriteError>
+    ensures given { writer.new.given ≡ writer.old.given }
+{
+    let name = Name::GfmTaskListItemValueUnchecked;
+    match writer.token(name, piece.end, piece.virtual_spaces) {
+        Err(WriteError::Misfit) => writer.line_ending(name),
+        written => written,
     }
 }

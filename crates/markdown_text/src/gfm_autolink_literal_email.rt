@@ -80,17 +80,17 @@ fn with_protocol(before: &[u8]) -> (usize, Name) {
     }
 }
 
-/// The length of the domain that a text begins with: it has a dot, and ends with a letter. That of `xmpp:`
-/// may have slashes.
+/// The length of the domain that a text begins with: it has a dot, and ends with a letter or a digit. That of
+/// `xmpp:` may have slashes.
 fn domain_length(text: &[u8], is_xmpp: bool) -> Option<usize>
     ensures { IfSome result (λ size. size ≤ length text.now) }
 {
     let mut has_dot = false;
     for (size, byte) in text.iter().enumerate() {
         match *byte {
-            b'.' if begins_label(after(text, size + 1)) => has_dot = true,
+            b'.' if size > 0 && begins_segment(after(text, size + 1)) => has_dot = true,
             b'/' if is_xmpp => {}
-            byte if byte.is_ascii_alphanumeric() || byte == b'-' || byte == b'_' => {}
+            byte if is_of_segment(byte) => {}
             _ => return whole_domain(text, size, has_dot),
         }
     }
@@ -102,13 +102,17 @@ fn whole_domain(text: &[u8], size: usize, has_dot: bool) -> Option<usize>
     ensures { IfSome result (λ size. size ≤ length text.now) }
 {
     let last = text.get(..size)?.last()?;
-    (has_dot && last.is_ascii_alphabetic()).then_some(size)
+    (has_dot && last.is_ascii_alphanumeric()).then_some(size)
 }
 
-/// Whether a text begins with a byte that may begin a label of a domain.
-fn begins_label(text: &[u8]) -> bool {
-    text.first()
-        .is_some_and(|byte| byte.is_ascii_alphanumeric())
+/// Whether a text begins with a byte of a segment of a domain.
+fn begins_segment(text: &[u8]) -> bool {
+    text.first().is_some_and(|byte| is_of_segment(*byte))
+}
+
+/// Whether a byte may stand in a segment of a domain.
+fn is_of_segment(byte: u8) -> bool {
+    byte.is_ascii_alphanumeric() || matches!(byte, b'-' | b'_')
 }
 
 /// Whether a byte may stand before the at sign.

@@ -4,8 +4,9 @@ ghost use Rattle.std.specs.Prelude.{◌≤◌, length, IfSome};
 
 use crate::output::Output;
 use crate::token::{Found, TokenKind};
+use crate::whitespace::is_white_space;
 use character_references::references::References;
-use commonmark_syntax::bytes::{after, count_while, is_space_or_tab};
+use commonmark_syntax::bytes::count_while;
 use markdown_events::event::Name;
 use std::alloc::AllocError;
 
@@ -13,19 +14,17 @@ use std::alloc::AllocError;
 pub fn scan(text: &[u8]) -> Option<Found>
     ensures { IfSome result (λ found. found.size ≤ length text.now) }
 {
-    let [b'[', value @ (b' ' | b'\t' | b'x' | b'X'), b']', rest @ ..] = text else {
+    let [b'[', value, b']', rest @ ..] = text else {
         return None;
     };
-    let is_mark = match rest.first()? {
-        b'\n' => true,
-        b' ' | b'\t' => !after(rest, count_while(rest, is_space_or_tab)).is_empty(),
-        _ => false,
-    };
     let is_checked = matches!(*value, b'x' | b'X');
+    let is_value = is_checked || is_white_space(*value);
+    let space = count_while(rest, is_white_space);
+    let is_mark = is_value && space > 0 && space < rest.len();
     is_mark.then_some(Found::token(TokenKind::TaskListItemCheck(is_checked), 3))
 }
 
-/// Writes the mark of a task, which may be checked.
+/// Writes the mark of a task, which may be checked. A line ending may stand in one that is not.
 pub fn write<R: References>(
     output: &mut Output<'_, R>,
     is_checked: bool,
@@ -37,7 +36,11 @@ pub fn write<R: References>(
     };
     output.enter(Name::GfmTaskListItemCheck)?;
     output.token(Name::GfmTaskListItemMarker, 1)?;
-    output.token(value, 1)?;
+    if output.rest().starts_with(b"\n") {
+        output.line_ending_as(value)?;
+    } else {
+        output.token(value, 1)?;
+    }
     output.token(Name::GfmTaskListItemMarker, 1)?;
     output.exit(Name::GfmTaskListItemCheck)
 }

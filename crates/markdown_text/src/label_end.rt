@@ -40,12 +40,7 @@ pub fn scan<R: References>(
     let is_footnote = bracket.form == LabelForm::Footnote
         && !bracket.has_bracket
         && !has_white_space(label);
-    if is_footnote
-        && source
-            .reading
-            .identifiers
-            .defines_footnote(source.reading.alloc, after(label, 1))?
-    {
+    if is_footnote && source.defines_footnote(after(label, 1))? {
         return Ok(Some(Match {
             labelled: Labelled::FootnoteCall,
             target: Target::Shortcut,
@@ -89,10 +84,7 @@ fn with_target<R: References>(
         }));
     }
     if let Some(size) = label::scan(rest) {
-        let is_defined = source
-            .reading
-            .identifiers
-            .defines(source.reading.alloc, &rest[1..size - 1])?;
+        let is_defined = source.defines(&rest[1..size - 1])?;
         return Ok(is_defined.then_some(Match {
             labelled,
             target: Target::Full,
@@ -100,10 +92,7 @@ fn with_target<R: References>(
         }));
     }
     let is_defined = match own {
-        Some(own) => source
-            .reading
-            .identifiers
-            .defines(source.reading.alloc, own)?,
+        Some(own) => source.defines(own)?,
         None => false,
     };
     Ok(is_defined.then_some(with_own_label(labelled, rest)))

@@ -190,6 +190,17 @@ impl<'c, R: References> Output<'c, R> {
         Ok(())
     }
 
+    /// Writes a line ending as a token of this name, and what stands before the text of the next line.
+    pub fn line_ending_as(&mut self, name: Name) -> Result<(), AllocError> {
+        self.flush(Next::LineEnding)?;
+        let place = self.pieces.len();
+        self.line_ending()?;
+        if let Some(piece) = self.pieces.get_mut(place) {
+            piece.kind = PieceKind::Token(name);
+        }
+        Ok(())
+    }
+
     /// Writes a token for what each line has up to an offset, and white space that begins a line apart.
     pub fn lines(&mut self, name: Name, end: usize) -> Result<(), AllocError> {
         for _ in self.at..end {

@@ -1,6 +1,8 @@
 //! What a content is read with.
 
 use crate::document::Reading;
+use commonmark_syntax::bytes::after;
+use std::alloc::{AllocError, Global};
 
 /// The bytes of a content, and what its document is read with.
 #[derive(Drop)]
@@ -9,4 +11,46 @@ pub struct Source<'c, R> {
     pub reading: &'c Reading<'c, R>,
     /// The bytes, with a line feed for each line ending.
     pub bytes: &'c [u8],
+    /// Whether it is the text of a cell of a table.
+    pub is_cell: bool,
+}
+
+impl<R> Source<'_, R> {
+    /// Whether the document has a definition of a label of this content. The only error is that memory
+    /// ran out.
+    pub fn defines(&self, label: &[u8]) -> Result<bool, AllocError> {
+        let alloc = self.reading.alloc;
+        if self.escapes_pipes(label) {
+            let label = without_escapes(alloc, label)?;
+            return self.reading.identifiers.defines(alloc, &label);
+        }
+        self.reading.identifiers.defines(alloc, label)
+    }
+
+    /// The same of a footnote.
+    pub fn defines_footnote(&self, label: &[u8]) -> Result<bool, AllocError> {
+        let alloc = self.reading.alloc;
+        if self.escapes_pipes(label) {
+            let label = without_escapes(alloc, label)?;
+            return self.reading.identifiers.defines_footnote(alloc, &label);
+        }
+        self.reading.identifiers.defines_footnote(alloc, label)
+    }
+
+    /// Whether pipes may be escaped in a label for the table around it.
+    fn escapes_pipes(&self, label: &[u8]) -> bool {
+        self.is_cell && label.contains(&b'|')
+    }
+}
+
+/// A label without the backslashes that escape pipes for the table around it (GFM). The only error is that
+/// memory ran out.
+fn without_escapes(alloc: Global, label: &[u8]) -> Result<Vec<u8>, AllocError> {
+    let mut bytes = Vec::new(alloc);
+    for (place, byte) in label.iter().enumerate() {
+        if !matches!(after(label, place), [b'\\', b'|', ..]) {
+            bytes.push(*byte)?;
+        }
+    }
+    Ok(bytes)
 }

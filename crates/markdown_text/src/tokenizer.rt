@@ -314,7 +314,11 @@ impl<'c, R: References> Tokenizer<'c, R> {
         ensures { result.size ≤ bytes_from cursor.entry }
     {
         if self.constructs().gfm_autolink_literal
-            && let Some(found) = gfm_autolink_literal::scan(cursor, &mut self.barred)
+            && let Some(found) = gfm_autolink_literal::scan(
+                cursor,
+                self.brackets.are_open(),
+                &mut self.barred,
+            )
         {
             return found;
         }

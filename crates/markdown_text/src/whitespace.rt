@@ -1,4 +1,5 @@
-//! White space at the ends of data (micromark): it begins or ends a line, or the text.
+//! White space: which bytes are (GFM), and what stands at the ends of data (micromark), where it begins or
+//! ends a line, or the text.
 
 use crate::output::{ContentKind, Next};
 use commonmark_syntax::bytes::{count_back, count_while, is_space_or_tab};
@@ -15,6 +16,11 @@ pub struct Whitespace {
     pub trailing: usize,
     /// How many of those at the end are a hard break.
     pub hard_break: usize,
+}
+
+/// Whether a byte is white space (GFM).
+pub fn is_white_space(byte: u8) -> bool {
+    matches!(byte, b'\t'..=b'\r' | b' ')
 }
 
 /// The white space at the ends of data, by where it begins and what comes next.

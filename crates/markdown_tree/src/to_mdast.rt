@@ -15,7 +15,8 @@ ghost use Rattle.markdown_events.specs.Steps.{event_count};
 ghost use Rattle.markdown_steps.specs.Visits.{run_visits};
 
 pub use character_references::references::References;
-use markdown_builder::slice::{Document, position_of};
+pub use markdown_builder::slice::Document;
+use markdown_builder::slice::position_of;
 use markdown_context::context::Context;
 use markdown_grammar::error_kind::Stop;
 pub use markdown_grammar::values::Values;
@@ -102,7 +103,8 @@ pub fn compile_with<R: References>(
     // Without events a tree comes, whatever the allocator does.
     ensures empty { events.now ≡ [] → IsOk result }
 {
-    compile_counted_with(alloc, &mut Steps::new(events), bytes, references, values)
+    let document = Document::new(bytes, values);
+    compile_document(alloc, &mut Steps::new(events), &document, references)
 }
 
 /// Does what [`compile`] does for the list in `steps`, which it reads through `steps` alone, and adds
@@ -140,23 +142,28 @@ pub fn compile_counted<R: References>(
     ensures bound_without { IfErr result (λ fault.
         steps.new.count ≤ steps.old.count + 4 * length steps.old.events + buffered_events steps.old.events) }
 {
-    compile_counted_with(alloc, steps, bytes, references, Values::AsInDocument)
+    let document = Document::new(bytes, Values::AsInDocument);
+    compile_document(alloc, steps, &document, references)
 }
 
-/// Does what [`compile_counted`] does, with values that are read so: the steps are the same.
+/// Does what [`compile_counted`] does for a document, which says how values are read and which bytes are
+/// hidden. The steps are the same.
 ///
-/// For the events of `Hi` it adds at most 16 steps, however values are read.
-pub fn compile_counted_with<R: References>(
+/// A hidden byte stands within a span and is no part of its value, nor of the identifier of a label: the
+/// marker of a block quote in a label over two lines, and in a table the backslash before a pipe. Which
+/// bytes these are, nobody asks here.
+///
+/// For the events of `Hi` it adds at most 16 steps, whatever is hidden.
+pub fn compile_document<R: References>(
     alloc: Global,
     steps: &mut Steps<'_>,
-    bytes: &[u8],
+    document: &Document<'_>,
     references: &R,
-    values: Values,
 ) -> Result<Node, Fault>
     // A tree is the meaning of an accepted forest that has these events.
-    ensures found { IfOk result (λ tree. IsMeaning tree steps.old.events (source_with values bytes.now (R.text references.now))) }
+    ensures found { IfOk result (λ tree. IsMeaning tree steps.old.events (source_of document.now (R.text references.now))) }
     // A message comes only where there is no such forest.
-    ensures refused { IfErr result (λ fault. FailsRightly fault steps.old.events (source_with values bytes.now (R.text references.now))) }
+    ensures refused { IfErr result (λ fault. FailsRightly fault steps.old.events (source_of document.now (R.text references.now))) }
     // Where the offsets never go back, spans nest and siblings stand in order, but for the starts in
     // the first paragraphs of task items.
     ensures ordered { IfOk result (λ tree. NeverGoesBack steps.old.events → IsOrdered (only (view tree))) }
@@ -167,35 +174,29 @@ pub fn compile_counted_with<R: References>(
     // Each event takes at most four steps, and each node in a buffer one.
     ensures bound { IfOk result (λ tree. (forest : Forest) → events_of forest ≡ steps.old.events
         → steps.new.count ≤ steps.old.count + 4 * length steps.old.events
-        + buffered_nodes (source_with values bytes.now (R.text references.now)) forest) }
+        + buffered_nodes (source_of document.now (R.text references.now)) forest) }
     // Without a tree, each event inside a span with a buffer's name takes at most one more.
     ensures bound_without { IfErr result (λ fault.
         steps.new.count ≤ steps.old.count + 4 * length steps.old.events + buffered_events steps.old.events) }
 {
-    compile_list(alloc, steps, bytes, references, values)
+    compile_list(alloc, steps, document, references)
 }
 
-/// Does what [`compile_counted_with`] does; its contract says it by the compilation on values.
+/// Does what [`compile_document`] does; its contract says it by the compilation on values.
 fn compile_list<R: References>(
     alloc: Global,
     steps: &mut Steps<'_>,
-    bytes: &[u8],
+    document: &Document<'_>,
     references: &R,
-    values: Values,
 ) -> Result<Node, Fault>
-    ensures gives { Completes view result (compiled (source_with values bytes.now (R.text references.now)) steps.old.events) }
+    ensures gives { Completes view result (compiled (source_of document.now (R.text references.now)) steps.old.events) }
     ensures fits { IfOk result (λ tree. (extent_of steps.old.events).end.offset < 2 ^ 64) }
     ensures empty { steps.old.events ≡ [] → IsOk result }
     ensures list { steps.new.events ≡ steps.old.events }
     ensures bound { steps.new.count ≤ steps.old.count + 4 * length steps.old.events
-        + run_visits (source_with values bytes.now (R.text references.now)) steps.old.events opening }
+        + run_visits (source_of document.now (R.text references.now)) steps.old.events opening }
 {
-    let Taken { context, outcome } = take_all(
-        alloc,
-        steps,
-        &Document::new(bytes, values),
-        references,
-    );
+    let Taken { context, outcome } = take_all(alloc, steps, document, references);
     let length = match outcome {
         Ok(length) => length,
         Err(fault) => {

@@ -24,6 +24,8 @@ pub struct Case<'a> {
     pub options: Option<ParseOptions>,
     /// The events.
     pub events: Vec<Event>,
+    /// A flag for each byte that says whether it is hidden, where the events are the tokenizer's.
+    pub hidden: Vec<bool>,
     /// The tree as Debug prints it, after `= `, or the rule and the place of the refusal, after `! `.
     pub answer: &'a str,
     /// Whether its tree is ordered, where a line says it.

@@ -10,7 +10,7 @@ use markdown_nodes::event::{Event, Kind, Point};
 use markdown_nodes::mdast::Node;
 use markdown_nodes::message::{Fault, Message, Place};
 use markdown_tree::to_mdast::{
-    Steps, Values, compile, compile_counted, compile_counted_with, compile_with,
+    Document, Steps, Values, compile, compile_counted, compile_document, compile_with,
 };
 use mdast_check::report::report_of;
 use std::alloc::{AllocError, AllocFailed, Global};
@@ -322,7 +322,25 @@ fn outcome(alloc: Global, case: &Case<'_>, events: &[Event]) -> Result<Node, Fau
     let bytes = case.document.bytes.as_slice();
     match case.values {
         Values::AsInDocument => compile(alloc, events, bytes, &case.decoder),
-        values => compile_with(alloc, events, bytes, &case.decoder, values),
+        values if case.hidden.is_empty() => {
+            compile_with(alloc, events, bytes, &case.decoder, values)
+        }
+        _ => compile_document(
+            alloc,
+            &mut Steps::new(events),
+            &document_of(case),
+            &case.decoder,
+        ),
+    }
+}
+
+/// The document of a case, with its hidden bytes.
+fn document_of<'c>(case: &'c Case<'_>) -> Document<'c> {
+    let bytes = case.document.bytes.as_slice();
+    if case.hidden.is_empty() {
+        Document::new(bytes, case.values)
+    } else {
+        Document::hiding(bytes, &case.hidden)
     }
 }
 
@@ -332,7 +350,7 @@ fn counted(alloc: Global, case: &Case<'_>) -> Result<String, AllocError> {
     let bytes = case.document.bytes.as_slice();
     let outcome = match case.values {
         Values::AsInDocument => compile_counted(alloc, &mut steps, bytes, &case.decoder),
-        values => compile_counted_with(alloc, &mut steps, bytes, &case.decoder, values),
+        _ => compile_document(alloc, &mut steps, &document_of(case), &case.decoder),
     };
     answer(alloc, &outcome)
 }

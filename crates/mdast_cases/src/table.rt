@@ -37,7 +37,7 @@ use crate::spans::events_of_spans;
 use crate::sums::Checksum;
 use crate::unquoted::unquoted;
 use event_lines::lines::events;
-use markdown::ParseOptions;
+use markdown::{ParseOptions, hidden_bytes};
 use markdown_nodes::event::Event;
 use markdown_tree::to_mdast::Values;
 use std::alloc::{AllocError, AllocFailed, Global};
@@ -171,6 +171,8 @@ struct Draft<'a> {
     options: Option<ParseOptions>,
     /// The events so far.
     events: Vec<Event>,
+    /// The flags of hidden bytes, after the line that says how the tokenizer reads the document.
+    hidden: Vec<bool>,
     /// The answer, after the line that says it.
     answer: Option<&'a str>,
     /// Whether the tree is ordered, after the line that says it.
@@ -194,6 +196,7 @@ impl<'a> Draft<'a> {
             values: Values::AsInDocument,
             options: None,
             events: Vec::new(alloc),
+            hidden: Vec::new(alloc),
             answer: None,
             ordered: None,
             written: None,
@@ -286,11 +289,12 @@ impl<'a> Draft<'a> {
             Some(document) => document.text().ok_or(LineError::Unread)?,
             None => return Err(LineError::Unread),
         };
-        let events = events_of_document(alloc, text, &options);
+        let events = events_of_document(alloc, text, &options)?;
+        self.hidden = hidden_bytes(alloc, text.as_bytes(), &events)?;
         self.decoder = CaseDecoder::Html;
         self.values = Values::Whole;
         once(&mut self.options, options)?;
-        self.add_events(events)
+        self.add_events(Ok(events))
     }
 
     /// Adds events, if they were read.
@@ -308,6 +312,7 @@ impl<'a> Draft<'a> {
             values: self.values,
             options: self.options,
             events: self.events,
+            hidden: self.hidden,
             answer: self.answer?,
             ordered: self.ordered,
             written: self.written,

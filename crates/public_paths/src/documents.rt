@@ -1,9 +1,11 @@
 //! Documents.
 
 use crate::expect::holds;
-use markdown::{Constructs, ParseOptions, to_events, to_mdast};
+use character_references::html::HtmlReferences;
+use markdown::{Constructs, ParseOptions, hidden_bytes, to_events, to_mdast};
 use markdown_nodes::mdast::Node;
 use markdown_nodes::message::Fault;
+use markdown_tree::to_mdast::{Document, Steps, compile_document};
 
 #[test]
 fn a_document_is_read(rt: HostRuntime) -> Result<(), Fault> {
@@ -15,5 +17,23 @@ fn a_document_is_read(rt: HostRuntime) -> Result<(), Fault> {
     holds(&rt, events.len() == 4);
     let tree = to_mdast(rt.alloc(), "Hi", &options)?;
     holds(&rt, matches!(&tree, Node::Root(_)));
+    Ok(())
+}
+
+/// A label over two lines of a block quote. The offset of the second marker is 5.
+const QUOTE: &str = "> [a\n> b]\n\n[a b]: c";
+
+#[test]
+fn a_tree_is_made_without_hidden_bytes(rt: HostRuntime) -> Result<(), Fault> {
+    let events = to_events(rt.alloc(), QUOTE, &ParseOptions::default())?;
+    let hidden = hidden_bytes(rt.alloc(), QUOTE.as_bytes(), &events)?;
+    holds(&rt, hidden.iter().position(|flag| *flag) == Some(5));
+    let document = Document::hiding(QUOTE.as_bytes(), &hidden);
+    let mut steps = Steps::new(&events);
+    let tree = compile_document(rt.alloc(), &mut steps, &document, &HtmlReferences)?;
+    holds(
+        &rt,
+        tree == to_mdast(rt.alloc(), QUOTE, &ParseOptions::default())?,
+    );
     Ok(())
 }

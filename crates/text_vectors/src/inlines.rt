@@ -2,6 +2,7 @@
 
 use crate::reading::shows;
 use markdown_events::message::Fault;
+use std::alloc::{AllocError, Global};
 
 #[test]
 fn escapes(rt: HostRuntime) -> Result<(), Fault> {
@@ -152,6 +153,78 @@ fn autolinks(rt: HostRuntime) -> Result<(), Fault> {
         "a@b.c!",
         "(Paragraph GfmAutolinkLiteralEmail:5 Data:6 ) ",
     )
+}
+
+/// Documents, and where the autolink literal in each begins and ends. Data stands before and after it.
+const LITERALS: [(&str, &str, usize, usize); 14] = [
+    ("~http://a.b", "Protocol", 1, 11),
+    ("a\u{b}www.a.b", "Www", 2, 9),
+    ("http://a.b..c", "Protocol", 0, 13),
+    ("ftp://_.a_.b.c", "Protocol", 0, 14),
+    ("www.a.b__.*", "Www", 0, 7),
+    ("http://-.-)", "Protocol", 0, 10),
+    ("http://a.b/[c](d)", "Protocol", 0, 17),
+    ("http://a.b/c]", "Protocol", 0, 13),
+    ("[ http://a.b/[c]]", "Protocol", 2, 16),
+    ("[ www.a.b_]", "Www", 2, 9),
+    ("www.a.b/\"c;", "Www", 0, 11),
+    ("www.a.b/c&d1;&e;?", "Www", 0, 9),
+    ("a@b.1", "Email", 0, 5),
+    ("a@-b._c.", "Email", 0, 7),
+];
+
+#[test]
+fn autolink_literals(rt: HostRuntime) -> Result<(), Fault> {
+    let alloc = rt.alloc();
+    for (document, name, start, end) in LITERALS {
+        let size = document.len();
+        let before = data_to(alloc, start, start > 0)?;
+        let after = data_to(alloc, size, end < size)?;
+        let want = format!(in alloc;
+            "(Paragraph {before}GfmAutolinkLiteral{name}:{end} {after}) "
+        )?;
+        shows(&rt, alloc, document, want.as_str())?;
+    }
+    Ok(())
+}
+
+/// Data up to an offset as a text, where there is any.
+fn data_to(alloc: Global, end: usize, is_there: bool) -> Result<String, AllocError> {
+    if is_there {
+        format!(in alloc; "Data:{end} ")
+    } else {
+        Ok(String::new(alloc))
+    }
+}
+
+/// Documents in which nothing is an autolink literal.
+const NO_LITERALS: [&str; 15] = [
+    "http://a",
+    "www.a",
+    "www.a._",
+    "http://a..b",
+    "ftp://.a.b",
+    "www.a.b_/c",
+    "www.a_.b.*c",
+    "/http://a.b",
+    "1www.a.b",
+    "\"ftp://a.b",
+    "[www.a.b",
+    "]http://a.b",
+    "a@.b",
+    "a@b.1-",
+    "a@b..c",
+];
+
+#[test]
+fn no_autolink_literals(rt: HostRuntime) -> Result<(), Fault> {
+    let alloc = rt.alloc();
+    for document in NO_LITERALS {
+        let size = document.len();
+        let want = format!(in alloc; "(Paragraph Data:{size} ) ")?;
+        shows(&rt, alloc, document, want.as_str())?;
+    }
+    Ok(())
 }
 
 #[test]

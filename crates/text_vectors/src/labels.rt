@@ -87,6 +87,35 @@ fn marks_of_tasks(rt: HostRuntime) -> Result<(), Fault> {
 }
 
 #[test]
+fn marks_of_tasks_over_two_lines(rt: HostRuntime) -> Result<(), Fault> {
+    let alloc = rt.alloc();
+    shows(
+        &rt,
+        alloc,
+        "* [\r\n  ] a",
+        "(ListUnordered (ListItem (ListItemPrefix ListItemMarker:1 SpaceOrTab:2 ) (Paragraph (GfmTaskListItemCheck GfmTaskListItemMarker:3 GfmTaskListItemValueUnchecked:5 SpaceOrTab:7 GfmTaskListItemMarker:8 ) Data:10 ) ) ) ",
+    )?;
+    shows(
+        &rt,
+        alloc,
+        "* [\n] a",
+        "(ListUnordered (ListItem (ListItemPrefix ListItemMarker:1 SpaceOrTab:2 ) (Paragraph (GfmTaskListItemCheck GfmTaskListItemMarker:3 GfmTaskListItemValueUnchecked:4 GfmTaskListItemMarker:5 ) Data:7 ) ) ) ",
+    )?;
+    shows(
+        &rt,
+        alloc,
+        "* [\n\t] a",
+        "(ListUnordered (ListItem (ListItemPrefix ListItemMarker:1 SpaceOrTab:2 ) (Paragraph (GfmTaskListItemCheck GfmTaskListItemMarker:3 GfmTaskListItemValueUnchecked:4 SpaceOrTab:4 SpaceOrTab:5 GfmTaskListItemMarker:6 ) Data:8 ) ) ) ",
+    )?;
+    shows(
+        &rt,
+        alloc,
+        "> * [\n >   ] a",
+        "(BlockQuote (BlockQuotePrefix BlockQuoteMarker:1 SpaceOrTab:2 ) (ListUnordered (ListItem (ListItemPrefix ListItemMarker:3 SpaceOrTab:4 ) (Paragraph (GfmTaskListItemCheck GfmTaskListItemMarker:5 GfmTaskListItemValueUnchecked:6 SpaceOrTab:7 (BlockQuotePrefix BlockQuoteMarker:8 SpaceOrTab:9 ) SpaceOrTab:11 GfmTaskListItemMarker:12 ) Data:14 ) ) ) ) ",
+    )
+}
+
+#[test]
 fn strings_have_escapes_and_references_alone(rt: HostRuntime) -> Result<(), Fault> {
     let alloc = rt.alloc();
     shows(

@@ -1,0 +1,144 @@
+//! Hidden bytes: they stand within a label or the cell of a table, and are no part of what these say.
+
+ghost use Rattle.std.specs.Prelude.{◌≡◌, ◌<◌, ◌+◌, ◌++◌, ◌-◌, ◌^◌, IfOk, OnOk, drop, length, take};
+ghost use Rattle.markdown.specs.Hidden.{cell_after, escapes, flags_at, hidden, hidden_by, hidden_from, is_label, labels_after, with_set};
+
+use markdown_events::event::{Event, Kind, Name};
+use std::alloc::{AllocError, Global};
+
+/// A flag for each byte of a document with these events, which says whether it is hidden; or no flag,
+/// where none is. `Document::hiding` of `markdown_tree` takes them, for whoever makes a tree of the
+/// events of [`to_events`](crate::to_events). The only error is that memory ran out.
+///
+/// Hidden is the marker of a block quote within a label that goes over lines (CommonMark), and in the
+/// cell of a table a backslash before a pipe (GFM).
+///
+/// In `> [a⏎> b]` the second `>` is hidden.
+pub fn hidden_bytes(alloc: Global, bytes: &[u8], events: &[Event]) -> Result<Vec<bool>, AllocError>
+    ensures { IfOk result (λ flags. flags.items ≡ hidden bytes.now events.now) }
+{
+    let offsets = hidden_offsets(alloc, bytes, events)?;
+    flags_at(alloc, bytes.len(), &offsets)
+}
+
+/// The offsets of the hidden bytes.
+fn hidden_offsets(alloc: Global, bytes: &[u8], events: &[Event]) -> Result<Vec<usize>, AllocError>
+    ensures { IfOk result (λ offsets. offsets.items ≡ hidden_from bytes.now 0 0 events.now) }
+{
+    let mut offsets = Vec::new(alloc);
+    let mut labels = 0;
+    let mut cell = 0;
+    let mut rest = events;
+    'events: while let Some((event, later)) = rest.split_first() {
+        add_hidden(&mut offsets, bytes, labels, cell, event)?;
+        labels = labels_after(labels, event);
+        cell = cell_after(cell, event);
+        rest = later;
+    }
+    Ok(offsets)
+}
+
+/// Adds the offsets that an event hides, where so many labels are open, and the cell that is open began
+/// at an offset.
+fn add_hidden(
+    offsets: &mut Vec<usize>,
+    bytes: &[u8],
+    labels: usize,
+    cell: usize,
+    event: &Event,
+) -> Result<(), AllocError>
+    ensures { OnOk result (offsets.new.items ≡ offsets.old.items ++ hidden_by bytes.now labels cell event.now.kind event.now.name event.now.point.index) }
+{
+    let index = event.point.index;
+    match (event.kind, event.name) {
+        (Kind::Enter, Name::BlockQuoteMarker) if labels > 0 => offsets.push(index)?,
+        (Kind::Exit, Name::GfmTableCell) => add_escapes(offsets, part(bytes, cell, index), cell)?,
+        _ => {}
+    }
+    Ok(())
+}
+
+/// How many labels are open after an event.
+fn labels_after(labels: usize, event: &Event) -> usize
+    requires { labels < 2 ^ 64 - 1 }
+    ensures { result ≡ labels_after labels event.now.kind event.now.name }
+{
+    match event.kind {
+        _ if !is_label(event.name) => labels,
+        Kind::Enter => labels + 1,
+        Kind::Exit => labels.saturating_sub(1),
+    }
+}
+
+/// Whether definitions and references are matched by the bytes of a span.
+fn is_label(name: Name) -> bool
+    ensures { result ≡ is_label name }
+{
+    matches!(
+        name,
+        Name::LabelText
+            | Name::ReferenceString
+            | Name::DefinitionLabelString
+            | Name::GfmFootnoteDefinitionLabelString
+    )
+}
+
+/// Where the cell began that is open after an event.
+fn cell_after(cell: usize, event: &Event) -> usize
+    ensures { result ≡ cell_after cell event.now.kind event.now.name event.now.point.index }
+{
+    match (event.kind, event.name) {
+        (Kind::Enter, Name::GfmTableCell) => event.point.index,
+        _ => cell,
+    }
+}
+
+/// The bytes from one offset to another, as far as there are any.
+fn part(bytes: &[u8], start: usize, end: usize) -> &[u8]
+    ensures { result.now ≡ take (end - start) (drop start bytes.now) }
+{
+    let rest = bytes.get(start..).unwrap_or(&[]);
+    rest.get(..end.saturating_sub(start)).unwrap_or(rest)
+}
+
+/// Adds the offsets of the backslashes before pipes in a text that begins at an offset.
+fn add_escapes(offsets: &mut Vec<usize>, text: &[u8], start: usize) -> Result<(), AllocError>
+    requires { start + length text.now < 2 ^ 64 }
+    ensures { OnOk result (offsets.new.items ≡ offsets.old.items ++ escapes start text.now) }
+{
+    let mut at = start;
+    let mut rest = text;
+    'bytes: while let Some((first, later)) = rest.split_first() {
+        if *first == b'\\' && matches!(later, [b'|', ..]) {
+            offsets.push(at)?;
+        }
+        at += 1;
+        rest = later;
+    }
+    Ok(())
+}
+
+/// A flag for each of so many bytes, set at these offsets; or no flag, where there is no offset.
+fn flags_at(alloc: Global, count: usize, offsets: &[usize]) -> Result<Vec<bool>, AllocError>
+    ensures { IfOk result (λ flags. flags.items ≡ flags_at count offsets.now) }
+{
+    if offsets.is_empty() {
+        return Ok(Vec::new(alloc));
+    }
+    let mut flags = vec![in alloc; false; count]?;
+    set_all(&mut flags, offsets);
+    Ok(flags)
+}
+
+/// Sets the flags at these offsets.
+fn set_all(flags: &mut Vec<bool>, offsets: &[usize])
+    ensures { flags.new.items ≡ with_set offsets.now flags.old.items }
+{
+    let mut rest = offsets;
+    'offsets: while let Some((at, later)) = rest.split_first() {
+        if let Some(flag) = flags.get_mut(*at) {
+            *flag = true;
+        }
+        rest = later;
+    }
+}
