@@ -1,3 +1,4 @@
+pub mod OnlyPlaces
 pub mod Readings
 pub mod TextCuts
 pub mod WholeTexts

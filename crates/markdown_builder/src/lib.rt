@@ -3,8 +3,10 @@
 #![tactic(auto)]
 
 pub mod buffer;
+pub mod fenced;
 pub mod items;
 pub mod label;
+pub mod line_ending;
 pub mod marks;
 pub mod misfits;
 pub mod number;

@@ -98,6 +98,13 @@ impl<'a> Document<'a> {
         self.bytes.len()
     }
 
+    /// The bytes from an offset on: none where that is past the end.
+    pub(crate) fn bytes_from(&self, offset: usize) -> &'a [u8]
+        ensures { result.now ≡ drop offset self.now.bytes }
+    {
+        self.bytes.get(offset..).unwrap_or(&[])
+    }
+
     /// Whether values are whole.
     pub(crate) fn is_whole(&self) -> bool
         ensures { result ≡ is_whole self.now.values }

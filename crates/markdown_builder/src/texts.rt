@@ -8,18 +8,20 @@ ghost use Rattle.markdown_builder.specs.ValueTexts.{is_kept, is_unpadded};
 use markdown_nodes::text::{line_endings_to_spaces, raw_text, trim_eol};
 use std::alloc::{AllocError, Global};
 
-/// The value of a block: the text without one line ending at its end, and without one at its start
-/// where that is asked. So fenced code, math and frontmatter lose the line endings beside their
-/// fences, and indented code its last one alone. It takes no memory.
+/// The value of a block: the text without one line ending at its start and one at its end, where that
+/// is asked. So fenced code, math and frontmatter lose the line endings beside their fences, and
+/// indented code its last one alone. It takes no memory.
 ///
-/// A CR and an LF after it are one line ending. With `at_start`, `\na\n\n` gives `a\n`.
-pub fn block_value(mut text: String, at_start: bool) -> String
-    ensures { string_bytes result ≡ trim (string_bytes text) at_start true }
+/// A CR and an LF after it are one line ending. With both, `\na\n\n` gives `a\n`.
+pub fn block_value(mut text: String, at_start: bool, at_end: bool) -> String
+    ensures { string_bytes result ≡ trim (string_bytes text) at_start at_end }
 {
     if at_start {
         trim_start(&mut text);
     }
-    trim_end(&mut text);
+    if at_end {
+        trim_end(&mut text);
+    }
     text
 }
 

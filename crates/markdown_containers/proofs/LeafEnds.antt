@@ -15,8 +15,8 @@ use Rattle.markdown_events.specs.declared.role.Content.TheVariants as contents
 use Rattle.markdown_containers.specs.declared.container.Container.{Container}
 use Rattle.markdown_containers.specs.declared.open_container.OpenContainer.{OpenContainer}
 use Rattle.markdown_steps.specs.Compiler.{ContainerState, with_child, fresh, leave, lengthened, nothing_yet}
+use Rattle.markdown_grammar.specs.LineEndings.{ending_read}
 use Rattle.markdown_grammar.specs.Refusals.{value_error}
-use Rattle.markdown_grammar.specs.Document.{value_read}
 use Rattle.markdown_grammar.specs.Grammar.{leaf}
 use Rattle.markdown_containers.specs.Containers.{Keeps, current_model_of}
 use Rattle.markdown_literals.specs.Autolinks.{is_literal}
@@ -177,11 +177,11 @@ break_ends s in_table here top new a b children place same ending made =
 
 -- one is text where line endings are
 pub text_in : (s : Source) (in_table : Bool) (top new : OpenContainer) (a b : Point) (children : ChildFacts) (place : Place) → top.line_endings ≡ true → new.container ≡ top.container → new.line_endings ≡ top.line_endings
-    → views new.nodes.items ≡ join (views top.nodes.items) (one_text (value_read s a b) (between a b)) → is_some (slice s.bytes a b) ≡ true
+    → views new.nodes.items ≡ join (views top.nodes.items) (one_text (ending_read s a b) (between a b)) → is_some (slice s.bytes a b) ≡ true
     → leave s (content contents.LineEnding) a b children (fresh leaf place) (container_state_of in_table None top) ≡ Ok (container_state_of in_table None new)
 text_in s in_table top new a b children place is_text same ending made read =
     content_in s in_table top new contents.LineEnding a b children place refl same ending
-    (made ∙ ap (λ (l : Bool). join (views top.nodes.items) (cond l (one_text (value_read s a b) (between a b)) nothing)) (sym is_text)) refl
+    (made ∙ ap (λ (l : Bool). join (views top.nodes.items) (cond l (one_text (ending_read s a b) (between a b)) nothing)) (sym is_text)) refl
     (ap (λ (l : Bool). not (l && not false) || is_some (slice s.bytes a b)) is_text ∙ read)
 
 pub text_unread : (s : Source) (in_table : Bool) (top : OpenContainer) (a b : Point) (children : ChildFacts) (place : Place) → top.line_endings ≡ true → is_some (slice s.bytes a b) ≡ false
@@ -194,7 +194,7 @@ pub nothing_in : (s : Source) (in_table : Bool) (top : OpenContainer) (a b : Poi
     → leave s (content contents.LineEnding) a b children (fresh leaf place) (container_state_of in_table None top) ≡ Ok (container_state_of in_table None top)
 nothing_in s in_table top a b children place is_none =
     content_in s in_table top top contents.LineEnding a b children place refl refl refl
-    (sym (ap (λ (l : Bool). join (views top.nodes.items) (cond l (one_text (value_read s a b) (between a b)) nothing)) is_none ∙ join-nothing (views top.nodes.items))) refl
+    (sym (ap (λ (l : Bool). join (views top.nodes.items) (cond l (one_text (ending_read s a b) (between a b)) nothing)) is_none ∙ join-nothing (views top.nodes.items))) refl
     (ap (λ (l : Bool). not (l && not false) || is_some (slice s.bytes a b)) is_none)
 
 -- ---- What is known of the break that waits

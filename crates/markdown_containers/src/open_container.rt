@@ -50,7 +50,7 @@ use markdown_builder::items::has_line_endings_after;
 use markdown_builder::marks::Marks;
 use markdown_builder::slice::{Document, byte_at, position_of};
 use markdown_grammar::error_kind::Stop;
-use markdown_inlines::text::{hard_break, put_slice};
+use markdown_inlines::text::{hard_break, put_line_ending, put_slice};
 use markdown_joining::{append, put, put_text};
 use markdown_literals::autolink::literal;
 use markdown_literals::code::{indented_code, inline_code};
@@ -217,7 +217,7 @@ impl<'a> OpenContainer<'a> {
             return Ok(());
         }
         if self.line_endings {
-            return put_slice(alloc, &mut self.nodes, document, ending.start, ending.end);
+            return put_line_ending(alloc, &mut self.nodes, document, ending.start, ending.end);
         }
         Ok(())
     }
@@ -461,8 +461,8 @@ impl<'a> OpenContainer<'a> {
             Container::FootnoteDefinition(parts) => Ok(parts.node(alloc, nodes, position)),
             Container::HeadingAtx(parts) => parts.node(nodes, position),
             Container::HeadingSetext(parts) => parts.node(nodes, position),
-            Container::CodeFenced(parts) => parts.node(alloc, steps, nodes, position),
-            Container::MathFlow(parts) => parts.node(alloc, steps, nodes, position),
+            Container::CodeFenced(parts) => parts.node(alloc, steps, document, nodes, position),
+            Container::MathFlow(parts) => parts.node(alloc, steps, document, nodes, position),
             Container::Autolink(parts) => Ok(parts.node(alloc, ending.start, ending.end)?),
             Container::Media(parts) if content == Content::Image => {
                 Ok(parts.image(alloc, steps, position)?)

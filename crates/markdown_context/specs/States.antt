@@ -125,6 +125,14 @@ pub record OpenedContainer (s : Source) (what : ItemKind) (point : Point) (old n
   pub outer : around_innermost new.containers ≡ innermost old.containers ∷ around_innermost old.containers
   pub others : new ≡ record old { containers = new.containers }
 
+-- a container without nodes was put into the innermost one
+pub record PutIn (what : ItemKind) (container : Container) (old new : Context) : Type 0 where
+  pub is : (innermost new.containers).container ≡ container
+  pub line_endings : (innermost new.containers).line_endings ≡ line_ending_is_text what
+  pub nodes : (innermost new.containers).nodes.items ≡ []
+  pub outer : around_innermost new.containers ≡ innermost old.containers ∷ around_innermost old.containers
+  pub others : new ≡ record old { containers = new.containers }
+
 -- a significant span begins, as a leaf or as a container, if it may
 abbrev pub Opened : Source → ItemKind → Point → Context → Context → Result Bool Stop → Type 0
 Opened s what point old new (Ok true) = OpenedLeaf s what point old new

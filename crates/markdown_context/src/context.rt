@@ -22,6 +22,7 @@ ghost use Rattle.markdown_context.specs.States.{
   IsNoParent,
   LeafEnds,
   Opened,
+  PutIn,
   Reaches,
   ReachesTop,
   item_left,
@@ -191,13 +192,30 @@ impl<'a> Context<'a> {
         if around.takes_as_leaf(what) {
             return Ok(true);
         }
+        // Most containers keep no parts. Where that is known, no room for parts is moved.
+        match around.opened(what) {
+            Container::AnyContent => self.put(alloc, what, Container::AnyContent)?,
+            container => self.put(alloc, what, container)?,
+        }
+        Ok(false)
+    }
+
+    /// Puts a container into the innermost one, with no nodes in it.
+    #[inline(always)]
+    fn put(
+        &mut self,
+        alloc: Global,
+        what: ItemKind,
+        container: Container<'a>,
+    ) -> Result<(), AllocError>
+        ensures { OnOk result (PutIn what container.entry self.old self.new) }
+    {
         let inner = OpenContainer {
-            container: around.opened(what),
+            container,
             line_endings: has_line_endings(what),
             nodes: Vec::new(alloc),
         };
-        inner.open_in(&mut self.containers)?;
-        Ok(false)
+        inner.open_in(&mut self.containers)
     }
 
     /// Takes one event.
@@ -476,10 +494,16 @@ impl<'a> Context<'a> {
             item_left s (item_kinds.Content content) frame end.now self.old ≡ Ok (top_of self.new)) }
         ensures closed { OnOk result (Closed (roles.Significant (item_kinds.Content content)) self.old self.new) }
     {
-        let Some(own) = self.containers.inner.pop() else {
+        let Some(
+            OpenContainer {
+                container: Container::AnyContent,
+                line_endings: _,
+                nodes,
+            },
+        ) = self.containers.inner.pop()
+        else {
             unreachable!()
         };
-        let nodes = own.into_nodes();
         self.in_table = frame.in_table;
         self.containers
             .innermost_mut()

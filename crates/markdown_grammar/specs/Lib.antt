@@ -1,6 +1,8 @@
 pub mod Hidden
 pub mod Whole
 pub mod Document
+pub mod LineEndings
+pub mod Fenced
 pub mod Items
 pub mod Attributes
 pub mod Grammar

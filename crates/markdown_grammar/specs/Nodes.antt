@@ -10,7 +10,9 @@ use Rattle.markdown_events.specs.Forest.{Forest}
 use Rattle.markdown_events.specs.Spread.{align, loose, loose_item}
 use Rattle.markdown_texts.specs.Texts.{raw, spaces, trim}
 use Rattle.markdown_events.specs.declared.role.ItemKind.{ItemKind}
-use Rattle.markdown_grammar.specs.Document.{Source, is_byte, length_between, value_read}
+use Rattle.markdown_grammar.specs.Document.{Source, given_of, is_byte, length_between, value_read}
+use Rattle.markdown_grammar.specs.Fenced.{fenced}
+use Rattle.markdown_grammar.specs.LineEndings.{ending_read}
 use Rattle.markdown_grammar.specs.Items.{Items, item, none}
 use Rattle.markdown_grammar.specs.Tasks.{task_if}
 use Rattle.markdown_events.specs.declared.role.ItemKind.TheVariants.{Content as content, Part as part}
@@ -104,11 +106,15 @@ target s xs =
       label = or_empty (option_or (text parts.ReferenceString reference) (label_text xs));
     }
 
+-- what stands between its fences
+abbrev pub fenced_of : Source → Span → List ℕ
+fenced_of s x = fenced (given_of s) x.end.index (nodes_of x.items)
+
 -- code with the words of its first fence
-abbrev pub fenced_code : Span → Label
-fenced_code x =
+abbrev pub fenced_code : Source → Span → Label
+fenced_code s x =
     let fence : Decorated = within parts.CodeFencedFence x.items in
-    tree.code (trim (content_of x) true true) (text parts.CodeFencedFenceInfo fence) (text parts.CodeFencedFenceMeta fence)
+    tree.code (fenced_of s x) (text parts.CodeFencedFenceInfo fence) (text parts.CodeFencedFenceMeta fence)
 
 -- a definition of a link, and of a footnote: without a label the identifier is empty
 abbrev pub link_definition : Source → Span → Label
@@ -123,7 +129,7 @@ note_definition s x = tree.footnote_definition (or_empty (identifier s parts.Foo
 abbrev pub node_of : Source → ItemKind → Span → Trees
 node_of s (content contents.Data) x = literal x (tree.text (value_of s x))
 node_of s (content contents.CharacterReference) x = literal x (tree.text (or_empty (character s x.items)))
-node_of s (content contents.LineEnding) x = if x.place.line_endings then literal x (tree.text (value_of s x)) else nothing
+node_of s (content contents.LineEnding) x = if x.place.line_endings then literal x (tree.text (ending_read s x.start x.end)) else nothing
 node_of s (content contents.HardBreak) x = literal x tree.«break»
 node_of s (content contents.Autolink) x = autolink s x (first parts.AutolinkEmail x.items) (first parts.AutolinkProtocol x.items)
 node_of s (content contents.AutolinkLiteralEmail) x = linked (codes "mailto:") (value_of s x) x.start x.end x.start x.end
@@ -144,9 +150,9 @@ node_of s (content contents.ThematicBreak) x = literal x tree.thematic_break
 node_of s (content contents.ListOrdered) x = parent x (tree.list true x.number (loose x.children false))
 node_of s (content contents.ListUnordered) x = parent x (tree.list false None (loose x.children false))
 node_of s (content contents.ListItem) x = node_at (tree.list_item (loose_item x.children) x.mark) (task_if x.mark (nodes_of x.items)) x.start x.end
-node_of s (content contents.CodeFenced) x = literal x (fenced_code x)
+node_of s (content contents.CodeFenced) x = literal x (fenced_code s x)
 node_of s (content contents.CodeIndented) x = literal x (tree.code (trim (content_of x) false true) None None)
-node_of s (content contents.MathFlow) x = literal x (tree.math (trim (content_of x) true true) (text parts.MathFlowFenceMeta (within parts.MathFlowFence x.items)))
+node_of s (content contents.MathFlow) x = literal x (tree.math (fenced_of s x) (text parts.MathFlowFenceMeta (within parts.MathFlowFence x.items)))
 node_of s (content contents.CodeText) x = literal x (tree.inline_code (raw (spaces (content_of x)) (unescapes s x.place)))
 node_of s (content contents.MathText) x = literal x (tree.inline_math (raw (spaces (content_of x)) (unescapes s x.place)))
 node_of s (content contents.Html) x = literal x (tree.html (content_of x))

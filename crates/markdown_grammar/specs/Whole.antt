@@ -1,5 +1,5 @@
 -- Whole values, as CommonMark has them: the columns of a split tab as spaces, and U+FFFD for each NUL.
-use Rattle.std.specs.Prelude.{ℕ, ◌-◌, ◌%◌, ◌==◌, min, List, [], ◌∷◌, ◌++◌, Option, None, Some, nat_lt, codes, replicate, if◌then◌else◌}
+use Rattle.std.specs.Prelude.{ℕ, ◌-◌, ◌%◌, ◌==◌, min, List, [], ◌∷◌, ◌++◌, Option, None, Some, nat_lt, replicate, if◌then◌else◌}
 use Rattle.std.specs.List.{flat_map}
 use Rattle.markdown_texts.specs.TextWalks.{before_last}
 use Rattle.markdown_events.specs.declared.event.Point.{Point}

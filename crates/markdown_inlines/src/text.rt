@@ -10,8 +10,9 @@ ghost use Rattle.markdown_nodes.specs.Tree.{join, nothing};
 ghost use Rattle.markdown_nodes.specs.View.{view, views};
 ghost use Rattle.markdown_grammar.specs.declared.error_kind.ErrorKind.TheVariants.{InvalidSlice};
 ghost use Rattle.markdown_builder.specs.PartsSoFar.{Makes, placed};
-ghost use Rattle.markdown_inlines.specs.Texts.{data_text};
+ghost use Rattle.markdown_inlines.specs.Texts.{data_text, ending_text};
 
+use markdown_builder::line_ending::line_ending_of;
 use markdown_builder::slice::{Document, position_of};
 use markdown_builder::value::{value_as_it_stands, value_of};
 use markdown_grammar::error_kind::Stop;
@@ -43,6 +44,35 @@ pub fn put_slice(
     }
     let value = value_of(alloc, document, start, end)?;
     put_text(alloc, nodes, value.as_str(), position)?;
+    Ok(())
+}
+
+/// Adds the text of a line ending to the nodes, as [`put_slice`] adds that of other spans.
+///
+/// Where values are whole, the CR of `>~~~␍>⏎` is added as an LF: the empty line after it ends in an LF,
+/// and the two would be read as one line ending.
+pub fn put_line_ending(
+    alloc: Global,
+    nodes: &mut Vec<Node>,
+    document: &Document<'_>,
+    start: Point,
+    end: Point,
+) -> Result<(), Stop>
+    ensures { Makes result (is_some (slice document.now.bytes start end)) InvalidSlice
+        (λ _. views nodes.new.items ≡ join (views nodes.old.items) (ending_text document.now start end)) }
+{
+    let position = position_of(start, end);
+    if let Some(value) = value_as_it_stands(document, start, end) {
+        put_text(alloc, nodes, line_ending_of(document, value, end), position)?;
+        return Ok(());
+    }
+    let made = value_of(alloc, document, start, end)?;
+    put_text(
+        alloc,
+        nodes,
+        line_ending_of(document, made.as_str(), end),
+        position,
+    )?;
     Ok(())
 }
 

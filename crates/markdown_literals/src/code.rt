@@ -19,7 +19,9 @@ ghost use Rattle.markdown_nodes.specs.Tree.{nothing};
 ghost use Rattle.markdown_nodes.specs.View.{views};
 
 use markdown_builder::buffer::values_of;
+use markdown_builder::fenced::{fenced_value, place_of};
 use markdown_builder::misfits::at_most_one;
+use markdown_builder::slice::Document;
 use markdown_builder::texts::{block_value, inline_value};
 use markdown_grammar::error_kind::{ErrorKind, Stop};
 use markdown_nodes::mdast::{Code, InlineCode, Node};
@@ -119,16 +121,17 @@ impl CodeFencedParts {
         self,
         alloc: Global,
         steps: &mut Steps<'_>,
+        document: &Document<'_>,
         nodes: Vec<Node>,
         position: Position,
     ) -> Result<Node, Stop>
         ensures node { Makes result (is_some self.fence) MissingFence
-            (IsNode (code_label self.fence (fenced_text nodes.items)) nothing position) }
+            (IsNode (code_label self.fence (fenced_text document.now position.end.offset nodes.items)) nothing position) }
         ensures list { steps.new.events ≡ steps.old.events }
         ensures bound { steps.new.count ≤ steps.old.count + node_count (views nodes.items) }
     {
         match self.fence {
-            Some(fence) => Ok(fenced_code(alloc, steps, nodes, position, fence)?),
+            Some(fence) => Ok(fenced_code(alloc, steps, document, nodes, position, fence)?),
             None => Err(Stop::Refused(ErrorKind::MissingFence)),
         }
     }
@@ -139,18 +142,21 @@ impl CodeFencedParts {
 fn fenced_code(
     alloc: Global,
     steps: &mut Steps<'_>,
+    document: &Document<'_>,
     nodes: Vec<Node>,
     position: Position,
     fence: CodeFenceParts,
 ) -> Result<Node, AllocError>
-    ensures node { IfOk result (IsNode (code_label (Some fence) (fenced_text nodes.items)) nothing position) }
+    ensures node { IfOk result (IsNode (code_label (Some fence) (fenced_text document.now position.end.offset nodes.items)) nothing position) }
     ensures list { steps.new.events ≡ steps.old.events }
     ensures bound { steps.new.count ≤ steps.old.count + node_count (views nodes.items) }
 {
     let CodeFenceParts { info, meta } = fence;
+    let place = place_of(&nodes);
+    let end = position.end.offset;
     let text = values_of(alloc, steps, nodes)?;
     Ok(Node::Code(Code {
-        value: block_value(text, true),
+        value: fenced_value(document, text, place, end),
         position: Some(position),
         lang: info,
         meta,
@@ -172,7 +178,7 @@ pub fn indented_code(
 {
     let text = values_of(alloc, steps, nodes)?;
     Ok(Node::Code(Code {
-        value: block_value(text, false),
+        value: block_value(text, false, true),
         position: Some(position),
         lang: None,
         meta: None,

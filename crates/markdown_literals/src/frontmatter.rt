@@ -3,7 +3,7 @@
 //! The original: `on_enter_frontmatter`, `on_exit_frontmatter`.
 
 ghost use Rattle.std.specs.Prelude.{◌≡◌, ◌≤◌, ◌+◌, IfOk};
-ghost use Rattle.markdown_literals.specs.RawTexts.{fenced_text};
+ghost use Rattle.markdown_literals.specs.RawTexts.{frontmatter_text};
 ghost use Rattle.markdown_builder.specs.PartsSoFar.{IsNode};
 ghost use Rattle.markdown_grammar.specs.Buffers.{node_count};
 ghost use Rattle.markdown_grammar.specs.Nodes.{frontmatter};
@@ -28,12 +28,12 @@ pub fn frontmatter(
     position: Position,
     is_toml: bool,
 ) -> Result<Node, AllocError>
-    ensures node { IfOk result (IsNode (frontmatter is_toml (fenced_text nodes.items)) nothing position) }
+    ensures node { IfOk result (IsNode (frontmatter is_toml (frontmatter_text nodes.items)) nothing position) }
     ensures list { steps.new.events ≡ steps.old.events }
     ensures bound { steps.new.count ≤ steps.old.count + node_count (views nodes.items) }
 {
     let text = values_of(alloc, steps, nodes)?;
-    let value = block_value(text, true);
+    let value = block_value(text, true, true);
     let position = Some(position);
     Ok(if is_toml {
         Node::Toml(Toml { value, position })

@@ -17,8 +17,10 @@ ghost use Rattle.markdown_nodes.specs.Tree.{nothing};
 ghost use Rattle.markdown_nodes.specs.View.{views};
 
 use markdown_builder::buffer::values_of;
+use markdown_builder::fenced::{fenced_value, place_of};
 use markdown_builder::misfits::at_most_one;
-use markdown_builder::texts::{block_value, inline_value};
+use markdown_builder::slice::Document;
+use markdown_builder::texts::inline_value;
 use markdown_grammar::error_kind::{ErrorKind, Stop};
 use markdown_nodes::mdast::{InlineMath, Math, Node};
 use markdown_nodes::role::{Content, ItemKind, Part};
@@ -102,16 +104,17 @@ impl MathFlowParts {
         self,
         alloc: Global,
         steps: &mut Steps<'_>,
+        document: &Document<'_>,
         nodes: Vec<Node>,
         position: Position,
     ) -> Result<Node, Stop>
         ensures node { Makes result (is_some self.fence) MissingFence
-            (IsNode (math_label self.fence (fenced_text nodes.items)) nothing position) }
+            (IsNode (math_label self.fence (fenced_text document.now position.end.offset nodes.items)) nothing position) }
         ensures list { steps.new.events ≡ steps.old.events }
         ensures bound { steps.new.count ≤ steps.old.count + node_count (views nodes.items) }
     {
         match self.fence {
-            Some(fence) => Ok(block_math(alloc, steps, nodes, position, fence)?),
+            Some(fence) => Ok(block_math(alloc, steps, document, nodes, position, fence)?),
             None => Err(Stop::Refused(ErrorKind::MissingFence)),
         }
     }
@@ -122,18 +125,21 @@ impl MathFlowParts {
 fn block_math(
     alloc: Global,
     steps: &mut Steps<'_>,
+    document: &Document<'_>,
     nodes: Vec<Node>,
     position: Position,
     fence: MathFenceParts,
 ) -> Result<Node, AllocError>
-    ensures node { IfOk result (IsNode (math_label (Some fence) (fenced_text nodes.items)) nothing position) }
+    ensures node { IfOk result (IsNode (math_label (Some fence) (fenced_text document.now position.end.offset nodes.items)) nothing position) }
     ensures list { steps.new.events ≡ steps.old.events }
     ensures bound { steps.new.count ≤ steps.old.count + node_count (views nodes.items) }
 {
     let MathFenceParts { meta } = fence;
+    let place = place_of(&nodes);
+    let end = position.end.offset;
     let text = values_of(alloc, steps, nodes)?;
     Ok(Node::Math(Math {
-        value: block_value(text, true),
+        value: fenced_value(document, text, place, end),
         position: Some(position),
         meta,
     }))

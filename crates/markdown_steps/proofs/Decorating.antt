@@ -4,7 +4,7 @@ use Rattle.std.specs.Prelude.{if◌then◌else◌, is_some, option_map, unwrap_o
 use Rattle.std.specs.Option.{option_and_then, option_or}
 use Rattle.markdown_events.specs.Forest.{Forest}
 use Rattle.markdown_steps.specs.ChildFacts.{child_facts_of}
-use Rattle.markdown_texts.specs.Texts.{fold, trim}
+use Rattle.markdown_texts.specs.Texts.{fold}
 use Rattle.markdown_nodes.specs.Tree.{Trees, join, nothing, plain_label, plain_text}
 use Rattle.markdown_events.specs.declared.event.Point.{Point}
 use Rattle.markdown_events.specs.declared.role.ItemKind.{ItemKind}
@@ -12,7 +12,8 @@ use Rattle.markdown_events.specs.declared.role.Part.{Part}
 use Rattle.markdown_steps.proofs.SummaryLaws.{is-that-part}
 use Rattle.markdown_grammar.specs.Decorated.{Decorated, Found, decorated, first, identifier, nodes_of, or_empty, text, undecorated, within}
 use Rattle.markdown_grammar.specs.Attributes.{decoded, mark, value}
-use Rattle.markdown_grammar.specs.Document.{label_read, value_read}
+use Rattle.markdown_grammar.specs.Document.{given_of, label_read, value_read}
+use Rattle.markdown_grammar.specs.Fenced.{fenced}
 use Rattle.markdown_grammar.specs.Items.{Items, item, none, same_part}
 use Rattle.markdown_grammar.specs.Items.{is_part, marker_of}
 use Rattle.markdown_steps.specs.SummaryNodes.{media_of, reference_kind_of}
@@ -223,11 +224,11 @@ node-is s p (content contents.HeadingSetext) a b d inner =
     (ap count_of (found-is (λ a b p ts. kept_from s p parts.HeadingSetextUnderlineSequence a b ts) s parts.HeadingSetextUnderlineSequence h inner) ∙ setext-is s (first parts.HeadingSetextUnderlineSequence (decorate s h inner)))
 node-is s p (content contents.CodeFenced) a b d inner =
     let h : Place = inherited_in (content contents.CodeFenced) p in
-    λ t. node_at (tree.code (trim (plain_text (nodes_of (decorate s h inner))) true true) (text-through s parts.CodeFencedFence parts.CodeFencedFenceInfo h inner (λ p a b ts. refl) t)
+    λ t. node_at (tree.code (fenced (given_of s) b.index (nodes_of (decorate s h inner))) (text-through s parts.CodeFencedFence parts.CodeFencedFenceInfo h inner (λ p a b ts. refl) t)
     (text-through s parts.CodeFencedFence parts.CodeFencedFenceMeta h inner (λ p a b ts. refl) t)) nothing a b
 node-is s p (content contents.MathFlow) a b d inner =
     let h : Place = inherited_in (content contents.MathFlow) p in
-    λ t. node_at (tree.math (trim (plain_text (nodes_of (decorate s h inner))) true true) (text-through s parts.MathFlowFence parts.MathFlowFenceMeta h inner (λ p a b ts. refl) t)) nothing a b
+    λ t. node_at (tree.math (fenced (given_of s) b.index (nodes_of (decorate s h inner))) (text-through s parts.MathFlowFence parts.MathFlowFenceMeta h inner (λ p a b ts. refl) t)) nothing a b
 node-is s p (content contents.Definition) a b d inner =
     let h : Place = inherited_in (content contents.Definition) p in
     λ t. node_at (tree.definition (or_empty (text-is s parts.DefinitionDestinationString h inner (λ p a b ts. refl) t)) (text-is s parts.DefinitionTitleString h inner (λ p a b ts. refl) t)

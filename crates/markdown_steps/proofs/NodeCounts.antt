@@ -7,9 +7,9 @@ use Rattle.markdown_events.specs.declared.role.ItemKind.{ItemKind}
 use Rattle.positions.specs.declared.unist.Point.{Point as UnistPoint}
 use Rattle.positions.specs.declared.unist.Position.{Position}
 use Rattle.markdown_nodes.specs.Tree.{Label, Trees, join, node, nothing, paragraph, seam, text}
+use Rattle.markdown_grammar.specs.LineEndings.{ending_read}
 use Rattle.markdown_grammar.specs.Buffers.{node_count}
 use Rattle.markdown_steps.specs.Compiler.{ContainerState, with_child, label_with, lengthened, nodes_with}
-use Rattle.markdown_grammar.specs.Document.{value_read}
 use Rattle.markdown_grammar.specs.Items.{is_part}
 use Rattle.markdown_steps.specs.SummaryNodes.{autolink}
 use Rattle.markdown_grammar.specs.Decorated.{node_at}
@@ -78,7 +78,7 @@ record Few (n m : ℕ) : Type 0 where
 
 -- at most two more than it keeps
 given-few : (s : Source) (p : Place) (what : ItemKind) (a b : Point) (d : ChildFacts) (i : Summary) → Few (given s p what a b d i) (2 + (node_count i.nodes + node_count i.label))
-given-few s p (content contents.LineEnding) a b d i = let e = line-count p.line_endings (text (value_read s a b)) a b in record { few = omega (arith, e) }
+given-few s p (content contents.LineEnding) a b d i = let e = line-count p.line_endings (text (ending_read s a b)) a b in record { few = omega (arith, e) }
 given-few s p (content contents.Autolink) a b d i = let e = autolink-count (i.part (path_to parts.AutolinkEmail)) (i.part (path_to parts.AutolinkProtocol)) a b in record { few = omega (arith, e) }
 given-few s p (content contents.ListItem) a b d i = let e = task_if-count i.mark i.nodes in record { few = omega (arith, e) }
 given-few s p (content _) a b d i = record { few = omega arith }

@@ -19,6 +19,7 @@ use Rattle.markdown_events.specs.declared.role.Role.{Role}
 use Rattle.positions.specs.declared.unist.Point.{Point as UnistPoint}
 use Rattle.positions.specs.declared.unist.Position.{Position}
 use Rattle.markdown_steps.proofs.ItemLists.{regroup}
+use Rattle.markdown_grammar.specs.LineEndings.{ending_read}
 use Rattle.markdown_grammar.specs.Attributes.{mark}
 use Rattle.markdown_grammar.specs.Document.{value_read}
 use Rattle.markdown_steps.specs.SummaryNodes.{autolink, media_of}
@@ -241,7 +242,7 @@ media-image alt m a b le = elim m.resource as (λ o. Fine a.index b.index (node_
 node-ordered : (s : Source) (p from : Place) (what : ItemKind) (a b : Point) (d : Forest) (i : Items) (under : Path → Trees) → b.index < 2 ^ 64 → Rises a.index i b.index → ((w : Path) → InOrder elsewhere false a.index b.index (under w)) → Fine a.index b.index (node_of s p what a b (child_facts_of d) (summary_of s from i under))
 node-ordered s p from (content contents.Data) a b d i under small h k = one-ordered _ nothing a b (rises-le _ i _ h) tt
 node-ordered s p from (content contents.CharacterReference) a b d i under small h k = one-ordered _ nothing a b (rises-le _ i _ h) tt
-node-ordered s p from (content contents.LineEnding) a b d i under small h k = if-ordered p.line_endings a.index b.index _ (one-ordered (text (value_read s a b)) nothing a b (rises-le _ i _ h) tt)
+node-ordered s p from (content contents.LineEnding) a b d i under small h k = if-ordered p.line_endings a.index b.index _ (one-ordered (text (ending_read s a b)) nothing a b (rises-le _ i _ h) tt)
 node-ordered s p from (content contents.Autolink) a b d i under small h k = autolink-ordered s _ _ a b (rises-le _ i _ h) (part-lies parts.AutolinkEmail from _ i _ h) (part-lies parts.AutolinkProtocol from _ i _ h)
 node-ordered s p from (content contents.AutolinkLiteralEmail) a b d i under small h k = linked-ordered (codes "mailto:") (value_read s a b) a b a b (omega arith) (rises-le _ i _ h) (omega arith)
 node-ordered s p from (content contents.AutolinkLiteralWww) a b d i under small h k = linked-ordered (codes "http://") (value_read s a b) a b a b (omega arith) (rises-le _ i _ h) (omega arith)

@@ -11,7 +11,9 @@ use Rattle.markdown_grammar.specs.Nodes.{Media, frontmatter, image_label, link_l
 use Rattle.markdown_steps.specs.ChildFacts.{ChildFacts, child_facts_of}
 use Rattle.markdown_texts.specs.Texts.{raw, spaces, trim}
 use Rattle.markdown_events.specs.declared.role.ItemKind.{ItemKind}
-use Rattle.markdown_grammar.specs.Document.{Source, is_byte, value_read}
+use Rattle.markdown_grammar.specs.Document.{Source, given_of, is_byte, value_read}
+use Rattle.markdown_grammar.specs.Fenced.{fenced}
+use Rattle.markdown_grammar.specs.LineEndings.{ending_read}
 use Rattle.markdown_grammar.specs.Items.{Items, item, none, same_part, ◌then◌}
 use Rattle.markdown_grammar.specs.Tasks.{task_if}
 use Rattle.markdown_events.specs.declared.role.ItemKind.TheVariants.{Content as content, Part as part}
@@ -48,7 +50,7 @@ media_of i =
 abbrev pub node_of : Source → Place → ItemKind → Point → Point → ChildFacts → Summary → Trees
 node_of s p (content contents.Data) a b _ i = node_at (tree.text (value_read s a b)) nothing a b
 node_of s p (content contents.CharacterReference) a b _ i = node_at (tree.text (text_of (i.part (path_to parts.CharacterReferenceValue)))) nothing a b
-node_of s p (content contents.LineEnding) a b _ i = if p.line_endings then node_at (tree.text (value_read s a b)) nothing a b else nothing
+node_of s p (content contents.LineEnding) a b _ i = if p.line_endings then node_at (tree.text (ending_read s a b)) nothing a b else nothing
 node_of s p (content contents.HardBreak) a b _ i = node_at tree.«break» nothing a b
 node_of s p (content contents.Autolink) a b _ i = autolink (i.part (path_to parts.AutolinkEmail)) (i.part (path_to parts.AutolinkProtocol)) a b
 node_of s p (content contents.AutolinkLiteralEmail) a b _ i = linked (codes "mailto:") (value_read s a b) a b a b
@@ -69,8 +71,8 @@ node_of s p (content contents.ListOrdered) a b children i = node_at (tree.list t
 node_of s p (content contents.ListUnordered) a b children i = node_at (tree.list false None children.loose_list) i.nodes a b
 node_of s p (content contents.ListItem) a b children i = node_at (tree.list_item children.loose_item i.mark) (task_if i.mark i.nodes) a b
 node_of s p (content contents.CodeFenced) a b _ i =
-    node_at (tree.code (trim (plain_text i.nodes) true true) (words_of (i.part (path_through parts.CodeFencedFence parts.CodeFencedFenceInfo))) (words_of (i.part (path_through parts.CodeFencedFence parts.CodeFencedFenceMeta)))) nothing a b
-node_of s p (content contents.MathFlow) a b _ i = node_at (tree.math (trim (plain_text i.nodes) true true) (words_of (i.part (path_through parts.MathFlowFence parts.MathFlowFenceMeta)))) nothing a b
+    node_at (tree.code (fenced (given_of s) b.index i.nodes) (words_of (i.part (path_through parts.CodeFencedFence parts.CodeFencedFenceInfo))) (words_of (i.part (path_through parts.CodeFencedFence parts.CodeFencedFenceMeta)))) nothing a b
+node_of s p (content contents.MathFlow) a b _ i = node_at (tree.math (fenced (given_of s) b.index i.nodes) (words_of (i.part (path_through parts.MathFlowFence parts.MathFlowFenceMeta)))) nothing a b
 node_of s p (content contents.CodeIndented) a b _ i = node_at (tree.code (trim (plain_text i.nodes) false true) None None) nothing a b
 node_of s p (content contents.CodeText) a b _ i = node_at (tree.inline_code (raw (spaces (plain_text i.nodes)) (unescapes s p))) nothing a b
 node_of s p (content contents.MathText) a b _ i = node_at (tree.inline_math (raw (spaces (plain_text i.nodes)) (unescapes s p))) nothing a b

@@ -1,5 +1,4 @@
-use Rattle.std.proofs.lemmas.Grind.{common_steps}
-use Rattle.std.proofs.Common.{arith, [], string_bytes, encode_utf8_all, chars, ◌∙◌, ap, sym, map-id}
+use Rattle.std.proofs.Common.{[], string_bytes, encode_utf8_all, chars, ◌∙◌, ap, sym, map-id}
 use Rattle.std.proofs.lemmas.List.{append-nil}
 use Rattle.std.proofs.lemmas.Iterator.{YieldsList-from_chars}
 use Rattle.std.proofs.lemmas.Iterator.Consumers.{YieldsList-end}

@@ -1,4 +1,4 @@
-use Rattle.std.proofs.Common.{List, length, subst, ◌+◌, ◌*◌, ◌≡◌, ◌≤◌}
+use Rattle.std.proofs.Common.{length, subst, ◌+◌, ◌*◌, ◌≡◌, ◌≤◌}
 use Rattle.std.specs.Prelude.{IfErr, IfOk}
 use Rattle.markdown_events.specs.Forest.{Forest, events_of}
 use Rattle.markdown_grammar.specs.Buffers.{buffered_nodes}

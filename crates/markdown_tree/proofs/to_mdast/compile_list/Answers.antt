@@ -1,4 +1,4 @@
-use Rattle.std.proofs.Common.{Global, List, Some, Vec, ℕ, arith, ap, length, sym, ◌∙◌}
+use Rattle.std.proofs.Common.{Global, List, Some, Vec, arith, ap, length, sym, ◌∙◌}
 use Rattle.std.proofs.lemmas.Grind.{common_steps}
 use Rattle.markdown_events.specs.declared.event.Event.{Event}
 use Rattle.positions.specs.declared.unist.Position.{Position}

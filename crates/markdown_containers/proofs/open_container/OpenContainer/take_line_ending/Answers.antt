@@ -26,8 +26,8 @@ pub returns-then-self : goal.returns-then-self
 returns-then-self c text children place =
     let s : Source = source_of c.args.document.now text in
     let top : OpenContainer = c.args.self.now in
-    let new : OpenContainer = record { container = top.container; line_endings = top.line_endings; nodes = c.put_slice.new.nodes } in
-    made_gives _ c.args.ending.end c.put_slice.result (is_some (slice c.args.document.now.bytes c.args.ending.start c.args.ending.end)) InvalidSlice _ _ c.put_slice.ensures
+    let new : OpenContainer = record { container = top.container; line_endings = top.line_endings; nodes = c.put_line_ending.new.nodes } in
+    made_gives _ c.args.ending.end c.put_line_ending.result (is_some (slice c.args.document.now.bytes c.args.ending.start c.args.ending.end)) InvalidSlice _ _ c.put_line_ending.ensures
     (λ x read made. known_in s c.args.ending.in_table None c.args.pending.now c.take.new.self top new c.args.ending.start c.args.ending.end children place c.in_default.ensures.value c.in_default.ensures.after
     (text_in s c.args.ending.in_table top new c.args.ending.start c.args.ending.end children place c.if-self.true refl refl made read))
     (λ value_error. known_unread s c.args.ending.in_table None c.args.pending.now top c.args.ending.start c.args.ending.end children place InvalidSlice c.in_default.ensures.value

@@ -1,0 +1,80 @@
+//! The values of blocks between fences: fenced code and math (CommonMark, "Fenced code blocks").
+
+ghost use Rattle.std.specs.Prelude.{◌≡◌, ◌-◌, not, string_bytes, take, true};
+ghost use Rattle.std.specs.List.{list_all};
+ghost use Rattle.markdown_texts.specs.Texts.{trim};
+ghost use Rattle.markdown_grammar.specs.Fenced.{has_line_after, is_line_begun, only_place};
+ghost use Rattle.markdown_grammar.specs.LineEndings.{is_before_line};
+ghost use Rattle.markdown_nodes.specs.View.{views};
+
+use crate::line_ending::is_before_line;
+use crate::slice::Document;
+use crate::texts::block_value;
+use markdown_nodes::mdast::Node;
+use markdown_nodes::unist::Position;
+
+/// The place of the text in a block between fences: that of the node in it, where there is one alone.
+pub fn place_of(nodes: &[Node]) -> Option<Position>
+    ensures { result ≡ only_place (views nodes.now) }
+{
+    match nodes {
+        [only] => only.position().copied(),
+        _ => None,
+    }
+}
+
+/// The value of a block between fences, which ends at an offset in bytes: the text in it, which stands
+/// at a place, without the line endings beside the fences. It takes no memory.
+///
+/// Where values are whole, an empty line at the end of a block without a closing fence stays: no line
+/// ending ends it (CommonMark).
+///
+/// The text of `~~~⏎a⏎~~~` is `⏎a⏎`, and the value is `a`.
+pub fn fenced_value(
+    document: &Document<'_>,
+    text: String,
+    place: Option<Position>,
+    end: usize,
+) -> String
+    ensures { string_bytes result ≡ trim (string_bytes text) true (not (has_line_after document.now place end)) }
+{
+    let has_line_after = has_line_after(document, place, end);
+    block_value(text, true, !has_line_after)
+}
+
+/// Whether a block that ends at an offset has one more line after the text at a place: an empty one,
+/// which no line ending ends.
+fn has_line_after(document: &Document<'_>, place: Option<Position>, end: usize) -> bool
+    ensures { result ≡ has_line_after document.now place end }
+{
+    match place {
+        Some(place) if document.is_whole() => {
+            let last = place.end.offset;
+            let after = document.bytes_from(last);
+            is_line_begun(first_bytes(after, end.saturating_sub(last)))
+        }
+        _ => false,
+    }
+}
+
+/// The first of some bytes: so many, or all.
+fn first_bytes(bytes: &[u8], count: usize) -> &[u8]
+    ensures { result.now ≡ take count bytes.now }
+{
+    bytes.get(..count).unwrap_or(bytes)
+}
+
+/// Whether bytes begin a line, and nothing else stands in it: spaces, tabs, and markers of block
+/// quotes.
+fn is_line_begun(bytes: &[u8]) -> bool
+    ensures { result ≡ is_line_begun bytes.now }
+{
+    !bytes.is_empty() && all_before_line(bytes)
+}
+
+/// Whether all of these bytes may stand before a line.
+fn all_before_line(bytes: &[u8]) -> bool
+    ensures { result ≡ list_all is_before_line bytes.now }
+{
+    bytes.iter().all(|byte| is_before_line(*byte))
+}
