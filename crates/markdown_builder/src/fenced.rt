@@ -1,45 +1,54 @@
 //! The values of blocks between fences: fenced code and math (CommonMark, "Fenced code blocks").
 
-ghost use Rattle.std.specs.Prelude.{◌≡◌, ◌-◌, not, string_bytes, take, true};
+ghost use Rattle.std.specs.Prelude.{◌≡◌, ◌≤◌, ◌+◌, IfOk, string_bytes, take};
 ghost use Rattle.std.specs.List.{list_all};
-ghost use Rattle.markdown_texts.specs.Texts.{trim};
-ghost use Rattle.markdown_grammar.specs.Fenced.{has_line_after, is_line_begun, only_place};
+ghost use Rattle.markdown_grammar.specs.Fenced.{fenced, has_line_after, is_line_begun, only_place};
+ghost use Rattle.markdown_grammar.specs.Buffers.{node_count};
 ghost use Rattle.markdown_grammar.specs.LineEndings.{is_before_line};
 ghost use Rattle.markdown_nodes.specs.View.{views};
 
+use crate::buffer::values_of;
 use crate::line_ending::is_before_line;
 use crate::slice::Document;
 use crate::texts::block_value;
 use markdown_nodes::mdast::Node;
+use markdown_nodes::steps::Steps;
 use markdown_nodes::unist::Position;
+use std::alloc::{AllocError, Global};
 
-/// The place of the text in a block between fences: that of the node in it, where there is one alone.
-pub fn place_of(nodes: &[Node]) -> Option<Position>
-    ensures { result ≡ only_place (views nodes.now) }
-{
-    match nodes {
-        [only] => only.position().copied(),
-        _ => None,
-    }
-}
-
-/// The value of a block between fences, which ends at an offset in bytes: the text in it, which stands
-/// at a place, without the line endings beside the fences. It takes no memory.
+/// The value of a block between fences, which ends at an offset in bytes: the text of the nodes in it,
+/// without the line endings beside the fences. It is read by one step for each node. The only error is
+/// that memory ran out.
 ///
 /// Where values are whole, an empty line at the end of a block without a closing fence stays: no line
 /// ending ends it (CommonMark).
 ///
 /// The text of `~~~⏎a⏎~~~` is `⏎a⏎`, and the value is `a`.
 pub fn fenced_value(
+    alloc: Global,
+    steps: &mut Steps<'_>,
     document: &Document<'_>,
-    text: String,
-    place: Option<Position>,
+    nodes: Vec<Node>,
     end: usize,
-) -> String
-    ensures { string_bytes result ≡ trim (string_bytes text) true (not (has_line_after document.now place end)) }
+) -> Result<String, AllocError>
+    ensures value { IfOk result (λ value. string_bytes value ≡ fenced document.now end (views nodes.items)) }
+    ensures list { steps.new.events ≡ steps.old.events }
+    ensures bound { steps.new.count ≤ steps.old.count + node_count (views nodes.items) }
 {
+    let place = place_of(&nodes);
+    let text = values_of(alloc, steps, nodes)?;
     let has_line_after = has_line_after(document, place, end);
-    block_value(text, true, !has_line_after)
+    Ok(block_value(text, true, !has_line_after))
+}
+
+/// The place of the text in a block between fences: that of the node in it, where there is one alone.
+fn place_of(nodes: &[Node]) -> Option<Position>
+    ensures { result ≡ only_place (views nodes.now) }
+{
+    match nodes {
+        [only] => only.position().copied(),
+        _ => None,
+    }
 }
 
 /// Whether a block that ends at an offset has one more line after the text at a place: an empty one,

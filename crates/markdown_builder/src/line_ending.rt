@@ -1,7 +1,7 @@
 //! The text of a line ending, where line endings are text (CommonMark, "Line endings").
 
 ghost use Rattle.std.specs.Prelude.{◌≡◌};
-ghost use Rattle.markdown_grammar.specs.LineEndings.{ending_as, is_before_line, is_empty_line, is_return};
+ghost use Rattle.markdown_grammar.specs.LineEndings.{ending_as, ends_line, is_before_line, is_empty_line, is_return};
 
 use crate::slice::Document;
 use markdown_nodes::event::Point;
@@ -29,22 +29,32 @@ fn is_return(text: &[u8]) -> bool
     matches!(text, [b'\r'])
 }
 
-/// Whether what containers and indentation put before a line comes first, one byte or more, and then
-/// an LF.
+/// Whether an empty line comes first, one of which there is a byte: what containers and indentation put
+/// before a line, and then a line ending or the end of the document.
 fn is_empty_line(bytes: &[u8]) -> bool
     ensures { result ≡ is_empty_line bytes.now }
 {
     let mut rest = bytes;
     'line: while let Some((first, later)) = rest.split_first() {
+        if *first == b'\r' {
+            return true;
+        }
         if !is_before_line(*first) {
             return false;
         }
-        if matches!(later, [b'\n', ..]) {
+        if ends_line(later) {
             return true;
         }
         rest = later;
     }
     false
+}
+
+/// Whether a line ends where these bytes begin.
+fn ends_line(bytes: &[u8]) -> bool
+    ensures { result ≡ ends_line bytes.now }
+{
+    matches!(bytes, [] | [b'\n' | b'\r', ..])
 }
 
 /// Whether a byte may stand before a line: a space, a tab, or the marker of a block quote.

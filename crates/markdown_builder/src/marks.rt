@@ -118,7 +118,7 @@ impl Marks {
             _ => {
                 self.last_but_one = self.last;
                 self.last = inner.sibling(role);
-                self.first = self.first.or(role);
+                self.first.take(role);
             }
         }
     }
@@ -133,9 +133,8 @@ impl Marks {
         self.is_loose_list = self.is_loose_list || !matches!(self.last, Sibling::BareListItem);
         self.last_but_one = self.last;
         self.last = Sibling::Other;
-        self.first = self
-            .first
-            .or(Role::Transparent(TransparentKind::BlankLineEnding));
+        self.first
+            .take(Role::Transparent(TransparentKind::BlankLineEnding));
     }
 
     /// How a cell of the delimiter row with these children aligns its column: `:-:` to the center, `:-`
@@ -154,15 +153,22 @@ impl Marks {
 }
 
 impl First {
-    /// The first child, where the next one has this role.
-    fn or(self, role: Role) -> First
-        ensures { first_of result ≡ option_or (first_of self) (Some (is_delimiter_marker role)) }
+    /// Takes a child of a role, which is the first one if there was none.
+    fn take(&mut self, role: Role)
+        ensures { first_of self.new ≡ option_or (first_of self.old) (Some (is_delimiter_marker role)) }
     {
-        match self {
-            First::Absent if matches!(role, Role::Transparent(TransparentKind::DelimiterMarker)) =>
-                { First::DelimiterMarker }
-            First::Absent => First::Other,
-            known => known,
+        if let First::Absent = self {
+            *self = First::of(role);
+        }
+    }
+
+    /// The first child, by its role.
+    fn of(role: Role) -> First
+        ensures { first_of result ≡ Some (is_delimiter_marker role) }
+    {
+        match role {
+            Role::Transparent(TransparentKind::DelimiterMarker) => First::DelimiterMarker,
+            _ => First::Other,
         }
     }
 }

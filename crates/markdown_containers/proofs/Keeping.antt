@@ -15,12 +15,11 @@ use Rattle.markdown_inlines.specs.declared.media.Target.{Target}
 use Rattle.markdown_inlines.specs.declared.media.Target.TheVariants as targets
 use Rattle.markdown_steps.specs.Compiler.{label_with, part_with}
 use Rattle.markdown_grammar.specs.Attributes.{mark_given, value_given}
-use Rattle.markdown_grammar.specs.Grammar.{ContentModel, model_after, list_item, numbered_item}
-use Rattle.markdown_containers.specs.Containers.{Keeps, current_model_of, label_of, mark_of, part_of, summary_with, value_of}
+use Rattle.markdown_grammar.specs.Grammar.{ContentModel, any_content, model_after, list_item, numbered_item}
+use Rattle.markdown_containers.specs.Containers.{Keeps, current_model_of, is_model_of, label_of, mark_of, part_of, summary_with, value_of}
 use Rattle.markdown_literals.specs.Fences.{fence_of, in_code_fence, in_math_fence}
 use Rattle.markdown_inlines.specs.Labels.{label_kept, label_nodes}
 use Rattle.markdown_inlines.specs.Media.{reference_of, resource_of}
-use Rattle.markdown_blocks.specs.Parents.{is_parent}
 use Rattle.markdown_builder.specs.PartsSoFar.{ending}
 use Rattle.markdown_steps.specs.Summaries.{Summary, PartSummary, Path, into, itself, path_to}
 use Rattle.markdown_grammar.specs.Attributes.{Place}
@@ -125,7 +124,7 @@ no_value : (s : Source) (c : Content) (a b : Point) (v : Option ℕ) → (c ≡ 
 no_value s contents.ListItem a b v other = absurd (other refl)
 no_value s c a b v other = refl
 
--- a parent of which nothing but nodes is kept gives its container nothing else
+-- content of which nothing but nodes is kept gives its container nothing else
 unmarked_after : (h : ContentModel) (c : Content) → model_after h (content c) false ≡ h
 unmarked_after list_item contents.Paragraph = refl
 unmarked_after numbered_item contents.Paragraph = refl
@@ -135,19 +134,19 @@ no_mark_given : (c : Content) → mark_given (content c) None ≡ None
 no_mark_given contents.Paragraph = refl
 no_mark_given c = refl
 
-parent_value : (s : Source) (c : Content) (a b : Point) → is_parent c ≡ true → value_given s (content c) a b None ≡ None
-parent_value s contents.ListItem a b such = let z : ⊥ = cc in absurd z
-parent_value s c a b such = refl
+nodes_value : (s : Source) (c : Content) (a b : Point) → is_model_of c any_content ≡ true → value_given s (content c) a b None ≡ None
+nodes_value s contents.ListItem a b such = let z : ⊥ = cc in absurd z
+nodes_value s c a b such = refl
 
-pub parent_keeps : (s : Source) (p : Place) (c : Content) (a b : Point) (ts : Trees) (h : Container) → is_parent c ≡ true → Keeps s p (content c) a b (summary_with containers.AnyContent ts) h h
-parent_keeps s p c a b ts h such = record {
+pub nodes_keep : (s : Source) (p : Place) (c : Content) (a b : Point) (ts : Trees) (h : Container) → is_model_of c any_content ≡ true → Keeps s p (content c) a b (summary_with containers.AnyContent ts) h h
+nodes_keep s p c a b ts h such = record {
   initial_model = refl;
   current_model = sym (unmarked_after (current_model_of h) c);
   marker = refl;
   kept = content_parts s p c a b (summary_with containers.AnyContent ts) h;
   label = same_label (part_of h (path_to parts.LabelText)) (label_of h) ts (no_label h) c;
   mark = sym (ap (option_or (mark_of h)) (no_mark_given c) ∙ or_none (mark_of h));
-  value = sym (ap (option_or (value_of h)) (parent_value s c a b such) ∙ or_none (value_of h));
+  value = sym (ap (option_or (value_of h)) (nodes_value s c a b such) ∙ or_none (value_of h));
 }
 
 -- content that is no paragraph and no item gives its container nothing but nodes

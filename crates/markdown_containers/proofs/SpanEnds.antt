@@ -154,6 +154,11 @@ pub made_no_text : (s : Source) (p : Place) (c : Content) (a b : Point) (childre
     → only t ≡ node_of s p (content c) a b children i → is_text t.label ≡ false
 made_no_text s p c a b children i r t such other made = ap (λ (ts : Trees). is_text (first_label tree.thematic_break ts)) made ∙ node_no_text s p c a b children i r such other
 
+-- in a character reference not any content may stand
+pub no_reference : (c : Content) → is_model_of c any_content ≡ true → c ≢ contents.CharacterReference
+no_reference contents.CharacterReference such is = let z : ⊥ = cc in absurd z
+no_reference c such is = let z : ⊥ = cc in absurd z
+
 -- a thing that is not made: what has to stand there does not, or memory ran out
 pub unmade_stops : {X Y : Type 0} (stop : Stop) (complete : Bool) (why : ErrorKind) (Is : X → Type 0) (b : Point) (expected : Result Y ErrorAt)
     → Makes (Err stop) complete why Is → (complete ≡ false → expected ≡ refused why b) → Stops stop b expected

@@ -14,7 +14,7 @@ use Rattle.positions.specs.declared.unist.Position.{Position}
 use Rattle.markdown_nodes.specs.Tree.{Trees, only}
 use Rattle.markdown_nodes.specs.View.{view}
 use Rattle.markdown_nodes.specs.declared.mdast.Node.{Node}
-use Rattle.markdown_steps.specs.Columns.{child_facts, columns_left}
+use Rattle.markdown_steps.specs.Columns.{Columns, child_facts, columns_left}
 use Rattle.markdown_steps.specs.Compiler.{all_stood, fresh, leave}
 use Rattle.markdown_grammar.specs.Grammar.{ContentModel, any_content, leaf}
 use Rattle.markdown_steps.specs.SummaryNodes.{node_of}
@@ -31,7 +31,7 @@ use Rattle.markdown_blocks.specs.Columns.{columns_of}
 use Rattle.markdown_builder.specs.Marks.{marks_of}
 use Rattle.markdown_builder.specs.PartsSoFar.{Makes, place_with}
 use Rattle.markdown_builder.specs.declared.marks.Marks.{Marks}
-use Rattle.markdown_blocks.specs.declared.table.Columns.{Columns}
+use Rattle.markdown_blocks.specs.declared.table.Columns.{Columns as OpenColumns}
 use Rattle.markdown_containers.specs.declared.container.Container.{Container}
 use Rattle.markdown_containers.specs.declared.container.Container.TheVariants as containers
 use Rattle.markdown_containers.specs.declared.open_container.Ending.{Ending}
@@ -60,14 +60,17 @@ TakesContainer given what own ending children old new result =
     (s : Source) (inner_table : Bool) → given_of s ≡ given → Gives (λ _. container_state_of ending.in_table None new) ending.end result
     (leave s what ending.start ending.end children (container_state_of inner_table None own) (container_state_of ending.in_table None old))
 
--- a part with parts of its own, whatever else stood in it
-abbrev pub TakesPart : {X : Type 0} → Given → Part → OpenContainer → Ending → OpenContainer → OpenContainer → Result X Stop → Type 0
-TakesPart given q own ending old new result = (children : ChildFacts) → TakesContainer given (part q) own ending children old new result
-
 -- content, with what its children say of it
 abbrev pub TakesContent : {X : Type 0} → Given → Content → OpenContainer → Ending → Columns → OpenContainer → OpenContainer → Result X Stop → Type 0
 TakesContent given c own ending columns old new result =
-    TakesContainer given (content c) own ending (child_facts (marks_of ending.marks) (columns_of columns)) old new result
+    TakesContainer given (content c) own ending (child_facts (marks_of ending.marks) columns) old new result
+
+-- the same of content in which any content stood, with these nodes
+abbrev pub TakesAnyContent : {X : Type 0} → Given → Content → Vec Node Global → Ending → Columns → OpenContainer → OpenContainer → Result X Stop → Type 0
+TakesAnyContent given c nodes ending columns old new result =
+    (line_endings : Bool)
+    → let own : OpenContainer = record { container = containers.AnyContent; line_endings = line_endings; nodes = nodes } in
+    TakesContent given c own ending columns old new result
 
 -- what is never refused: a span of that content model, in which this stood
 abbrev pub Takes : ItemKind → ContentModel → Summary → OpenContainer → OpenContainer → Type 0
@@ -98,7 +101,7 @@ abbrev pub value_text : OpenContainer → Ending → Trees
 value_text own ending = one_text (text_of ((summary_of_container own).part (path_to parts.CharacterReferenceValue))) (between ending.start ending.end)
 
 -- the columns after content has ended
-abbrev pub LeavesColumns : Content → Marks → Columns → Columns → Type 0
+abbrev pub LeavesColumns : Content → Marks → OpenColumns → OpenColumns → Type 0
 LeavesColumns c marks old new = columns_of new ≡ columns_left (significant (content c)) (marks_of marks) (columns_of old)
 
 -- how many nodes are walked over at the end of content
@@ -109,4 +112,4 @@ content_visits c own = visits_at_end (content c) (summary_of_container own)
 abbrev pub IsNodeOf : Given → Content → Ending → Columns → Summary → Node → Type 0
 IsNodeOf given c ending columns inner node =
     (s : Source) (line_endings : Bool) (marker : Option ℕ) → given_of s ≡ given
-    → only (view node) ≡ node_of s (place_with line_endings ending.in_table marker) (content c) ending.start ending.end (child_facts (marks_of ending.marks) (columns_of columns)) inner
+    → only (view node) ≡ node_of s (place_with line_endings ending.in_table marker) (content c) ending.start ending.end (child_facts (marks_of ending.marks) columns) inner

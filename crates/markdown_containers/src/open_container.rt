@@ -15,17 +15,18 @@ ghost use Rattle.markdown_containers.specs.Takings.{
   IsNodeOf,
   LeavesColumns,
   MakesOf,
+  TakesAnyContent,
   TakesAnyLeaf,
   TakesContent,
   TakesKept,
   TakesLeaf,
   TakesNodes,
   TakesParent,
-  TakesPart,
   TakesText,
   content_visits,
   value_text,
 };
+ghost use Rattle.markdown_blocks.specs.Columns.{columns_of};
 ghost use Rattle.markdown_containers.specs.declared.container.Container.TheVariants as containers;
 ghost use Rattle.markdown_events.specs.declared.role.Content.TheVariants as contents;
 ghost use Rattle.markdown_events.specs.declared.role.ItemKind.TheVariants as item_kinds;
@@ -37,6 +38,7 @@ ghost use Rattle.markdown_grammar.specs.Items.{is_line_ending};
 ghost use Rattle.markdown_literals.specs.Autolinks.{is_literal};
 ghost use Rattle.markdown_nodes.specs.Tree.{join};
 ghost use Rattle.markdown_nodes.specs.View.{views};
+ghost use Rattle.markdown_steps.specs.Columns.{Columns as TableColumns};
 ghost use Rattle.markdown_steps.specs.Visits.{visits_at_end};
 ghost use Rattle.nest.specs.Nest.{IsPut, innermost};
 
@@ -224,37 +226,25 @@ impl<'a> OpenContainer<'a> {
 }
 
 impl<'a> OpenContainer<'a> {
-    /// Takes a part that has ended, which was no leaf.
-    pub fn take_part(
+    /// Takes a part that has ended, in which any content stood.
+    pub fn take_any_part(
         &mut self,
         alloc: Global,
         steps: &mut Steps<'_>,
         document: &Document<'a>,
         part: Part,
-        own: OpenContainer<'a>,
+        nodes: Vec<Node>,
         ending: Ending,
     ) -> Result<(), Stop>
-        requires initial_model { initial_model_of own.container ≡ models.part_model (current_model_of self.old.container) part }
-        requires such { is_part_model part (initial_model_of own.container) ≡ true }
+        requires such { is_part_model part models.any_content ≡ true }
         requires fits { misfit_of self.old.container (item_kinds.Part part) ≡ None }
-        ensures left { TakesPart document.now part own.entry ending self.old self.new result }
+        ensures left { TakesText document.now part (views nodes.items) ending self.old self.new result }
         ensures list { steps.new.events ≡ steps.old.events }
-        ensures bound { steps.new.count ≤ steps.old.count + visits_at_end (item_kinds.Part part) (summary_of_container own.entry) }
+        ensures bound { steps.new.count ≤ steps.old.count + visits_at_end (item_kinds.Part part) (summary_of_nodes (views nodes.items)) }
     {
-        let OpenContainer {
-            container,
-            nodes,
-            ..
-        } = own;
-        match (container, part) {
-            (Container::AnyContent, Part::HeadingSetextText) => Ok(self.take_heading_text(nodes)?),
-            (Container::AnyContent, _) => self.take_text(
-                alloc, steps, document, part, nodes, ending,
-            ),
-            (inner, _) => {
-                self.take_parts(part, inner);
-                Ok(())
-            }
+        match part {
+            Part::HeadingSetextText => Ok(self.take_heading_text(nodes)?),
+            _ => self.take_text(alloc, steps, document, part, nodes, ending),
         }
     }
 
@@ -300,14 +290,15 @@ impl<'a> OpenContainer<'a> {
     }
 
     /// Takes a part with parts of its own. After a first fence line endings are text.
-    fn take_parts(&mut self, part: Part, inner: Container<'_>)
-        requires model { initial_model_of inner ≡ models.part_model (current_model_of self.old.container) part }
-        requires inner { inner ≢ containers.AnyContent }
-        requires such { is_part_model part (initial_model_of inner) ≡ true }
+    pub fn take_parts(&mut self, part: Part, own: OpenContainer<'_>)
+        requires model { initial_model_of own.container ≡ models.part_model (current_model_of self.old.container) part }
+        requires other { own.container ≢ containers.AnyContent }
+        requires such { is_part_model part (initial_model_of own.container) ≡ true }
         requires fits { misfit_of self.old.container (item_kinds.Part part) ≡ None }
-        ensures { TakesKept part inner.entry self.old self.new }
+        ensures { TakesKept part own.entry.container self.old self.new }
     {
-        self.container.take_part(part, inner);
+        let OpenContainer { container, .. } = own;
+        self.container.take_part(part, container);
         self.line_endings = has_line_endings_after(part, self.line_endings);
     }
 }
@@ -359,22 +350,43 @@ impl OpenContainer<'_> {
 }
 
 impl<'a> OpenContainer<'a> {
-    /// Takes content that has ended: its node, and what else it gives.
-    pub fn take_content(
+    /// Takes content that has ended, in which any content stood, and which is no parent: its node.
+    pub fn take_any_content(
         &mut self,
         alloc: Global,
         steps: &mut Steps<'_>,
         document: &Document<'_>,
         columns: &mut Columns,
         content: Content,
+        nodes: Vec<Node>,
+        ending: Ending,
+    ) -> Result<(), Stop>
+        requires such { is_model_of content models.any_content ≡ true }
+        requires no_parent { is_parent content ≡ false }
+        ensures left { TakesAnyContent document.now content nodes ending (columns_of columns.old) self.old self.new result }
+        ensures columns { OnOk result (LeavesColumns content ending.marks columns.old columns.new) }
+        ensures list { steps.new.events ≡ steps.old.events }
+        ensures bound { steps.new.count ≤ steps.old.count + visits_at_end (item_kinds.Content content) (summary_of_nodes (views nodes.items)) }
+    {
+        let node = any_content_node(alloc, steps, document, columns, content, nodes, ending)?;
+        put(&mut self.nodes, node)?;
+        Ok(())
+    }
+
+    /// Takes content with parts of its own that has ended: its node, and what else it gives.
+    pub fn take_content(
+        &mut self,
+        alloc: Global,
+        steps: &mut Steps<'_>,
+        document: &Document<'_>,
+        content: Content,
         own: OpenContainer<'_>,
         ending: Ending,
     ) -> Result<(), Stop>
         requires initial_model { initial_model_of own.container ≡ models.content_model (current_model_of self.old.container) content }
         requires such { is_model_of content (initial_model_of own.container) ≡ true }
-        requires no_parent { own.container ≡ containers.AnyContent → is_parent content ≡ false }
-        ensures left { TakesContent document.now content own.entry ending columns.old self.old self.new result }
-        ensures columns { OnOk result (LeavesColumns content ending.marks columns.old columns.new) }
+        requires other { own.container ≢ containers.AnyContent }
+        ensures left { (columns : TableColumns) → TakesContent document.now content own.entry ending columns self.old self.new result }
         ensures list { steps.new.events ≡ steps.old.events }
         ensures bound { steps.new.count ≤ steps.old.count + content_visits content own.entry + 1 }
     {
@@ -382,7 +394,7 @@ impl<'a> OpenContainer<'a> {
         match content {
             Content::CharacterReference => self.take_reference(alloc, own, ending),
             _ => {
-                let node = own.node(alloc, steps, document, columns, content, ending)?;
+                let node = own.node(alloc, steps, document, content, ending)?;
                 put(&mut self.nodes, node)?;
                 Ok(())
             }
@@ -416,21 +428,19 @@ impl<'a> OpenContainer<'a> {
 }
 
 impl<'a> OpenContainer<'a> {
-    /// The node of a span of content at its exit, if what has to stand in it does.
+    /// The node of a span of content with parts of its own, at its exit, if what has to stand in it does.
     fn node(
         self,
         alloc: Global,
         steps: &mut Steps<'_>,
         document: &Document<'_>,
-        columns: &mut Columns,
         content: Content,
         ending: Ending,
     ) -> Result<Node, Stop>
         requires such { is_model_of content (initial_model_of self.container) ≡ true }
-        requires other { content ≢ contents.CharacterReference }
-        requires no_parent { self.container ≡ containers.AnyContent → is_parent content ≡ false }
-        ensures node { MakesOf self.entry result (IsNodeOf document.now content ending columns.old (summary_of_container self.entry)) }
-        ensures columns { OnOk result (LeavesColumns content ending.marks columns.old columns.new) }
+        requires reference { content ≢ contents.CharacterReference }
+        requires other { self.container ≢ containers.AnyContent }
+        ensures node { MakesOf self.entry result (λ node. (columns : TableColumns) → IsNodeOf document.now content ending columns (summary_of_container self.entry) node) }
         ensures list { steps.new.events ≡ steps.old.events }
         ensures bound { steps.new.count ≤ steps.old.count + content_visits content self.entry + 1 }
     {
@@ -441,9 +451,6 @@ impl<'a> OpenContainer<'a> {
         } = self;
         let position = position_of(ending.start, ending.end);
         match container {
-            Container::AnyContent => {
-                Ok(any_content_node(alloc, steps, document, columns, content, nodes, ending)?)
-            }
             Container::TaskParagraph(_) | Container::MarkedParagraph => {
                 Ok(parent(Content::Paragraph, nodes, position))
             }
@@ -470,7 +477,8 @@ impl<'a> OpenContainer<'a> {
             Container::Media(parts) => Ok(parts.link(alloc, steps, position)?),
             Container::FootnoteCall(parts) => Ok(parts.node(alloc, steps, position)?),
             Container::Definition(parts) => Ok(parts.node(alloc, position)),
-            Container::CharacterReference(_)
+            Container::AnyContent
+            | Container::CharacterReference(_)
             | Container::Resource(_)
             | Container::Reference(_)
             | Container::CodeFence(_)
@@ -500,7 +508,7 @@ fn any_content_node(
 ) -> Result<Node, AllocError>
     requires such { is_model_of content models.any_content ≡ true }
     requires no_parent { is_parent content ≡ false }
-    ensures node { IfOk result (IsNodeOf document.now content ending columns.old (summary_of_nodes (views nodes.items))) }
+    ensures node { IfOk result (IsNodeOf document.now content ending (columns_of columns.old) (summary_of_nodes (views nodes.items))) }
     ensures columns { OnOk result (LeavesColumns content ending.marks columns.old columns.new) }
     ensures list { steps.new.events ≡ steps.old.events }
     ensures bound { steps.new.count ≤ steps.old.count + visits_at_end (item_kinds.Content content) (summary_of_nodes (views nodes.items)) }

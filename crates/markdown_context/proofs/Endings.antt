@@ -1,5 +1,5 @@
 -- What the exit of a span makes of the state, in the program and in the steps.
-use Rattle.std.proofs.Common.{◌≡◌, ◌<◌, ℕ, arith, length, Bool, true, false, ◌||◌, not, is_some, List, [], ◌∷◌, ◌++◌, Option, None, Some, Result, Ok, Vec, Global, refl, sym, ap, ◌∙◌, cond, reverse, subst}
+use Rattle.std.proofs.Common.{◌≡◌, ◌≢◌, ◌<◌, ℕ, arith, length, Bool, true, false, ◌||◌, not, is_some, List, [], ◌∷◌, ◌++◌, Option, None, Some, Result, Ok, Vec, Global, refl, sym, ap, ◌∙◌, cond, reverse, subst}
 use Rattle.std.specs.Prelude.{if◌then◌else◌}
 use Rattle.markdown_events.specs.Names.{is_same_name, role_of}
 use Rattle.markdown_events.specs.declared.event.Name.{Name}
@@ -286,7 +286,18 @@ pub parent_no_table : (c : Content) → is_parent c ≡ true → is_table (conte
 parent_no_table contents.Table such = let z : ⊥ = cc in absurd z
 parent_no_table c such = refl
 
--- and nothing but nodes is in it
+-- nor is what has parts of its own
+pub parts_no_table : (what : ItemKind) (h : Container) (x : ContentModel) → initial_model_of h ≡ model_of x what → h ≢ containers.AnyContent → is_table what ≡ false
+parts_no_table (content contents.Table) containers.AnyContent x e other = absurd (other refl)
+parts_no_table (content contents.Table) h x e other = let z : ⊥ = cc in absurd z
+parts_no_table (content c) h x e other = refl
+parts_no_table (part q) h x e other = refl
+
+-- of what is taken out nothing but nodes is kept, where that is so of the innermost container
+pub any_kept : (c : Context) (rest : Nest OpenContainer) (own : OpenContainer) → (innermost c.containers).container ≡ containers.AnyContent → IsPut own rest c.containers → own.container ≡ containers.AnyContent
+any_kept c rest own any put = ap (λ (h : OpenContainer). h.container) (sym (put_innermost rest c.containers own put)) ∙ any
+
+-- a parent, and nothing but nodes is in it
 pub parent_taken : (s : Source) (c : Content) (f : Frame) (end : Point) (old new : Context) (rest : Nest OpenContainer) (own lent taken : OpenContainer)
     → old.is_leaf ≡ false → is_some old.pending ≡ false → (innermost old.containers).container ≡ containers.AnyContent
     → IsPut own rest old.containers → lent ≡ innermost rest
@@ -294,7 +305,7 @@ pub parent_taken : (s : Source) (c : Content) (f : Frame) (end : Point) (old new
     → TakesParent c f.start end own.nodes lent taken → left_to s (significant (content c)) f end old ≡ Ok (top_of new)
 parent_taken s c f end old new rest own lent taken grows none any put is_lent same_leaf same_break same_table written takes =
     let children : ChildFacts = child_facts (marks_of old.interior.marks) (columns_of old.columns) in
-    let is : own.container ≡ containers.AnyContent = ap (λ (h : OpenContainer). h.container) (sym (put_innermost rest old.containers own put)) ∙ any in
+    let is : own.container ≡ containers.AnyContent = any_kept old rest own any put in
     closed_gives s (content c) f end old new rest own lent taken (Ok tt) grows none put is_lent same_leaf same_break same_table written
     ((λ t. leave s (content c) f.start end children (container_state_of old.in_table None (record own { container = is t })) (container_state_of f.in_table None lent))
     ∙ takes s f.in_table old.in_table own.line_endings children)

@@ -11,7 +11,6 @@ use Rattle.positions.specs.declared.message.Fault.TheVariants as faults
 use Rattle.markdown_grammar.specs.Refusals.{Says}
 use Rattle.markdown_steps.specs.Visits.{visits_by_owner}
 use Rattle.markdown_containers.specs.declared.container.Container.{Container}
-use Rattle.markdown_containers.specs.declared.container.Container.TheVariants as containers
 use Rattle.markdown_context.specs.declared.context.Context.{Context}
 use Rattle.markdown_context.specs.declared.context.Frame.{Frame}
 use Rattle.markdown_containers.specs.declared.open_container.OpenContainer.{OpenContainer}
@@ -181,9 +180,9 @@ left_to s role f end c = leave_to s f.start end (child_facts (marks_of c.interio
 abbrev pub item_left : Source → ItemKind → Frame → Point → Context → Result ContainerState ErrorAt
 item_left s what f end c = left_to s (significant what) f end c
 
--- a span of which nothing but nodes is kept is no parent
-abbrev pub IsNoParent : ItemKind → Container → Type 0
-IsNoParent what own = (content : Content) → what ≡ item_kinds.Content content → own ≡ containers.AnyContent → is_parent content ≡ false
+-- an item is no parent
+abbrev pub IsNoParent : ItemKind → Type 0
+IsNoParent what = (content : Content) → what ≡ item_kinds.Content content → is_parent content ≡ false
 
 -- how many nodes are walked over there
 abbrev pub left_visits : Role → Frame → Context → ℕ

@@ -1,6 +1,6 @@
 //! The open spans of a list of events, and what each event does to them.
 
-ghost use Rattle.std.specs.Prelude.{◌≡◌, ◌≤◌, ◌+◌, ◌&&◌, ◌||◌, None, Ok, OnOk, [], false, is_some, not, true};
+ghost use Rattle.std.specs.Prelude.{◌≡◌, ◌≢◌, ◌≤◌, ◌+◌, ◌&&◌, ◌||◌, None, Ok, OnOk, [], false, is_some, not, true};
 ghost use Rattle.markdown_events.specs.Names.{role_of};
 ghost use Rattle.markdown_events.specs.declared.role.ItemKind.TheVariants as item_kinds;
 ghost use Rattle.markdown_events.specs.declared.role.Role.TheVariants as roles;
@@ -469,11 +469,14 @@ impl<'a> Context<'a> {
         if self.pending.is_some() {
             return Err(Stop::Refused(ErrorKind::UnfinishedBreak));
         }
-        match (what, &self.containers.innermost().container) {
-            (ItemKind::Content(content), Container::AnyContent) if is_parent(content) => {
-                Ok(self.leave_parent(content, frame, end)?)
-            }
-            _ => self.leave_any(alloc, steps, document, what, frame, end),
+        match self.containers.innermost().container {
+            Container::AnyContent => match what {
+                ItemKind::Content(content) if is_parent(content) => {
+                    Ok(self.leave_parent(content, frame, end)?)
+                }
+                _ => self.leave_any_content(alloc, steps, document, what, frame, end),
+            },
+            _ => self.leave_parts(alloc, steps, document, what, frame, end),
         }
     }
 
@@ -510,9 +513,11 @@ impl<'a> Context<'a> {
             .take_parent(content, nodes, frame.start, *end)
     }
 
-    /// Closes any other container. It stays out of the loop over the events, which is quicker without it.
+    /// Closes any other container of which nothing but nodes is kept. No other part of it is moved.
+    ///
+    /// Not inlined: inlining it slows the loop over the events.
     #[inline(never)]
-    fn leave_any(
+    fn leave_any_content(
         &mut self,
         alloc: Global,
         steps: &mut Steps<'_>,
@@ -524,7 +529,56 @@ impl<'a> Context<'a> {
         requires open { self.old.is_leaf ≡ false }
         requires ends { ContainerEnds what self.old }
         requires settled { is_some self.old.pending ≡ false }
-        requires no_parent { IsNoParent what (innermost self.old.containers).container }
+        requires no_parent { IsNoParent what }
+        requires container { (innermost self.old.containers).container ≡ containers.AnyContent }
+        ensures gives { (s : Source) → given_of s ≡ document.now → ReachesTop self.new end.now result
+            (item_left s what frame end.now self.old) }
+        ensures closed { OnOk result (Closed (roles.Significant what) self.old self.new) }
+        ensures list { steps.new.events ≡ steps.old.events }
+        ensures bound { steps.new.count ≤ steps.old.count + left_visits (roles.Significant what) frame self.old + 1 }
+    {
+        let ending = Ending {
+            start: frame.start,
+            end: *end,
+            in_table: frame.in_table,
+            marks: self.interior.marks,
+        };
+        let Some(
+            OpenContainer {
+                container: Container::AnyContent,
+                line_endings: _,
+                nodes,
+            },
+        ) = self.containers.inner.pop()
+        else {
+            unreachable!()
+        };
+        self.in_table = frame.in_table;
+        let top = self.containers.innermost_mut();
+        match what {
+            ItemKind::Content(content) => {
+                let columns = &mut self.columns;
+                top.take_any_content(alloc, steps, document, columns, content, nodes, ending)
+            }
+            ItemKind::Part(part) => top.take_any_part(alloc, steps, document, part, nodes, ending),
+        }
+    }
+
+    /// Closes a container with parts of its own. Not inlined, either.
+    #[inline(never)]
+    fn leave_parts(
+        &mut self,
+        alloc: Global,
+        steps: &mut Steps<'_>,
+        document: &Document<'a>,
+        what: ItemKind,
+        frame: Frame,
+        end: &Point,
+    ) -> Result<(), Stop>
+        requires open { self.old.is_leaf ≡ false }
+        requires ends { ContainerEnds what self.old }
+        requires settled { is_some self.old.pending ≡ false }
+        requires container { (innermost self.old.containers).container ≢ containers.AnyContent }
         ensures gives { (s : Source) → given_of s ≡ document.now → ReachesTop self.new end.now result
             (item_left s what frame end.now self.old) }
         ensures closed { OnOk result (Closed (roles.Significant what) self.old self.new) }
@@ -543,18 +597,13 @@ impl<'a> Context<'a> {
         self.in_table = frame.in_table;
         let top = self.containers.innermost_mut();
         match what {
-            ItemKind::Content(content) => {
-                top.take_content(
-                    alloc,
-                    steps,
-                    document,
-                    &mut self.columns,
-                    content,
-                    own,
-                    ending,
-                )
+            ItemKind::Content(content) => top.take_content(
+                alloc, steps, document, content, own, ending,
+            ),
+            ItemKind::Part(part) => {
+                top.take_parts(part, own);
+                Ok(())
             }
-            ItemKind::Part(part) => top.take_part(alloc, steps, document, part, own, ending),
         }
     }
 }

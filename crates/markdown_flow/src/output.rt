@@ -200,9 +200,12 @@ impl Output {
         }
     }
 
-    /// Ends an item that began blank, and that a blank line came after.
+    /// Ends an item that began blank, and that a blank line came after. The line of its marker is the first
+    /// of those that are held as blank, and is none outside the item.
     pub fn exit_blank_item(&mut self) -> Result<(), AllocError> {
-        self.make_filled(0);
+        if let Some(first) = self.blanks.first().copied() {
+            self.make_filled(first.index);
+        }
         self.exit(Name::ListItem)
     }
 

@@ -1,6 +1,5 @@
 -- The text of a line ending, where line endings are text.
-use Rattle.std.specs.Prelude.{Bool, List, [], drop, false, if◌then◌else◌, ℕ, ◌&&◌, ◌==◌, ◌||◌, ◌∷◌}
-use Rattle.markdown_texts.specs.Texts.{starts_with_byte}
+use Rattle.std.specs.Prelude.{Bool, List, [], drop, false, true, if◌then◌else◌, ℕ, ◌&&◌, ◌==◌, ◌||◌, ◌∷◌}
 use Rattle.markdown_events.specs.declared.event.Point.{Point}
 use Rattle.markdown_grammar.specs.Document.{Given, Source, given_of, value_between}
 use Rattle.markdown_grammar.specs.declared.values.Values.TheVariants.{AsInDocument, Whole}
@@ -9,10 +8,15 @@ use Rattle.markdown_grammar.specs.declared.values.Values.TheVariants.{AsInDocume
 abbrev pub is_before_line : ℕ → Bool
 is_before_line b = b == 32 || b == 9 || b == 62
 
--- whether these alone come first, one or more, and then an LF
+-- whether a line ends where these bytes begin
+abbrev pub ends_line : List ℕ → Bool
+ends_line [] = true
+ends_line (b ∷ bytes) = b == 10 || b == 13
+
+-- whether an empty line comes first, one of which there is a byte
 abbrev pub is_empty_line : List ℕ → Bool
 is_empty_line [] = false
-is_empty_line (b ∷ bytes) = is_before_line b && (starts_with_byte 10 bytes || is_empty_line bytes)
+is_empty_line (b ∷ bytes) = b == 13 || is_before_line b && (ends_line bytes || is_empty_line bytes)
 
 -- whether a text is one CR
 abbrev pub is_return : List ℕ → Bool
@@ -20,7 +24,7 @@ is_return [] = false
 is_return (b ∷ []) = b == 13
 is_return (b ∷ c ∷ bytes) = false
 
--- a line ending that ends at a point, by its value. Where values are whole, a CR before an empty line is an LF: with the LF of that line it would be read as one line ending
+-- a line ending that ends at a point, by its value. Where values are whole, a CR before an empty line is an LF: with an LF that ends that line it would be read as one line ending
 abbrev pub ending_as : Given → List ℕ → Point → List ℕ
 ending_as given value end = elim given.values [ AsInDocument ↦ value | Whole ↦ if is_return value && is_empty_line (drop end.index given.bytes) then 10 ∷ [] else value ]
 

@@ -19,7 +19,7 @@ ghost use Rattle.markdown_nodes.specs.Tree.{nothing};
 ghost use Rattle.markdown_nodes.specs.View.{views};
 
 use markdown_builder::buffer::values_of;
-use markdown_builder::fenced::{fenced_value, place_of};
+use markdown_builder::fenced::fenced_value;
 use markdown_builder::misfits::at_most_one;
 use markdown_builder::slice::Document;
 use markdown_builder::texts::{block_value, inline_value};
@@ -152,11 +152,9 @@ fn fenced_code(
     ensures bound { steps.new.count ≤ steps.old.count + node_count (views nodes.items) }
 {
     let CodeFenceParts { info, meta } = fence;
-    let place = place_of(&nodes);
-    let end = position.end.offset;
-    let text = values_of(alloc, steps, nodes)?;
+    let value = fenced_value(alloc, steps, document, nodes, position.end.offset)?;
     Ok(Node::Code(Code {
-        value: fenced_value(document, text, place, end),
+        value,
         position: Some(position),
         lang: info,
         meta,

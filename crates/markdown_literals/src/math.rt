@@ -17,7 +17,7 @@ ghost use Rattle.markdown_nodes.specs.Tree.{nothing};
 ghost use Rattle.markdown_nodes.specs.View.{views};
 
 use markdown_builder::buffer::values_of;
-use markdown_builder::fenced::{fenced_value, place_of};
+use markdown_builder::fenced::fenced_value;
 use markdown_builder::misfits::at_most_one;
 use markdown_builder::slice::Document;
 use markdown_builder::texts::inline_value;
@@ -135,11 +135,9 @@ fn block_math(
     ensures bound { steps.new.count ≤ steps.old.count + node_count (views nodes.items) }
 {
     let MathFenceParts { meta } = fence;
-    let place = place_of(&nodes);
-    let end = position.end.offset;
-    let text = values_of(alloc, steps, nodes)?;
+    let value = fenced_value(alloc, steps, document, nodes, position.end.offset)?;
     Ok(Node::Math(Math {
-        value: fenced_value(document, text, place, end),
+        value,
         position: Some(position),
         meta,
     }))

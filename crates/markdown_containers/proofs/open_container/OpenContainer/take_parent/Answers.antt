@@ -8,7 +8,7 @@ use Rattle.markdown_blocks.specs.Parents.{parent_label}
 use Rattle.markdown_builder.specs.PartsSoFar.{placed}
 use Rattle.markdown_containers.specs.declared.container.Container.TheVariants as containers
 use Rattle.markdown_containers.specs.ContainerStates.{place_of}
-use Rattle.markdown_containers.proofs.Keeping.{parent_keeps}
+use Rattle.markdown_containers.proofs.Keeping.{nodes_keep}
 use Rattle.markdown_containers.proofs.SpanEnds.{content_left, parent_made, parent_row}
 use Rattle.markdown_containers.proofs.open_container.OpenContainer.take_parent.Goals as goal
 
@@ -18,7 +18,7 @@ returns c s in_table inner_table line_endings children =
     (record { container = c.args.self.now.container; line_endings = c.args.self.now.line_endings; nodes = c.put.new.nodes })
     c.args.content c.args.start c.args.end children
     (parent_row c.args.content c.requires) refl
-    (parent_keeps s (place_of in_table c.args.self.now) c.args.content c.args.start c.args.end (views c.args.nodes.items) c.args.self.now.container c.requires) refl
+    (nodes_keep s (place_of in_table c.args.self.now) c.args.content c.args.start c.args.end (views c.args.nodes.items) c.args.self.now.container (parent_row c.args.content c.requires)) refl
     (c.in_ok-put.ensures
     ∙ ap (λ (t : Tree). join (views c.args.self.now.nodes.items) (only t)) c.parent-node.ensures
     ∙ ap (λ (p : Position). join (views c.args.self.now.nodes.items) (only (placed (parent_label c.args.content) (views c.args.nodes.items) p))) c.position_of.ensures
