@@ -6,13 +6,13 @@ ghost use Rattle.event_writer.specs.Finished.{IsFinished};
 ghost use Rattle.markdown_grammar.specs.Document.{source};
 
 use character_references::html::HtmlReferences;
-use event_writer::error::WriteError;
 use event_writer::writer::Writer;
 use markdown_events::event::{Event, Point};
 use markdown_events::message::{Fault, Message, Place};
 use markdown_flow::document::read;
 use markdown_options::ParseOptions;
 use markdown_text::document::{Reading, write};
+use markdown_text::error::TextError;
 use std::alloc::{AllocError, Global};
 
 /// The events of a document: where each span begins and where it ends (the names are those of
@@ -56,11 +56,11 @@ fn written<'d>(
         identifiers: &blocks.identifiers,
         references: &HtmlReferences,
     };
-    let mut writer = Writer::new(alloc, document, &HtmlReferences)?;
-    match write(&reading, blocks.pieces.as_slice(), &mut writer) {
-        Ok(()) => Ok(writer),
-        Err(WriteError::Misfit) => Err(misfit(writer.cursor())),
-        Err(WriteError::Memory(error)) => Err(Fault::Memory(error)),
+    let writer = Writer::new(alloc, document, &HtmlReferences)?;
+    match write(&reading, blocks.pieces.as_slice(), writer) {
+        Ok(writer) => Ok(writer),
+        Err(TextError::Misfit(point)) => Err(misfit(point)),
+        Err(TextError::Memory(error)) => Err(Fault::Memory(error)),
     }
 }
 

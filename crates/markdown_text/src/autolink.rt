@@ -1,13 +1,13 @@
 //! Autolinks (CommonMark): addresses in angle brackets.
 
-ghost use Rattle.std.specs.Prelude.{◌≤◌, ◌<◌, length, IfSome};
+ghost use Rattle.std.specs.Prelude.{◌≡◌, ◌≤◌, ◌<◌, length, IfSome};
 
+use crate::error::TextError;
 use crate::output::Output;
 use crate::token::{Found, TokenKind};
 use character_references::references::References;
 use commonmark_syntax::bytes::{after, count_while, is_control};
 use markdown_events::event::Name;
-use std::alloc::AllocError;
 
 /// The most bytes of a scheme (CommonMark).
 const SCHEME_MOST: usize = 32;
@@ -94,13 +94,15 @@ fn is_of_domain_label(byte: u8) -> bool {
 
 /// Writes an autolink that ends at an offset, by the name of the address in it.
 pub fn write<R: References>(
-    output: &mut Output<'_, R>,
+    output: &mut Output<'_, '_, R>,
     address: Name,
     end: usize,
-) -> Result<(), AllocError> {
+) -> Result<(), TextError>
+    ensures given { output.new.writer.given ≡ output.old.writer.given }
+{
     output.enter(Name::Autolink)?;
     output.token(Name::AutolinkMarker, 1)?;
     output.token_to(address, end.saturating_sub(1))?;
     output.token(Name::AutolinkMarker, 1)?;
-    output.exit(Name::Autolink)
+    output.exit()
 }

@@ -1,11 +1,11 @@
 //! Character escapes (CommonMark).
 
-ghost use Rattle.std.specs.Prelude.{◌≤◌, ◌<◌, length, IfSome};
+ghost use Rattle.std.specs.Prelude.{◌≡◌, ◌≤◌, ◌<◌, length, IfSome};
 
+use crate::error::TextError;
 use crate::output::Output;
 use character_references::references::References;
 use markdown_events::event::Name;
-use std::alloc::AllocError;
 
 /// The length of the character escape that a text begins with: a backslash and a mark of punctuation of
 /// ASCII.
@@ -20,9 +20,11 @@ pub fn scan(text: &[u8]) -> Option<usize>
 }
 
 /// Writes a character escape.
-pub fn write<R: References>(output: &mut Output<'_, R>) -> Result<(), AllocError> {
+pub fn write<R: References>(output: &mut Output<'_, '_, R>) -> Result<(), TextError>
+    ensures given { output.new.writer.given ≡ output.old.writer.given }
+{
     output.enter(Name::CharacterEscape)?;
     output.token(Name::CharacterEscapeMarker, 1)?;
     output.token(Name::CharacterEscapeValue, 1)?;
-    output.exit(Name::CharacterEscape)
+    output.exit()
 }

@@ -1,7 +1,8 @@
 //! Character references (CommonMark): a character by its name or its number.
 
-ghost use Rattle.std.specs.Prelude.{◌≤◌, ◌<◌, length, IfOk, IfSome};
+ghost use Rattle.std.specs.Prelude.{◌≡◌, ◌≤◌, ◌<◌, length, IfOk, IfSome};
 
+use crate::error::TextError;
 use crate::output::Output;
 use crate::token::{Found, TokenKind};
 use character_references::references::References;
@@ -136,10 +137,12 @@ pub fn scan<R: References>(
 
 /// Writes a character reference that ends at an offset.
 pub fn write<R: References>(
-    output: &mut Output<'_, R>,
+    output: &mut Output<'_, '_, R>,
     kind: ReferenceKind,
     end: usize,
-) -> Result<(), AllocError> {
+) -> Result<(), TextError>
+    ensures given { output.new.writer.given ≡ output.old.writer.given }
+{
     output.enter(Name::CharacterReference)?;
     output.token(Name::CharacterReferenceMarker, 1)?;
     if kind != ReferenceKind::Named {
@@ -150,5 +153,5 @@ pub fn write<R: References>(
     }
     output.token_to(Name::CharacterReferenceValue, end.saturating_sub(1))?;
     output.token(Name::CharacterReferenceMarkerSemi, 1)?;
-    output.exit(Name::CharacterReference)
+    output.exit()
 }

@@ -1,19 +1,20 @@
 //! The events of a document, from its pieces.
 
-ghost use Rattle.std.specs.Prelude.{◌≡◌, ◌≤◌, ◌<◌, length};
+ghost use Rattle.std.specs.Prelude.{◌≡◌, ◌≤◌, ◌<◌, IfOk, length};
 
 use crate::content::{join, range};
+use crate::error::TextError;
 use crate::output::ContentKind;
+use crate::pieces::write_piece;
 use crate::source::Source;
 use crate::{string, text};
 use character_references::references::References;
-use event_writer::error::WriteError;
 use event_writer::writer::Writer;
 use markdown_events::event::Name;
 use markdown_options::ParseOptions;
 use markdown_pieces::identifiers::Identifiers;
 use markdown_pieces::piece::{Piece, PieceKind};
-use std::alloc::{AllocError, Global};
+use std::alloc::Global;
 
 /// What a document is read with (ours).
 ///
@@ -41,15 +42,16 @@ pub struct Reading<'r, R> {
 /// Of `a` the pieces are `Enter(Paragraph)`, `Text` up to 1, and `Exit(Paragraph)`. The writer gets the enter of
 /// a `Name::Paragraph`, a `Name::Data` up to offset 1, and the exit.
 ///
-/// It is a `WriteError::Memory` where memory runs out, and a `WriteError::Misfit` where the pieces are not
+/// It is a `TextError::Memory` where memory runs out, and a `TextError::Misfit` where the pieces are not
 /// those of the document. The writer stays one over its document.
-pub fn write<'c, R: References>(
+pub fn write<'c, 'd, R: References>(
     reading: &'c Reading<'c, R>,
     pieces: &'c [Piece],
-    writer: &mut Writer<'_, R>,
-) -> Result<(), WriteError>
-    ensures given { writer.new.given ≡ writer.old.given }
+    writer: Writer<'d, R>,
+) -> Result<Writer<'d, R>, TextError>
+    ensures given { IfOk result (λ written. written.given ≡ writer.entry.given) }
 {
+    let mut writer = writer;
     let mut rest = pieces;
     let mut start = 0;
     let mut name = None;
@@ -57,9 +59,8 @@ pub fn write<'c, R: References>(
     'pieces: while let Some((piece, later)) = rest.split_first() {
         if piece.kind == PieceKind::Text {
             let (content, later) = rest.split_at(content_size(rest, name));
-            let found = inlines(reading, content, start, name, is_task)?;
-            start = found.last().map_or(start, |piece| piece.end);
-            write_pieces(writer, &found)?;
+            writer = inlines(reading, writer, content, start, name, is_task)?;
+            start = content.last().map_or(start, |piece| piece.end);
             rest = later;
             continue;
         }
@@ -67,11 +68,11 @@ pub fn write<'c, R: References>(
             name = Some(entered);
         }
         is_task = may_be_task(piece.kind, is_task);
-        write_piece(writer, piece)?;
+        write_piece(&mut writer, piece)?;
         start = piece.end;
         rest = later;
     }
-    Ok(())
+    Ok(writer)
 }
 
 /// Whether the mark of a task may come after a piece: in the first block of an item, if it is a paragraph, at
@@ -116,36 +117,49 @@ fn content_kind(name: Option<Name>) -> ContentKind {
     }
 }
 
-/// The pieces of a content in a span of this name, with the spans in it. It begins at an offset of the
-/// document. The only error is that memory ran out.
-fn inlines<'c, R: References>(
+/// Writes a content in a span of this name, with the spans in it. It begins at an offset of the document.
+fn inlines<'c, 'd, R: References>(
     reading: &'c Reading<'c, R>,
+    writer: Writer<'d, R>,
     pieces: &'c [Piece],
     start: usize,
     name: Option<Name>,
     is_task: bool,
-) -> Result<Vec<Piece>, AllocError> {
+) -> Result<Writer<'d, R>, TextError>
+    ensures given { IfOk result (λ written. written.given ≡ writer.entry.given) }
+{
     match range(reading.document, start, pieces) {
         Some((start, end)) => {
             let bytes = reading.document.get(start..end).unwrap_or(&[]);
-            inlines_of(reading, bytes, pieces, start, name, is_task)
+            inlines_of(reading, writer, bytes, pieces, start, name, is_task)
         }
         None => {
             let bytes = join(reading.alloc, reading.document, start, pieces)?;
-            inlines_of(reading, bytes.as_slice(), pieces, start, name, is_task)
+            inlines_of(
+                reading,
+                writer,
+                bytes.as_slice(),
+                pieces,
+                start,
+                name,
+                is_task,
+            )
         }
     }
 }
 
-/// The pieces of a content that has these bytes.
-fn inlines_of<'c, R: References>(
+/// Writes a content that has these bytes.
+fn inlines_of<'c, 'd, R: References>(
     reading: &'c Reading<'c, R>,
+    writer: Writer<'d, R>,
     bytes: &'c [u8],
     pieces: &'c [Piece],
     start: usize,
     name: Option<Name>,
     is_task: bool,
-) -> Result<Vec<Piece>, AllocError> {
+) -> Result<Writer<'d, R>, TextError>
+    ensures given { IfOk result (λ written. written.given ≡ writer.entry.given) }
+{
     let source = Source {
         reading,
         bytes,
@@ -154,51 +168,8 @@ fn inlines_of<'c, R: References>(
     match content_kind(name) {
         ContentKind::Text => {
             let is_task = is_task && reading.options.constructs.gfm_task_list_item;
-            text::inlines(&source, pieces, start, is_task)
+            text::inlines(&source, writer, pieces, start, is_task)
         }
-        ContentKind::String => string::inlines(&source, pieces, start),
-    }
-}
-
-/// Writes pieces.
-fn write_pieces<R: References>(
-    writer: &mut Writer<'_, R>,
-    pieces: &[Piece],
-) -> Result<(), WriteError>
-    ensures given { writer.new.given ≡ writer.old.given }
-{
-    for piece in pieces {
-        write_piece(writer, piece)?;
-    }
-    Ok(())
-}
-
-/// Writes a piece.
-fn write_piece<R: References>(writer: &mut Writer<'_, R>, piece: &Piece) -> Result<(), WriteError>
-    ensures given { writer.new.given ≡ writer.old.given }
-{
-    match piece.kind {
-        PieceKind::Enter(name) => writer.enter(name),
-        PieceKind::Exit(_) => writer.exit(),
-        PieceKind::Token(Name::GfmTaskListItemValueUnchecked) => write_unchecked(writer, piece),
-        PieceKind::Token(name) => writer.token(name, piece.end, piece.virtual_spaces),
-        PieceKind::LineEnding => writer.line_ending(Name::LineEnding),
-        PieceKind::BlankLineEnding => writer.line_ending(Name::BlankLineEnding),
-        PieceKind::Text => writer.token(Name::Data, piece.end, 0),
-    }
-}
-
-/// Writes what stands between the brackets of a task that is not checked. It may be a line ending, which is
-/// no token within a line.
-fn write_unchecked<R: References>(
-    writer: &mut Writer<'_, R>,
-    piece: &Piece,
-) -> Result<(), WriteError>
-    ensures given { writer.new.given ≡ writer.old.given }
-{
-    let name = Name::GfmTaskListItemValueUnchecked;
-    match writer.token(name, piece.end, piece.virtual_spaces) {
-        Err(WriteError::Misfit) => writer.line_ending(name),
-        written => written,
+        ContentKind::String => string::inlines(&source, writer, pieces, start),
     }
 }

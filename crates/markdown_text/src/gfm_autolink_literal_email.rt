@@ -1,12 +1,12 @@
 //! Autolink literals that are addresses of mail (GFM), which are found in data.
 
-ghost use Rattle.std.specs.Prelude.{◌≤◌, ◌<◌, length, IfSome};
+ghost use Rattle.std.specs.Prelude.{◌≡◌, ◌≤◌, ◌<◌, length, IfSome};
 
+use crate::error::TextError;
 use crate::output::Output;
 use character_references::references::References;
 use commonmark_syntax::bytes::{after, count_back};
 use markdown_events::event::Name;
-use std::alloc::AllocError;
 
 /// An address in a text.
 #[derive(Clone, Copy, PartialEq, Eq, Debug)]
@@ -20,7 +20,9 @@ struct Address {
 }
 
 /// Writes the addresses in data that ends at an offset, and the data before each of them.
-pub fn write<R: References>(output: &mut Output<'_, R>, end: usize) -> Result<(), AllocError> {
+pub fn write<R: References>(output: &mut Output<'_, '_, R>, end: usize) -> Result<(), TextError>
+    ensures given { output.new.writer.given ≡ output.old.writer.given }
+{
     for _ in output.at()..end {
         let Some(address) = find(output.rest_to(end)) else {
             break;

@@ -1,14 +1,14 @@
 //! The mark of a task (GFM), at the start of the first paragraph of an item.
 
-ghost use Rattle.std.specs.Prelude.{◌≤◌, length, IfSome};
+ghost use Rattle.std.specs.Prelude.{◌≡◌, ◌≤◌, length, IfSome};
 
+use crate::error::TextError;
 use crate::output::Output;
 use crate::token::{Found, TokenKind};
 use crate::whitespace::is_white_space;
 use character_references::references::References;
 use commonmark_syntax::bytes::count_while;
 use markdown_events::event::Name;
-use std::alloc::AllocError;
 
 /// The mark of a task that a text begins with. White space comes after it, and then more of the text.
 pub fn scan(text: &[u8]) -> Option<Found>
@@ -26,9 +26,11 @@ pub fn scan(text: &[u8]) -> Option<Found>
 
 /// Writes the mark of a task, which may be checked. A line ending may stand in one that is not.
 pub fn write<R: References>(
-    output: &mut Output<'_, R>,
+    output: &mut Output<'_, '_, R>,
     is_checked: bool,
-) -> Result<(), AllocError> {
+) -> Result<(), TextError>
+    ensures given { output.new.writer.given ≡ output.old.writer.given }
+{
     let value = if is_checked {
         Name::GfmTaskListItemValueChecked
     } else {
@@ -42,5 +44,5 @@ pub fn write<R: References>(
         output.token(value, 1)?;
     }
     output.token(Name::GfmTaskListItemMarker, 1)?;
-    output.exit(Name::GfmTaskListItemCheck)
+    output.exit()
 }

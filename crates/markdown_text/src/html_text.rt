@@ -1,12 +1,12 @@
 //! HTML in a text (CommonMark): tags, comments, instructions, declarations and CDATA sections.
 
-ghost use Rattle.std.specs.Prelude.{◌≤◌, ◌<◌, length, IfSome};
+ghost use Rattle.std.specs.Prelude.{◌≡◌, ◌≤◌, ◌<◌, length, IfSome};
 
+use crate::error::TextError;
 use crate::output::Output;
 use character_references::references::References;
 use commonmark_syntax::{cdata, closing_tag, comment, declaration, instruction, opening_tag};
 use markdown_events::event::Name;
-use std::alloc::AllocError;
 
 /// Which kinds of HTML are known to have no end in the rest of a content.
 ///
@@ -76,8 +76,10 @@ fn scan_cdata(text: &[u8], missing: &mut MissingEnds) -> Option<usize>
 }
 
 /// Writes HTML that ends at an offset.
-pub fn write<R: References>(output: &mut Output<'_, R>, end: usize) -> Result<(), AllocError> {
+pub fn write<R: References>(output: &mut Output<'_, '_, R>, end: usize) -> Result<(), TextError>
+    ensures given { output.new.writer.given ≡ output.old.writer.given }
+{
     output.enter(Name::HtmlText)?;
     output.lines(Name::HtmlTextData, end)?;
-    output.exit(Name::HtmlText)
+    output.exit()
 }

@@ -1,10 +1,11 @@
 //! The end of a label (micromark), and what comes after it: a resource or a reference.
 
-ghost use Rattle.std.specs.Prelude.{◌≤◌, ◌<◌, ◌+◌, ◌-◌, length, IfOk, IfSome};
+ghost use Rattle.std.specs.Prelude.{◌≡◌, ◌≤◌, ◌<◌, ◌+◌, ◌-◌, length, IfOk, IfSome};
 ghost use Rattle.markdown_text.specs.Cursors.{bytes_from};
 
 use crate::brackets::{Bracket, LabelForm};
 use crate::cursor::Cursor;
+use crate::error::TextError;
 use crate::output::Output;
 use crate::source::Source;
 use crate::token::{Labelled, Target};
@@ -118,19 +119,21 @@ fn with_own_label(labelled: Labelled, rest: &[u8]) -> Match
 
 /// Writes the end of a label, and what comes after it up to an offset.
 pub fn write<R: References>(
-    output: &mut Output<'_, R>,
+    output: &mut Output<'_, '_, R>,
     labelled: Labelled,
     target: &Target,
     end: usize,
-) -> Result<(), AllocError> {
+) -> Result<(), TextError>
+    ensures given { output.new.writer.given ≡ output.old.writer.given }
+{
     output.enter(Name::LabelEnd)?;
     output.token(Name::LabelMarker, 1)?;
-    output.exit(Name::LabelEnd)?;
-    output.exit(Name::Label)?;
+    output.exit()?;
+    output.exit()?;
     match target {
         Target::Shortcut => {}
         Target::Resource(resource) => resource::write(output, resource)?,
         Target::Collapsed | Target::Full => reference::write(output, end)?,
     }
-    output.exit(labelled.group())
+    output.exit()
 }

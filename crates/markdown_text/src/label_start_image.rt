@@ -1,12 +1,12 @@
 //! The start of the label of an image (CommonMark).
 
-ghost use Rattle.std.specs.Prelude.{◌≤◌, ◌<◌, length, IfSome};
+ghost use Rattle.std.specs.Prelude.{◌≡◌, ◌≤◌, ◌<◌, length, IfSome};
 
+use crate::error::TextError;
 use crate::output::Output;
 use character_references::references::References;
 use markdown_events::event::Name;
 use markdown_options::Constructs;
-use std::alloc::AllocError;
 
 /// The length of the start of the label of an image that a text begins with. Where calls of footnotes
 /// are a construct, no image begins before a caret (micromark).
@@ -22,11 +22,13 @@ pub fn scan(text: &[u8], constructs: &Constructs) -> Option<usize>
 }
 
 /// Writes the start of the label of an image.
-pub fn write<R: References>(output: &mut Output<'_, R>) -> Result<(), AllocError> {
+pub fn write<R: References>(output: &mut Output<'_, '_, R>) -> Result<(), TextError>
+    ensures given { output.new.writer.given ≡ output.old.writer.given }
+{
     output.enter(Name::Image)?;
     output.enter(Name::Label)?;
     output.enter(Name::LabelImage)?;
     output.token(Name::LabelImageMarker, 1)?;
     output.token(Name::LabelMarker, 1)?;
-    output.exit(Name::LabelImage)
+    output.exit()
 }

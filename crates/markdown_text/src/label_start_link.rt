@@ -1,12 +1,12 @@
 //! The start of the label of a link (CommonMark).
 
-ghost use Rattle.std.specs.Prelude.{◌≤◌, ◌<◌, length, IfSome};
+ghost use Rattle.std.specs.Prelude.{◌≡◌, ◌≤◌, ◌<◌, length, IfSome};
 
+use crate::error::TextError;
 use crate::output::Output;
 use character_references::references::References;
 use markdown_events::event::Name;
 use markdown_options::Constructs;
-use std::alloc::AllocError;
 
 /// The length of the start of the label of a link that a text begins with.
 pub fn scan(text: &[u8], constructs: &Constructs) -> Option<usize>
@@ -20,10 +20,12 @@ pub fn scan(text: &[u8], constructs: &Constructs) -> Option<usize>
 }
 
 /// Writes the start of the label of a link.
-pub fn write<R: References>(output: &mut Output<'_, R>) -> Result<(), AllocError> {
+pub fn write<R: References>(output: &mut Output<'_, '_, R>) -> Result<(), TextError>
+    ensures given { output.new.writer.given ≡ output.old.writer.given }
+{
     output.enter(Name::Link)?;
     output.enter(Name::Label)?;
     output.enter(Name::LabelLink)?;
     output.token(Name::LabelMarker, 1)?;
-    output.exit(Name::LabelLink)
+    output.exit()
 }

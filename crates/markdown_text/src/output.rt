@@ -1,13 +1,17 @@
-//! The pieces of a content, as the spans in it are written.
+//! The spans of a content, as they are written.
+
+ghost use Rattle.std.specs.Prelude.{◌≡◌, IfOk};
 
 use crate::content::line_size;
+use crate::error::TextError;
+use crate::pieces::write_pieces;
 use crate::source::Source;
 use crate::{data, string};
 use character_references::references::References;
 use commonmark_syntax::bytes::{after, count_while, is_space_or_tab};
+use event_writer::writer::Writer;
 use markdown_events::event::Name;
-use markdown_pieces::piece::{Piece, PieceKind};
-use std::alloc::AllocError;
+use markdown_pieces::piece::Piece;
 use std::mem;
 
 /// What may stand in a content (micromark).
@@ -30,14 +34,13 @@ pub enum Next {
     End,
 }
 
-/// The pieces of a content with the spans in it, as they are found. Between its lines stand the pieces that
-/// the block structure has there.
+/// A content whose spans are written. Between its lines stand the pieces that the block structure has there.
 #[derive(Drop)]
-pub struct Output<'c, R: References> {
+pub struct Output<'c, 'd, R: References> {
     /// The content.
     source: &'c Source<'c, R>,
-    /// The pieces so far.
-    pieces: Vec<Piece>,
+    /// What writes the spans.
+    writer: Writer<'d, R>,
     /// The pieces of the block structure, from the text of this line on.
     lines: &'c [Piece],
     /// By how much an offset in the document exceeds that in the content, on this line.
@@ -54,17 +57,20 @@ pub struct Output<'c, R: References> {
     links: usize,
 }
 
-impl<'c, R: References> Output<'c, R> {
+impl<'c, 'd, R: References> Output<'c, 'd, R> {
     /// The start of a content, which is at an offset of the document. `lines` are its pieces.
     pub fn new(
         source: &'c Source<'c, R>,
+        writer: Writer<'d, R>,
         lines: &'c [Piece],
         start: usize,
         kind: ContentKind,
-    ) -> Self {
+    ) -> Self
+        ensures given { result.writer.given ≡ writer.entry.given }
+    {
         Output {
             source,
-            pieces: Vec::new(source.reading.alloc),
+            writer,
             lines,
             ahead: start,
             at: 0,
@@ -116,93 +122,104 @@ impl<'c, R: References> Output<'c, R> {
     }
 
     /// Keeps that a link begins.
-    pub fn enter_link(&mut self) {
+    pub fn enter_link(&mut self)
+        ensures given { self.new.writer.given ≡ self.old.writer.given }
+    {
         self.links = self.links.saturating_add(1);
     }
 
     /// Keeps that a link ends.
-    pub fn exit_link(&mut self) {
+    pub fn exit_link(&mut self)
+        ensures given { self.new.writer.given ≡ self.old.writer.given }
+    {
         self.links = self.links.saturating_sub(1);
     }
 
     /// Adds data up to an offset. It is written with the data beside it.
-    pub fn data(&mut self, end: usize) {
+    pub fn data(&mut self, end: usize)
+        ensures given { self.new.writer.given ≡ self.old.writer.given }
+    {
         self.data = end;
     }
 
     /// Opens a span.
-    pub fn enter(&mut self, name: Name) -> Result<(), AllocError> {
+    pub fn enter(&mut self, name: Name) -> Result<(), TextError>
+        ensures given { self.new.writer.given ≡ self.old.writer.given }
+    {
         self.flush(Next::Span)?;
         self.is_line_start = false;
-        self.push(PieceKind::Enter(name))
+        TextError::at(self.writer.cursor(), self.writer.enter(name))
     }
 
-    /// Closes the innermost span, which has this name.
-    pub fn exit(&mut self, name: Name) -> Result<(), AllocError> {
+    /// Closes the innermost span.
+    pub fn exit(&mut self) -> Result<(), TextError>
+        ensures given { self.new.writer.given ≡ self.old.writer.given }
+    {
         self.flush(Next::Span)?;
         self.is_line_start = false;
-        self.push(PieceKind::Exit(name))
-    }
-
-    /// Adds a piece that ends at the offset up to which all is written.
-    fn push(&mut self, kind: PieceKind) -> Result<(), AllocError> {
-        let end = self.at.saturating_add(self.ahead);
-        self.pieces.push(Piece::new(kind, end))?;
-        Ok(())
+        TextError::at(self.writer.cursor(), self.writer.exit())
     }
 
     /// Writes a token of so many bytes.
-    pub fn token(&mut self, name: Name, size: usize) -> Result<(), AllocError> {
+    pub fn token(&mut self, name: Name, size: usize) -> Result<(), TextError>
+        ensures given { self.new.writer.given ≡ self.old.writer.given }
+    {
         self.flush(Next::Span)?;
         self.put(name, self.offset_after(size))
     }
 
     /// Writes a token up to an offset.
-    pub fn token_to(&mut self, name: Name, end: usize) -> Result<(), AllocError> {
+    pub fn token_to(&mut self, name: Name, end: usize) -> Result<(), TextError>
+        ensures given { self.new.writer.given ≡ self.old.writer.given }
+    {
         self.flush(Next::Span)?;
         self.put(name, end)
     }
 
     /// Writes a token up to an offset, if it has any bytes. No data waits.
-    pub fn put(&mut self, name: Name, end: usize) -> Result<(), AllocError> {
+    pub fn put(&mut self, name: Name, end: usize) -> Result<(), TextError>
+        ensures given { self.new.writer.given ≡ self.old.writer.given }
+    {
         if end <= self.at {
             return Ok(());
         }
         self.at = end;
         self.data = end;
         self.is_line_start = false;
-        self.push(PieceKind::Token(name))
+        let to = end.saturating_add(self.ahead);
+        TextError::at(self.writer.cursor(), self.writer.token(name, to, 0))
     }
 
     /// Writes a line ending, and what stands before the text of the next line.
-    pub fn line_ending(&mut self) -> Result<(), AllocError> {
-        self.flush(Next::LineEnding)?;
-        let (line, rest) = self.lines.split_at(line_size(self.lines));
-        let between = line.get(1..).unwrap_or(&[]);
-        self.pieces.extend_from_slice(between)?;
-        self.lines = rest;
-        self.at = self.at.saturating_add(1);
-        self.data = self.at;
-        if let Some(last) = between.last() {
-            self.ahead = last.end.saturating_sub(self.at);
-        }
-        self.is_line_start = true;
-        Ok(())
+    pub fn line_ending(&mut self) -> Result<(), TextError>
+        ensures given { self.new.writer.given ≡ self.old.writer.given }
+    {
+        self.line_ending_as(Name::LineEnding)
     }
 
     /// Writes a line ending as a token of this name, and what stands before the text of the next line.
-    pub fn line_ending_as(&mut self, name: Name) -> Result<(), AllocError> {
+    pub fn line_ending_as(&mut self, name: Name) -> Result<(), TextError>
+        ensures given { self.new.writer.given ≡ self.old.writer.given }
+    {
         self.flush(Next::LineEnding)?;
-        let place = self.pieces.len();
-        self.line_ending()?;
-        if let Some(piece) = self.pieces.get_mut(place) {
-            piece.kind = PieceKind::Token(name);
+        let (line, rest) = self.lines.split_at(line_size(self.lines));
+        self.lines = rest;
+        self.at = self.at.saturating_add(1);
+        self.data = self.at;
+        self.is_line_start = true;
+        if let [_, ending, between @ ..] = line {
+            let last = between.last().unwrap_or(ending);
+            self.ahead = last.end.saturating_sub(self.at);
+            TextError::at(self.writer.cursor(), self.writer.line_ending(name))?;
+            write_pieces(&mut self.writer, between)?;
         }
         Ok(())
     }
 
     /// Writes a token for what each line has up to an offset, and white space that begins a line apart.
-    pub fn lines(&mut self, name: Name, end: usize) -> Result<(), AllocError> {
+    pub fn lines(&mut self, name: Name, end: usize) -> Result<(), TextError>
+        ensures given { self.new.writer.given ≡ self.old.writer.given }
+    {
         for _ in self.at..end {
             if self.at >= end {
                 break;
@@ -218,32 +235,40 @@ impl<'c, R: References> Output<'c, R> {
     }
 
     /// Writes a line ending, and the white space after it up to an offset at most.
-    fn line_start(&mut self, end: usize) -> Result<(), AllocError> {
+    fn line_start(&mut self, end: usize) -> Result<(), TextError>
+        ensures given { self.new.writer.given ≡ self.old.writer.given }
+    {
         self.line_ending()?;
         let space = count_while(self.rest_to(end), is_space_or_tab);
         self.put(Name::SpaceOrTab, self.offset_after(space))
     }
 
     /// Writes so many bytes of white space.
-    pub fn space(&mut self, size: usize) -> Result<(), AllocError> {
+    pub fn space(&mut self, size: usize) -> Result<(), TextError>
+        ensures given { self.new.writer.given ≡ self.old.writer.given }
+    {
         self.lines(Name::SpaceOrTab, self.offset_after(size))
     }
 
     /// Writes a span with a string up to an offset, if it has any bytes.
-    pub fn string(&mut self, name: Name, end: usize) -> Result<(), AllocError> {
+    pub fn string(&mut self, name: Name, end: usize) -> Result<(), TextError>
+        ensures given { self.new.writer.given ≡ self.old.writer.given }
+    {
         if self.at >= end {
             return Ok(());
         }
         self.enter(name)?;
         let kind = mem::replace(&mut self.kind, ContentKind::String);
         string::write(self, end)?;
-        self.exit(name)?;
+        self.exit()?;
         self.kind = kind;
         Ok(())
     }
 
     /// Writes the data that waits.
-    pub fn flush(&mut self, next: Next) -> Result<(), AllocError> {
+    pub fn flush(&mut self, next: Next) -> Result<(), TextError>
+        ensures given { self.new.writer.given ≡ self.old.writer.given }
+    {
         if self.data > self.at {
             let end = self.data;
             data::write(self, end, next)?;
@@ -251,10 +276,12 @@ impl<'c, R: References> Output<'c, R> {
         Ok(())
     }
 
-    /// Writes the data that waits at the end of the content, and gives all pieces.
-    pub fn finish(mut self) -> Result<Vec<Piece>, AllocError> {
+    /// Writes the data that waits at the end of the content, and gives the writer.
+    pub fn finish(mut self) -> Result<Writer<'d, R>, TextError>
+        ensures given { IfOk result (λ writer. writer.given ≡ self.entry.writer.given) }
+    {
         self.flush(Next::End)?;
-        let Output { pieces, .. } = self;
-        Ok(pieces)
+        let Output { writer, .. } = self;
+        Ok(writer)
     }
 }

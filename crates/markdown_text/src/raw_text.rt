@@ -1,9 +1,10 @@
 //! Raw text (micromark): code between backticks (CommonMark), and math between dollars.
 
-ghost use Rattle.std.specs.Prelude.{◌≤◌, ◌<◌, ◌-◌, length, IfOk, IfSome};
+ghost use Rattle.std.specs.Prelude.{◌≡◌, ◌≤◌, ◌<◌, ◌-◌, length, IfOk, IfSome};
 ghost use Rattle.markdown_text.specs.Cursors.{bytes_from};
 
 use crate::cursor::Cursor;
+use crate::error::TextError;
 use crate::output::Output;
 use character_references::references::References;
 use commonmark_syntax::bytes::after;
@@ -134,14 +135,16 @@ pub const MATH_TEXT: RawNames = RawNames {
 
 /// Writes a raw text that ends at an offset, between sequences of this length.
 pub fn write<R: References>(
-    output: &mut Output<'_, R>,
+    output: &mut Output<'_, '_, R>,
     names: RawNames,
     sequence: usize,
     end: usize,
-) -> Result<(), AllocError> {
+) -> Result<(), TextError>
+    ensures given { output.new.writer.given ≡ output.old.writer.given }
+{
     output.enter(names.group)?;
     output.token(names.sequence, sequence)?;
     output.lines(names.data, end.saturating_sub(sequence))?;
     output.token(names.sequence, sequence)?;
-    output.exit(names.group)
+    output.exit()
 }

@@ -1,14 +1,14 @@
 //! The resource of a link or an image (CommonMark): a destination and a title in parentheses.
 
-ghost use Rattle.std.specs.Prelude.{◌≤◌, ◌<◌, ◌+◌, length, IfSome};
+ghost use Rattle.std.specs.Prelude.{◌≡◌, ◌≤◌, ◌<◌, ◌+◌, length, IfSome};
 
+use crate::error::TextError;
 use crate::output::Output;
 use crate::{destination as destination_span, title as title_span};
 use character_references::references::References;
 use commonmark_syntax::bytes::{after, white_space_length};
 use commonmark_syntax::{destination, title};
 use markdown_events::event::Name;
-use std::alloc::AllocError;
 
 /// The length of each part of a resource.
 #[derive(Clone, Copy, PartialEq, Eq, Debug)]
@@ -81,9 +81,11 @@ fn title_length(text: &[u8]) -> Option<usize>
 
 /// Writes a resource.
 pub fn write<R: References>(
-    output: &mut Output<'_, R>,
+    output: &mut Output<'_, '_, R>,
     resource: &Resource,
-) -> Result<(), AllocError> {
+) -> Result<(), TextError>
+    ensures given { output.new.writer.given ≡ output.old.writer.given }
+{
     output.enter(Name::Resource)?;
     output.token(Name::ResourceMarker, 1)?;
     output.space(resource.before)?;
@@ -96,5 +98,5 @@ pub fn write<R: References>(
     }
     output.space(resource.after)?;
     output.token(Name::ResourceMarker, 1)?;
-    output.exit(Name::Resource)
+    output.exit()
 }

@@ -1,30 +1,37 @@
 //! String content (micromark): escapes and character references, as in a label, a destination or a title.
 
-ghost use Rattle.std.specs.Prelude.{◌≤◌, ◌<◌, length, IfOk};
+ghost use Rattle.std.specs.Prelude.{◌≡◌, ◌≤◌, ◌<◌, length, IfOk};
 
+use crate::error::TextError;
 use crate::output::{ContentKind, Output};
 use crate::source::Source;
 use crate::token::{Found, TokenKind};
 use crate::{character_escape, character_reference};
 use character_references::references::References;
 use commonmark_syntax::bytes::{after, count_while};
+use event_writer::writer::Writer;
 use markdown_pieces::piece::Piece;
 use std::alloc::AllocError;
 
-/// The pieces of a string, with the spans in it. It begins at an offset of the document, and `lines` are
-/// its pieces as the block structure gives them. The only error is that memory ran out.
-pub fn inlines<'c, R: References>(
+/// Writes the spans of a string. It begins at an offset of the document, and `lines` are its pieces as the
+/// block structure gives them.
+pub fn inlines<'c, 'd, R: References>(
     source: &'c Source<'c, R>,
+    writer: Writer<'d, R>,
     lines: &'c [Piece],
     start: usize,
-) -> Result<Vec<Piece>, AllocError> {
-    let mut output = Output::new(source, lines, start, ContentKind::String);
+) -> Result<Writer<'d, R>, TextError>
+    ensures given { IfOk result (λ written. written.given ≡ writer.entry.given) }
+{
+    let mut output = Output::new(source, writer, lines, start, ContentKind::String);
     write(&mut output, source.bytes.len())?;
     output.finish()
 }
 
 /// Writes a string up to an offset.
-pub fn write<R: References>(output: &mut Output<'_, R>, end: usize) -> Result<(), AllocError> {
+pub fn write<R: References>(output: &mut Output<'_, '_, R>, end: usize) -> Result<(), TextError>
+    ensures given { output.new.writer.given ≡ output.old.writer.given }
+{
     let source = output.source();
     let mut rest = output.rest_to(end);
     'tokens: while !rest.is_empty() {
@@ -74,10 +81,12 @@ fn is_plain(byte: u8) -> bool {
 
 /// Writes what was found in a string, up to an offset.
 fn write_found<R: References>(
-    output: &mut Output<'_, R>,
+    output: &mut Output<'_, '_, R>,
     found: Found,
     end: usize,
-) -> Result<(), AllocError> {
+) -> Result<(), TextError>
+    ensures given { output.new.writer.given ≡ output.old.writer.given }
+{
     match found.kind {
         Some(TokenKind::LineEnding) => output.line_ending(),
         Some(TokenKind::CharacterEscape) => character_escape::write(output),

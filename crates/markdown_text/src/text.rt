@@ -1,8 +1,9 @@
 //! Text content (micromark): all inlines. The second pass writes their spans.
 
-ghost use Rattle.std.specs.Prelude.{◌≤◌, IfOk};
+ghost use Rattle.std.specs.Prelude.{◌≡◌, ◌≤◌, IfOk};
 
 use crate::attention::{AttentionKind, Delimiter};
+use crate::error::TextError;
 use crate::output::{ContentKind, Next, Output};
 use crate::raw_text::{CODE_TEXT, MATH_TEXT};
 use crate::source::Source;
@@ -13,9 +14,9 @@ use crate::{
     gfm_task_list_item_check, html_text, label_end, label_start_image, label_start_link, raw_text,
 };
 use character_references::references::References;
+use event_writer::writer::Writer;
 use markdown_events::event::Name;
 use markdown_pieces::piece::Piece;
-use std::alloc::AllocError;
 
 /// A construct that is open.
 #[derive(Clone, Copy, PartialEq, Eq, Debug)]
@@ -26,17 +27,19 @@ enum Open {
     Label(Labelled, bool),
 }
 
-/// The pieces of a text, with the spans of its inlines. It begins at an offset of the document, and
-/// `lines` are its pieces as the block structure gives them. With `is_task` it may begin with the mark of a
-/// task. The only error is that memory ran out.
-pub fn inlines<'c, R: References>(
+/// Writes the spans of a text. It begins at an offset of the document, and `lines` are its pieces as the
+/// block structure gives them. With `is_task` it may begin with the mark of a task.
+pub fn inlines<'c, 'd, R: References>(
     source: &'c Source<'c, R>,
+    writer: Writer<'d, R>,
     lines: &'c [Piece],
     start: usize,
     is_task: bool,
-) -> Result<Vec<Piece>, AllocError> {
+) -> Result<Writer<'d, R>, TextError>
+    ensures given { IfOk result (λ written. written.given ≡ writer.entry.given) }
+{
     let found = tokenize(source, is_task)?;
-    let mut output = Output::new(source, lines, start, ContentKind::Text);
+    let mut output = Output::new(source, writer, lines, start, ContentKind::Text);
     let mut open = Vec::new(source.reading.alloc);
     write_tokens(&mut output, &found, &mut open)?;
     output.data(source.bytes.len());
@@ -48,10 +51,12 @@ pub fn inlines<'c, R: References>(
 
 /// Writes the tokens of a text.
 fn write_tokens<R: References>(
-    output: &mut Output<'_, R>,
+    output: &mut Output<'_, '_, R>,
     found: &Tokens,
     open: &mut Vec<Open>,
-) -> Result<(), AllocError> {
+) -> Result<(), TextError>
+    ensures given { output.new.writer.given ≡ output.old.writer.given }
+{
     for token in found.tokens.iter() {
         output.data(token.start);
         match token.kind {
@@ -69,7 +74,12 @@ fn write_tokens<R: References>(
 }
 
 /// Writes a token that neither opens nor closes a span around others.
-fn write_token<R: References>(output: &mut Output<'_, R>, token: &Token) -> Result<(), AllocError> {
+fn write_token<R: References>(
+    output: &mut Output<'_, '_, R>,
+    token: &Token,
+) -> Result<(), TextError>
+    ensures given { output.new.writer.given ≡ output.old.writer.given }
+{
     match token.kind {
         TokenKind::LineEnding => output.line_ending(),
         TokenKind::HardBreakEscape => output.token_to(Name::HardBreakEscape, token.end),
@@ -95,11 +105,13 @@ fn write_token<R: References>(output: &mut Output<'_, R>, token: &Token) -> Resu
 
 /// Writes a run of delimiters.
 fn write_run<R: References>(
-    output: &mut Output<'_, R>,
+    output: &mut Output<'_, '_, R>,
     delimiters: &[Delimiter],
     token: &Token,
     open: &mut Vec<Open>,
-) -> Result<(), AllocError> {
+) -> Result<(), TextError>
+    ensures given { output.new.writer.given ≡ output.old.writer.given }
+{
     let mut at = token.start;
     'markers: while at < token.end {
         let delimiter = delimiters.get(at).copied().unwrap_or(Delimiter::Data);
@@ -113,11 +125,12 @@ fn write_run<R: References>(
 /// Writes the sequence that begins at a marker, and gives its length. Where none does, it writes nothing
 /// and gives 1.
 fn write_delimiter<R: References>(
-    output: &mut Output<'_, R>,
+    output: &mut Output<'_, '_, R>,
     delimiter: Delimiter,
     open: &mut Vec<Open>,
-) -> Result<usize, AllocError>
-    ensures { IfOk result (λ size. 1 ≤ size) }
+) -> Result<usize, TextError>
+    ensures least { IfOk result (λ size. 1 ≤ size) }
+    ensures given { output.new.writer.given ≡ output.old.writer.given }
 {
     match (delimiter, open.last().copied()) {
         (Delimiter::Opening(kind), _) => {
@@ -129,9 +142,9 @@ fn write_delimiter<R: References>(
         }
         (Delimiter::Closing(kind), Some(Open::Attention(last))) if last == kind => {
             open.pop();
-            output.exit(kind.text())?;
+            output.exit()?;
             output.token(kind.sequence(), kind.size())?;
-            output.exit(kind.group())?;
+            output.exit()?;
             Ok(kind.size())
         }
         _ => Ok(1),
@@ -140,11 +153,13 @@ fn write_delimiter<R: References>(
 
 /// Writes the start of a label.
 fn write_label_start<R: References>(
-    output: &mut Output<'_, R>,
+    output: &mut Output<'_, '_, R>,
     token: &Token,
     labelled: Labelled,
     open: &mut Vec<Open>,
-) -> Result<(), AllocError> {
+) -> Result<(), TextError>
+    ensures given { output.new.writer.given ≡ output.old.writer.given }
+{
     match labelled {
         Labelled::Link => {
             label_start_link::write(output)?;
@@ -164,19 +179,21 @@ fn write_label_start<R: References>(
 
 /// Writes the end of a label, and what comes after it.
 fn write_label_end<R: References>(
-    output: &mut Output<'_, R>,
+    output: &mut Output<'_, '_, R>,
     token: &Token,
     labelled: Labelled,
     target: &Target,
     open: &mut Vec<Open>,
-) -> Result<(), AllocError> {
+) -> Result<(), TextError>
+    ensures given { output.new.writer.given ≡ output.old.writer.given }
+{
     let Some(Open::Label(_, has_text)) = open.last().copied() else {
         output.data(token.end);
         return Ok(());
     };
     open.pop();
     if has_text {
-        output.exit(Name::LabelText)?;
+        output.exit()?;
     }
     label_end::write(output, labelled, target, token.end)?;
     if labelled == Labelled::Link {
@@ -186,18 +203,20 @@ fn write_label_end<R: References>(
 }
 
 /// Closes a construct that nothing in the text closes.
-fn close<R: References>(output: &mut Output<'_, R>, open: Open) -> Result<(), AllocError> {
+fn close<R: References>(output: &mut Output<'_, '_, R>, open: Open) -> Result<(), TextError>
+    ensures given { output.new.writer.given ≡ output.old.writer.given }
+{
     match open {
         Open::Attention(kind) => {
-            output.exit(kind.text())?;
-            output.exit(kind.group())
+            output.exit()?;
+            output.exit()
         }
         Open::Label(labelled, has_text) => {
             if has_text {
-                output.exit(Name::LabelText)?;
+                output.exit()?;
             }
-            output.exit(Name::Label)?;
-            output.exit(labelled.group())
+            output.exit()?;
+            output.exit()
         }
     }
 }
