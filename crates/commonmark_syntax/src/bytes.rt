@@ -1,6 +1,6 @@
 //! Bytes of a text: which are alike, and how many of them come one after another.
 
-ghost use Rattle.std.specs.Prelude.{◌≡◌, ◌≤◌, ◌<◌, ◌-◌, length, IfSome};
+ghost use Rattle.std.specs.Prelude.{◌≡◌, ◌≤◌, ◌<◌, ◌-◌, ◌==◌, ◌||◌, drop, length, IfSome};
 
 /// How many bytes at the start of a text are such.
 ///
@@ -59,7 +59,8 @@ pub fn white_space_length(text: &[u8]) -> usize
 ///
 /// After 1 byte of `ab` it is `b`.
 pub fn after(text: &[u8], size: usize) -> &[u8]
-    ensures { length result.now ≡ length text.now - size }
+    ensures length { length result.now ≡ length text.now - size }
+    ensures rest { result.now ≡ drop size text.now }
 {
     text.get(size..).unwrap_or(&[])
 }
@@ -83,7 +84,9 @@ pub fn length_through(text: &[u8], end: &[u8]) -> Option<usize>
 /// Whether a byte is a space or a tab.
 ///
 /// It is true of a tab, and false of a line feed.
-pub fn is_space_or_tab(byte: u8) -> bool {
+pub fn is_space_or_tab(byte: u8) -> bool
+    ensures { result ≡ ((byte == 32) || (byte == 9)) }
+{
     byte == b' ' || byte == b'\t'
 }
 

@@ -1,4 +1,4 @@
-mod Walks
+pub mod Walks
 mod Tilings
 mod Holding
 mod Misfits

@@ -8,13 +8,13 @@ use markdown_pieces::piece::PieceKind;
 use std::alloc::AllocError;
 
 /// Holds a blank line: what ends between it and the text before it is not known yet.
-pub fn hold(line: &Line<'_>, output: &mut Output) -> Result<(), AllocError> {
+pub fn hold<'d>(line: &Line<'d>, output: &mut Output<'d>) -> Result<(), AllocError> {
     output.hold_prefix()?;
     hold_rest(line, output.depth(), output)
 }
 
 /// Holds blank lines that were kept.
-pub fn hold_kept(content: &Content<'_>, output: &mut Output) -> Result<(), AllocError> {
+pub fn hold_kept<'d>(content: &Content<'d>, output: &mut Output<'d>) -> Result<(), AllocError> {
     for kept in content.lines() {
         output.hold_all(content.prefix_of(kept))?;
         hold_rest(&kept.line, kept.depth, output)?;
@@ -23,7 +23,7 @@ pub fn hold_kept(content: &Content<'_>, output: &mut Output) -> Result<(), Alloc
 }
 
 /// Holds what a blank line has after its prefix. The line is blank only inside so many containers.
-fn hold_rest(line: &Line<'_>, depth: usize, output: &mut Output) -> Result<(), AllocError> {
+fn hold_rest<'d>(line: &Line<'d>, depth: usize, output: &mut Output<'d>) -> Result<(), AllocError> {
     if line.indent() > 0 {
         let mut line = *line;
         line.skip_white_space();

@@ -2,8 +2,7 @@
 
 use crate::container::Container;
 use crate::line::Line;
-use crate::output::{Output, piece_to};
-use commonmark_syntax::bytes::after;
+use crate::output::Output;
 use markdown_events::event::Name;
 use markdown_pieces::piece::PieceKind;
 use std::alloc::AllocError;
@@ -19,15 +18,14 @@ fn has_marker(line: &Line<'_>) -> bool {
 }
 
 /// Whether a block quote goes on in a line (CommonMark). If it does, its prefix is read.
-pub fn continues(line: &mut Line<'_>, output: &mut Output) -> Result<bool, AllocError> {
+pub fn continues<'d>(line: &mut Line<'d>, output: &mut Output<'d>) -> Result<bool, AllocError> {
     if !has_marker(line) {
         return Ok(false);
     }
     let indent = line.indent();
     output.prefix_columns(line, indent)?;
     output.prefix(PieceKind::Enter(Name::BlockQuotePrefix), line)?;
-    let rest = after(line.text(), 1);
-    line.skip_to(rest);
+    line.skip(1);
     output.prefix(PieceKind::Token(Name::BlockQuoteMarker), line)?;
     output.prefix_columns(line, 1)?;
     output.prefix(PieceKind::Exit(Name::BlockQuotePrefix), line)?;
@@ -35,9 +33,9 @@ pub fn continues(line: &mut Line<'_>, output: &mut Output) -> Result<bool, Alloc
 }
 
 /// Writes the start of a block quote at the cursor of a line.
-pub fn open(line: &mut Line<'_>, output: &mut Output) -> Result<Container, AllocError> {
-    output.push(piece_to(PieceKind::Enter(Name::BlockQuote), line))?;
+pub fn open<'d>(line: &mut Line<'d>, output: &mut Output<'d>) -> Result<Container, AllocError> {
+    output.enter(Name::BlockQuote)?;
     continues(line, output)?;
-    output.settle()?;
+    output.begin(line)?;
     Ok(Container::BlockQuote)
 }

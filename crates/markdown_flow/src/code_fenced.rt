@@ -1,11 +1,8 @@
 //! Fenced code: its first fence (CommonMark).
 
-ghost use Rattle.std.specs.Prelude.{◌≤◌, length};
-
 use crate::line::Line;
 use crate::output::Output;
 use crate::raw_flow::{Fence, RawFlow, write_meta};
-use crate::space_or_tab::after_spaces;
 use commonmark_syntax::bytes::{after, count_while, is_space_or_tab, run_length};
 use markdown_events::event::Name;
 use std::alloc::AllocError;
@@ -34,13 +31,10 @@ pub fn begins(line: &Line<'_>) -> Option<Fence> {
     })
 }
 
-/// Writes the info and the meta of a fence (micromark). `info` is the end of the line from the info on.
-pub fn write_info(info: &[u8], line: &Line<'_>, output: &mut Output) -> Result<(), AllocError>
-    requires { length info.now ≤ line.now.end }
-{
-    let rest = after(info, count_while(info, |byte| !is_space_or_tab(byte)));
-    output.string(Name::CodeFencedFenceInfo, line.before(rest))?;
-    let meta = after_spaces(rest);
-    output.token(Name::SpaceOrTab, line.before(meta))?;
-    write_meta(Name::CodeFencedFenceMeta, meta, line, output)
+/// Writes the info and the meta of a fence, with which the line ends (micromark).
+pub fn write_info(output: &mut Output<'_>) -> Result<(), AllocError> {
+    let size = count_while(output.rest(), |byte| !is_space_or_tab(byte));
+    output.string(Name::CodeFencedFenceInfo, size)?;
+    output.white_space()?;
+    write_meta(Name::CodeFencedFenceMeta, output)
 }

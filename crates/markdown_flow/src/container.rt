@@ -40,10 +40,10 @@ impl Container {
     }
 
     /// Whether it goes on in a line. If it does, its prefix is read.
-    pub fn continues(
+    pub fn continues<'d>(
         &mut self,
-        line: &mut Line<'_>,
-        output: &mut Output,
+        line: &mut Line<'d>,
+        output: &mut Output<'d>,
     ) -> Result<bool, AllocError> {
         match self {
             Container::BlockQuote => block_quote::continues(line, output),

@@ -4,7 +4,7 @@
 use crate::line::Line;
 use crate::output::Output;
 use markdown_events::event::Name;
-use markdown_pieces::piece::Piece;
+use markdown_pieces::piece::{Piece, PieceKind};
 use std::alloc::{AllocError, Global};
 
 /// A line that is kept.
@@ -58,7 +58,7 @@ impl<'d> Content<'d> {
     }
 
     /// Keeps a line, with the prefix that the open containers took of it.
-    pub fn keep(&mut self, line: &Line<'d>, output: &mut Output) -> Result<(), AllocError> {
+    pub fn keep(&mut self, line: &Line<'d>, output: &mut Output<'d>) -> Result<(), AllocError> {
         let prefix_start = self.prefixes.len();
         output.take_prefix(&mut self.prefixes)?;
         self.lines.push(KeptLine {
@@ -75,29 +75,28 @@ impl<'d> Content<'d> {
         &self,
         name: Name,
         lines: &[KeptLine<'d>],
-        output: &mut Output,
+        output: &mut Output<'d>,
     ) -> Result<(), AllocError> {
         output.enter(name)?;
         for (number, kept) in lines.iter().enumerate() {
             if number > 0 {
-                self.write_start(kept, output)?;
+                self.begin(kept, output)?;
             }
-            write_text_of(&kept.line, output)?;
+            write_text_of_line(output)?;
         }
         output.exit(name)
     }
 
-    /// Writes what comes before a line that is not the first: the ending of the line before it, and its
-    /// prefix.
-    pub fn write_start(&self, kept: &KeptLine<'d>, output: &mut Output) -> Result<(), AllocError> {
-        output.settle_held()?;
-        output.push_all(self.prefix_of(kept))
+    /// Begins a line: writes what comes before it, and its prefix.
+    pub fn begin(&self, kept: &KeptLine<'d>, output: &mut Output<'d>) -> Result<(), AllocError> {
+        output.begin_kept(self.prefix_of(kept), &kept.line)
     }
 }
 
-/// Writes the text of a line with the white space before it, and holds its ending.
-fn write_text_of(line: &Line<'_>, output: &mut Output) -> Result<(), AllocError> {
-    output.token(Name::SpaceOrTab, line.text_start())?;
-    output.text(line.end())?;
-    output.hold_ending(line)
+/// Writes the text of a line with the white space before it, and ends the line.
+fn write_text_of_line(output: &mut Output<'_>) -> Result<(), AllocError> {
+    output.white_space()?;
+    let size = output.rest().len();
+    output.part(PieceKind::Text, size)?;
+    output.end_line()
 }

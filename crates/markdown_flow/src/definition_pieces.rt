@@ -3,70 +3,54 @@
 use crate::content::{Content, KeptLine};
 use crate::definition::{self, Definition, Part};
 use crate::output::Output;
-use commonmark_syntax::bytes::after;
 use markdown_events::event::Name;
 use markdown_pieces::piece::PieceKind;
 use std::alloc::{AllocError, Global};
 
 /// The text of lines without their prefixes. Each line ends with a line feed, the last one too.
-#[derive(Drop)]
-struct JoinedLines {
-    /// The bytes of the text.
-    bytes: Vec<u8>,
-    /// Where each line begins in it.
-    starts: Vec<usize>,
-}
-
-impl JoinedLines {
-    /// The text of these lines.
-    fn new(alloc: Global, lines: &[KeptLine<'_>]) -> Result<JoinedLines, AllocError> {
-        let mut joined = JoinedLines {
-            bytes: Vec::new(alloc),
-            starts: Vec::new(alloc),
-        };
-        for kept in lines {
-            joined.starts.push(joined.bytes.len())?;
-            joined.bytes.extend_from_slice(kept.line.text())?;
-            joined.bytes.push(b'\n')?;
-        }
-        Ok(joined)
+fn join(alloc: Global, lines: &[KeptLine<'_>]) -> Result<Vec<u8>, AllocError> {
+    let mut text = Vec::new(alloc);
+    for kept in lines {
+        text.extend_from_slice(kept.line.text())?;
+        text.push(b'\n')?;
     }
+    Ok(text)
 }
 
 /// Writes the parts of definitions, across the ends of lines.
 #[derive(Drop)]
-struct PartWriter<'c, 'd> {
+struct PartWriter<'o, 'c, 'd> {
     /// The content that the lines are of.
-    content: &'d Content<'d>,
+    content: &'c Content<'d>,
     /// The lines that are left, from the one that is being written on.
-    lines: &'d [KeptLine<'d>],
-    /// Where each of these begins in the text.
-    starts: &'c [usize],
+    lines: &'c [KeptLine<'d>],
+    /// The offset in their text up to which all is written.
+    at: usize,
     /// Where the pieces go.
-    output: &'c mut Output,
+    output: &'o mut Output<'d>,
 }
 
 /// Writes the definitions that lines of a content begin with, and gives the lines after them. Each
 /// definition is added to what the document defines. The only error is that memory ran out.
 ///
 /// Of the lines `[a]: b` and `c` it gives `c`.
-pub fn write<'d>(
+pub fn write<'c, 'd>(
     alloc: Global,
-    content: &'d Content<'d>,
-    lines: &'d [KeptLine<'d>],
-    output: &mut Output,
-) -> Result<&'d [KeptLine<'d>], AllocError> {
+    content: &'c Content<'d>,
+    lines: &'c [KeptLine<'d>],
+    output: &mut Output<'d>,
+) -> Result<&'c [KeptLine<'d>], AllocError> {
     if !may_begin(lines) {
         return Ok(lines);
     }
-    let joined = JoinedLines::new(alloc, lines)?;
+    let joined = join(alloc, lines)?;
+    let text = joined.as_slice();
     let mut writer = PartWriter {
         content,
         lines,
-        starts: joined.starts.as_slice(),
+        at: 0,
         output,
     };
-    let text = joined.bytes.as_slice();
     let mut start = 0;
     'definitions: while let Some(found) = definition::scan(text, start) {
         writer.write(&found)?;
@@ -87,12 +71,12 @@ fn may_begin(lines: &[KeptLine<'_>]) -> bool {
     }
 }
 
-impl<'c, 'd> PartWriter<'c, 'd> {
+impl PartWriter<'_, '_, '_> {
     /// Writes a definition, with what comes before its first line.
     fn write(&mut self, found: &Definition) -> Result<(), AllocError> {
-        self.write_start()?;
+        self.begin_line()?;
         self.output.enter(Name::Definition)?;
-        self.write_indent()?;
+        self.output.white_space()?;
         self.write_label(&found.label)?;
         self.part(PieceKind::Token(Name::DefinitionMarker), found.marker_end)?;
         self.part(PieceKind::Token(Name::SpaceOrTab), found.destination.start)?;
@@ -106,61 +90,48 @@ impl<'c, 'd> PartWriter<'c, 'd> {
         self.end_line()
     }
 
-    /// Writes what comes before the line.
-    fn write_start(&mut self) -> Result<(), AllocError> {
+    /// Begins the first of the lines that are left.
+    fn begin_line(&mut self) -> Result<(), AllocError> {
         match self.lines.first() {
-            Some(kept) => self.content.write_start(kept, self.output),
+            Some(kept) => self.content.begin(kept, self.output),
             None => Ok(()),
         }
     }
 
-    /// Writes the white space before the text of the line.
-    fn write_indent(&mut self) -> Result<(), AllocError> {
-        match self.lines.first() {
-            Some(kept) => self.output.token(Name::SpaceOrTab, kept.line.text_start()),
-            None => Ok(()),
-        }
-    }
-
-    /// Holds the ending of the line, and goes to the next one.
+    /// Ends the line, and goes to the next one.
     fn end_line(&mut self) -> Result<(), AllocError> {
-        if let [kept, rest @ ..] = self.lines {
-            self.output.hold_ending(&kept.line)?;
+        self.output.end_line()?;
+        self.at = self.at.saturating_add(1);
+        if let [_, rest @ ..] = self.lines {
             self.lines = rest;
-        }
-        if let [_, rest @ ..] = self.starts {
-            self.starts = rest;
         }
         Ok(())
     }
 
     /// Writes pieces of a kind up to an offset of the text, and what stands at line endings on the way.
     fn part(&mut self, kind: PieceKind, to: usize) -> Result<(), AllocError> {
-        let later = self.starts.iter().skip(1);
-        let endings = later.take_while(|start| **start <= to).count();
-        for _ in 0..endings {
+        for _ in self.at..to {
+            if to.saturating_sub(self.at) <= self.output.rest().len() {
+                break;
+            }
             self.write_rest_of_line(kind)?;
         }
-        self.write_to(kind, to)
+        self.write_in_line(kind, to.saturating_sub(self.at))
+    }
+
+    /// Writes a piece of so many bytes of the line.
+    fn write_in_line(&mut self, kind: PieceKind, size: usize) -> Result<(), AllocError> {
+        self.at = self.at.saturating_add(size);
+        self.output.part(kind, size)
     }
 
     /// Writes a piece up to the end of the line, and what stands between that and the text of the next line.
     fn write_rest_of_line(&mut self, kind: PieceKind) -> Result<(), AllocError> {
-        if let Some(kept) = self.lines.first() {
-            self.output.part(kind, kept.line.end())?;
-        }
+        let size = self.output.rest().len();
+        self.write_in_line(kind, size)?;
         self.end_line()?;
-        self.write_start()?;
-        self.write_indent()
-    }
-
-    /// Writes a piece up to an offset of the text, which is in the line.
-    fn write_to(&mut self, kind: PieceKind, to: usize) -> Result<(), AllocError> {
-        let (Some(kept), Some(start)) = (self.lines.first(), self.starts.first()) else {
-            return Ok(());
-        };
-        let rest = after(kept.line.text(), to.saturating_sub(*start));
-        self.output.part(kind, kept.line.before(rest))
+        self.begin_line()?;
+        self.output.white_space()
     }
 
     /// Writes a span with the string of a part in it, unless that is empty.

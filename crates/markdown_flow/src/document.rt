@@ -23,13 +23,17 @@ pub struct Blocks {
 }
 
 /// Reads the block structure of a document: CommonMark, and what the options add to it. The only error is
-/// that memory ran out.
+/// that memory ran out. A document of 2^61 bytes or more is refused as one for which memory ran out: its
+/// columns might not fit 64 bits.
 ///
 /// Offsets count bytes from 0. A construct that is off in the options has no span. Each line is matched
 /// against the containers that are open in it. All other work is linear in the size of the document.
 ///
 /// Of `# a` the pieces are those that [`Piece`] shows, and there are no identifiers.
 pub fn read(alloc: Global, document: &[u8], options: &ParseOptions) -> Result<Blocks, AllocError> {
+    if document.len() >= 1 << 61 {
+        return Err(AllocError);
+    }
     let mut reader = Reader::new(alloc);
     let first = reader.start(Source {
         document,
@@ -45,7 +49,7 @@ pub fn read(alloc: Global, document: &[u8], options: &ParseOptions) -> Result<Bl
 #[derive(Drop)]
 struct Reader<'d> {
     /// The pieces and identifiers so far.
-    output: Output,
+    output: Output<'d>,
     /// The open containers, the innermost last.
     containers: Vec<Container>,
     /// The open leaf, in the innermost container.
@@ -139,7 +143,7 @@ impl<'d> Reader<'d> {
         let Some(first) = ContainerStart::find(line, interrupts) else {
             return Ok(false);
         };
-        let in_list = self.make_room(matched, first.marker())?;
+        let in_list = self.make_room(matched, first.marker(), line)?;
         self.open(first, in_list, line)?;
         // Each container takes a byte of the text, so there are no more than that.
         for _ in line.text() {
@@ -153,14 +157,19 @@ impl<'d> Reader<'d> {
 
     /// Ends what the first container that begins in a line is not in. Says whether it is the next item of a
     /// list, by its marker (CommonMark).
-    fn make_room(&mut self, matched: usize, marker: Option<u8>) -> Result<bool, AllocError> {
+    fn make_room(
+        &mut self,
+        matched: usize,
+        marker: Option<u8>,
+        line: &Line<'d>,
+    ) -> Result<bool, AllocError> {
         if matched == self.containers.len() {
             self.flow.close(&mut self.output)?;
         } else {
             self.flow.flush(&mut self.output)?;
         }
         let in_list = self.close_containers(matched, marker)?;
-        self.output.settle()?;
+        self.output.begin(line)?;
         Ok(in_list)
     }
 

@@ -44,7 +44,7 @@ impl<'d> Flow<'d> {
     }
 
     /// Ends the leaf before the line ending that is held.
-    pub fn close(&mut self, output: &mut Output) -> Result<(), AllocError> {
+    pub fn close(&mut self, output: &mut Output<'d>) -> Result<(), AllocError> {
         match self.leaf {
             Leaf::None => {}
             Leaf::Paragraph => {
@@ -72,7 +72,7 @@ impl<'d> Flow<'d> {
 
     /// Ends the leaf where the document ends, or where a container begins that is not in it: code, math and
     /// some HTML take the line ending that is held (micromark).
-    pub fn flush(&mut self, output: &mut Output) -> Result<(), AllocError> {
+    pub fn flush(&mut self, output: &mut Output<'d>) -> Result<(), AllocError> {
         match self.leaf {
             Leaf::RawFlow { .. } => output.settle_held()?,
             Leaf::Html(html) if !html.ends_at_blank_line() => output.settle_held()?,
@@ -86,7 +86,7 @@ impl<'d> Flow<'d> {
     pub fn continue_lazily(
         &mut self,
         line: &Line<'d>,
-        output: &mut Output,
+        output: &mut Output<'d>,
     ) -> Result<bool, AllocError> {
         let is_text = !line.is_blank() && LeafStart::find(line, true).is_none();
         if !self.is_paragraph() || !is_text {
@@ -97,7 +97,7 @@ impl<'d> Flow<'d> {
     }
 
     /// Reads a line that is in all open containers.
-    pub fn line(&mut self, line: &mut Line<'d>, output: &mut Output) -> Result<(), AllocError> {
+    pub fn line(&mut self, line: &mut Line<'d>, output: &mut Output<'d>) -> Result<(), AllocError> {
         match self.leaf {
             Leaf::None => self.start(line, output),
             Leaf::Paragraph => self.paragraph_line(line, output),
@@ -107,44 +107,35 @@ impl<'d> Flow<'d> {
                 self.restart(line, output)
             }
             Leaf::Html(html) => {
-                output.settle()?;
-                let ends = html.write_line(line, output)?;
-                self.go_on(
-                    if ends { Leaf::None } else { Leaf::Html(html) },
-                    line,
-                    output,
-                )
+                output.begin(line)?;
+                let ends = html.write_line(output)?;
+                self.go_on(if ends { Leaf::None } else { Leaf::Html(html) }, output)
             }
             Leaf::Table { has_body } => self.table_line(has_body, line, output),
         }
     }
 
-    /// Ends a line, after which this leaf is open.
-    fn go_on(
-        &mut self,
-        leaf: Leaf,
-        line: &Line<'d>,
-        output: &mut Output,
-    ) -> Result<(), AllocError> {
+    /// Ends the line that is written, after which this leaf is open.
+    fn go_on(&mut self, leaf: Leaf, output: &mut Output<'d>) -> Result<(), AllocError> {
         self.leaf = leaf;
-        output.hold_ending(line)
+        output.end_line()
     }
 
     /// Ends the leaf, and reads the line anew.
-    fn restart(&mut self, line: &mut Line<'d>, output: &mut Output) -> Result<(), AllocError> {
+    fn restart(&mut self, line: &mut Line<'d>, output: &mut Output<'d>) -> Result<(), AllocError> {
         self.close(output)?;
         self.start(line, output)
     }
 
     /// Reads a line where no leaf is open.
-    fn start(&mut self, line: &mut Line<'d>, output: &mut Output) -> Result<(), AllocError> {
+    fn start(&mut self, line: &mut Line<'d>, output: &mut Output<'d>) -> Result<(), AllocError> {
         if line.is_blank() {
             return blank_line::hold(line, output);
         }
         match LeafStart::find(line, false) {
             Some(start) => self.open(start, line, output),
             None => {
-                output.settle()?;
+                output.begin(line)?;
                 self.leaf = Leaf::Paragraph;
                 self.content.keep(line, output)
             }
@@ -156,40 +147,40 @@ impl<'d> Flow<'d> {
         &mut self,
         start: LeafStart,
         line: &mut Line<'d>,
-        output: &mut Output,
+        output: &mut Output<'d>,
     ) -> Result<(), AllocError> {
-        output.settle()?;
+        output.begin(line)?;
         let leaf = match start {
             LeafStart::CodeIndented => {
                 code_indented::open(line, output)?;
                 Leaf::CodeIndented
             }
             LeafStart::RawFlow(fence) => {
-                fence.open(line, output)?;
+                fence.open(output)?;
                 let ends_empty = false;
                 Leaf::RawFlow { fence, ends_empty }
             }
             LeafStart::Html(html) => {
-                let ends = html.open(line, output)?;
+                let ends = html.open(output)?;
                 if ends { Leaf::None } else { Leaf::Html(html) }
             }
             LeafStart::HeadingAtx(size) => {
-                heading_atx::write(size, line, output)?;
+                heading_atx::write(size, output)?;
                 Leaf::None
             }
             LeafStart::ThematicBreak => {
-                thematic_break::write(line, output)?;
+                thematic_break::write(output)?;
                 Leaf::None
             }
         };
-        self.go_on(leaf, line, output)
+        self.go_on(leaf, output)
     }
 
     /// Reads a line after one of a paragraph.
     fn paragraph_line(
         &mut self,
         line: &mut Line<'d>,
-        output: &mut Output,
+        output: &mut Output<'d>,
     ) -> Result<(), AllocError> {
         if line.is_blank() {
             return self.restart(line, output);
@@ -213,18 +204,18 @@ impl<'d> Flow<'d> {
         &mut self,
         size: usize,
         line: &mut Line<'d>,
-        output: &mut Output,
+        output: &mut Output<'d>,
     ) -> Result<(), AllocError> {
         let lines = self.content.lines();
         let rest = definition_pieces::write(self.alloc, &self.content, lines, output)?;
         if rest.is_empty() {
             self.content.clear();
-            output.settle()?;
+            output.begin(line)?;
             return self.content.keep(line, output);
         }
         heading_setext::write(&self.content, rest, size, line, output)?;
         self.content.clear();
-        self.go_on(Leaf::None, line, output)
+        self.go_on(Leaf::None, output)
     }
 
     /// Whether a line makes the last line of the paragraph the head of a table.
@@ -236,13 +227,17 @@ impl<'d> Flow<'d> {
     }
 
     /// Reads the delimiter row of a table.
-    fn table_head(&mut self, line: &mut Line<'d>, output: &mut Output) -> Result<(), AllocError> {
+    fn table_head(
+        &mut self,
+        line: &mut Line<'d>,
+        output: &mut Output<'d>,
+    ) -> Result<(), AllocError> {
         if let [before @ .., header] = self.content.lines() {
             paragraph::write(self.alloc, &self.content, before, output)?;
             gfm_table::open(&self.content, header, line, output)?;
         }
         self.content.clear();
-        self.go_on(Leaf::Table { has_body: false }, line, output)
+        self.go_on(Leaf::Table { has_body: false }, output)
     }
 
     /// Reads a line after one of a table.
@@ -250,30 +245,33 @@ impl<'d> Flow<'d> {
         &mut self,
         has_body: bool,
         line: &mut Line<'d>,
-        output: &mut Output,
+        output: &mut Output<'d>,
     ) -> Result<(), AllocError> {
         if line.is_blank() || LeafStart::find(line, false).is_some() {
             return self.restart(line, output);
         }
-        output.settle()?;
-        gfm_table::write_row(has_body, line, output)?;
-        self.go_on(Leaf::Table { has_body: true }, line, output)
+        output.begin(line)?;
+        gfm_table::write_row(has_body, output)?;
+        self.go_on(Leaf::Table { has_body: true }, output)
     }
 
     /// Reads a line after one of indented code.
-    fn code_line(&mut self, line: &mut Line<'d>, output: &mut Output) -> Result<(), AllocError> {
+    fn code_line(
+        &mut self,
+        line: &mut Line<'d>,
+        output: &mut Output<'d>,
+    ) -> Result<(), AllocError> {
         if line.is_blank() {
             return self.content.keep(line, output);
         }
         if !line.is_indented() {
             return self.restart(line, output);
         }
-        output.settle_held()?;
         code_indented::write_blank_lines(&self.content, output)?;
         self.content.clear();
-        output.settle()?;
+        output.begin(line)?;
         code_indented::write_line(line, output)?;
-        self.go_on(Leaf::CodeIndented, line, output)
+        self.go_on(Leaf::CodeIndented, output)
     }
 
     /// Reads a line after a fence that opens.
@@ -281,9 +279,9 @@ impl<'d> Flow<'d> {
         &mut self,
         fence: Fence,
         line: &mut Line<'d>,
-        output: &mut Output,
+        output: &mut Output<'d>,
     ) -> Result<(), AllocError> {
-        output.settle()?;
+        output.begin(line)?;
         let leaf = match fence.write_line(line, output)? {
             FencedLine::Closing => Leaf::None,
             FencedLine::Empty => Leaf::RawFlow {
@@ -295,6 +293,6 @@ impl<'d> Flow<'d> {
                 ends_empty: false,
             },
         };
-        self.go_on(leaf, line, output)
+        self.go_on(leaf, output)
     }
 }

@@ -38,31 +38,35 @@ fn is_closed(first: &Line<'_>, sign: u8) -> bool {
 }
 
 /// Writes the frontmatter that begins in a line, and gives the line of the fence that closes it.
-pub fn write<'d>(first: Line<'d>, sign: u8, output: &mut Output) -> Result<Line<'d>, AllocError> {
+pub fn write<'d>(
+    first: Line<'d>,
+    sign: u8,
+    output: &mut Output<'d>,
+) -> Result<Line<'d>, AllocError> {
+    output.begin(&first)?;
     output.enter(Name::Frontmatter)?;
-    write_fence(&first, output)?;
-    output.hold_ending(&first)?;
+    write_fence(output)?;
+    output.end_line()?;
     let mut line = first;
     'lines: while let Some(next) = line.following() {
         line = next;
-        output.settle_held()?;
+        output.begin(&line)?;
         if is_fence(&line, sign) {
-            write_fence(&line, output)?;
+            write_fence(output)?;
             break;
         }
-        output.token(Name::FrontmatterChunk, line.end())?;
-        output.hold_ending(&line)?;
+        output.token_of_rest(Name::FrontmatterChunk)?;
+        output.end_line()?;
     }
     output.exit(Name::Frontmatter)?;
-    output.hold_ending(&line)?;
+    output.end_line()?;
     Ok(line)
 }
 
 /// Writes the line of a fence.
-fn write_fence(line: &Line<'_>, output: &mut Output) -> Result<(), AllocError> {
+fn write_fence(output: &mut Output<'_>) -> Result<(), AllocError> {
     output.enter(Name::FrontmatterFence)?;
-    let signs_end = line.before(after(line.rest(), SIGNS));
-    output.token(Name::FrontmatterSequence, signs_end)?;
-    output.token(Name::SpaceOrTab, line.end())?;
+    output.token(Name::FrontmatterSequence, SIGNS)?;
+    output.token_of_rest(Name::SpaceOrTab)?;
     output.exit(Name::FrontmatterFence)
 }

@@ -1,14 +1,13 @@
 //! Footnote definitions (GFM).
 
-ghost use Rattle.std.specs.Prelude.{◌≤◌, length, IfOk, IfSome};
+ghost use Rattle.std.specs.Prelude.{◌≤◌, length, IfSome};
 
 use crate::container::Container;
 use crate::line::{Line, TAB_SIZE};
-use crate::output::{Output, piece_to};
+use crate::output::Output;
 use commonmark_syntax::bytes::{after, is_continuation, is_space_or_tab};
 use commonmark_syntax::label::CHARACTERS_MOST;
 use markdown_events::event::Name;
-use markdown_pieces::piece::PieceKind;
 use std::alloc::AllocError;
 
 /// The size of the label of the footnote definition that begins at the cursor of a line, if one does: the
@@ -45,7 +44,7 @@ fn label_size(inside: &[u8]) -> Option<usize>
 
 /// Whether a footnote definition goes on in a line: one that is blank, or indented by four columns (GFM). If
 /// it does, its indentation is read.
-pub fn continues(line: &mut Line<'_>, output: &mut Output) -> Result<bool, AllocError> {
+pub fn continues<'d>(line: &mut Line<'d>, output: &mut Output<'d>) -> Result<bool, AllocError> {
     if !line.is_blank() && line.indent() < TAB_SIZE {
         return Ok(false);
     }
@@ -54,43 +53,31 @@ pub fn continues(line: &mut Line<'_>, output: &mut Output) -> Result<bool, Alloc
 }
 
 /// Writes the start of a footnote definition with a label of so many bytes, at the cursor of a line.
-pub fn open(
+pub fn open<'d>(
     size: usize,
-    line: &mut Line<'_>,
-    output: &mut Output,
+    line: &mut Line<'d>,
+    output: &mut Output<'d>,
 ) -> Result<Container, AllocError> {
-    output.push(piece_to(PieceKind::Enter(Name::GfmFootnoteDefinition), line))?;
-    output.white_space(line)?;
+    output.enter(Name::GfmFootnoteDefinition)?;
+    output.columns(line, line.indent())?;
     output.enter(Name::GfmFootnoteDefinitionPrefix)?;
-    let rest = write_label(size, line, output)?;
-    let content = after(rest, 1);
-    output.token(Name::DefinitionMarker, line.before(content))?;
-    line.skip_to(content);
-    output.white_space(line)?;
+    write_label(size, output)?;
+    line.skip(size.saturating_add(4));
+    output.token_to(Name::DefinitionMarker, line)?;
+    output.columns(line, line.indent())?;
     output.exit(Name::GfmFootnoteDefinitionPrefix)?;
     Ok(Container::FootnoteDefinition)
 }
 
-/// Writes a label of so many bytes with its brackets, and gives what comes after it. The label is added to
-/// what the document defines.
-fn write_label<'d>(
-    size: usize,
-    line: &Line<'d>,
-    output: &mut Output,
-) -> Result<&'d [u8], AllocError>
-    ensures { IfOk result (λ rest. length rest.now ≤ length line.now.text.now) }
-{
+/// Writes a label of so many bytes with its brackets. It is added to what the document defines.
+fn write_label(size: usize, output: &mut Output<'_>) -> Result<(), AllocError> {
     let marker = Name::GfmFootnoteDefinitionLabelMarker;
-    let caret = after(line.text(), 1);
-    let label = after(caret, 1);
-    let bracket = after(label, size);
-    let rest = after(bracket, 1);
-    output.define_footnote(label.get(..size).unwrap_or(label))?;
     output.enter(Name::GfmFootnoteDefinitionLabel)?;
-    output.token(marker, line.before(caret))?;
-    output.token(Name::GfmFootnoteDefinitionMarker, line.before(label))?;
-    output.string(Name::GfmFootnoteDefinitionLabelString, line.before(bracket))?;
-    output.token(marker, line.before(rest))?;
-    output.exit(Name::GfmFootnoteDefinitionLabel)?;
-    Ok(rest)
+    output.token(marker, 1)?;
+    output.token(Name::GfmFootnoteDefinitionMarker, 1)?;
+    let label = output.rest();
+    output.define_footnote(label.get(..size).unwrap_or(label))?;
+    output.string(Name::GfmFootnoteDefinitionLabelString, size)?;
+    output.token(marker, 1)?;
+    output.exit(Name::GfmFootnoteDefinitionLabel)
 }

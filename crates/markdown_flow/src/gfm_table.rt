@@ -1,12 +1,10 @@
 //! Tables (GFM).
 
-ghost use Rattle.std.specs.Prelude.{◌≤◌, length};
-
 use crate::content::{Content, KeptLine};
 use crate::gfm_table_row::{self, Cell};
 use crate::line::Line;
 use crate::output::Output;
-use crate::space_or_tab::trimmed_size;
+use crate::space_or_tab::{after_spaces, trimmed_size};
 use commonmark_syntax::bytes::{after, run_length};
 use markdown_events::event::Name;
 use std::alloc::AllocError;
@@ -35,7 +33,7 @@ fn is_delimiter_row(text: &[u8]) -> bool {
     let mut rest = text;
     'cells: while !rest.is_empty() {
         let cell = Cell::first(rest);
-        if !is_delimiter(cell.text()) {
+        if !is_delimiter(cell.text) {
             return false;
         }
         rest = cell.next;
@@ -52,64 +50,63 @@ fn is_delimiter(text: &[u8]) -> bool {
 }
 
 /// Writes the head of a table: the last line of a paragraph, and the line after it.
-pub fn open(
-    content: &Content<'_>,
-    header: &KeptLine<'_>,
-    line: &Line<'_>,
-    output: &mut Output,
+pub fn open<'d>(
+    content: &Content<'d>,
+    header: &KeptLine<'d>,
+    line: &Line<'d>,
+    output: &mut Output<'d>,
 ) -> Result<(), AllocError> {
-    content.write_start(header, output)?;
+    content.begin(header, output)?;
     output.enter(Name::GfmTable)?;
     output.enter(Name::GfmTableHead)?;
-    gfm_table_row::write(&header.line, output)?;
-    output.hold_ending(&header.line)?;
-    output.settle()?;
-    write_delimiter_row(line, output)?;
+    gfm_table_row::write(output)?;
+    output.end_line()?;
+    output.begin(line)?;
+    write_delimiter_row(output)?;
     output.exit(Name::GfmTableHead)
 }
 
 /// Writes the delimiter row.
-fn write_delimiter_row(line: &Line<'_>, output: &mut Output) -> Result<(), AllocError> {
+fn write_delimiter_row(output: &mut Output<'_>) -> Result<(), AllocError> {
     output.enter(Name::GfmTableDelimiterRow)?;
-    let mut rest = line.text();
+    let mut rest = after_spaces(output.rest());
     'cells: while !rest.is_empty() {
         let cell = Cell::first(rest);
-        write_delimiter(&cell, line, output)?;
+        write_delimiter(&cell, output)?;
         rest = cell.next;
     }
     output.exit(Name::GfmTableDelimiterRow)
 }
 
 /// Writes a cell of the delimiter row.
-fn write_delimiter(cell: &Cell<'_>, line: &Line<'_>, output: &mut Output) -> Result<(), AllocError>
-    requires { length cell.now.start.now ≤ line.now.end }
-{
+fn write_delimiter(cell: &Cell<'_>, output: &mut Output<'_>) -> Result<(), AllocError> {
     output.enter(Name::GfmTableDelimiterCell)?;
-    cell.write_before(line, output)?;
+    cell.write_before(output)?;
     output.enter(Name::GfmTableDelimiterCellValue)?;
-    let hyphens = after(cell.text, run_length(cell.text(), b':'));
-    output.token(Name::GfmTableDelimiterMarker, line.before(hyphens))?;
-    let rest = after(hyphens, run_length(hyphens, b'-'));
-    output.token(Name::GfmTableDelimiterFiller, line.before(rest))?;
-    output.token(
-        Name::GfmTableDelimiterMarker,
-        line.before(cell.after_text()),
-    )?;
+    write_run(Name::GfmTableDelimiterMarker, b':', output)?;
+    write_run(Name::GfmTableDelimiterFiller, b'-', output)?;
+    write_run(Name::GfmTableDelimiterMarker, b':', output)?;
     output.exit(Name::GfmTableDelimiterCellValue)?;
-    cell.write_after(line, output)?;
+    cell.write_after(output)?;
     output.exit(Name::GfmTableDelimiterCell)
 }
 
+/// Writes the run of a byte that is next in the line, unless there is none.
+fn write_run(name: Name, of: u8, output: &mut Output<'_>) -> Result<(), AllocError> {
+    let size = run_length(output.rest(), of);
+    output.token(name, size)
+}
+
 /// Writes a row of the body, which is the first one or not.
-pub fn write_row(has_body: bool, line: &Line<'_>, output: &mut Output) -> Result<(), AllocError> {
+pub fn write_row(has_body: bool, output: &mut Output<'_>) -> Result<(), AllocError> {
     if !has_body {
         output.enter(Name::GfmTableBody)?;
     }
-    gfm_table_row::write(line, output)
+    gfm_table_row::write(output)
 }
 
 /// Writes that a table ends.
-pub fn end(has_body: bool, output: &mut Output) -> Result<(), AllocError> {
+pub fn end(has_body: bool, output: &mut Output<'_>) -> Result<(), AllocError> {
     if has_body {
         output.exit(Name::GfmTableBody)?;
     }

@@ -2,32 +2,21 @@
 
 ghost use Rattle.std.specs.Prelude.{◌≡◌, ◌≤◌, ◌<◌, length};
 
-use crate::line::Line;
 use crate::output::Output;
-use crate::space_or_tab::{is_blank, trimmed_size};
-use commonmark_syntax::bytes::{after, count_while, is_space_or_tab};
+use crate::space_or_tab::{after_spaces, is_blank, trimmed_size};
+use commonmark_syntax::bytes::after;
 use markdown_events::event::Name;
 use std::alloc::AllocError;
 
-/// A cell of a row. All fields but one are ends of the row: slices from some place on.
+/// A cell of a row.
 #[derive(Clone, Copy)]
 pub struct Cell<'d> {
-    /// From the divider before it on, or from its start where it has none.
-    start: &'d [u8],
-    /// From what comes after that divider on.
-    inside: &'d [u8],
-    /// From its text on.
+    /// How many bytes the divider before it has: 0 where there is none.
+    divider_size: usize,
+    /// Its text, without the white space around it.
     pub text: &'d [u8],
-    /// How many bytes its text has, without the white space around it.
-    text_size: usize,
-    /// From the divider after it on; empty if there is none.
-    end: &'d [u8],
-    /// From the divider before the next cell on; empty if there is no next cell.
+    /// The end of the row from the divider before the next cell on; empty if there is no next cell.
     pub next: &'d [u8],
-    ghost inside_fits: { length inside.now ≤ length start.now },
-    ghost text_fits: { length text.now ≤ length start.now },
-    ghost size_fits: { text_size ≤ length text.now },
-    ghost end_fits: { length end.now ≤ length start.now },
 }
 
 impl<'d> Cell<'d> {
@@ -35,56 +24,34 @@ impl<'d> Cell<'d> {
     ///
     /// That of `| a | b |` has the text `a`, and the next is that of `| b |`.
     pub fn first(row: &'d [u8]) -> Cell<'d>
-        ensures whole { result.start.now ≡ row.now }
         ensures less { 0 < length row.now → length result.next.now < length row.now }
     {
         let size = cell_size(row);
         let cell = &row[..size];
         let divider_size = usize::from(cell.starts_with(b"|"));
-        let space = count_while(after(cell, divider_size), is_space_or_tab);
-        let text_start = divider_size + space;
-        let end = after(row, size);
+        let text = after_spaces(after(cell, divider_size));
         Cell {
-            start: row,
-            inside: after(row, divider_size),
-            text: after(row, text_start),
-            text_size: trimmed_size(after(cell, text_start)),
-            end,
-            next: next_cell(end),
+            divider_size,
+            text: &text[..trimmed_size(text)],
+            next: next_cell(after(row, size)),
         }
-    }
-
-    /// Its text, without the white space around it.
-    pub fn text(&self) -> &'d [u8] {
-        &self.text[..self.text_size]
-    }
-
-    /// What comes after its text in the row.
-    pub fn after_text(&self) -> &'d [u8]
-        ensures { length result.now ≤ length self.now.start.now }
-    {
-        after(self.text, self.text_size)
     }
 
     /// Writes what comes before its text: a divider, and white space around that.
-    pub fn write_before(&self, line: &Line<'_>, output: &mut Output) -> Result<(), AllocError>
-        requires { length self.now.start.now ≤ line.now.end }
-    {
-        output.token(Name::SpaceOrTab, line.before(self.start))?;
-        output.token(Name::GfmTableCellDivider, line.before(self.inside))?;
-        output.token(Name::SpaceOrTab, line.before(self.text))
+    pub fn write_before(&self, output: &mut Output<'_>) -> Result<(), AllocError> {
+        output.white_space()?;
+        output.token(Name::GfmTableCellDivider, self.divider_size)?;
+        output.white_space()
     }
 
     /// Writes what comes after its text: white space, and what the row ends with after its last cell.
-    pub fn write_after(&self, line: &Line<'_>, output: &mut Output) -> Result<(), AllocError>
-        requires { length self.now.start.now ≤ line.now.end }
-    {
-        output.token(Name::SpaceOrTab, line.before(self.end))?;
+    pub fn write_after(&self, output: &mut Output<'_>) -> Result<(), AllocError> {
+        output.white_space()?;
         if !self.next.is_empty() {
             return Ok(());
         }
-        output.token(Name::GfmTableCellDivider, line.before(after(self.end, 1)))?;
-        output.token(Name::SpaceOrTab, line.end())
+        output.token(Name::GfmTableCellDivider, 1)?;
+        output.token_of_rest(Name::SpaceOrTab)
     }
 }
 
@@ -125,25 +92,23 @@ pub fn count(row: &[u8]) -> usize {
     count
 }
 
-/// Writes the row that the text of a line is, with the white space before it.
-pub fn write(line: &Line<'_>, output: &mut Output) -> Result<(), AllocError> {
+/// Writes the row that a line is, with the white space before it.
+pub fn write(output: &mut Output<'_>) -> Result<(), AllocError> {
     output.enter(Name::GfmTableRow)?;
-    let mut rest = line.text();
+    let mut rest = after_spaces(output.rest());
     'cells: while !rest.is_empty() {
         let cell = Cell::first(rest);
-        write_cell(&cell, line, output)?;
+        write_cell(&cell, output)?;
         rest = cell.next;
     }
     output.exit(Name::GfmTableRow)
 }
 
 /// Writes a cell.
-fn write_cell(cell: &Cell<'_>, line: &Line<'_>, output: &mut Output) -> Result<(), AllocError>
-    requires { length cell.now.start.now ≤ line.now.end }
-{
+fn write_cell(cell: &Cell<'_>, output: &mut Output<'_>) -> Result<(), AllocError> {
     output.enter(Name::GfmTableCell)?;
-    cell.write_before(line, output)?;
-    output.string(Name::GfmTableCellText, line.before(cell.after_text()))?;
-    cell.write_after(line, output)?;
+    cell.write_before(output)?;
+    output.string(Name::GfmTableCellText, cell.text.len())?;
+    cell.write_after(output)?;
     output.exit(Name::GfmTableCell)
 }

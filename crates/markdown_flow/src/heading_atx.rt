@@ -4,7 +4,7 @@ ghost use Rattle.std.specs.Prelude.{◌≤◌, length};
 
 use crate::line::Line;
 use crate::output::Output;
-use crate::space_or_tab::{after_spaces, is_at_space_or_end, trimmed_size};
+use crate::space_or_tab::{is_at_space_or_end, trimmed_size};
 use commonmark_syntax::bytes::{after, count_back, is_space_or_tab, run_length};
 use markdown_events::event::Name;
 use std::alloc::AllocError;
@@ -24,28 +24,18 @@ pub fn begins(line: &Line<'_>) -> Option<usize> {
 }
 
 /// Writes the heading in a line, which begins with so many signs.
-pub fn write(size: usize, line: &mut Line<'_>, output: &mut Output) -> Result<(), AllocError> {
+pub fn write(size: usize, output: &mut Output<'_>) -> Result<(), AllocError> {
     output.enter(Name::HeadingAtx)?;
-    output.white_space(line)?;
-    let rest = after(line.text(), size);
-    output.token(Name::HeadingAtxSequence, line.before(rest))?;
-    let inside = after_spaces(rest);
-    output.token(Name::SpaceOrTab, line.before(inside))?;
-    let closing = after(inside, text_size(inside));
-    output.string(Name::HeadingAtxText, line.before(closing))?;
-    write_closing(closing, line, output)?;
+    output.white_space()?;
+    output.token(Name::HeadingAtxSequence, size)?;
+    output.white_space()?;
+    let text_size = text_size(output.rest());
+    output.string(Name::HeadingAtxText, text_size)?;
+    output.white_space()?;
+    let closing_size = trimmed_size(output.rest());
+    output.token(Name::HeadingAtxSequence, closing_size)?;
+    output.token_of_rest(Name::SpaceOrTab)?;
     output.exit(Name::HeadingAtx)
-}
-
-/// Writes the end of a heading: white space, and the signs that close it, if there are any.
-fn write_closing(closing: &[u8], line: &Line<'_>, output: &mut Output) -> Result<(), AllocError>
-    requires { length closing.now ≤ line.now.end }
-{
-    let signs = after_spaces(closing);
-    output.token(Name::SpaceOrTab, line.before(signs))?;
-    let rest = after(signs, trimmed_size(signs));
-    output.token(Name::HeadingAtxSequence, line.before(rest))?;
-    output.token(Name::SpaceOrTab, line.end())
 }
 
 /// The size of the text of a heading: without the signs that close it and the white space around them.

@@ -25,33 +25,28 @@ pub fn underline(line: &Line<'_>) -> Option<usize> {
 }
 
 /// Writes a heading of lines of a content, with an underline of so many signs.
-pub fn write<'c>(
-    content: &Content<'c>,
-    lines: &[KeptLine<'c>],
+pub fn write<'d>(
+    content: &Content<'d>,
+    lines: &[KeptLine<'d>],
     size: usize,
-    line: &mut Line<'_>,
-    output: &mut Output,
+    line: &Line<'d>,
+    output: &mut Output<'d>,
 ) -> Result<(), AllocError> {
     if let [first, ..] = lines {
-        content.write_start(first, output)?;
+        content.begin(first, output)?;
     }
     output.enter(Name::HeadingSetext)?;
     content.write_text(Name::HeadingSetextText, lines, output)?;
-    output.settle()?;
-    write_underline(size, line, output)?;
+    output.begin(line)?;
+    write_underline(size, output)?;
     output.exit(Name::HeadingSetext)
 }
 
 /// Writes an underline of so many signs.
-fn write_underline(
-    size: usize,
-    line: &mut Line<'_>,
-    output: &mut Output,
-) -> Result<(), AllocError> {
+fn write_underline(size: usize, output: &mut Output<'_>) -> Result<(), AllocError> {
     output.enter(Name::HeadingSetextUnderline)?;
-    output.white_space(line)?;
-    let signs_end = line.before(after(line.text(), size));
-    output.token(Name::HeadingSetextUnderlineSequence, signs_end)?;
-    output.token(Name::SpaceOrTab, line.end())?;
+    output.white_space()?;
+    output.token(Name::HeadingSetextUnderlineSequence, size)?;
+    output.token_of_rest(Name::SpaceOrTab)?;
     output.exit(Name::HeadingSetextUnderline)
 }

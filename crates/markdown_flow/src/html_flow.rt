@@ -2,12 +2,11 @@
 
 use crate::html_names::{is_basic, is_raw};
 use crate::line::Line;
-use crate::output::{Output, piece_to};
+use crate::output::Output;
 use crate::space_or_tab::{is_at_space_or_end, is_blank};
-use commonmark_syntax::bytes::{after, length_through};
+use commonmark_syntax::bytes::{after, count_while, is_space_or_tab, length_through};
 use commonmark_syntax::{closing_tag, opening_tag, tag_name};
 use markdown_events::event::Name;
-use markdown_pieces::piece::PieceKind;
 use std::alloc::AllocError;
 
 /// What a block of HTML begins with, in the order of CommonMark's seven conditions.
@@ -67,19 +66,17 @@ impl Html {
     }
 
     /// Writes its first line, and says whether it ends there.
-    pub fn open(self, line: &mut Line<'_>, output: &mut Output) -> Result<bool, AllocError> {
+    pub fn open(self, output: &mut Output<'_>) -> Result<bool, AllocError> {
         output.enter(Name::HtmlFlow)?;
-        if line.indent() > 0 {
-            line.skip_white_space();
-            output.push(piece_to(PieceKind::Token(Name::HtmlFlowData), line))?;
-        }
-        self.write_line(line, output)
+        let indent = count_while(output.rest(), is_space_or_tab);
+        output.token(Name::HtmlFlowData, indent)?;
+        self.write_line(output)
     }
 
     /// Writes a line of it, and says whether it ends there.
-    pub fn write_line(self, line: &mut Line<'_>, output: &mut Output) -> Result<bool, AllocError> {
-        output.token(Name::HtmlFlowData, line.end())?;
-        let ends = self.ends_in(line.text());
+    pub fn write_line(self, output: &mut Output<'_>) -> Result<bool, AllocError> {
+        let ends = self.ends_in(output.rest());
+        output.token_of_rest(Name::HtmlFlowData)?;
         if ends {
             output.exit(Name::HtmlFlow)?;
         }

@@ -1,10 +1,36 @@
 //! Lines of a document.
 
-ghost use Rattle.std.specs.Prelude.{◌≡◌, ◌≤◌, ◌<◌, length, IfSome};
+ghost use Rattle.std.specs.Prelude.{
+  ◌≡◌,
+  ◌≤◌,
+  ◌<◌,
+  ◌+◌,
+  ◌-◌,
+  ◌*◌,
+  ◌^◌,
+  IfNone,
+  IfSome,
+  drop,
+  length,
+  nat_lt,
+};
+ghost use Rattle.std.proofs.Props.{props};
+ghost use Rattle.event_writer.specs.Calls.{EndsLine, line_ending_length};
+ghost use Rattle.markdown_flow.specs.Lines.{
+  HasColumns,
+  IsBefore,
+  IsInLine,
+  IsRest,
+  IsRest-prop,
+  after_spaces,
+  columns_after,
+  indentation,
+  width,
+};
 
 use crate::space_or_tab::after_spaces;
 use crate::thematic_break;
-use commonmark_syntax::bytes::{after, count_while, is_space_or_tab};
+use commonmark_syntax::bytes::{after, is_space_or_tab};
 use markdown_options::Constructs;
 
 /// How many columns lie between two tab stops (CommonMark).
@@ -17,6 +43,7 @@ pub struct Source<'d> {
     pub document: &'d [u8],
     /// Which constructs there are.
     pub constructs: &'d Constructs,
+    ghost short: { length document.now < 2 ^ 61 },
 }
 
 /// A line of a document, with a cursor that goes over its prefix.
@@ -26,12 +53,13 @@ pub struct Source<'d> {
 pub struct Line<'d> {
     /// The document.
     source: Source<'d>,
+    /// The offset at which the line begins.
+    start: usize,
     /// The bytes after the cursor, without the line ending.
     rest: &'d [u8],
     /// The bytes of the text.
     text: &'d [u8],
-    /// How many columns come before the cursor. The sum saturates, since tabs could make it larger than the
-    /// number of bytes that memory holds.
+    /// How many columns come before the cursor.
     columns: usize,
     /// How many columns of a tab come before the cursor, where that is within the tab, and else 0.
     virtual_spaces: usize,
@@ -43,26 +71,35 @@ pub struct Line<'d> {
     end: usize,
     /// The offset at which the next line begins.
     next: usize,
-    ghost rest_fits: { length rest.now ≤ end },
-    ghost text_fits: { length text.now ≤ end },
+    ghost whole: { IsRest source.document.now start end next } by { IsRest-prop source.document.now start end next },
+    ghost later: { start < next },
+    ghost rest_fits: { start + length rest.now ≤ end },
+    ghost rest_stands: { IsBefore source.document.now end rest.now },
+    ghost text_rests: { text.now ≡ after_spaces rest.now },
+    ghost has_columns: { HasColumns source.document.now (end - length rest.now) virtual_spaces columns } by { Prim.hlevel props },
+    ghost has_indent: { indent ≡ indentation columns rest.now },
 }
 
 impl<'d> Line<'d> {
+    ghost use Rattle.markdown_flow.specs.Moves.{HasMoved};
+
     /// The line that begins at an offset, or `None` at the end of the document. So many columns come before
     /// it.
     pub fn new(source: Source<'d>, start: usize, columns: usize) -> Option<Line<'d>>
-        ensures later { IfSome result (λ line. start < line.next) }
-        ensures within { IfSome result (λ line. line.next ≤ length line.source.document.now) }
-        ensures same { IfSome result (λ line. line.source.document.now ≡ source.entry.document.now) }
+        requires { HasColumns source.document.now start 0 columns }
+        ensures same { IfSome result (λ line. line.source ≡ source.entry) }
+        ensures start { IfSome result (λ line. line.start ≡ start) }
+        ensures none { IfNone result (length source.entry.document.now ≤ start) }
     {
         let document = source.document;
         let rest = after(document, start);
         if rest.is_empty() {
             return None;
         }
-        let (bytes, ending) = rest.split_at(count_while(rest, is_in_line));
+        let (bytes, ending) = rest.split_at(line_size(rest));
         Some(Line {
             source,
+            start,
             rest: bytes,
             text: after_spaces(bytes),
             columns,
@@ -76,16 +113,14 @@ impl<'d> Line<'d> {
 
     /// The next line, or `None` at the end of the document.
     pub fn following(&self) -> Option<Line<'d>>
-        ensures later { IfSome result (λ line. self.now.next < line.next) }
-        ensures within { IfSome result (λ line. line.next ≤ length line.source.document.now) }
-        ensures same { IfSome result (λ line. line.source.document.now ≡ self.now.source.document.now) }
+        ensures same { IfSome result (λ line. line.source ≡ self.now.source) }
+        ensures start { IfSome result (λ line. line.start ≡ self.now.next) }
+        ensures none { IfNone result (self.now.next ≡ length self.now.source.document.now) }
     {
+        if !self.has_ending() {
+            return None;
+        }
         Line::new(self.source, self.next, 0)
-    }
-
-    /// The document.
-    pub fn source(&self) -> Source<'d> {
-        self.source
     }
 
     /// Which constructs there are.
@@ -93,28 +128,38 @@ impl<'d> Line<'d> {
         self.source.constructs
     }
 
+    /// The document.
+    pub fn document(&self) -> &'d [u8]
+        ensures { result.now ≡ self.now.source.document.now }
+    {
+        self.source.document
+    }
+
     /// The bytes after the cursor.
     pub fn rest(&self) -> &'d [u8]
-        ensures { length result.now ≤ self.now.end }
+        ensures { result.now ≡ self.now.rest.now }
     {
         self.rest
     }
 
     /// The bytes of the text.
     pub fn text(&self) -> &'d [u8]
-        ensures same { result.now ≡ self.now.text.now }
-        ensures fits { length result.now ≤ self.now.end }
+        ensures { result.now ≡ self.now.text.now }
     {
         self.text
     }
 
     /// The offset of the cursor.
-    pub fn offset(&self) -> usize {
-        self.before(self.rest)
+    pub fn offset(&self) -> usize
+        ensures { result ≡ self.now.end - length self.now.rest.now }
+    {
+        self.end - self.rest.len()
     }
 
     /// How many columns of a tab come before the cursor, where that is within the tab, and else 0.
-    pub fn virtual_spaces(&self) -> usize {
+    pub fn virtual_spaces(&self) -> usize
+        ensures { result ≡ self.now.virtual_spaces }
+    {
         self.virtual_spaces
     }
 
@@ -123,30 +168,24 @@ impl<'d> Line<'d> {
         self.columns
     }
 
-    /// The offset at which the text begins.
-    pub fn text_start(&self) -> usize {
-        self.before(self.text)
-    }
-
-    /// The offset at which an end of the line begins.
-    pub fn before(&self, rest: &[u8]) -> usize
-        requires { length rest.now ≤ self.now.end }
-    {
-        self.end - rest.len()
-    }
-
     /// The offset at which the line ends, without its line ending.
-    pub fn end(&self) -> usize {
+    pub fn end(&self) -> usize
+        ensures { result ≡ self.now.end }
+    {
         self.end
     }
 
     /// The offset at which the next line begins.
-    pub fn next(&self) -> usize {
+    pub fn next(&self) -> usize
+        ensures { result ≡ self.now.next }
+    {
         self.next
     }
 
     /// Whether a line ending comes after the line.
-    pub fn has_ending(&self) -> bool {
+    pub fn has_ending(&self) -> bool
+        ensures { result ≡ nat_lt self.now.end self.now.next }
+    {
         self.end < self.next
     }
 
@@ -174,58 +213,76 @@ impl<'d> Line<'d> {
     }
 
     /// Moves the cursor over up to so many columns of white space.
-    pub fn skip_columns(&mut self, columns: usize) {
-        let mut left = columns.min(self.indent);
-        self.indent -= left;
-        let rest = self.rest;
-        for byte in rest {
-            let width = width(*byte, self.columns);
-            if left == 0 || width > left {
+    pub fn skip_columns(&mut self, columns: usize)
+        ensures { HasMoved self.old self.new }
+    {
+        let moved = columns.min(self.indent);
+        let mut left = moved;
+        let mut rest = self.rest;
+        let mut before = self.columns;
+        let mut virtual_spaces = self.virtual_spaces;
+        'bytes: while let [byte, after @ ..] = rest {
+            let width = width(*byte, before);
+            if left < width {
                 break;
             }
-            self.rest = after(self.rest, 1);
-            self.columns = self.columns.saturating_add(width);
-            self.virtual_spaces = 0;
             left -= width;
+            rest = after;
+            before += width;
+            virtual_spaces = 0;
         }
-        self.columns = self.columns.saturating_add(left);
-        self.virtual_spaces = self.virtual_spaces.saturating_add(left);
+        self.rest = rest;
+        self.columns = before + left;
+        self.virtual_spaces = virtual_spaces + left;
+        self.indent -= moved;
     }
 
     /// Moves the cursor to the text.
-    pub fn skip_white_space(&mut self) {
+    pub fn skip_white_space(&mut self)
+        ensures moved { HasMoved self.old self.new }
+        ensures rest { self.new.rest.now ≡ self.old.text.now }
+        ensures whole { self.new.virtual_spaces ≡ 0 }
+    {
         self.rest = self.text;
-        self.columns = self.columns.saturating_add(self.indent);
+        self.columns += self.indent;
         self.virtual_spaces = 0;
         self.indent = 0;
     }
 
-    /// Moves the cursor to an end of the text. What comes before that has no tabs.
-    pub fn skip_to(&mut self, rest: &'d [u8])
-        requires { length rest.now ≤ length self.old.text.now }
+    /// Moves the cursor over so many bytes of the text, and the white space before it.
+    pub fn skip(&mut self, size: usize)
+        ensures moved { HasMoved self.old self.new }
+        ensures rest { self.new.rest.now ≡ drop size self.old.text.now }
+        ensures whole { self.new.virtual_spaces ≡ 0 }
     {
-        let size = self.text.len() - rest.len();
+        self.skip_white_space();
+        let (skipped, rest) = self.rest.split_at(size.min(self.rest.len()));
+        self.columns = columns_after(skipped, self.columns);
         self.rest = rest;
         self.text = after_spaces(rest);
-        self.columns = self
-            .columns
-            .saturating_add(self.indent)
-            .saturating_add(size);
-        self.virtual_spaces = 0;
         self.indent = indent_of(rest, self.columns);
     }
 }
 
-/// Whether a byte is in a line: it begins no line ending (CommonMark).
-fn is_in_line(byte: u8) -> bool {
-    !matches!(byte, b'\n' | b'\r')
+/// The size of the line that a text begins with, without its line ending (CommonMark).
+fn line_size(text: &[u8]) -> usize
+    ensures within { result ≤ length text.now }
+    ensures in_line { IsInLine text.now 0 result }
+    ensures ending { result < length text.now → EndsLine text.now result }
+{
+    for (size, byte) in text.iter().enumerate() {
+        if matches!(*byte, b'\n' | b'\r') {
+            return size;
+        }
+    }
+    text.len()
 }
 
 /// What comes after the line ending that a text begins with (CommonMark): a line feed, a carriage return, or
 /// both.
 fn after_line_ending(text: &[u8]) -> &[u8]
-    ensures most { length result.now ≤ length text.now }
-    ensures less { 0 < length text.now → length result.now < length text.now }
+    requires { 0 < length text.now → EndsLine text.now 0 }
+    ensures { length result.now ≡ length text.now - line_ending_length text.now 0 }
 {
     match text {
         [b'\r', b'\n', rest @ ..] | [_, rest @ ..] => rest,
@@ -234,19 +291,35 @@ fn after_line_ending(text: &[u8]) -> &[u8]
 }
 
 /// How many columns of white space a text begins with, where so many columns come before it.
-fn indent_of(text: &[u8], columns: usize) -> usize {
+fn indent_of(text: &[u8], columns: usize) -> usize
+    requires { columns + 4 * length text.now < 2 ^ 64 }
+    ensures { result ≡ indentation columns text.now }
+{
     let mut end = columns;
     for byte in text {
         if !is_space_or_tab(*byte) {
             break;
         }
-        end = end.saturating_add(width(*byte, end));
+        end += width(*byte, end);
     }
-    end.saturating_sub(columns)
+    end - columns
+}
+
+/// How many columns come before what follows a text, where so many come before the text.
+fn columns_after(text: &[u8], columns: usize) -> usize
+    requires { columns + 4 * length text.now < 2 ^ 64 }
+    ensures { result ≡ columns_after columns text.now }
+{
+    let mut end = columns;
+    for byte in text {
+        end += width(*byte, end);
+    }
+    end
 }
 
 /// How many columns a byte takes where so many come before it (CommonMark, tab stops).
 fn width(byte: u8, columns: usize) -> usize
+    ensures value { result ≡ width byte columns }
     ensures least { 0 < result }
     ensures most { result ≤ 4 }
 {

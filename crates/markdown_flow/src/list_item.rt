@@ -4,12 +4,11 @@ ghost use Rattle.std.specs.Prelude.{◌≤◌, length, IfSome};
 
 use crate::container::Container;
 use crate::line::{Line, TAB_SIZE};
-use crate::output::{Output, piece_to};
+use crate::output::Output;
 use crate::space_or_tab::{is_at_space_or_end, is_blank};
 use crate::thematic_break;
-use commonmark_syntax::bytes::{after, count_while};
+use commonmark_syntax::bytes::count_while;
 use markdown_events::event::Name;
-use markdown_pieces::piece::PieceKind;
 use std::alloc::AllocError;
 
 /// How many digits the number of an item may have (CommonMark).
@@ -88,10 +87,10 @@ fn is_one(digits: &[u8]) -> bool {
 
 impl Item {
     /// Whether it goes on in a line. If it does, its indentation is read.
-    pub fn continues(
+    pub fn continues<'d>(
         &mut self,
-        line: &mut Line<'_>,
-        output: &mut Output,
+        line: &mut Line<'d>,
+        output: &mut Output<'d>,
     ) -> Result<bool, AllocError> {
         if line.is_blank() && self.progress != Progress::Filled {
             self.progress = Progress::Ended;
@@ -112,14 +111,14 @@ impl Item {
 }
 
 /// Writes the start of an item at the cursor of a line.
-pub fn open(
+pub fn open<'d>(
     start: ItemStart,
-    line: &mut Line<'_>,
-    output: &mut Output,
+    line: &mut Line<'d>,
+    output: &mut Output<'d>,
 ) -> Result<Container, AllocError> {
     let before = line.columns();
-    output.push(piece_to(PieceKind::Enter(Name::ListItem), line))?;
-    output.white_space(line)?;
+    output.enter(Name::ListItem)?;
+    output.columns(line, line.indent())?;
     output.enter(Name::ListItemPrefix)?;
     write_marker(start, line, output)?;
     let is_blank = line.is_blank();
@@ -145,18 +144,14 @@ pub fn open(
 }
 
 /// Writes the number and the marker of an item.
-fn write_marker(
+fn write_marker<'d>(
     start: ItemStart,
-    line: &mut Line<'_>,
-    output: &mut Output,
+    line: &mut Line<'d>,
+    output: &mut Output<'d>,
 ) -> Result<(), AllocError> {
-    let text = line.text();
-    let marker = after(text, start.digits);
-    output.token(Name::ListItemValue, line.before(marker))?;
-    let rest = after(marker, 1);
-    output.token(Name::ListItemMarker, line.before(rest))?;
-    line.skip_to(rest);
-    Ok(())
+    output.token(Name::ListItemValue, start.digits)?;
+    line.skip(start.digits.saturating_add(1));
+    output.token_to(Name::ListItemMarker, line)
 }
 
 /// How many columns of the white space after a marker belong to the item: all, unless what comes is

@@ -1,6 +1,9 @@
-//! The pieces that were made so far, and those that wait.
+//! The pieces that were made so far, those that wait, and the line that is written.
+
+ghost use Rattle.std.specs.Prelude.{◌≡◌, ◌≤◌, ◌-◌, length};
 
 use crate::line::Line;
+use commonmark_syntax::bytes::{after, count_while, is_space_or_tab};
 use markdown_events::event::Name;
 use markdown_pieces::identifiers::Identifiers;
 use markdown_pieces::piece::{Piece, PieceKind};
@@ -15,13 +18,59 @@ struct HeldBlank {
     depth: usize,
 }
 
+/// What is left of the line that is written.
+#[derive(Clone, Copy)]
+struct Cursor<'d> {
+    /// The bytes that are left, without the line ending.
+    rest: &'d [u8],
+    /// How many columns of a tab come before them, where they begin within the tab, and else 0.
+    virtual_spaces: usize,
+    /// The offset at which the line ends, without its line ending.
+    end: usize,
+    /// The offset at which the next line begins.
+    next: usize,
+    ghost fits: { length rest.now ≤ end },
+}
+
+impl<'d> Cursor<'d> {
+    /// What comes after the cursor of a line.
+    fn of(line: &Line<'d>) -> Cursor<'d> {
+        Cursor {
+            rest: line.rest(),
+            virtual_spaces: line.virtual_spaces(),
+            end: line.end(),
+            next: line.next(),
+        }
+    }
+
+    /// What is left after so many bytes of it.
+    fn after(self, size: usize) -> Cursor<'d>
+        ensures { length result.rest.now ≡ length self.entry.rest.now - size }
+    {
+        Cursor {
+            rest: after(self.rest, size),
+            virtual_spaces: 0,
+            end: self.end,
+            next: self.next,
+        }
+    }
+
+    /// The offset at which it begins.
+    fn offset(self) -> usize {
+        self.end - self.rest.len()
+    }
+}
+
 /// Pieces in the making, and the identifiers that were found.
+///
+/// A line is begun with `begin`, written to its end, and ended with `end_line`. Its tokens are taken from
+/// what is left of it, so none of them leaves it.
 ///
 /// A piece is *settled* once no span can begin or end before it any more. The ending of the last line of
 /// text and the blank lines after it are *held* until then, since containers that end there end between
 /// these.
 #[derive(Drop)]
-pub struct Output {
+pub struct Output<'d> {
     /// Where memory comes from.
     alloc: Global,
     /// What the document defines.
@@ -38,6 +87,8 @@ pub struct Output {
     prefix: Vec<Piece>,
     /// How many containers there are up to the last one that has a marker in this line.
     depth: usize,
+    /// What is left of the line that is written.
+    cursor: Cursor<'d>,
 }
 
 /// A piece that ends at the cursor of a line.
@@ -49,9 +100,9 @@ pub fn piece_to(kind: PieceKind, line: &Line<'_>) -> Piece {
     }
 }
 
-impl Output {
+impl<'d> Output<'d> {
     /// No pieces.
-    pub fn new(alloc: Global) -> Output {
+    pub fn new(alloc: Global) -> Output<'d> {
         Output {
             alloc,
             identifiers: Identifiers::new(alloc),
@@ -61,6 +112,12 @@ impl Output {
             blanks: Vec::new(alloc),
             prefix: Vec::new(alloc),
             depth: 0,
+            cursor: Cursor {
+                rest: &[],
+                virtual_spaces: 0,
+                end: 0,
+                next: 0,
+            },
         }
     }
 
@@ -85,7 +142,7 @@ impl Output {
     }
 
     /// Adds a piece up to the cursor to the prefix of this line.
-    pub fn prefix(&mut self, kind: PieceKind, line: &Line<'_>) -> Result<(), AllocError> {
+    pub fn prefix(&mut self, kind: PieceKind, line: &Line<'d>) -> Result<(), AllocError> {
         self.prefix.push(piece_to(kind, line))?;
         Ok(())
     }
@@ -93,7 +150,7 @@ impl Output {
     /// Moves the cursor over up to so many columns of white space, which go to the prefix of this line.
     pub fn prefix_columns(
         &mut self,
-        line: &mut Line<'_>,
+        line: &mut Line<'d>,
         columns: usize,
     ) -> Result<(), AllocError> {
         let before = line.columns();
@@ -128,10 +185,18 @@ impl Output {
         Ok(())
     }
 
-    /// Settles what is held, and the prefix of this line.
-    pub fn settle(&mut self) -> Result<(), AllocError> {
+    /// Settles what is held, and the prefix of this line. What comes after that is written next.
+    pub fn begin(&mut self, line: &Line<'d>) -> Result<(), AllocError> {
         self.settle_held()?;
+        self.cursor = Cursor::of(line);
         self.pieces.append(&mut self.prefix)
+    }
+
+    /// Settles what is held, and the prefix of a line that was kept. What comes after that is written next.
+    pub fn begin_kept(&mut self, prefix: &[Piece], line: &Line<'d>) -> Result<(), AllocError> {
+        self.settle_held()?;
+        self.cursor = Cursor::of(line);
+        self.pieces.extend_from_slice(prefix)
     }
 
     /// Holds a piece.
@@ -150,16 +215,17 @@ impl Output {
         self.held.append(&mut self.prefix)
     }
 
-    /// Holds the ending of a line that is not blank, if it has one.
-    pub fn hold_ending(&mut self, line: &Line<'_>) -> Result<(), AllocError> {
-        if !line.has_ending() {
+    /// Ends the line that is written, which is not blank: holds its ending, if it has one.
+    pub fn end_line(&mut self) -> Result<(), AllocError> {
+        let Cursor { end, next, .. } = self.cursor;
+        if end == next {
             return Ok(());
         }
-        self.hold(Piece::new(PieceKind::LineEnding, line.next()))
+        self.hold(Piece::new(PieceKind::LineEnding, next))
     }
 
     /// Holds the ending of a blank line, if it has one. The line is blank only inside so many containers.
-    pub fn hold_blank_ending(&mut self, line: &Line<'_>, depth: usize) -> Result<(), AllocError> {
+    pub fn hold_blank_ending(&mut self, line: &Line<'d>, depth: usize) -> Result<(), AllocError> {
         let index = self.held.len();
         self.blanks.push(HeldBlank { index, depth })?;
         if !line.has_ending() {
@@ -219,27 +285,11 @@ impl Output {
     }
 
     /// Adds a settled piece.
-    pub fn push(&mut self, piece: Piece) -> Result<(), AllocError> {
+    pub fn push(&mut self, piece: Piece) -> Result<(), AllocError>
+        ensures { self.new.cursor ≡ self.old.cursor }
+    {
         self.pieces.push(piece)?;
         Ok(())
-    }
-
-    /// Adds settled pieces.
-    pub fn push_all(&mut self, pieces: &[Piece]) -> Result<(), AllocError> {
-        self.pieces.extend_from_slice(pieces)
-    }
-
-    /// The offset at which the settled pieces end.
-    fn end(&self) -> usize {
-        match self.pieces.last() {
-            Some(piece) => piece.end,
-            None => 0,
-        }
-    }
-
-    /// Whether the settled pieces reach an offset.
-    pub fn reaches(&self, offset: usize) -> bool {
-        self.end() >= offset
     }
 
     /// Begins a span after the settled pieces.
@@ -261,48 +311,74 @@ impl Output {
         self.push(piece)
     }
 
-    /// Adds a span with no span in it, up to an offset, unless it would be empty.
-    pub fn token(&mut self, name: Name, end: usize) -> Result<(), AllocError> {
-        self.part(PieceKind::Token(name), end)
+    /// What is left of the line that is written, without its ending.
+    pub fn rest(&self) -> &'d [u8]
+        ensures { result.now ≡ self.now.cursor.rest.now }
+    {
+        self.cursor.rest
     }
 
-    /// Adds a part of a content, up to an offset, unless it would be empty.
-    pub fn text(&mut self, end: usize) -> Result<(), AllocError> {
-        self.part(PieceKind::Text, end)
+    /// Adds a piece of so many bytes of the line, unless it would be empty.
+    pub fn part(&mut self, kind: PieceKind, size: usize) -> Result<(), AllocError>
+        ensures { length self.new.cursor.rest.now ≡ length self.old.cursor.rest.now - size }
+    {
+        if size == 0 || self.cursor.rest.is_empty() {
+            return Ok(());
+        }
+        self.cursor = self.cursor.after(size);
+        self.push(Piece::new(kind, self.cursor.offset()))
     }
 
-    /// Adds a span with a part of a content in it, up to an offset, unless it would be empty.
-    pub fn string(&mut self, name: Name, end: usize) -> Result<(), AllocError> {
-        if self.reaches(end) {
+    /// Adds a span of so many bytes of the line with no span in it, unless it would be empty.
+    pub fn token(&mut self, name: Name, size: usize) -> Result<(), AllocError>
+        ensures { length self.new.cursor.rest.now ≡ length self.old.cursor.rest.now - size }
+    {
+        self.part(PieceKind::Token(name), size)
+    }
+
+    /// Adds a span of the rest of the line with no span in it, unless it would be empty.
+    pub fn token_of_rest(&mut self, name: Name) -> Result<(), AllocError> {
+        self.token(name, self.cursor.rest.len())
+    }
+
+    /// Adds a span of the white space that is next in the line, unless there is none.
+    pub fn white_space(&mut self) -> Result<(), AllocError>
+        ensures { length self.new.cursor.rest.now ≤ length self.old.cursor.rest.now }
+    {
+        self.token(
+            Name::SpaceOrTab,
+            count_while(self.cursor.rest, is_space_or_tab),
+        )
+    }
+
+    /// Adds a span with a part of a content in it, of so many bytes of the line, unless it would be empty.
+    pub fn string(&mut self, name: Name, size: usize) -> Result<(), AllocError> {
+        if size == 0 || self.cursor.rest.is_empty() {
             return Ok(());
         }
         self.enter(name)?;
-        self.text(end)?;
+        self.part(PieceKind::Text, size)?;
         self.exit(name)
     }
 
-    /// Adds a piece up to an offset, unless it would be empty.
-    pub fn part(&mut self, kind: PieceKind, end: usize) -> Result<(), AllocError> {
-        if self.reaches(end) {
+    /// Adds a span up to the cursor of the line that is written, with no span in it, unless it would be
+    /// empty.
+    pub fn token_to(&mut self, name: Name, line: &Line<'d>) -> Result<(), AllocError> {
+        let before = self.cursor;
+        self.cursor = Cursor::of(line);
+        if self.cursor.rest.len() == before.rest.len()
+            && self.cursor.virtual_spaces == before.virtual_spaces
+        {
             return Ok(());
         }
-        self.push(Piece::new(kind, end))
+        self.push(piece_to(PieceKind::Token(name), line))
     }
 
-    /// Moves the cursor over up to so many columns of white space, which are settled.
-    pub fn columns(&mut self, line: &mut Line<'_>, columns: usize) -> Result<(), AllocError> {
-        let before = line.columns();
+    /// Moves the cursor of the line that is written over up to so many columns of white space, which are
+    /// settled.
+    pub fn columns(&mut self, line: &mut Line<'d>, columns: usize) -> Result<(), AllocError> {
         line.skip_columns(columns);
-        if line.columns() == before {
-            return Ok(());
-        }
-        self.push(piece_to(PieceKind::Token(Name::SpaceOrTab), line))
-    }
-
-    /// Moves the cursor over all white space, which is settled.
-    pub fn white_space(&mut self, line: &mut Line<'_>) -> Result<(), AllocError> {
-        line.skip_white_space();
-        self.token(Name::SpaceOrTab, line.offset())
+        self.token_to(Name::SpaceOrTab, line)
     }
 
     /// All pieces, and the identifiers.
@@ -318,6 +394,7 @@ impl Output {
             blanks: _,
             prefix: _,
             depth: _,
+            cursor: _,
         } = output;
         Ok((pieces, identifiers))
     }

@@ -7,15 +7,15 @@ use markdown_events::event::Name;
 use std::alloc::{AllocError, Global};
 
 /// Writes lines of a content: definitions, and a paragraph of what comes after them.
-pub fn write(
+pub fn write<'d>(
     alloc: Global,
-    content: &Content<'_>,
-    lines: &[KeptLine<'_>],
-    output: &mut Output,
+    content: &Content<'d>,
+    lines: &[KeptLine<'d>],
+    output: &mut Output<'d>,
 ) -> Result<(), AllocError> {
     let rest = definition_pieces::write(alloc, content, lines, output)?;
     if let [first, ..] = rest {
-        content.write_start(first, output)?;
+        content.begin(first, output)?;
         content.write_text(Name::Paragraph, rest, output)?;
     }
     Ok(())

@@ -1,10 +1,8 @@
 //! Code and math between fences (micromark, raw flow).
 
-ghost use Rattle.std.specs.Prelude.{◌≤◌, length};
-
 use crate::line::Line;
 use crate::output::Output;
-use crate::space_or_tab::{after_spaces, is_blank, trimmed_size};
+use crate::space_or_tab::{is_blank, trimmed_size};
 use crate::{code_fenced, math_flow};
 use commonmark_syntax::bytes::{after, run_length};
 use markdown_events::event::Name;
@@ -87,34 +85,32 @@ impl Fence {
     }
 
     /// Writes the line of a fence that opens.
-    pub fn open(self, line: &mut Line<'_>, output: &mut Output) -> Result<(), AllocError> {
+    pub fn open(self, output: &mut Output<'_>) -> Result<(), AllocError> {
         let names = self.content.names();
-        output.white_space(line)?;
+        output.white_space()?;
         output.enter(names.whole)?;
         output.enter(names.fence)?;
-        let rest = after(line.text(), self.size);
-        output.token(names.sequence, line.before(rest))?;
-        let info = after_spaces(rest);
-        output.token(Name::SpaceOrTab, line.before(info))?;
+        output.token(names.sequence, self.size)?;
+        output.white_space()?;
         match self.content {
-            RawFlow::Code => code_fenced::write_info(info, line, output)?,
-            RawFlow::Math => write_meta(Name::MathFlowFenceMeta, info, line, output)?,
+            RawFlow::Code => code_fenced::write_info(output)?,
+            RawFlow::Math => write_meta(Name::MathFlowFenceMeta, output)?,
         }
         output.exit(names.fence)
     }
 
     /// Writes a line after a fence that opens, and says what it is.
-    pub fn write_line(
+    pub fn write_line<'d>(
         self,
-        line: &mut Line<'_>,
-        output: &mut Output,
+        line: &mut Line<'d>,
+        output: &mut Output<'d>,
     ) -> Result<FencedLine, AllocError> {
         if let Some(size) = self.closing(line) {
-            self.close(size, line, output)?;
+            self.close(size, output)?;
             return Ok(FencedLine::Closing);
         }
         output.columns(line, self.indent)?;
-        output.token(self.content.names().chunk, line.end())?;
+        output.token_of_rest(self.content.names().chunk)?;
         Ok(if line.rest().is_empty() {
             FencedLine::Empty
         } else {
@@ -130,39 +126,26 @@ impl Fence {
     }
 
     /// Writes the line of a fence of so many signs, which closes.
-    fn close(
-        self,
-        size: usize,
-        line: &mut Line<'_>,
-        output: &mut Output,
-    ) -> Result<(), AllocError> {
+    fn close(self, size: usize, output: &mut Output<'_>) -> Result<(), AllocError> {
         let names = self.content.names();
         output.enter(names.fence)?;
-        output.white_space(line)?;
-        let rest = after(line.text(), size);
-        output.token(names.sequence, line.before(rest))?;
-        output.token(Name::SpaceOrTab, line.end())?;
+        output.white_space()?;
+        output.token(names.sequence, size)?;
+        output.token_of_rest(Name::SpaceOrTab)?;
         output.exit(names.fence)?;
         self.end(output)
     }
 
     /// Writes that the construct ends.
-    pub fn end(self, output: &mut Output) -> Result<(), AllocError> {
+    pub fn end(self, output: &mut Output<'_>) -> Result<(), AllocError> {
         output.exit(self.content.names().whole)
     }
 }
 
 /// Writes the meta of a fence, with which the line ends. White space after it is no part of it
 /// (CommonMark).
-pub fn write_meta(
-    name: Name,
-    meta: &[u8],
-    line: &Line<'_>,
-    output: &mut Output,
-) -> Result<(), AllocError>
-    requires { length meta.now ≤ line.now.end }
-{
-    let white_space = after(meta, trimmed_size(meta));
-    output.string(name, line.before(white_space))?;
-    output.token(Name::SpaceOrTab, line.end())
+pub fn write_meta(name: Name, output: &mut Output<'_>) -> Result<(), AllocError> {
+    let size = trimmed_size(output.rest());
+    output.string(name, size)?;
+    output.token_of_rest(Name::SpaceOrTab)
 }

@@ -1,6 +1,7 @@
 //! Spaces and tabs (micromark).
 
-ghost use Rattle.std.specs.Prelude.{◌≤◌, length};
+ghost use Rattle.std.specs.Prelude.{◌≡◌, ◌≤◌, length};
+ghost use Rattle.markdown_flow.specs.Lines.{after_spaces};
 
 use commonmark_syntax::bytes::{after, count_back, count_while, is_space_or_tab};
 
@@ -8,9 +9,15 @@ use commonmark_syntax::bytes::{after, count_back, count_while, is_space_or_tab};
 ///
 /// After ` a ` it is `a `.
 pub fn after_spaces(text: &[u8]) -> &[u8]
-    ensures { length result.now ≤ length text.now }
+    ensures value { result.now ≡ after_spaces text.now }
+    ensures length { length result.now ≤ length text.now }
 {
-    after(text, count_while(text, is_space_or_tab))
+    for (size, byte) in text.iter().enumerate() {
+        if !is_space_or_tab(*byte) {
+            return after(text, size);
+        }
+    }
+    &[]
 }
 
 /// How many bytes come before the spaces and tabs that a text ends with.

@@ -4,7 +4,7 @@ ghost use Rattle.std.specs.Prelude.{◌≤◌, length};
 
 use crate::line::Line;
 use crate::output::Output;
-use commonmark_syntax::bytes::{after, count_while, is_space_or_tab, run_length};
+use commonmark_syntax::bytes::{is_space_or_tab, run_length};
 use markdown_events::event::Name;
 use std::alloc::AllocError;
 
@@ -47,18 +47,12 @@ fn has_enough(text: &[u8]) -> bool {
 }
 
 /// Writes the thematic break in a line.
-pub fn write(line: &mut Line<'_>, output: &mut Output) -> Result<(), AllocError> {
+pub fn write(output: &mut Output<'_>) -> Result<(), AllocError> {
     output.enter(Name::ThematicBreak)?;
-    output.white_space(line)?;
-    let mut text = line.text();
-    'runs: while let [first, rest @ ..] = text {
-        let (name, size) = if is_space_or_tab(*first) {
-            (Name::SpaceOrTab, count_while(rest, is_space_or_tab))
-        } else {
-            (Name::ThematicBreakSequence, run_length(rest, *first))
-        };
-        text = after(rest, size);
-        output.token(name, line.before(text))?;
+    output.white_space()?;
+    'runs: while let [first, rest @ ..] = output.rest() {
+        output.token(Name::ThematicBreakSequence, 1 + run_length(rest, *first))?;
+        output.white_space()?;
     }
     output.exit(Name::ThematicBreak)
 }

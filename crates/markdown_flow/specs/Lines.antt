@@ -1,0 +1,73 @@
+-- Lines of a document, and the columns of their white space (CommonMark).
+use Rattle.std.specs.Prelude.{Bool, List, Some, [], if◌then◌else◌, length, slice_get, slice_index, slice_range, ℕ, ◌%◌, ◌+◌, ◌-◌, ◌<◌, ◌==◌, ◌||◌, ◌∷◌, ◌≡◌, ◌≢◌, ◌≤◌, ◌⊎◌}
+use Rattle.std.proofs.Common.{ap, arith, inl, inr, sym, ◌∙◌}
+use Rattle.std.proofs.Props.{props}
+use Rattle.std.proofs.lemmas.Option.{same_Some, slice_get_within}
+use Rattle.event_writer.specs.Calls.{EndsLine, line_ending_length}
+use Rattle.event_writer.specs.Places.{after_tab, column_at}
+
+-- no line ends between two offsets
+abbrev pub IsInLine : List ℕ → ℕ → ℕ → Type 0
+IsInLine bytes from to = (k : ℕ) → from ≤ k → k < to → (slice_index bytes k ≢ 10) × (slice_index bytes k ≢ 13)
+
+-- what is left of a line from an offset on: it ends at an offset, and the next line begins at another
+pub record IsRest (bytes : List ℕ) (from end next : ℕ) : Type 0 where
+  pub order : from ≤ end
+  pub in_line : IsInLine bytes from end
+  pub within : next ≤ length bytes
+  pub ending : ((end ≡ next) × (next ≡ length bytes)) ⊎ (EndsLine bytes end × (next ≡ end + line_ending_length bytes end))
+
+-- of two facts that exclude each other one holds at most, and by one proof
+either-prop : {A B : Type 0} → IsProp A → IsProp B → (A → B → ⊥) → IsProp (A ⊎ B)
+either-prop p q apart (inl a) (inl b) = ap inl (p a b)
+either-prop p q apart (inl a) (inr b) = absurd (apart a b)
+either-prop p q apart (inr a) (inl b) = absurd (apart b a)
+either-prop p q apart (inr a) (inr b) = ap inr (q a b)
+
+-- a line ends with one byte or with the other
+EndsLine-prop : (bytes : List ℕ) (i : ℕ) → IsProp (EndsLine bytes i)
+EndsLine-prop bytes i = either-prop (hlevel props) (hlevel props) (λ feed return. omega (arith, same_Some 10 13 (sym feed ∙ return)))
+
+-- no line ends where the document does
+not-ends : (bytes : List ℕ) (i : ℕ) → length bytes ≤ i → EndsLine bytes i → ⊥
+not-ends bytes i past (inl feed) = let w = slice_get_within bytes i 10 feed in omega arith
+not-ends bytes i past (inr return) = let w = slice_get_within bytes i 13 return in omega arith
+
+ending-prop : (bytes : List ℕ) (end next : ℕ) → IsProp (((end ≡ next) × (next ≡ length bytes)) ⊎ (EndsLine bytes end × (next ≡ end + line_ending_length bytes end)))
+ending-prop bytes end next = either-prop (hlevel props) (hlevel (EndsLine-prop, props)) (λ last more. not-ends bytes end (omega (arith, last.0, last.1)) more.0)
+
+-- there is one proof at most that so much is left of a line
+pub IsRest-prop : (bytes : List ℕ) (from end next : ℕ) → IsProp (IsRest bytes from end next)
+IsRest-prop bytes from end next = hlevel (ending-prop bytes end next, props)
+
+-- a text is the bytes of the document before an offset
+abbrev pub IsBefore : List ℕ → ℕ → List ℕ → Type 0
+IsBefore bytes end text = text ≡ slice_range bytes (end - length text) end
+
+-- so many columns come before a place: one at an offset, and so many columns into the tab there
+pub record HasColumns (bytes : List ℕ) (offset virtual_spaces columns : ℕ) : Type 0 where
+  pub column : columns + 1 ≡ column_at bytes offset + virtual_spaces
+  pub tab : 0 < virtual_spaces → (slice_get bytes offset ≡ Some 9) × (columns + 1 < after_tab (column_at bytes offset))
+
+-- how many columns a byte takes where so many come before it
+abbrev pub width : ℕ → ℕ → ℕ
+width b columns = if b == 9 then 4 - columns % 4 else 1
+
+-- a byte is a space or a tab
+abbrev pub is_space_or_tab : ℕ → Bool
+is_space_or_tab b = (b == 32) || (b == 9)
+
+-- how many columns of white space a text begins with, where so many columns come before it
+unfoldable pub indentation : ℕ → List ℕ → ℕ
+indentation columns [] = 0
+indentation columns (b ∷ bs) = if is_space_or_tab b then width b columns + indentation (columns + width b columns) bs else 0
+
+-- what comes after the white space that a text begins with
+unfoldable pub after_spaces : List ℕ → List ℕ
+after_spaces [] = []
+after_spaces (b ∷ bs) = if is_space_or_tab b then after_spaces bs else b ∷ bs
+
+-- how many columns come before what follows a text, where so many come before the text
+unfoldable pub columns_after : ℕ → List ℕ → ℕ
+columns_after columns [] = columns
+columns_after columns (b ∷ bs) = columns_after (columns + width b columns) bs
