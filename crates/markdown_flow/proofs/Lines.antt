@@ -498,10 +498,7 @@ columns-at-next bytes from end next line less = by line.ending
 
 -- ---- The start of a document
 
--- its first line begins at its start, or after a byte order mark, which takes three columns
-pub columns-at-first : (bytes : List ℕ) (mark : ℕ) → (mark ≡ 0) ⊎ ((mark ≡ 3) × (bytes ≡ 239 ∷ 187 ∷ 191 ∷ drop 3 bytes)) → HasColumns bytes mark 0 mark
+-- no columns come before it
+pub columns-at-start : (bytes : List ℕ) → HasColumns bytes 0 0 0
 unfolding walk
-columns-at-first bytes mark (inl none) = subst (λ (n : ℕ). HasColumns bytes n 0 n) (sym none) (record { column = refl; tab = λ some. absurd (omega arith) })
-columns-at-first bytes mark (inr some) =
-    subst (λ (n : ℕ). HasColumns bytes n 0 n) (sym some.0)
-    (subst (λ (xs : List ℕ). HasColumns xs 3 0 3) (sym some.1) (record { column = refl; tab = λ more. absurd (omega arith) }))
+columns-at-start bytes = record { column = refl; tab = λ some. absurd (omega arith) }

@@ -1,2 +1,6 @@
 pub mod Lines
 pub mod Moves
+pub mod Outputs
+pub mod Contents
+pub mod Flows
+pub mod Definitions

@@ -1,5 +1,9 @@
 //! Blank lines (CommonMark).
 
+ghost use Rattle.std.specs.Prelude.{OnOk, ◌≡◌};
+ghost use Rattle.markdown_flow.specs.Outputs.{Stands, document_of, spot};
+ghost use Rattle.markdown_flow.specs.Contents.{AreKept, after_lines};
+
 use crate::content::Content;
 use crate::line::Line;
 use crate::output::{Output, piece_to};
@@ -7,27 +11,16 @@ use markdown_events::event::Name;
 use markdown_pieces::piece::PieceKind;
 use std::alloc::AllocError;
 
-/// Holds a blank line: what ends between it and the text before it is not known yet.
-pub fn hold<'d>(line: &Line<'d>, output: &mut Output<'d>) -> Result<(), AllocError> {
-    output.hold_prefix()?;
-    hold_rest(line, output.depth(), output)
-}
-
 /// Holds blank lines that were kept.
-pub fn hold_kept<'d>(content: &Content<'d>, output: &mut Output<'d>) -> Result<(), AllocError> {
+pub fn hold_kept<'d>(content: &Content<'d>, output: &mut Output<'d>) -> Result<(), AllocError>
+    requires stands { Stands output.old }
+    requires lines { AreKept (document_of output.old) content.now.prefixes.items (spot output.old.cursor) content.now.lines.items }
+    ensures stands { OnOk result (Stands output.new) }
+    ensures document { OnOk result (document_of output.new ≡ document_of output.old) }
+    ensures spot { OnOk result (spot output.new.cursor ≡ after_lines (spot output.old.cursor) content.now.lines.items) }
+{
     for kept in content.lines() {
-        output.hold_all(content.prefix_of(kept))?;
-        hold_rest(&kept.line, kept.depth, output)?;
+        output.hold_kept_blank(content.prefix_of(kept), &kept.line, kept.depth)?;
     }
     Ok(())
-}
-
-/// Holds what a blank line has after its prefix. The line is blank only inside so many containers.
-fn hold_rest<'d>(line: &Line<'d>, depth: usize, output: &mut Output<'d>) -> Result<(), AllocError> {
-    if line.indent() > 0 {
-        let mut line = *line;
-        line.skip_white_space();
-        output.hold(piece_to(PieceKind::Token(Name::SpaceOrTab), &line))?;
-    }
-    output.hold_blank_ending(line, depth)
 }

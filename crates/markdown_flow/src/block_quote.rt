@@ -1,10 +1,15 @@
 //! Block quotes (CommonMark).
 
+ghost use Rattle.std.specs.Prelude.{List, [], ℕ, OnOk, ◌≡◌};
+ghost use Rattle.markdown_flow.specs.Outputs.{IsAt, Writes, Reads};
+ghost use Rattle.markdown_flow.specs.Moves.{HasMoved};
+ghost use Rattle.markdown_pieces.specs.Tilings.{Spot};
+
 use crate::container::Container;
+use crate::input::Input;
 use crate::line::Line;
 use crate::output::Output;
 use markdown_events::event::Name;
-use markdown_pieces::piece::PieceKind;
 use std::alloc::AllocError;
 
 /// Whether a block quote begins at the cursor of a line (CommonMark). Never, with `block_quote` off.
@@ -18,24 +23,34 @@ fn has_marker(line: &Line<'_>) -> bool {
 }
 
 /// Whether a block quote goes on in a line (CommonMark). If it does, its prefix is read.
-pub fn continues<'d>(line: &mut Line<'d>, output: &mut Output<'d>) -> Result<bool, AllocError> {
-    if !has_marker(line) {
+pub fn continues(input: &mut Input<'_>) -> Result<bool, AllocError>
+    ensures reads { (bytes : List ℕ) → (from : Spot) → Reads bytes from input.old → OnOk result (Reads bytes from input.new) }
+    ensures moved { OnOk result (HasMoved input.old.line input.new.line) }
+{
+    if !has_marker(&input.line) {
         return Ok(false);
     }
-    let indent = line.indent();
-    output.prefix_columns(line, indent)?;
-    output.prefix(PieceKind::Enter(Name::BlockQuotePrefix), line)?;
-    line.skip(1);
-    output.prefix(PieceKind::Token(Name::BlockQuoteMarker), line)?;
-    output.prefix_columns(line, 1)?;
-    output.prefix(PieceKind::Exit(Name::BlockQuotePrefix), line)?;
+    let indent = input.line.indent();
+    input.columns(indent)?;
+    input.enter(Name::BlockQuotePrefix)?;
+    input.token(Name::BlockQuoteMarker, 1)?;
+    input.columns(1)?;
+    input.exit(Name::BlockQuotePrefix)?;
     Ok(true)
 }
 
-/// Writes the start of a block quote at the cursor of a line.
-pub fn open<'d>(line: &mut Line<'d>, output: &mut Output<'d>) -> Result<Container, AllocError> {
+/// Writes the start of a block quote at the cursor of the line that is read.
+pub fn open<'d>(input: &mut Input<'d>, output: &mut Output<'d>) -> Result<Container, AllocError>
+    requires writes { Writes output.old }
+    requires at { IsAt output.old.cursor input.old.line }
+    requires taken { input.old.prefix.items ≡ [] }
+    ensures writes { OnOk result (Writes output.new) }
+    ensures at { OnOk result (IsAt output.new.cursor input.new.line) }
+    ensures taken { OnOk result (input.new.prefix.items ≡ []) }
+    ensures moved { OnOk result (HasMoved input.old.line input.new.line) }
+{
     output.enter(Name::BlockQuote)?;
-    continues(line, output)?;
-    output.begin(line)?;
+    continues(input)?;
+    output.begin(input)?;
     Ok(Container::BlockQuote)
 }

@@ -1,23 +1,31 @@
 //! The byte order mark at the start of a document (micromark).
 
-ghost use Rattle.std.specs.Prelude.{◌≡◌, ◌⊎◌, ◌∷◌, IfOk, drop};
+ghost use Rattle.std.specs.Prelude.{OnOk, IfOk, ◌≡◌};
+ghost use Rattle.markdown_flow.specs.Outputs.{Stands, document_of, spot, spot_in};
 
+use crate::line::Line;
 use crate::output::Output;
 use markdown_events::event::Name;
-use markdown_pieces::piece::{Piece, PieceKind};
 use std::alloc::AllocError;
 
 /// The mark U+FEFF in UTF-8.
 const BYTE_ORDER_MARK: &[u8] = b"\xef\xbb\xbf";
 
-/// Writes the mark that a document begins with, and gives its size in bytes: 0 if there is none.
-pub fn write(document: &[u8], output: &mut Output<'_>) -> Result<usize, AllocError>
-    ensures { IfOk result (λ size. (size ≡ 0) ⊎ ((size ≡ 3) × (document.now ≡ 239 ∷ 187 ∷ 191 ∷ drop 3 document.now))) }
+/// Writes the mark that a document begins with, if it does, and gives what comes after it in the first line.
+pub fn write<'d>(first: Line<'d>, output: &mut Output<'d>) -> Result<Line<'d>, AllocError>
+    requires stands { Stands output.old }
+    requires document { first.source.document.now ≡ document_of output.old }
+    requires start { spot output.old.cursor ≡ spot_in first }
+    ensures stands { OnOk result (Stands output.new) }
+    ensures document { OnOk result (document_of output.new ≡ document_of output.old) }
+    ensures line { IfOk result (λ line. (line.source ≡ first.entry.source) × (spot output.new.cursor ≡ spot_in line)) }
 {
-    if !document.starts_with(BYTE_ORDER_MARK) {
-        return Ok(0);
+    if !first.rest().starts_with(BYTE_ORDER_MARK) {
+        return Ok(first);
     }
-    let size = BYTE_ORDER_MARK.len();
-    output.push(Piece::new(PieceKind::Token(Name::ByteOrderMark), size))?;
-    Ok(size)
+    output.begin_kept(&[], &first)?;
+    let mut line = first;
+    line.skip(BYTE_ORDER_MARK.len());
+    output.token_to(Name::ByteOrderMark, &line)?;
+    Ok(line)
 }

@@ -1,5 +1,8 @@
 //! Fenced code: its first fence (CommonMark).
 
+ghost use Rattle.std.specs.Prelude.{OnOk};
+ghost use Rattle.markdown_flow.specs.Outputs.{Writes, WritesOut};
+
 use crate::line::Line;
 use crate::output::Output;
 use crate::raw_flow::{Fence, RawFlow, write_meta};
@@ -32,7 +35,10 @@ pub fn begins(line: &Line<'_>) -> Option<Fence> {
 }
 
 /// Writes the info and the meta of a fence, with which the line ends (micromark).
-pub fn write_info(output: &mut Output<'_>) -> Result<(), AllocError> {
+pub fn write_info(output: &mut Output<'_>) -> Result<(), AllocError>
+    requires { Writes output.old }
+    ensures { OnOk result (WritesOut output.old output.new) }
+{
     let size = count_while(output.rest(), |byte| !is_space_or_tab(byte));
     output.string(Name::CodeFencedFenceInfo, size)?;
     output.white_space()?;

@@ -1,8 +1,13 @@
 //! Containers: block quotes, items of lists and footnote definitions (CommonMark, GFM).
 
+ghost use Rattle.std.specs.Prelude.{List, ℕ, OnOk};
+ghost use Rattle.markdown_flow.specs.Outputs.{Reads};
+ghost use Rattle.markdown_flow.specs.Moves.{HasMoved};
+ghost use Rattle.markdown_pieces.specs.Tilings.{Spot};
+
+use crate::input::Input;
 use crate::line::Line;
 use crate::list_item::{self, Item, ItemStart};
-use crate::output::Output;
 use crate::{block_quote, gfm_footnote_definition};
 use markdown_events::event::Name;
 use std::alloc::AllocError;
@@ -40,15 +45,14 @@ impl Container {
     }
 
     /// Whether it goes on in a line. If it does, its prefix is read.
-    pub fn continues<'d>(
-        &mut self,
-        line: &mut Line<'d>,
-        output: &mut Output<'d>,
-    ) -> Result<bool, AllocError> {
+    pub fn continues(&mut self, input: &mut Input<'_>) -> Result<bool, AllocError>
+        ensures reads { (bytes : List ℕ) → (from : Spot) → Reads bytes from input.old → OnOk result (Reads bytes from input.new) }
+        ensures moved { OnOk result (HasMoved input.old.line input.new.line) }
+    {
         match self {
-            Container::BlockQuote => block_quote::continues(line, output),
-            Container::ListItem(item) => item.continues(line, output),
-            Container::FootnoteDefinition => gfm_footnote_definition::continues(line, output),
+            Container::BlockQuote => block_quote::continues(input),
+            Container::ListItem(item) => item.continues(input),
+            Container::FootnoteDefinition => gfm_footnote_definition::continues(input),
         }
     }
 

@@ -1,6 +1,12 @@
 //! Content: lines that are kept until it is known what they are (micromark). They are those of a paragraph,
 //! which may turn out to be definitions, a heading or a table, and blank lines after indented code.
 
+ghost use Rattle.std.specs.Prelude.{List, [], ℕ, OnOk, length, ◌≡◌, ◌≤◌};
+ghost use Rattle.markdown_flow.specs.Outputs.{IsAt, Stands, Writes, Reads, document_of, line_after, next_of, spot};
+ghost use Rattle.markdown_flow.specs.Contents.{Kept, AreKept, after_lines, prefix_of};
+ghost use Rattle.markdown_pieces.specs.Tilings.{Spot};
+
+use crate::input::Input;
 use crate::line::Line;
 use crate::output::Output;
 use markdown_events::event::Name;
@@ -31,7 +37,9 @@ pub struct Content<'d> {
 
 impl<'d> Content<'d> {
     /// No lines.
-    pub fn new(alloc: Global) -> Content<'d> {
+    pub fn new(alloc: Global) -> Content<'d>
+        ensures { result.lines.items ≡ [] }
+    {
         Content {
             lines: Vec::new(alloc),
             prefixes: Vec::new(alloc),
@@ -39,12 +47,16 @@ impl<'d> Content<'d> {
     }
 
     /// The lines.
-    pub fn lines(&self) -> &[KeptLine<'d>] {
+    pub fn lines(&self) -> &[KeptLine<'d>]
+        ensures { result.now ≡ self.now.lines.items }
+    {
         self.lines.as_slice()
     }
 
     /// The pieces of the prefix of a line.
-    pub fn prefix_of(&self, kept: &KeptLine<'d>) -> &[Piece] {
+    pub fn prefix_of(&self, kept: &KeptLine<'d>) -> &[Piece]
+        ensures { kept.now.prefix_start ≤ kept.now.prefix_end → kept.now.prefix_end ≤ length self.now.prefixes.items → result.now ≡ prefix_of self.now.prefixes.items kept.now }
+    {
         self.prefixes
             .as_slice()
             .get(kept.prefix_start..kept.prefix_end)
@@ -52,49 +64,73 @@ impl<'d> Content<'d> {
     }
 
     /// Forgets all lines.
-    pub fn clear(&mut self) {
+    pub fn clear(&mut self)
+        ensures { self.new.lines.items ≡ [] }
+    {
         self.lines.clear();
         self.prefixes.clear();
     }
 
-    /// Keeps a line, with the prefix that the open containers took of it.
-    pub fn keep(&mut self, line: &Line<'d>, output: &mut Output<'d>) -> Result<(), AllocError> {
+    /// Keeps the line that is read, with its prefix.
+    pub fn keep(&mut self, input: &mut Input<'d>) -> Result<(), AllocError>
+        ensures kept { (bytes : List ℕ) → (from : Spot)
+            → AreKept bytes self.old.prefixes.items from self.old.lines.items
+            → Reads bytes (after_lines from self.old.lines.items) input.old
+            → OnOk result (AreKept bytes self.new.prefixes.items from self.new.lines.items × (after_lines from self.new.lines.items ≡ next_of input.old.line)) }
+        ensures line { input.new.line ≡ input.old.line }
+        ensures taken { OnOk result (input.new.prefix.items ≡ []) }
+    {
         let prefix_start = self.prefixes.len();
-        output.take_prefix(&mut self.prefixes)?;
+        input.take_prefix(&mut self.prefixes)?;
         self.lines.push(KeptLine {
-            line: *line,
-            depth: output.depth(),
+            line: input.line,
+            depth: input.depth,
             prefix_start,
             prefix_end: self.prefixes.len(),
         })?;
         Ok(())
     }
 
-    /// Writes a span with the text of lines in it.
+    /// Writes a span with the text of the line that is written in it, and of lines after that.
     pub fn write_text(
         &self,
         name: Name,
-        lines: &[KeptLine<'d>],
+        later: &[KeptLine<'d>],
         output: &mut Output<'d>,
-    ) -> Result<(), AllocError> {
+    ) -> Result<(), AllocError>
+        requires writes { Writes output.old }
+        requires later { AreKept (document_of output.old) self.now.prefixes.items (line_after output.old.cursor) later.now }
+        ensures stands { OnOk result (Stands output.new) }
+        ensures document { OnOk result (document_of output.new ≡ document_of output.old) }
+        ensures spot { OnOk result (spot output.new.cursor ≡ after_lines (line_after output.old.cursor) later.now) }
+    {
         output.enter(name)?;
-        for (number, kept) in lines.iter().enumerate() {
-            if number > 0 {
-                self.begin(kept, output)?;
-            }
+        write_text_of_line(output)?;
+        for kept in later {
+            self.begin(kept, output)?;
             write_text_of_line(output)?;
         }
-        output.exit(name)
+        output.exit_before_held(name)
     }
 
     /// Begins a line: writes what comes before it, and its prefix.
-    pub fn begin(&self, kept: &KeptLine<'d>, output: &mut Output<'d>) -> Result<(), AllocError> {
+    pub fn begin(&self, kept: &KeptLine<'d>, output: &mut Output<'d>) -> Result<(), AllocError>
+        requires stands { Stands output.old }
+        requires kept { Kept (document_of output.old) self.now.prefixes.items (spot output.old.cursor) kept.now }
+        ensures writes { OnOk result (Writes output.new) }
+        ensures at { OnOk result (IsAt output.new.cursor kept.now.line) }
+    {
         output.begin_kept(self.prefix_of(kept), &kept.line)
     }
 }
 
 /// Writes the text of a line with the white space before it, and ends the line.
-fn write_text_of_line(output: &mut Output<'_>) -> Result<(), AllocError> {
+fn write_text_of_line(output: &mut Output<'_>) -> Result<(), AllocError>
+    requires { Writes output.old }
+    ensures stands { OnOk result (Stands output.new) }
+    ensures document { OnOk result (document_of output.new ≡ document_of output.old) }
+    ensures spot { OnOk result (spot output.new.cursor ≡ line_after output.old.cursor) }
+{
     output.white_space()?;
     let size = output.rest().len();
     output.part(PieceKind::Text, size)?;

@@ -1,6 +1,6 @@
 //! Definitions of links: how they are found (CommonMark).
 
-ghost use Rattle.std.specs.Prelude.{◌≡◌, ◌+◌, ◌^◌, ◌≤◌, ◌<◌, length, IfSome};
+ghost use Rattle.std.specs.Prelude.{IfSome, length, ◌≡◌, ◌≤◌, ◌<◌, ◌+◌, ◌^◌};
 
 use commonmark_syntax::bytes::{after, count_while, is_space_or_tab, white_space_length};
 use commonmark_syntax::{destination, label, title};
@@ -16,6 +16,9 @@ pub struct Part {
     pub string_end: usize,
     /// Where it ends.
     pub end: usize,
+    ghost start_first: { start ≤ end },
+    ghost string_start_first: { string_start ≤ end },
+    ghost string_end_first: { string_end ≤ end },
 }
 
 /// A definition. Its offsets are those in the text.
@@ -31,6 +34,9 @@ pub struct Definition {
     pub title: Option<Part>,
     /// Where the line feed stands that ends its last line.
     pub end: usize,
+    ghost label_first: { label.end ≤ end },
+    ghost marker_first: { marker_end ≤ end },
+    ghost destination_first: { destination.end ≤ end },
 }
 
 impl Part {
@@ -83,6 +89,7 @@ impl Part {
 pub fn scan(text: &[u8], start: usize) -> Option<Definition>
     ensures most { IfSome result (λ found. found.end < length text.now) }
     ensures least { IfSome result (λ found. start < found.end) }
+    ensures title { IfSome result (λ found. IfSome found.title (λ title. title.end ≤ found.end)) }
     ensures label { IfSome result (λ found. found.label.string_start ≤ found.label.string_end) }
     ensures label_end { IfSome result (λ found. found.label.string_end ≤ length text.now) }
 {

@@ -1,5 +1,11 @@
 //! Definitions of links, as pieces (micromark).
 
+ghost use Rattle.std.specs.Prelude.{OnOk, IfOk, IfSome, length, ◌≡◌, ◌≤◌, ◌<◌, ◌+◌, ◌-◌};
+ghost use Rattle.markdown_flow.specs.Outputs.{Stands, document_of, spot};
+ghost use Rattle.markdown_flow.specs.Contents.{AreKept, after_lines};
+ghost use Rattle.markdown_pieces.specs.Tilings.{IsToken};
+ghost use Rattle.markdown_flow.specs.Definitions.{joined_size, left, IsBeforeLine, IsInText, HasBegun, end_before, end_in, GoesOn};
+
 use crate::content::{Content, KeptLine};
 use crate::definition::{self, Definition, Part};
 use crate::output::Output;
@@ -8,7 +14,9 @@ use markdown_pieces::piece::PieceKind;
 use std::alloc::{AllocError, Global};
 
 /// The text of lines without their prefixes. Each line ends with a line feed, the last one too.
-fn join(alloc: Global, lines: &[KeptLine<'_>]) -> Result<Vec<u8>, AllocError> {
+fn join(alloc: Global, lines: &[KeptLine<'_>]) -> Result<Vec<u8>, AllocError>
+    ensures { IfOk result (λ text. length text.items ≡ joined_size lines.now) }
+{
     let mut text = Vec::new(alloc);
     for kept in lines {
         text.extend_from_slice(kept.line.text())?;
@@ -22,12 +30,12 @@ fn join(alloc: Global, lines: &[KeptLine<'_>]) -> Result<Vec<u8>, AllocError> {
 struct PartWriter<'o, 'c, 'd> {
     /// The content that the lines are of.
     content: &'c Content<'d>,
+    /// The text of the lines, with a line feed for each.
+    text: &'o [u8],
     /// The lines that are left, from the one that is being written on.
     lines: &'c [KeptLine<'d>],
-    /// The offset in their text up to which all is written.
+    /// The offset in the text up to which all is written.
     at: usize,
-    /// Where the pieces go.
-    output: &'o mut Output<'d>,
 }
 
 /// Writes the definitions that lines of a content begin with, and gives the lines after them. Each
@@ -39,24 +47,28 @@ pub fn write<'c, 'd>(
     content: &'c Content<'d>,
     lines: &'c [KeptLine<'d>],
     output: &mut Output<'d>,
-) -> Result<&'c [KeptLine<'d>], AllocError> {
+) -> Result<&'c [KeptLine<'d>], AllocError>
+    requires stands { Stands output.old }
+    requires lines { AreKept (document_of output.old) content.now.prefixes.items (spot output.old.cursor) lines.now }
+    ensures stands { OnOk result (Stands output.new) }
+    ensures document { OnOk result (document_of output.new ≡ document_of output.old) }
+    ensures rest { IfOk result (λ rest. AreKept (document_of output.new) content.now.prefixes.items (spot output.new.cursor) rest.now) }
+    ensures end { IfOk result (λ rest. after_lines (spot output.new.cursor) rest.now ≡ after_lines (spot output.old.cursor) lines.now) }
+{
     if !may_begin(lines) {
         return Ok(lines);
     }
-    let joined = join(alloc, lines)?;
-    let text = joined.as_slice();
+    let text = join(alloc, lines)?;
     let mut writer = PartWriter {
         content,
+        text: text.as_slice(),
         lines,
         at: 0,
-        output,
     };
-    let mut start = 0;
-    'definitions: while let Some(found) = definition::scan(text, start) {
-        writer.write(&found)?;
-        let label = &text[found.label.string_start..found.label.string_end];
-        writer.output.define(label)?;
-        start = found.end + 1;
+    'definitions: while let Some(found) = definition::scan(writer.text, writer.at) {
+        let label = &writer.text[found.label.string_start..found.label.string_end];
+        output.define(label)?;
+        writer.write(&found, output)?;
     }
     Ok(writer.lines)
 }
@@ -71,37 +83,76 @@ fn may_begin(lines: &[KeptLine<'_>]) -> bool {
     }
 }
 
-impl PartWriter<'_, '_, '_> {
+impl<'d> PartWriter<'_, '_, 'd> {
     /// Writes a definition, with what comes before its first line.
-    fn write(&mut self, found: &Definition) -> Result<(), AllocError> {
-        self.begin_line()?;
-        self.output.enter(Name::Definition)?;
-        self.output.white_space()?;
-        self.write_label(&found.label)?;
-        self.part(PieceKind::Token(Name::DefinitionMarker), found.marker_end)?;
-        self.part(PieceKind::Token(Name::SpaceOrTab), found.destination.start)?;
-        self.write_destination(&found.destination)?;
-        if let Some(title) = found.title {
-            self.part(PieceKind::Token(Name::SpaceOrTab), title.start)?;
-            self.write_title(&title)?;
-        }
-        self.part(PieceKind::Token(Name::SpaceOrTab), found.end)?;
-        self.output.exit(Name::Definition)?;
-        self.end_line()
+    fn write(&mut self, found: &Definition, output: &mut Output<'d>) -> Result<(), AllocError>
+        requires before { IsBeforeLine self.old output.old }
+        requires fits { found.now.end < length self.old.text.now }
+        requires starts { self.old.at ≤ found.now.end }
+        requires title { IfSome found.now.title (λ title. title.end ≤ found.now.end) }
+        ensures before { OnOk result (IsBeforeLine self.new output.new) }
+        ensures on { OnOk result (GoesOn self.old self.new output.old output.new) }
+        ensures end { OnOk result (end_before self.new output.new ≡ end_before self.old output.old) }
+        ensures less { OnOk result (self.old.at < self.new.at) }
+    {
+        self.begin_line(output)?;
+        output.enter(Name::Definition)?;
+        self.write_indent(output)?;
+        self.write_label(&found.label, output)?;
+        self.part(
+            PieceKind::Token(Name::DefinitionMarker),
+            found.marker_end,
+            output,
+        )?;
+        self.part(
+            PieceKind::Token(Name::SpaceOrTab),
+            found.destination.start,
+            output,
+        )?;
+        self.write_destination(&found.destination, output)?;
+        self.write_title(found.title, output)?;
+        self.write_rest(PieceKind::Token(Name::SpaceOrTab), output)?;
+        output.exit(Name::Definition)?;
+        self.end_line(output)
     }
 
-    /// Begins the first of the lines that are left.
-    fn begin_line(&mut self) -> Result<(), AllocError> {
+    /// Begins the first of the lines that are left, of which there is one.
+    fn begin_line(&mut self, output: &mut Output<'d>) -> Result<(), AllocError>
+        requires before { IsBeforeLine self.old output.old }
+        requires some { 0 < length self.old.lines.now }
+        ensures line { OnOk result (HasBegun self.new output.new) }
+        ensures on { OnOk result (GoesOn self.old self.new output.old output.new) }
+        ensures at { self.new.at ≡ self.old.at }
+        ensures end { OnOk result (end_in self.new output.new ≡ end_before self.old output.old) }
+    {
         match self.lines.first() {
-            Some(kept) => self.content.begin(kept, self.output),
+            Some(kept) => self.content.begin(kept, output),
             None => Ok(()),
         }
     }
 
+    /// Writes the white space before the text of the line.
+    fn write_indent(&mut self, output: &mut Output<'d>) -> Result<(), AllocError>
+        requires { HasBegun self.old output.old }
+        ensures text { OnOk result (IsInText self.new output.new) }
+        ensures on { OnOk result (GoesOn self.old self.new output.old output.new) }
+        ensures at { self.new.at ≡ self.old.at }
+        ensures end { OnOk result (end_in self.new output.new ≡ end_in self.old output.old) }
+    {
+        output.white_space()
+    }
+
     /// Ends the line, and goes to the next one.
-    fn end_line(&mut self) -> Result<(), AllocError> {
-        self.output.end_line()?;
-        self.at = self.at.saturating_add(1);
+    fn end_line(&mut self, output: &mut Output<'d>) -> Result<(), AllocError>
+        requires text { IsInText self.old output.old }
+        requires ended { left output.old.cursor ≡ 0 }
+        ensures before { OnOk result (IsBeforeLine self.new output.new) }
+        ensures on { OnOk result (GoesOn self.old self.new output.old output.new) }
+        ensures at { OnOk result (self.new.at ≡ self.old.at + 1) }
+        ensures end { OnOk result (end_before self.new output.new ≡ end_in self.old output.old) }
+    {
+        output.end_line()?;
+        self.at += 1;
         if let [_, rest @ ..] = self.lines {
             self.lines = rest;
         }
@@ -109,75 +160,157 @@ impl PartWriter<'_, '_, '_> {
     }
 
     /// Writes pieces of a kind up to an offset of the text, and what stands at line endings on the way.
-    fn part(&mut self, kind: PieceKind, to: usize) -> Result<(), AllocError> {
+    fn part(
+        &mut self,
+        kind: PieceKind,
+        to: usize,
+        output: &mut Output<'d>,
+    ) -> Result<(), AllocError>
+        requires text { IsInText self.old output.old }
+        requires kind { IsToken kind }
+        requires fits { to < length self.old.text.now }
+        ensures text { OnOk result (IsInText self.new output.new) }
+        ensures on { OnOk result (GoesOn self.old self.new output.old output.new) }
+        ensures order { OnOk result (self.old.at ≤ self.new.at) }
+        ensures end { OnOk result (end_in self.new output.new ≡ end_in self.old output.old) }
+    {
         for _ in self.at..to {
-            if to.saturating_sub(self.at) <= self.output.rest().len() {
+            if to.saturating_sub(self.at) <= output.rest().len() {
                 break;
             }
-            self.write_rest_of_line(kind)?;
+            self.write_rest(kind, output)?;
+            self.end_line(output)?;
+            self.begin_line(output)?;
+            self.write_indent(output)?;
         }
-        self.write_in_line(kind, to.saturating_sub(self.at))
+        self.write_in_line(kind, to.saturating_sub(self.at), output)
+    }
+
+    /// Writes a piece up to the end of the line.
+    fn write_rest(&mut self, kind: PieceKind, output: &mut Output<'d>) -> Result<(), AllocError>
+        requires text { IsInText self.old output.old }
+        requires kind { IsToken kind }
+        ensures text { OnOk result (IsInText self.new output.new) }
+        ensures on { OnOk result (GoesOn self.old self.new output.old output.new) }
+        ensures order { OnOk result (self.old.at ≤ self.new.at) }
+        ensures lines { self.new.lines ≡ self.old.lines }
+        ensures ended { OnOk result (left output.new.cursor ≡ 0) }
+        ensures end { OnOk result (end_in self.new output.new ≡ end_in self.old output.old) }
+    {
+        let size = output.rest().len();
+        self.write_in_line(kind, size, output)
     }
 
     /// Writes a piece of so many bytes of the line.
-    fn write_in_line(&mut self, kind: PieceKind, size: usize) -> Result<(), AllocError> {
-        self.at = self.at.saturating_add(size);
-        self.output.part(kind, size)
-    }
-
-    /// Writes a piece up to the end of the line, and what stands between that and the text of the next line.
-    fn write_rest_of_line(&mut self, kind: PieceKind) -> Result<(), AllocError> {
-        let size = self.output.rest().len();
-        self.write_in_line(kind, size)?;
-        self.end_line()?;
-        self.begin_line()?;
-        self.output.white_space()
+    fn write_in_line(
+        &mut self,
+        kind: PieceKind,
+        size: usize,
+        output: &mut Output<'d>,
+    ) -> Result<(), AllocError>
+        requires text { IsInText self.old output.old }
+        requires kind { IsToken kind }
+        ensures text { OnOk result (IsInText self.new output.new) }
+        ensures on { OnOk result (GoesOn self.old self.new output.old output.new) }
+        ensures order { OnOk result (self.old.at ≤ self.new.at) }
+        ensures lines { self.new.lines ≡ self.old.lines }
+        ensures left { OnOk result (left output.new.cursor ≡ left output.old.cursor - size) }
+        ensures end { OnOk result (end_in self.new output.new ≡ end_in self.old output.old) }
+    {
+        let size = size.min(output.rest().len());
+        self.at += size;
+        output.part(kind, size)
     }
 
     /// Writes a span with the string of a part in it, unless that is empty.
-    fn write_string(&mut self, name: Name, part: &Part) -> Result<(), AllocError> {
+    fn write_string(
+        &mut self,
+        name: Name,
+        part: &Part,
+        output: &mut Output<'d>,
+    ) -> Result<(), AllocError>
+        requires text { IsInText self.old output.old }
+        requires fits { part.now.end < length self.old.text.now }
+        ensures text { OnOk result (IsInText self.new output.new) }
+        ensures on { OnOk result (GoesOn self.old self.new output.old output.new) }
+        ensures order { OnOk result (self.old.at ≤ self.new.at) }
+        ensures end { OnOk result (end_in self.new output.new ≡ end_in self.old output.old) }
+    {
         if part.is_empty() {
             return Ok(());
         }
-        self.output.enter(name)?;
-        self.part(PieceKind::Text, part.string_end)?;
-        self.output.exit(name)
+        output.enter(name)?;
+        self.part(PieceKind::Text, part.string_end, output)?;
+        output.exit(name)
     }
 
     /// Writes a label.
-    fn write_label(&mut self, label: &Part) -> Result<(), AllocError> {
+    fn write_label(&mut self, label: &Part, output: &mut Output<'d>) -> Result<(), AllocError>
+        requires text { IsInText self.old output.old }
+        requires fits { label.now.end < length self.old.text.now }
+        ensures text { OnOk result (IsInText self.new output.new) }
+        ensures on { OnOk result (GoesOn self.old self.new output.old output.new) }
+        ensures order { OnOk result (self.old.at ≤ self.new.at) }
+        ensures end { OnOk result (end_in self.new output.new ≡ end_in self.old output.old) }
+    {
         let marker = PieceKind::Token(Name::DefinitionLabelMarker);
-        self.output.enter(Name::DefinitionLabel)?;
-        self.part(marker, label.string_start)?;
-        self.write_string(Name::DefinitionLabelString, label)?;
-        self.part(marker, label.end)?;
-        self.output.exit(Name::DefinitionLabel)
+        output.enter(Name::DefinitionLabel)?;
+        self.part(marker, label.string_start, output)?;
+        self.write_string(Name::DefinitionLabelString, label, output)?;
+        self.part(marker, label.end, output)?;
+        output.exit(Name::DefinitionLabel)
     }
 
     /// Writes a destination.
-    fn write_destination(&mut self, destination: &Part) -> Result<(), AllocError> {
+    fn write_destination(
+        &mut self,
+        destination: &Part,
+        output: &mut Output<'d>,
+    ) -> Result<(), AllocError>
+        requires text { IsInText self.old output.old }
+        requires fits { destination.now.end < length self.old.text.now }
+        ensures text { OnOk result (IsInText self.new output.new) }
+        ensures on { OnOk result (GoesOn self.old self.new output.old output.new) }
+        ensures order { OnOk result (self.old.at ≤ self.new.at) }
+        ensures end { OnOk result (end_in self.new output.new ≡ end_in self.old output.old) }
+    {
         let around = if destination.is_marked() {
             Name::DefinitionDestinationLiteral
         } else {
             Name::DefinitionDestinationRaw
         };
         let marker = PieceKind::Token(Name::DefinitionDestinationLiteralMarker);
-        self.output.enter(Name::DefinitionDestination)?;
-        self.output.enter(around)?;
-        self.part(marker, destination.string_start)?;
-        self.write_string(Name::DefinitionDestinationString, destination)?;
-        self.part(marker, destination.end)?;
-        self.output.exit(around)?;
-        self.output.exit(Name::DefinitionDestination)
+        output.enter(Name::DefinitionDestination)?;
+        output.enter(around)?;
+        self.part(marker, destination.string_start, output)?;
+        self.write_string(Name::DefinitionDestinationString, destination, output)?;
+        self.part(marker, destination.end, output)?;
+        output.exit(around)?;
+        output.exit(Name::DefinitionDestination)
     }
 
-    /// Writes a title.
-    fn write_title(&mut self, title: &Part) -> Result<(), AllocError> {
+    /// Writes a title and the white space before it, if there is one.
+    fn write_title(
+        &mut self,
+        title: Option<Part>,
+        output: &mut Output<'d>,
+    ) -> Result<(), AllocError>
+        requires text { IsInText self.old output.old }
+        requires fits { IfSome title (λ title. title.end < length self.old.text.now) }
+        ensures text { OnOk result (IsInText self.new output.new) }
+        ensures on { OnOk result (GoesOn self.old self.new output.old output.new) }
+        ensures order { OnOk result (self.old.at ≤ self.new.at) }
+        ensures end { OnOk result (end_in self.new output.new ≡ end_in self.old output.old) }
+    {
+        let Some(title) = title else {
+            return Ok(());
+        };
         let marker = PieceKind::Token(Name::DefinitionTitleMarker);
-        self.output.enter(Name::DefinitionTitle)?;
-        self.part(marker, title.string_start)?;
-        self.write_string(Name::DefinitionTitleString, title)?;
-        self.part(marker, title.end)?;
-        self.output.exit(Name::DefinitionTitle)
+        self.part(PieceKind::Token(Name::SpaceOrTab), title.start, output)?;
+        output.enter(Name::DefinitionTitle)?;
+        self.part(marker, title.string_start, output)?;
+        self.write_string(Name::DefinitionTitleString, &title, output)?;
+        self.part(marker, title.end, output)?;
+        output.exit(Name::DefinitionTitle)
     }
 }

@@ -1,6 +1,11 @@
 //! Flow: the leaf that is open, and what a line does to it (micromark).
 
+ghost use Rattle.std.specs.Prelude.{[], OnOk, IfOk, length, ◌≡◌, ◌<◌, true, false};
+ghost use Rattle.markdown_flow.specs.Outputs.{IsAt, Stands, Writes, WritesOut, Reads, document_of, line_after, next_of, spot};
+ghost use Rattle.markdown_flow.specs.Flows.{StandsWith, end_with, keeps_lines};
+
 use crate::content::Content;
+use crate::input::Input;
 use crate::leaf::{Leaf, LeafStart};
 use crate::line::Line;
 use crate::output::Output;
@@ -25,7 +30,9 @@ pub struct Flow<'d> {
 
 impl<'d> Flow<'d> {
     /// No open leaf.
-    pub fn new(alloc: Global) -> Flow<'d> {
+    pub fn new(alloc: Global) -> Flow<'d>
+        ensures { result.content.lines.items ≡ [] }
+    {
         Flow {
             alloc,
             leaf: Leaf::None,
@@ -34,7 +41,9 @@ impl<'d> Flow<'d> {
     }
 
     /// Whether a paragraph is open.
-    pub fn is_paragraph(&self) -> bool {
+    pub fn is_paragraph(&self) -> bool
+        ensures { result ≡ true → keeps_lines self.now.leaf ≡ true }
+    {
         matches!(self.leaf, Leaf::Paragraph)
     }
 
@@ -44,7 +53,13 @@ impl<'d> Flow<'d> {
     }
 
     /// Ends the leaf before the line ending that is held.
-    pub fn close(&mut self, output: &mut Output<'d>) -> Result<(), AllocError> {
+    pub fn close(&mut self, output: &mut Output<'d>) -> Result<(), AllocError>
+        requires { StandsWith self.old output.old }
+        ensures stands { OnOk result (Stands output.new) }
+        ensures none { OnOk result (self.new.content.lines.items ≡ []) }
+        ensures document { OnOk result (document_of output.new ≡ document_of output.old) }
+        ensures spot { OnOk result (spot output.new.cursor ≡ end_with self.old output.old) }
+    {
         match self.leaf {
             Leaf::None => {}
             Leaf::Paragraph => {
@@ -52,17 +67,17 @@ impl<'d> Flow<'d> {
                 paragraph::write(self.alloc, &self.content, lines, output)?;
             }
             Leaf::CodeIndented => {
-                output.exit(Name::CodeIndented)?;
+                output.exit_before_held(Name::CodeIndented)?;
                 blank_line::hold_kept(&self.content, output)?;
             }
             Leaf::RawFlow { fence, ends_empty } => {
                 // An empty line at the end is one of the lines only if its ending is in the span.
                 if ends_empty {
-                    output.settle_held()?;
+                    output.settle()?;
                 }
                 fence.end(output)?;
             }
-            Leaf::Html(_) => output.exit(Name::HtmlFlow)?,
+            Leaf::Html(_) => output.exit_before_held(Name::HtmlFlow)?,
             Leaf::Table { has_body } => gfm_table::end(has_body, output)?,
         }
         self.content.clear();
@@ -72,10 +87,16 @@ impl<'d> Flow<'d> {
 
     /// Ends the leaf where the document ends, or where a container begins that is not in it: code, math and
     /// some HTML take the line ending that is held (micromark).
-    pub fn flush(&mut self, output: &mut Output<'d>) -> Result<(), AllocError> {
+    pub fn flush(&mut self, output: &mut Output<'d>) -> Result<(), AllocError>
+        requires { StandsWith self.old output.old }
+        ensures stands { OnOk result (Stands output.new) }
+        ensures none { OnOk result (self.new.content.lines.items ≡ []) }
+        ensures document { OnOk result (document_of output.new ≡ document_of output.old) }
+        ensures spot { OnOk result (spot output.new.cursor ≡ end_with self.old output.old) }
+    {
         match self.leaf {
-            Leaf::RawFlow { .. } => output.settle_held()?,
-            Leaf::Html(html) if !html.ends_at_blank_line() => output.settle_held()?,
+            Leaf::RawFlow { .. } => output.settle()?,
+            Leaf::Html(html) if !html.ends_at_blank_line() => output.settle()?,
             _ => {}
         }
         self.close(output)
@@ -85,59 +106,96 @@ impl<'d> Flow<'d> {
     /// (CommonMark, lazy continuation lines).
     pub fn continue_lazily(
         &mut self,
-        line: &Line<'d>,
-        output: &mut Output<'d>,
-    ) -> Result<bool, AllocError> {
-        let is_text = !line.is_blank() && LeafStart::find(line, true).is_none();
+        input: &mut Input<'d>,
+        output: &Output<'d>,
+    ) -> Result<bool, AllocError>
+        requires stands { StandsWith self.old output.now }
+        requires reads { Reads (document_of output.now) (end_with self.old output.now) input.old }
+        ensures stands { OnOk result (StandsWith self.new output.now) }
+        ensures yes { IfOk result (λ r. r ≡ true → (end_with self.new output.now ≡ next_of input.old.line) × (input.new.prefix.items ≡ [])) }
+        ensures no { IfOk result (λ r. r ≡ false → (self.new ≡ self.old) × (input.new ≡ input.old)) }
+        ensures line { input.new.line ≡ input.old.line }
+    {
+        let is_text = !input.line.is_blank() && LeafStart::find(&input.line, true).is_none();
         if !self.is_paragraph() || !is_text {
             return Ok(false);
         }
-        self.content.keep(line, output)?;
+        self.content.keep(input)?;
         Ok(true)
     }
 
     /// Reads a line that is in all open containers.
-    pub fn line(&mut self, line: &mut Line<'d>, output: &mut Output<'d>) -> Result<(), AllocError> {
+    pub fn line(&mut self, input: &mut Input<'d>, output: &mut Output<'d>) -> Result<(), AllocError>
+        requires stands { StandsWith self.old output.old }
+        requires reads { Reads (document_of output.old) (end_with self.old output.old) input.old }
+        ensures stands { OnOk result (StandsWith self.new output.new) }
+        ensures document { OnOk result (document_of output.new ≡ document_of output.old) }
+        ensures end { OnOk result (end_with self.new output.new ≡ next_of input.old.line) }
+        ensures taken { OnOk result (input.new.prefix.items ≡ []) }
+    {
         match self.leaf {
-            Leaf::None => self.start(line, output),
-            Leaf::Paragraph => self.paragraph_line(line, output),
-            Leaf::CodeIndented => self.code_line(line, output),
-            Leaf::RawFlow { fence, .. } => self.raw_line(fence, line, output),
-            Leaf::Html(html) if html.ends_at_blank_line() && line.is_blank() => {
-                self.restart(line, output)
+            Leaf::None => self.start(input, output),
+            Leaf::Paragraph => self.paragraph_line(input, output),
+            Leaf::CodeIndented => self.code_line(input, output),
+            Leaf::RawFlow { fence, .. } => self.raw_line(fence, input, output),
+            Leaf::Html(html) if html.ends_at_blank_line() && input.line.is_blank() => {
+                self.restart(input, output)
             }
             Leaf::Html(html) => {
-                output.begin(line)?;
+                output.begin(input)?;
                 let ends = html.write_line(output)?;
                 self.go_on(if ends { Leaf::None } else { Leaf::Html(html) }, output)
             }
-            Leaf::Table { has_body } => self.table_line(has_body, line, output),
+            Leaf::Table { has_body } => self.table_line(has_body, input, output),
         }
     }
 
     /// Ends the line that is written, after which this leaf is open.
-    fn go_on(&mut self, leaf: Leaf, output: &mut Output<'d>) -> Result<(), AllocError> {
+    fn go_on(&mut self, leaf: Leaf, output: &mut Output<'d>) -> Result<(), AllocError>
+        requires writes { Writes output.old }
+        requires ended { output.old.cursor.offset ≡ output.old.cursor.extent.end }
+        requires none { self.old.content.lines.items ≡ [] }
+        ensures stands { OnOk result (StandsWith self.new output.new) }
+        ensures document { OnOk result (document_of output.new ≡ document_of output.old) }
+        ensures end { OnOk result (end_with self.new output.new ≡ line_after output.old.cursor) }
+    {
         self.leaf = leaf;
         output.end_line()
     }
 
     /// Ends the leaf, and reads the line anew.
-    fn restart(&mut self, line: &mut Line<'d>, output: &mut Output<'d>) -> Result<(), AllocError> {
+    fn restart(&mut self, input: &mut Input<'d>, output: &mut Output<'d>) -> Result<(), AllocError>
+        requires stands { StandsWith self.old output.old }
+        requires reads { Reads (document_of output.old) (end_with self.old output.old) input.old }
+        ensures stands { OnOk result (StandsWith self.new output.new) }
+        ensures document { OnOk result (document_of output.new ≡ document_of output.old) }
+        ensures end { OnOk result (end_with self.new output.new ≡ next_of input.old.line) }
+        ensures taken { OnOk result (input.new.prefix.items ≡ []) }
+    {
         self.close(output)?;
-        self.start(line, output)
+        self.start(input, output)
     }
 
     /// Reads a line where no leaf is open.
-    fn start(&mut self, line: &mut Line<'d>, output: &mut Output<'d>) -> Result<(), AllocError> {
-        if line.is_blank() {
-            return blank_line::hold(line, output);
+    fn start(&mut self, input: &mut Input<'d>, output: &mut Output<'d>) -> Result<(), AllocError>
+        requires stands { Stands output.old }
+        requires none { self.old.content.lines.items ≡ [] }
+        requires reads { Reads (document_of output.old) (spot output.old.cursor) input.old }
+        ensures stands { OnOk result (StandsWith self.new output.new) }
+        ensures document { OnOk result (document_of output.new ≡ document_of output.old) }
+        ensures end { OnOk result (end_with self.new output.new ≡ next_of input.old.line) }
+        ensures taken { OnOk result (input.new.prefix.items ≡ []) }
+    {
+        if input.line.is_blank() {
+            return output.hold_blank(input);
         }
-        match LeafStart::find(line, false) {
-            Some(start) => self.open(start, line, output),
+        match LeafStart::find(&input.line, false) {
+            Some(start) => self.open(start, input, output),
             None => {
-                output.begin(line)?;
+                output.begin(input)?;
                 self.leaf = Leaf::Paragraph;
-                self.content.keep(line, output)
+                self.content.keep(input)?;
+                Ok(())
             }
         }
     }
@@ -146,56 +204,51 @@ impl<'d> Flow<'d> {
     fn open(
         &mut self,
         start: LeafStart,
-        line: &mut Line<'d>,
+        input: &mut Input<'d>,
         output: &mut Output<'d>,
-    ) -> Result<(), AllocError> {
-        output.begin(line)?;
-        let leaf = match start {
-            LeafStart::CodeIndented => {
-                code_indented::open(line, output)?;
-                Leaf::CodeIndented
-            }
-            LeafStart::RawFlow(fence) => {
-                fence.open(output)?;
-                let ends_empty = false;
-                Leaf::RawFlow { fence, ends_empty }
-            }
-            LeafStart::Html(html) => {
-                let ends = html.open(output)?;
-                if ends { Leaf::None } else { Leaf::Html(html) }
-            }
-            LeafStart::HeadingAtx(size) => {
-                heading_atx::write(size, output)?;
-                Leaf::None
-            }
-            LeafStart::ThematicBreak => {
-                thematic_break::write(output)?;
-                Leaf::None
-            }
-        };
+    ) -> Result<(), AllocError>
+        requires stands { Stands output.old }
+        requires none { self.old.content.lines.items ≡ [] }
+        requires reads { Reads (document_of output.old) (spot output.old.cursor) input.old }
+        ensures stands { OnOk result (StandsWith self.new output.new) }
+        ensures document { OnOk result (document_of output.new ≡ document_of output.old) }
+        ensures end { OnOk result (end_with self.new output.new ≡ next_of input.old.line) }
+        ensures taken { OnOk result (input.new.prefix.items ≡ []) }
+    {
+        output.begin(input)?;
+        let leaf = write_first(start, &mut input.line, output)?;
         self.go_on(leaf, output)
     }
 
     /// Reads a line after one of a paragraph.
     fn paragraph_line(
         &mut self,
-        line: &mut Line<'d>,
+        input: &mut Input<'d>,
         output: &mut Output<'d>,
-    ) -> Result<(), AllocError> {
-        if line.is_blank() {
-            return self.restart(line, output);
+    ) -> Result<(), AllocError>
+        requires stands { StandsWith self.old output.old }
+        requires keeps { keeps_lines self.old.leaf ≡ true }
+        requires reads { Reads (document_of output.old) (end_with self.old output.old) input.old }
+        ensures stands { OnOk result (StandsWith self.new output.new) }
+        ensures document { OnOk result (document_of output.new ≡ document_of output.old) }
+        ensures end { OnOk result (end_with self.new output.new ≡ next_of input.old.line) }
+        ensures taken { OnOk result (input.new.prefix.items ≡ []) }
+    {
+        if input.line.is_blank() {
+            return self.restart(input, output);
         }
-        if let Some(size) = heading_setext::underline(line) {
-            return self.underline(size, line, output);
+        if let Some(size) = heading_setext::underline(&input.line) {
+            return self.underline(size, input, output);
         }
-        if let Some(start) = LeafStart::find(line, true) {
+        if let Some(start) = LeafStart::find(&input.line, true) {
             self.close(output)?;
-            return self.open(start, line, output);
+            return self.open(start, input, output);
         }
-        if self.is_table_head(line) {
-            return self.table_head(line, output);
+        if self.is_table_head(&input.line) {
+            return self.table_head(input, output);
         }
-        self.content.keep(line, output)
+        self.content.keep(input)?;
+        Ok(())
     }
 
     /// Reads an underline of so many signs. Where all lines above it are definitions, it is text
@@ -203,23 +256,34 @@ impl<'d> Flow<'d> {
     fn underline(
         &mut self,
         size: usize,
-        line: &mut Line<'d>,
+        input: &mut Input<'d>,
         output: &mut Output<'d>,
-    ) -> Result<(), AllocError> {
+    ) -> Result<(), AllocError>
+        requires stands { StandsWith self.old output.old }
+        requires keeps { keeps_lines self.old.leaf ≡ true }
+        requires reads { Reads (document_of output.old) (end_with self.old output.old) input.old }
+        ensures stands { OnOk result (StandsWith self.new output.new) }
+        ensures document { OnOk result (document_of output.new ≡ document_of output.old) }
+        ensures end { OnOk result (end_with self.new output.new ≡ next_of input.old.line) }
+        ensures taken { OnOk result (input.new.prefix.items ≡ []) }
+    {
         let lines = self.content.lines();
         let rest = definition_pieces::write(self.alloc, &self.content, lines, output)?;
-        if rest.is_empty() {
+        let [first, later @ ..] = rest else {
             self.content.clear();
-            output.begin(line)?;
-            return self.content.keep(line, output);
-        }
-        heading_setext::write(&self.content, rest, size, line, output)?;
+            output.begin(input)?;
+            self.content.keep(input)?;
+            return Ok(());
+        };
+        heading_setext::write(&self.content, first, later, size, input, output)?;
         self.content.clear();
         self.go_on(Leaf::None, output)
     }
 
     /// Whether a line makes the last line of the paragraph the head of a table.
-    fn is_table_head(&self, line: &Line<'d>) -> bool {
+    fn is_table_head(&self, line: &Line<'d>) -> bool
+        ensures { result ≡ true → 0 < length self.now.content.lines.items }
+    {
         match self.content.lines().last() {
             Some(header) => gfm_table::begins(&header.line, line),
             None => false,
@@ -229,13 +293,22 @@ impl<'d> Flow<'d> {
     /// Reads the delimiter row of a table.
     fn table_head(
         &mut self,
-        line: &mut Line<'d>,
+        input: &mut Input<'d>,
         output: &mut Output<'d>,
-    ) -> Result<(), AllocError> {
-        if let [before @ .., header] = self.content.lines() {
-            paragraph::write(self.alloc, &self.content, before, output)?;
-            gfm_table::open(&self.content, header, line, output)?;
-        }
+    ) -> Result<(), AllocError>
+        requires stands { StandsWith self.old output.old }
+        requires some { 0 < length self.old.content.lines.items }
+        requires reads { Reads (document_of output.old) (end_with self.old output.old) input.old }
+        ensures stands { OnOk result (StandsWith self.new output.new) }
+        ensures document { OnOk result (document_of output.new ≡ document_of output.old) }
+        ensures end { OnOk result (end_with self.new output.new ≡ next_of input.old.line) }
+        ensures taken { OnOk result (input.new.prefix.items ≡ []) }
+    {
+        let [before @ .., header] = self.content.lines() else {
+            return Ok(());
+        };
+        paragraph::write(self.alloc, &self.content, before, output)?;
+        gfm_table::open(&self.content, header, input, output)?;
         self.content.clear();
         self.go_on(Leaf::Table { has_body: false }, output)
     }
@@ -244,13 +317,21 @@ impl<'d> Flow<'d> {
     fn table_line(
         &mut self,
         has_body: bool,
-        line: &mut Line<'d>,
+        input: &mut Input<'d>,
         output: &mut Output<'d>,
-    ) -> Result<(), AllocError> {
-        if line.is_blank() || LeafStart::find(line, false).is_some() {
-            return self.restart(line, output);
+    ) -> Result<(), AllocError>
+        requires stands { StandsWith self.old output.old }
+        requires none { self.old.content.lines.items ≡ [] }
+        requires reads { Reads (document_of output.old) (end_with self.old output.old) input.old }
+        ensures stands { OnOk result (StandsWith self.new output.new) }
+        ensures document { OnOk result (document_of output.new ≡ document_of output.old) }
+        ensures end { OnOk result (end_with self.new output.new ≡ next_of input.old.line) }
+        ensures taken { OnOk result (input.new.prefix.items ≡ []) }
+    {
+        if input.line.is_blank() || LeafStart::find(&input.line, false).is_some() {
+            return self.restart(input, output);
         }
-        output.begin(line)?;
+        output.begin(input)?;
         gfm_table::write_row(has_body, output)?;
         self.go_on(Leaf::Table { has_body: true }, output)
     }
@@ -258,19 +339,28 @@ impl<'d> Flow<'d> {
     /// Reads a line after one of indented code.
     fn code_line(
         &mut self,
-        line: &mut Line<'d>,
+        input: &mut Input<'d>,
         output: &mut Output<'d>,
-    ) -> Result<(), AllocError> {
-        if line.is_blank() {
-            return self.content.keep(line, output);
+    ) -> Result<(), AllocError>
+        requires stands { StandsWith self.old output.old }
+        requires keeps { keeps_lines self.old.leaf ≡ true }
+        requires reads { Reads (document_of output.old) (end_with self.old output.old) input.old }
+        ensures stands { OnOk result (StandsWith self.new output.new) }
+        ensures document { OnOk result (document_of output.new ≡ document_of output.old) }
+        ensures end { OnOk result (end_with self.new output.new ≡ next_of input.old.line) }
+        ensures taken { OnOk result (input.new.prefix.items ≡ []) }
+    {
+        if input.line.is_blank() {
+            self.content.keep(input)?;
+            return Ok(());
         }
-        if !line.is_indented() {
-            return self.restart(line, output);
+        if !input.line.is_indented() {
+            return self.restart(input, output);
         }
         code_indented::write_blank_lines(&self.content, output)?;
         self.content.clear();
-        output.begin(line)?;
-        code_indented::write_line(line, output)?;
+        output.begin(input)?;
+        code_indented::write_line(&mut input.line, output)?;
         self.go_on(Leaf::CodeIndented, output)
     }
 
@@ -278,11 +368,19 @@ impl<'d> Flow<'d> {
     fn raw_line(
         &mut self,
         fence: Fence,
-        line: &mut Line<'d>,
+        input: &mut Input<'d>,
         output: &mut Output<'d>,
-    ) -> Result<(), AllocError> {
-        output.begin(line)?;
-        let leaf = match fence.write_line(line, output)? {
+    ) -> Result<(), AllocError>
+        requires stands { StandsWith self.old output.old }
+        requires none { self.old.content.lines.items ≡ [] }
+        requires reads { Reads (document_of output.old) (end_with self.old output.old) input.old }
+        ensures stands { OnOk result (StandsWith self.new output.new) }
+        ensures document { OnOk result (document_of output.new ≡ document_of output.old) }
+        ensures end { OnOk result (end_with self.new output.new ≡ next_of input.old.line) }
+        ensures taken { OnOk result (input.new.prefix.items ≡ []) }
+    {
+        output.begin(input)?;
+        let leaf = match fence.write_line(&mut input.line, output)? {
             FencedLine::Closing => Leaf::None,
             FencedLine::Empty => Leaf::RawFlow {
                 fence,
@@ -294,5 +392,40 @@ impl<'d> Flow<'d> {
             },
         };
         self.go_on(leaf, output)
+    }
+}
+
+/// Writes the first line of a leaf that is no paragraph, and gives the leaf that is open after it.
+fn write_first<'d>(
+    start: LeafStart,
+    line: &mut Line<'d>,
+    output: &mut Output<'d>,
+) -> Result<Leaf, AllocError>
+    requires writes { Writes output.old }
+    requires at { IsAt output.old.cursor line.old }
+    ensures { OnOk result (WritesOut output.old output.new) }
+{
+    match start {
+        LeafStart::CodeIndented => {
+            code_indented::open(line, output)?;
+            Ok(Leaf::CodeIndented)
+        }
+        LeafStart::RawFlow(fence) => {
+            fence.open(output)?;
+            let ends_empty = false;
+            Ok(Leaf::RawFlow { fence, ends_empty })
+        }
+        LeafStart::Html(html) => {
+            let ends = html.open(output)?;
+            Ok(if ends { Leaf::None } else { Leaf::Html(html) })
+        }
+        LeafStart::HeadingAtx(size) => {
+            heading_atx::write(size, output)?;
+            Ok(Leaf::None)
+        }
+        LeafStart::ThematicBreak => {
+            thematic_break::write(output)?;
+            Ok(Leaf::None)
+        }
     }
 }

@@ -1,5 +1,8 @@
 //! Frontmatter: YAML or TOML at the start of a document (micromark).
 
+ghost use Rattle.std.specs.Prelude.{OnOk, IfOk, ◌≡◌};
+ghost use Rattle.markdown_flow.specs.Outputs.{Stands, Writes, WritesOut, document_of, next_of, spot, spot_in};
+
 use crate::line::Line;
 use crate::output::Output;
 use crate::space_or_tab::is_blank;
@@ -38,25 +41,27 @@ fn is_closed(first: &Line<'_>, sign: u8) -> bool {
 }
 
 /// Writes the frontmatter that begins in a line, and gives the line of the fence that closes it.
-pub fn write<'d>(
-    first: Line<'d>,
-    sign: u8,
-    output: &mut Output<'d>,
-) -> Result<Line<'d>, AllocError> {
-    output.begin(&first)?;
+pub fn write<'d>(first: Line<'d>, sign: u8, output: &mut Output<'d>) -> Result<Line<'d>, AllocError>
+    requires stands { Stands output.old }
+    requires document { first.source.document.now ≡ document_of output.old }
+    requires start { spot output.old.cursor ≡ spot_in first }
+    ensures stands { OnOk result (Stands output.new) }
+    ensures document { OnOk result (document_of output.new ≡ document_of output.old) }
+    ensures line { IfOk result (λ line. (line.source ≡ first.entry.source) × (spot output.new.cursor ≡ next_of line)) }
+{
+    output.begin_kept(&[], &first)?;
     output.enter(Name::Frontmatter)?;
     write_fence(output)?;
-    output.end_line()?;
     let mut line = first;
     'lines: while let Some(next) = line.following() {
         line = next;
-        output.begin(&line)?;
+        output.end_line()?;
+        output.begin_kept(&[], &line)?;
         if is_fence(&line, sign) {
             write_fence(output)?;
             break;
         }
         output.token_of_rest(Name::FrontmatterChunk)?;
-        output.end_line()?;
     }
     output.exit(Name::Frontmatter)?;
     output.end_line()?;
@@ -64,7 +69,10 @@ pub fn write<'d>(
 }
 
 /// Writes the line of a fence.
-fn write_fence(output: &mut Output<'_>) -> Result<(), AllocError> {
+fn write_fence(output: &mut Output<'_>) -> Result<(), AllocError>
+    requires { Writes output.old }
+    ensures { OnOk result (WritesOut output.old output.new) }
+{
     output.enter(Name::FrontmatterFence)?;
     output.token(Name::FrontmatterSequence, SIGNS)?;
     output.token_of_rest(Name::SpaceOrTab)?;

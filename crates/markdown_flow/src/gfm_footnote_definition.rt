@@ -1,8 +1,12 @@
 //! Footnote definitions (GFM).
 
-ghost use Rattle.std.specs.Prelude.{◌≤◌, length, IfSome};
+ghost use Rattle.std.specs.Prelude.{List, ℕ, OnOk, IfSome, length, ◌≤◌, ◌+◌};
+ghost use Rattle.markdown_flow.specs.Outputs.{IsAt, Writes, WritesOn, Reads};
+ghost use Rattle.markdown_flow.specs.Moves.{HasMoved};
+ghost use Rattle.markdown_pieces.specs.Tilings.{Spot};
 
 use crate::container::Container;
+use crate::input::Input;
 use crate::line::{Line, TAB_SIZE};
 use crate::output::Output;
 use commonmark_syntax::bytes::{after, is_continuation, is_space_or_tab};
@@ -44,11 +48,14 @@ fn label_size(inside: &[u8]) -> Option<usize>
 
 /// Whether a footnote definition goes on in a line: one that is blank, or indented by four columns (GFM). If
 /// it does, its indentation is read.
-pub fn continues<'d>(line: &mut Line<'d>, output: &mut Output<'d>) -> Result<bool, AllocError> {
-    if !line.is_blank() && line.indent() < TAB_SIZE {
+pub fn continues(input: &mut Input<'_>) -> Result<bool, AllocError>
+    ensures reads { (bytes : List ℕ) → (from : Spot) → Reads bytes from input.old → OnOk result (Reads bytes from input.new) }
+    ensures moved { OnOk result (HasMoved input.old.line input.new.line) }
+{
+    if !input.line.is_blank() && input.line.indent() < TAB_SIZE {
         return Ok(false);
     }
-    output.prefix_columns(line, TAB_SIZE)?;
+    input.columns(TAB_SIZE)?;
     Ok(true)
 }
 
@@ -57,7 +64,13 @@ pub fn open<'d>(
     size: usize,
     line: &mut Line<'d>,
     output: &mut Output<'d>,
-) -> Result<Container, AllocError> {
+) -> Result<Container, AllocError>
+    requires writes { Writes output.old }
+    requires at { IsAt output.old.cursor line.old }
+    ensures writes { OnOk result (Writes output.new) }
+    ensures at { OnOk result (IsAt output.new.cursor line.new) }
+    ensures moved { HasMoved line.old line.new }
+{
     output.enter(Name::GfmFootnoteDefinition)?;
     output.columns(line, line.indent())?;
     output.enter(Name::GfmFootnoteDefinitionPrefix)?;
@@ -70,7 +83,11 @@ pub fn open<'d>(
 }
 
 /// Writes a label of so many bytes with its brackets. It is added to what the document defines.
-fn write_label(size: usize, output: &mut Output<'_>) -> Result<(), AllocError> {
+fn write_label(size: usize, output: &mut Output<'_>) -> Result<(), AllocError>
+    requires { Writes output.old }
+    ensures written { OnOk result (WritesOn output.old output.new) }
+    ensures most { OnOk result (output.new.cursor.offset ≤ output.old.cursor.offset + size + 3) }
+{
     let marker = Name::GfmFootnoteDefinitionLabelMarker;
     output.enter(Name::GfmFootnoteDefinitionLabel)?;
     output.token(marker, 1)?;

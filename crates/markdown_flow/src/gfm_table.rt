@@ -1,7 +1,12 @@
 //! Tables (GFM).
 
+ghost use Rattle.std.specs.Prelude.{[], OnOk, ◌≡◌};
+ghost use Rattle.markdown_flow.specs.Outputs.{HasLine, Stands, Writes, WritesOn, WritesOut, Reads, document_of, next_of, spot};
+ghost use Rattle.markdown_flow.specs.Contents.{Kept};
+
 use crate::content::{Content, KeptLine};
 use crate::gfm_table_row::{self, Cell};
+use crate::input::Input;
 use crate::line::Line;
 use crate::output::Output;
 use crate::space_or_tab::{after_spaces, trimmed_size};
@@ -53,33 +58,49 @@ fn is_delimiter(text: &[u8]) -> bool {
 pub fn open<'d>(
     content: &Content<'d>,
     header: &KeptLine<'d>,
-    line: &Line<'d>,
+    input: &mut Input<'d>,
     output: &mut Output<'d>,
-) -> Result<(), AllocError> {
+) -> Result<(), AllocError>
+    requires stands { Stands output.old }
+    requires header { Kept (document_of output.old) content.now.prefixes.items (spot output.old.cursor) header.now }
+    requires input { Reads (document_of output.old) (next_of header.now.line) input.old }
+    ensures writes { OnOk result (Writes output.new) }
+    ensures at { OnOk result (HasLine output.new.cursor input.old.line) }
+    ensures ended { OnOk result (output.new.cursor.offset ≡ output.new.cursor.extent.end) }
+    ensures line { OnOk result (input.new.line ≡ input.old.line) }
+    ensures taken { OnOk result (input.new.prefix.items ≡ []) }
+{
     content.begin(header, output)?;
     output.enter(Name::GfmTable)?;
     output.enter(Name::GfmTableHead)?;
     gfm_table_row::write(output)?;
     output.end_line()?;
-    output.begin(line)?;
+    output.begin(input)?;
     write_delimiter_row(output)?;
     output.exit(Name::GfmTableHead)
 }
 
 /// Writes the delimiter row.
-fn write_delimiter_row(output: &mut Output<'_>) -> Result<(), AllocError> {
+fn write_delimiter_row(output: &mut Output<'_>) -> Result<(), AllocError>
+    requires { Writes output.old }
+    ensures { OnOk result (WritesOut output.old output.new) }
+{
     output.enter(Name::GfmTableDelimiterRow)?;
-    let mut rest = after_spaces(output.rest());
-    'cells: while !rest.is_empty() {
-        let cell = Cell::first(rest);
+    let mut cell = Cell::first(after_spaces(output.rest()));
+    write_delimiter(&cell, output)?;
+    'cells: while !cell.next.is_empty() {
+        cell = Cell::first(cell.next);
         write_delimiter(&cell, output)?;
-        rest = cell.next;
     }
     output.exit(Name::GfmTableDelimiterRow)
 }
 
 /// Writes a cell of the delimiter row.
-fn write_delimiter(cell: &Cell<'_>, output: &mut Output<'_>) -> Result<(), AllocError> {
+fn write_delimiter(cell: &Cell<'_>, output: &mut Output<'_>) -> Result<(), AllocError>
+    requires { Writes output.old }
+    ensures written { OnOk result (WritesOn output.old output.new) }
+    ensures ended { cell.now.next.now ≡ [] → OnOk result (output.new.cursor.offset ≡ output.new.cursor.extent.end) }
+{
     output.enter(Name::GfmTableDelimiterCell)?;
     cell.write_before(output)?;
     output.enter(Name::GfmTableDelimiterCellValue)?;
@@ -92,13 +113,19 @@ fn write_delimiter(cell: &Cell<'_>, output: &mut Output<'_>) -> Result<(), Alloc
 }
 
 /// Writes the run of a byte that is next in the line, unless there is none.
-fn write_run(name: Name, of: u8, output: &mut Output<'_>) -> Result<(), AllocError> {
+fn write_run(name: Name, of: u8, output: &mut Output<'_>) -> Result<(), AllocError>
+    requires { Writes output.old }
+    ensures { OnOk result (WritesOn output.old output.new) }
+{
     let size = run_length(output.rest(), of);
     output.token(name, size)
 }
 
 /// Writes a row of the body, which is the first one or not.
-pub fn write_row(has_body: bool, output: &mut Output<'_>) -> Result<(), AllocError> {
+pub fn write_row(has_body: bool, output: &mut Output<'_>) -> Result<(), AllocError>
+    requires { Writes output.old }
+    ensures { OnOk result (WritesOut output.old output.new) }
+{
     if !has_body {
         output.enter(Name::GfmTableBody)?;
     }
@@ -106,9 +133,13 @@ pub fn write_row(has_body: bool, output: &mut Output<'_>) -> Result<(), AllocErr
 }
 
 /// Writes that a table ends.
-pub fn end(has_body: bool, output: &mut Output<'_>) -> Result<(), AllocError> {
+pub fn end(has_body: bool, output: &mut Output<'_>) -> Result<(), AllocError>
+    requires { Stands output.old }
+    ensures stands { OnOk result (Stands output.new) }
+    ensures cursor { output.new.cursor ≡ output.old.cursor }
+{
     if has_body {
-        output.exit(Name::GfmTableBody)?;
+        output.exit_before_held(Name::GfmTableBody)?;
     }
-    output.exit(Name::GfmTable)
+    output.exit_before_held(Name::GfmTable)
 }

@@ -1,6 +1,7 @@
 //! Rows of tables: how they are parted into cells (GFM).
 
-ghost use Rattle.std.specs.Prelude.{◌≡◌, ◌≤◌, ◌<◌, length};
+ghost use Rattle.std.specs.Prelude.{[], OnOk, length, ◌≡◌, ◌≤◌, ◌<◌};
+ghost use Rattle.markdown_flow.specs.Outputs.{Writes, WritesOn, WritesOut};
 
 use crate::output::Output;
 use crate::space_or_tab::{after_spaces, is_blank, trimmed_size};
@@ -38,14 +39,21 @@ impl<'d> Cell<'d> {
     }
 
     /// Writes what comes before its text: a divider, and white space around that.
-    pub fn write_before(&self, output: &mut Output<'_>) -> Result<(), AllocError> {
+    pub fn write_before(&self, output: &mut Output<'_>) -> Result<(), AllocError>
+        requires { Writes output.old }
+        ensures { OnOk result (WritesOn output.old output.new) }
+    {
         output.white_space()?;
         output.token(Name::GfmTableCellDivider, self.divider_size)?;
         output.white_space()
     }
 
     /// Writes what comes after its text: white space, and what the row ends with after its last cell.
-    pub fn write_after(&self, output: &mut Output<'_>) -> Result<(), AllocError> {
+    pub fn write_after(&self, output: &mut Output<'_>) -> Result<(), AllocError>
+        requires { Writes output.old }
+        ensures written { OnOk result (WritesOn output.old output.new) }
+        ensures ended { self.now.next.now ≡ [] → OnOk result (output.new.cursor.offset ≡ output.new.cursor.extent.end) }
+    {
         output.white_space()?;
         if !self.next.is_empty() {
             return Ok(());
@@ -93,19 +101,26 @@ pub fn count(row: &[u8]) -> usize {
 }
 
 /// Writes the row that a line is, with the white space before it.
-pub fn write(output: &mut Output<'_>) -> Result<(), AllocError> {
+pub fn write(output: &mut Output<'_>) -> Result<(), AllocError>
+    requires { Writes output.old }
+    ensures { OnOk result (WritesOut output.old output.new) }
+{
     output.enter(Name::GfmTableRow)?;
-    let mut rest = after_spaces(output.rest());
-    'cells: while !rest.is_empty() {
-        let cell = Cell::first(rest);
+    let mut cell = Cell::first(after_spaces(output.rest()));
+    write_cell(&cell, output)?;
+    'cells: while !cell.next.is_empty() {
+        cell = Cell::first(cell.next);
         write_cell(&cell, output)?;
-        rest = cell.next;
     }
     output.exit(Name::GfmTableRow)
 }
 
 /// Writes a cell.
-fn write_cell(cell: &Cell<'_>, output: &mut Output<'_>) -> Result<(), AllocError> {
+fn write_cell(cell: &Cell<'_>, output: &mut Output<'_>) -> Result<(), AllocError>
+    requires { Writes output.old }
+    ensures written { OnOk result (WritesOn output.old output.new) }
+    ensures ended { cell.now.next.now ≡ [] → OnOk result (output.new.cursor.offset ≡ output.new.cursor.extent.end) }
+{
     output.enter(Name::GfmTableCell)?;
     cell.write_before(output)?;
     output.string(Name::GfmTableCellText, cell.text.len())?;

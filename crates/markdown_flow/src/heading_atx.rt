@@ -1,6 +1,7 @@
 //! Headings with number signs (CommonMark).
 
-ghost use Rattle.std.specs.Prelude.{◌≤◌, length};
+ghost use Rattle.std.specs.Prelude.{OnOk, length, ◌≤◌};
+ghost use Rattle.markdown_flow.specs.Outputs.{Writes, WritesOut};
 
 use crate::line::Line;
 use crate::output::Output;
@@ -24,7 +25,10 @@ pub fn begins(line: &Line<'_>) -> Option<usize> {
 }
 
 /// Writes the heading in a line, which begins with so many signs.
-pub fn write(size: usize, output: &mut Output<'_>) -> Result<(), AllocError> {
+pub fn write(size: usize, output: &mut Output<'_>) -> Result<(), AllocError>
+    requires { Writes output.old }
+    ensures { OnOk result (WritesOut output.old output.new) }
+{
     output.enter(Name::HeadingAtx)?;
     output.white_space()?;
     output.token(Name::HeadingAtxSequence, size)?;

@@ -1,6 +1,11 @@
 //! Headings with an underline (CommonMark).
 
+ghost use Rattle.std.specs.Prelude.{[], OnOk, ◌≡◌};
+ghost use Rattle.markdown_flow.specs.Outputs.{HasLine, Stands, Writes, WritesOut, Reads, document_of, next_of, spot};
+ghost use Rattle.markdown_flow.specs.Contents.{Kept, AreKept, after_lines};
+
 use crate::content::{Content, KeptLine};
+use crate::input::Input;
 use crate::line::Line;
 use crate::output::Output;
 use crate::space_or_tab::is_blank;
@@ -27,23 +32,35 @@ pub fn underline(line: &Line<'_>) -> Option<usize> {
 /// Writes a heading of lines of a content, with an underline of so many signs.
 pub fn write<'d>(
     content: &Content<'d>,
-    lines: &[KeptLine<'d>],
+    first: &KeptLine<'d>,
+    later: &[KeptLine<'d>],
     size: usize,
-    line: &Line<'d>,
+    input: &mut Input<'d>,
     output: &mut Output<'d>,
-) -> Result<(), AllocError> {
-    if let [first, ..] = lines {
-        content.begin(first, output)?;
-    }
+) -> Result<(), AllocError>
+    requires stands { Stands output.old }
+    requires first { Kept (document_of output.old) content.now.prefixes.items (spot output.old.cursor) first.now }
+    requires later { AreKept (document_of output.old) content.now.prefixes.items (next_of first.now.line) later.now }
+    requires input { Reads (document_of output.old) (after_lines (next_of first.now.line) later.now) input.old }
+    ensures writes { OnOk result (Writes output.new) }
+    ensures at { OnOk result (HasLine output.new.cursor input.old.line) }
+    ensures ended { OnOk result (output.new.cursor.offset ≡ output.new.cursor.extent.end) }
+    ensures line { OnOk result (input.new.line ≡ input.old.line) }
+    ensures taken { OnOk result (input.new.prefix.items ≡ []) }
+{
+    content.begin(first, output)?;
     output.enter(Name::HeadingSetext)?;
-    content.write_text(Name::HeadingSetextText, lines, output)?;
-    output.begin(line)?;
+    content.write_text(Name::HeadingSetextText, later, output)?;
+    output.begin(input)?;
     write_underline(size, output)?;
     output.exit(Name::HeadingSetext)
 }
 
 /// Writes an underline of so many signs.
-fn write_underline(size: usize, output: &mut Output<'_>) -> Result<(), AllocError> {
+fn write_underline(size: usize, output: &mut Output<'_>) -> Result<(), AllocError>
+    requires { Writes output.old }
+    ensures { OnOk result (WritesOut output.old output.new) }
+{
     output.enter(Name::HeadingSetextUnderline)?;
     output.white_space()?;
     output.token(Name::HeadingSetextUnderlineSequence, size)?;

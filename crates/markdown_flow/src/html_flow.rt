@@ -1,5 +1,8 @@
 //! Blocks of HTML (CommonMark).
 
+ghost use Rattle.std.specs.Prelude.{OnOk};
+ghost use Rattle.markdown_flow.specs.Outputs.{Writes, WritesOut};
+
 use crate::html_names::{is_basic, is_raw};
 use crate::line::Line;
 use crate::output::Output;
@@ -66,7 +69,10 @@ impl Html {
     }
 
     /// Writes its first line, and says whether it ends there.
-    pub fn open(self, output: &mut Output<'_>) -> Result<bool, AllocError> {
+    pub fn open(self, output: &mut Output<'_>) -> Result<bool, AllocError>
+        requires { Writes output.old }
+        ensures { OnOk result (WritesOut output.old output.new) }
+    {
         output.enter(Name::HtmlFlow)?;
         let indent = count_while(output.rest(), is_space_or_tab);
         output.token(Name::HtmlFlowData, indent)?;
@@ -74,7 +80,10 @@ impl Html {
     }
 
     /// Writes a line of it, and says whether it ends there.
-    pub fn write_line(self, output: &mut Output<'_>) -> Result<bool, AllocError> {
+    pub fn write_line(self, output: &mut Output<'_>) -> Result<bool, AllocError>
+        requires { Writes output.old }
+        ensures { OnOk result (WritesOut output.old output.new) }
+    {
         let ends = self.ends_in(output.rest());
         output.token_of_rest(Name::HtmlFlowData)?;
         if ends {

@@ -24,6 +24,7 @@ mod heading_atx;
 mod heading_setext;
 mod html_flow;
 mod html_names;
+mod input;
 mod leaf;
 mod line;
 mod list_item;

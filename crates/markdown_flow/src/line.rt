@@ -83,12 +83,13 @@ pub struct Line<'d> {
 impl<'d> Line<'d> {
     ghost use Rattle.markdown_flow.specs.Moves.{HasMoved};
 
-    /// The line that begins at an offset, or `None` at the end of the document. So many columns come before
-    /// it.
-    pub fn new(source: Source<'d>, start: usize, columns: usize) -> Option<Line<'d>>
-        requires { HasColumns source.document.now start 0 columns }
+    /// The line that begins at an offset, or `None` at the end of the document.
+    pub fn new(source: Source<'d>, start: usize) -> Option<Line<'d>>
+        requires { HasColumns source.document.now start 0 0 }
         ensures same { IfSome result (λ line. line.source ≡ source.entry) }
         ensures start { IfSome result (λ line. line.start ≡ start) }
+        ensures offset { IfSome result (λ line. line.end - length line.rest.now ≡ start) }
+        ensures whole { IfSome result (λ line. line.virtual_spaces ≡ 0) }
         ensures none { IfNone result (length source.entry.document.now ≤ start) }
     {
         let document = source.document;
@@ -102,9 +103,9 @@ impl<'d> Line<'d> {
             start,
             rest: bytes,
             text: after_spaces(bytes),
-            columns,
+            columns: 0,
             virtual_spaces: 0,
-            indent: indent_of(bytes, columns),
+            indent: indent_of(bytes, 0),
             tail: thematic_break::tail_size(bytes),
             end: document.len() - ending.len(),
             next: document.len() - after_line_ending(ending).len(),
@@ -115,12 +116,14 @@ impl<'d> Line<'d> {
     pub fn following(&self) -> Option<Line<'d>>
         ensures same { IfSome result (λ line. line.source ≡ self.now.source) }
         ensures start { IfSome result (λ line. line.start ≡ self.now.next) }
+        ensures offset { IfSome result (λ line. line.end - length line.rest.now ≡ self.now.next) }
+        ensures whole { IfSome result (λ line. line.virtual_spaces ≡ 0) }
         ensures none { IfNone result (self.now.next ≡ length self.now.source.document.now) }
     {
         if !self.has_ending() {
             return None;
         }
-        Line::new(self.source, self.next, 0)
+        Line::new(self.source, self.next)
     }
 
     /// Which constructs there are.

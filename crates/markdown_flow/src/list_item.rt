@@ -1,8 +1,12 @@
 //! Items, and the lists that they make (CommonMark).
 
-ghost use Rattle.std.specs.Prelude.{◌≤◌, length, IfSome};
+ghost use Rattle.std.specs.Prelude.{List, ℕ, OnOk};
+ghost use Rattle.markdown_flow.specs.Outputs.{IsAt, Writes, Reads};
+ghost use Rattle.markdown_flow.specs.Moves.{HasMoved};
+ghost use Rattle.markdown_pieces.specs.Tilings.{Spot};
 
 use crate::container::Container;
+use crate::input::Input;
 use crate::line::{Line, TAB_SIZE};
 use crate::output::Output;
 use crate::space_or_tab::{is_at_space_or_end, is_blank};
@@ -87,20 +91,19 @@ fn is_one(digits: &[u8]) -> bool {
 
 impl Item {
     /// Whether it goes on in a line. If it does, its indentation is read.
-    pub fn continues<'d>(
-        &mut self,
-        line: &mut Line<'d>,
-        output: &mut Output<'d>,
-    ) -> Result<bool, AllocError> {
-        if line.is_blank() && self.progress != Progress::Filled {
+    pub fn continues(&mut self, input: &mut Input<'_>) -> Result<bool, AllocError>
+        ensures reads { (bytes : List ℕ) → (from : Spot) → Reads bytes from input.old → OnOk result (Reads bytes from input.new) }
+        ensures moved { OnOk result (HasMoved input.old.line input.new.line) }
+    {
+        if input.line.is_blank() && self.progress != Progress::Filled {
             self.progress = Progress::Ended;
         }
-        let is_indented = line.is_blank() || line.indent() >= self.size;
+        let is_indented = input.line.is_blank() || input.line.indent() >= self.size;
         if self.is_ended() || !is_indented {
             return Ok(false);
         }
         self.progress = Progress::Filled;
-        output.prefix_columns(line, self.size)?;
+        input.columns(self.size)?;
         Ok(true)
     }
 
@@ -115,7 +118,13 @@ pub fn open<'d>(
     start: ItemStart,
     line: &mut Line<'d>,
     output: &mut Output<'d>,
-) -> Result<Container, AllocError> {
+) -> Result<Container, AllocError>
+    requires writes { Writes output.old }
+    requires at { IsAt output.old.cursor line.old }
+    ensures writes { OnOk result (Writes output.new) }
+    ensures at { OnOk result (IsAt output.new.cursor line.new) }
+    ensures moved { HasMoved line.old line.new }
+{
     let before = line.columns();
     output.enter(Name::ListItem)?;
     output.columns(line, line.indent())?;
@@ -148,9 +157,16 @@ fn write_marker<'d>(
     start: ItemStart,
     line: &mut Line<'d>,
     output: &mut Output<'d>,
-) -> Result<(), AllocError> {
-    output.token(Name::ListItemValue, start.digits)?;
-    line.skip(start.digits.saturating_add(1));
+) -> Result<(), AllocError>
+    requires writes { Writes output.old }
+    requires at { IsAt output.old.cursor line.old }
+    ensures writes { OnOk result (Writes output.new) }
+    ensures at { OnOk result (IsAt output.new.cursor line.new) }
+    ensures moved { HasMoved line.old line.new }
+{
+    line.skip(start.digits);
+    output.token_to(Name::ListItemValue, line)?;
+    line.skip(1);
     output.token_to(Name::ListItemMarker, line)
 }
 

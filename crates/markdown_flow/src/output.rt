@@ -1,9 +1,14 @@
 //! The pieces that were made so far, those that wait, and the line that is written.
 
-ghost use Rattle.std.specs.Prelude.{◌≡◌, ◌≤◌, ◌-◌, length};
+ghost use Rattle.std.specs.Prelude.{[], OnOk, IfOk, length, min, ◌≡◌, ◌≤◌, ◌+◌, ◌-◌, slice_range};
+ghost use Rattle.markdown_flow.specs.Outputs.{IsAt, IsLater, IsPlaceIn, Stands, Writes, Reads, document_of, line_after, next_of, spot, spot_in};
+ghost use Rattle.markdown_flow.specs.Moves.{HasMoved};
+ghost use Rattle.markdown_flow.specs.Lines.{after_spaces};
+ghost use Rattle.markdown_pieces.specs.Tilings.{Goes, IsEnding, IsToken, Tiles, end_from, end_of, origin};
 
+use crate::input::Input;
 use crate::line::Line;
-use commonmark_syntax::bytes::{after, count_while, is_space_or_tab};
+use crate::space_or_tab::after_spaces;
 use markdown_events::event::Name;
 use markdown_pieces::identifiers::Identifiers;
 use markdown_pieces::piece::{Piece, PieceKind};
@@ -18,46 +23,97 @@ struct HeldBlank {
     depth: usize,
 }
 
-/// What is left of the line that is written.
+/// Where a line that is written ends.
 #[derive(Clone, Copy)]
-struct Cursor<'d> {
-    /// The bytes that are left, without the line ending.
-    rest: &'d [u8],
-    /// How many columns of a tab come before them, where they begin within the tab, and else 0.
-    virtual_spaces: usize,
+struct Extent<'d> {
+    /// The document.
+    document: &'d [u8],
     /// The offset at which the line ends, without its line ending.
     end: usize,
     /// The offset at which the next line begins.
     next: usize,
-    ghost fits: { length rest.now ≤ end },
+}
+
+/// A place in a line that is written.
+#[derive(Clone, Copy)]
+struct Cursor<'d> {
+    /// The line.
+    extent: Extent<'d>,
+    /// The offset.
+    offset: usize,
+    /// How many columns of a tab come before it, where it is within the tab, and else 0.
+    virtual_spaces: usize,
 }
 
 impl<'d> Cursor<'d> {
-    /// What comes after the cursor of a line.
-    fn of(line: &Line<'d>) -> Cursor<'d> {
-        Cursor {
-            rest: line.rest(),
-            virtual_spaces: line.virtual_spaces(),
-            end: line.end(),
-            next: line.next(),
-        }
-    }
-
-    /// What is left after so many bytes of it.
-    fn after(self, size: usize) -> Cursor<'d>
-        ensures { length result.rest.now ≡ length self.entry.rest.now - size }
+    /// The start of a document, before any line is written.
+    fn start_of(document: &'d [u8]) -> Cursor<'d>
+        ensures document { result.extent.document.now ≡ document.now }
+        ensures spot { spot result ≡ origin }
     {
         Cursor {
-            rest: after(self.rest, size),
+            extent: Extent {
+                document,
+                end: 0,
+                next: 0,
+            },
+            offset: 0,
             virtual_spaces: 0,
-            end: self.end,
-            next: self.next,
         }
     }
 
-    /// The offset at which it begins.
-    fn offset(self) -> usize {
-        self.end - self.rest.len()
+    /// The cursor of a line.
+    fn of(line: &Line<'d>) -> Cursor<'d>
+        ensures { IsAt result line.now }
+    {
+        Cursor {
+            extent: Extent {
+                document: line.document(),
+                end: line.end(),
+                next: line.next(),
+            },
+            offset: line.offset(),
+            virtual_spaces: line.virtual_spaces(),
+        }
+    }
+
+    /// What is left of the line, without its ending.
+    fn rest(self) -> &'d [u8]
+        requires { IsPlaceIn self }
+        ensures length { length result.now ≡ self.entry.extent.end - self.entry.offset }
+        ensures bytes { result.now ≡ slice_range self.entry.extent.document.now self.entry.offset self.entry.extent.end }
+    {
+        &self.extent.document[self.offset..self.extent.end]
+    }
+
+    /// The place so many bytes later, or the end of the line if there are not so many.
+    fn after(self, size: usize) -> Cursor<'d>
+        requires { self.offset ≤ self.extent.end }
+        ensures extent { result.extent ≡ self.entry.extent }
+        ensures offset { result.offset ≡ self.entry.offset + min size (self.entry.extent.end - self.entry.offset) }
+        ensures whole { result.virtual_spaces ≡ 0 }
+    {
+        Cursor {
+            extent: self.extent,
+            offset: self.offset + size.min(self.extent.end - self.offset),
+            virtual_spaces: 0,
+        }
+    }
+
+    /// The start of the next line.
+    fn next_line(self) -> Cursor<'d>
+        ensures document { result.extent.document.now ≡ self.entry.extent.document.now }
+        ensures spot { spot result ≡ line_after self.entry }
+    {
+        Cursor {
+            extent: Extent {
+                document: self.extent.document,
+                end: self.extent.next,
+                next: self.extent.next,
+            },
+            offset: self.extent.next,
+            virtual_spaces: 0,
+        }
     }
 }
 
@@ -83,16 +139,16 @@ pub struct Output<'d> {
     held_start: usize,
     /// The blank lines that are held. Their depth never grows from one to the next.
     blanks: Vec<HeldBlank>,
-    /// What the open containers took of the line that is being read.
-    prefix: Vec<Piece>,
-    /// How many containers there are up to the last one that has a marker in this line.
-    depth: usize,
-    /// What is left of the line that is written.
+    /// Where the pieces end.
     cursor: Cursor<'d>,
 }
 
 /// A piece that ends at the cursor of a line.
-pub fn piece_to(kind: PieceKind, line: &Line<'_>) -> Piece {
+pub fn piece_to(kind: PieceKind, line: &Line<'_>) -> Piece
+    ensures kind { result.kind ≡ kind }
+    ensures end { result.end ≡ line.now.end - length line.now.rest.now }
+    ensures virtual_spaces { result.virtual_spaces ≡ line.now.virtual_spaces }
+{
     Piece {
         kind,
         end: line.offset(),
@@ -101,8 +157,12 @@ pub fn piece_to(kind: PieceKind, line: &Line<'_>) -> Piece {
 }
 
 impl<'d> Output<'d> {
-    /// No pieces.
-    pub fn new(alloc: Global) -> Output<'d> {
+    /// No pieces of a document.
+    pub fn new(alloc: Global, document: &'d [u8]) -> Output<'d>
+        ensures stands { Stands result }
+        ensures document { document_of result ≡ document.now }
+        ensures spot { spot result.cursor ≡ origin }
+    {
         Output {
             alloc,
             identifiers: Identifiers::new(alloc),
@@ -110,64 +170,36 @@ impl<'d> Output<'d> {
             held: Vec::new(alloc),
             held_start: 0,
             blanks: Vec::new(alloc),
-            prefix: Vec::new(alloc),
-            depth: 0,
-            cursor: Cursor {
-                rest: &[],
-                virtual_spaces: 0,
-                end: 0,
-                next: 0,
-            },
+            cursor: Cursor::start_of(document),
         }
     }
 
     /// Adds a definition by its label.
-    pub fn define(&mut self, label: &[u8]) -> Result<(), AllocError> {
+    pub fn define(&mut self, label: &[u8]) -> Result<(), AllocError>
+        ensures stands { Stands self.old → Stands self.new }
+        ensures writes { Writes self.old → Writes self.new }
+        ensures cursor { self.new.cursor ≡ self.old.cursor }
+    {
         self.identifiers.define(self.alloc, label)
     }
 
     /// Adds a footnote definition by its label.
-    pub fn define_footnote(&mut self, label: &[u8]) -> Result<(), AllocError> {
+    pub fn define_footnote(&mut self, label: &[u8]) -> Result<(), AllocError>
+        ensures stands { Stands self.old → Stands self.new }
+        ensures writes { Writes self.old → Writes self.new }
+        ensures cursor { self.new.cursor ≡ self.old.cursor }
+    {
         self.identifiers.define_footnote(self.alloc, label)
     }
 
-    /// How many containers there are up to the last one that has a marker in this line.
-    pub fn depth(&self) -> usize {
-        self.depth
-    }
-
-    /// Sets how many containers there are up to the last one that has a marker in this line.
-    pub fn set_depth(&mut self, depth: usize) {
-        self.depth = depth;
-    }
-
-    /// Adds a piece up to the cursor to the prefix of this line.
-    pub fn prefix(&mut self, kind: PieceKind, line: &Line<'d>) -> Result<(), AllocError> {
-        self.prefix.push(piece_to(kind, line))?;
-        Ok(())
-    }
-
-    /// Moves the cursor over up to so many columns of white space, which go to the prefix of this line.
-    pub fn prefix_columns(
-        &mut self,
-        line: &mut Line<'d>,
-        columns: usize,
-    ) -> Result<(), AllocError> {
-        let before = line.columns();
-        line.skip_columns(columns);
-        if line.columns() == before {
-            return Ok(());
-        }
-        self.prefix(PieceKind::Token(Name::SpaceOrTab), line)
-    }
-
-    /// Takes the prefix of this line away.
-    pub fn take_prefix(&mut self, into: &mut Vec<Piece>) -> Result<(), AllocError> {
-        into.append(&mut self.prefix)
-    }
-
-    /// Settles what is held, but for the prefix of this line.
-    pub fn settle_held(&mut self) -> Result<(), AllocError> {
+    /// Settles what is held.
+    pub fn settle(&mut self) -> Result<(), AllocError>
+        requires { Stands self.old }
+        ensures tiles { OnOk result (Tiles (document_of self.old) origin self.new.pieces.items (spot self.old.cursor)) }
+        ensures none_held { OnOk result (self.new.held.items ≡ []) }
+        ensures from_start { OnOk result (self.new.held_start ≡ 0) }
+        ensures cursor { OnOk result (self.new.cursor ≡ self.old.cursor) }
+    {
         let length = self.held.len();
         self.settle_to(length)?;
         self.held.clear();
@@ -177,7 +209,13 @@ impl<'d> Output<'d> {
     }
 
     /// Settles the first pieces that are held, up to a number of them.
-    fn settle_to(&mut self, number: usize) -> Result<(), AllocError> {
+    fn settle_to(&mut self, number: usize) -> Result<(), AllocError>
+        requires { Stands self.old }
+        ensures stands { OnOk result (Stands self.new) }
+        ensures held { self.new.held ≡ self.old.held }
+        ensures cursor { self.new.cursor ≡ self.old.cursor }
+        ensures number { self.old.held_start ≤ number → number ≤ length self.old.held.items → OnOk result (self.new.held_start ≡ number) }
+    {
         if let Some(held) = self.held.as_slice().get(self.held_start..number) {
             self.pieces.extend_from_slice(held)?;
             self.held_start = number;
@@ -185,59 +223,140 @@ impl<'d> Output<'d> {
         Ok(())
     }
 
-    /// Settles what is held, and the prefix of this line. What comes after that is written next.
-    pub fn begin(&mut self, line: &Line<'d>) -> Result<(), AllocError> {
-        self.settle_held()?;
-        self.cursor = Cursor::of(line);
-        self.pieces.append(&mut self.prefix)
-    }
-
-    /// Settles what is held, and the prefix of a line that was kept. What comes after that is written next.
-    pub fn begin_kept(&mut self, prefix: &[Piece], line: &Line<'d>) -> Result<(), AllocError> {
-        self.settle_held()?;
-        self.cursor = Cursor::of(line);
-        self.pieces.extend_from_slice(prefix)
-    }
-
-    /// Holds a piece.
-    pub fn hold(&mut self, piece: Piece) -> Result<(), AllocError> {
-        self.held.push(piece)?;
+    /// Settles what is held, and the prefix of the line that is read. What comes after that is written next.
+    pub fn begin(&mut self, input: &mut Input<'d>) -> Result<(), AllocError>
+        requires stands { Stands self.old }
+        requires reads { Reads (document_of self.old) (spot self.old.cursor) input.old }
+        ensures writes { OnOk result (Writes self.new) }
+        ensures at { OnOk result (IsAt self.new.cursor input.old.line) }
+        ensures line { OnOk result (input.new.line ≡ input.old.line) }
+        ensures taken { OnOk result (input.new.prefix.items ≡ []) }
+    {
+        self.settle()?;
+        self.cursor = Cursor::of(&input.line);
+        input.take_prefix(&mut self.pieces)?;
         Ok(())
     }
 
-    /// Holds pieces.
-    pub fn hold_all(&mut self, pieces: &[Piece]) -> Result<(), AllocError> {
-        self.held.extend_from_slice(pieces)
-    }
-
-    /// Holds the prefix of this line.
-    pub fn hold_prefix(&mut self) -> Result<(), AllocError> {
-        self.held.append(&mut self.prefix)
+    /// Settles what is held, and the prefix of a line that was kept. What comes after that is written next.
+    pub fn begin_kept(&mut self, prefix: &[Piece], line: &Line<'d>) -> Result<(), AllocError>
+        requires stands { Stands self.old }
+        requires document { line.now.source.document.now ≡ document_of self.old }
+        requires prefix { Tiles (document_of self.old) (spot self.old.cursor) prefix.now (spot_in line.now) }
+        ensures writes { OnOk result (Writes self.new) }
+        ensures at { OnOk result (IsAt self.new.cursor line.now) }
+    {
+        self.settle()?;
+        self.cursor = Cursor::of(line);
+        self.pieces.extend_from_slice(prefix)?;
+        Ok(())
     }
 
     /// Ends the line that is written, which is not blank: holds its ending, if it has one.
-    pub fn end_line(&mut self) -> Result<(), AllocError> {
-        let Cursor { end, next, .. } = self.cursor;
-        if end == next {
-            return Ok(());
-        }
-        self.hold(Piece::new(PieceKind::LineEnding, next))
+    pub fn end_line(&mut self) -> Result<(), AllocError>
+        requires writes { Writes self.old }
+        requires ended { self.old.cursor.offset ≡ self.old.cursor.extent.end }
+        ensures stands { OnOk result (Stands self.new) }
+        ensures document { OnOk result (document_of self.new ≡ document_of self.old) }
+        ensures spot { OnOk result (spot self.new.cursor ≡ line_after self.old.cursor) }
+    {
+        self.hold_ending(PieceKind::LineEnding)
     }
 
-    /// Holds the ending of a blank line, if it has one. The line is blank only inside so many containers.
-    pub fn hold_blank_ending(&mut self, line: &Line<'d>, depth: usize) -> Result<(), AllocError> {
-        let index = self.held.len();
-        self.blanks.push(HeldBlank { index, depth })?;
-        if !line.has_ending() {
+    /// Holds the ending of the line at whose end the cursor is, if it has one.
+    fn hold_ending(&mut self, kind: PieceKind) -> Result<(), AllocError>
+        requires stands { Stands self.old }
+        requires place { IsPlaceIn self.old.cursor }
+        requires ended { self.old.cursor.offset ≡ self.old.cursor.extent.end }
+        requires kind { IsEnding kind }
+        ensures stands { OnOk result (Stands self.new) }
+        ensures document { OnOk result (document_of self.new ≡ document_of self.old) }
+        ensures spot { OnOk result (spot self.new.cursor ≡ line_after self.old.cursor) }
+    {
+        let next = self.cursor.next_line();
+        if self.cursor.offset == next.offset {
             return Ok(());
         }
-        self.hold(Piece::new(PieceKind::BlankLineEnding, line.next()))
+        self.held.push(Piece::new(kind, next.offset))?;
+        self.cursor = next;
+        Ok(())
+    }
+
+    /// Holds the blank line that is read.
+    pub fn hold_blank(&mut self, input: &mut Input<'d>) -> Result<(), AllocError>
+        requires stands { Stands self.old }
+        requires reads { Reads (document_of self.old) (spot self.old.cursor) input.old }
+        ensures stands { OnOk result (Stands self.new) }
+        ensures document { OnOk result (document_of self.new ≡ document_of self.old) }
+        ensures spot { OnOk result (spot self.new.cursor ≡ next_of input.old.line) }
+        ensures line { input.new.line ≡ input.old.line }
+        ensures taken { OnOk result (input.new.prefix.items ≡ []) }
+    {
+        input.take_prefix(&mut self.held)?;
+        self.cursor = Cursor::of(&input.line);
+        self.hold_blank_rest(input.depth)
+    }
+
+    /// Holds a blank line that was kept, with its prefix. It is blank only inside so many containers.
+    pub fn hold_kept_blank(
+        &mut self,
+        prefix: &[Piece],
+        line: &Line<'d>,
+        depth: usize,
+    ) -> Result<(), AllocError>
+        requires stands { Stands self.old }
+        requires document { line.now.source.document.now ≡ document_of self.old }
+        requires prefix { Tiles (document_of self.old) (spot self.old.cursor) prefix.now (spot_in line.now) }
+        ensures stands { OnOk result (Stands self.new) }
+        ensures document { OnOk result (document_of self.new ≡ document_of self.old) }
+        ensures spot { OnOk result (spot self.new.cursor ≡ next_of line.now) }
+    {
+        self.held.extend_from_slice(prefix)?;
+        self.cursor = Cursor::of(line);
+        self.hold_blank_rest(depth)
+    }
+
+    /// Holds what is left of a blank line. The line is blank only inside so many containers.
+    fn hold_blank_rest(&mut self, depth: usize) -> Result<(), AllocError>
+        requires stands { Stands self.old }
+        requires place { IsPlaceIn self.old.cursor }
+        ensures stands { OnOk result (Stands self.new) }
+        ensures document { OnOk result (document_of self.new ≡ document_of self.old) }
+        ensures spot { OnOk result (spot self.new.cursor ≡ line_after self.old.cursor) }
+    {
+        self.hold_white_space()?;
+        let index = self.held.len();
+        self.blanks.push(HeldBlank { index, depth })?;
+        self.hold_ending(PieceKind::BlankLineEnding)
+    }
+
+    /// Holds what is left of a line as white space, unless nothing is.
+    fn hold_white_space(&mut self) -> Result<(), AllocError>
+        requires stands { Stands self.old }
+        requires place { IsPlaceIn self.old.cursor }
+        ensures stands { OnOk result (Stands self.new) }
+        ensures place { OnOk result (IsPlaceIn self.new.cursor) }
+        ensures extent { OnOk result (self.new.cursor.extent ≡ self.old.cursor.extent) }
+        ensures ended { OnOk result (self.new.cursor.offset ≡ self.new.cursor.extent.end) }
+    {
+        let end = self.cursor.after(self.cursor.extent.end);
+        if end.offset == self.cursor.offset {
+            return Ok(());
+        }
+        let space = Piece::new(PieceKind::Token(Name::SpaceOrTab), end.offset);
+        self.held.push(space)?;
+        self.cursor = end;
+        Ok(())
     }
 
     /// Ends a container inside so many others: before the ending of the first of the blank lines that are
     /// held and are blank outside the container, too. Where there is none it ends before the line ending
     /// that is held last, which is then not that of a blank line (ours).
-    pub fn exit_container(&mut self, name: Name, outside: usize) -> Result<(), AllocError> {
+    pub fn exit_container(&mut self, name: Name, outside: usize) -> Result<(), AllocError>
+        requires { Stands self.old }
+        ensures stands { OnOk result (Stands self.new) }
+        ensures cursor { self.new.cursor ≡ self.old.cursor }
+    {
         let blank = self
             .blanks
             .iter()
@@ -251,7 +370,7 @@ impl<'d> Output<'d> {
         if blank.is_none() {
             self.make_filled(index);
         }
-        self.exit(name)
+        self.exit_before_held(name)
     }
 
     /// How many pieces are held before the line ending that comes last, if one does.
@@ -268,92 +387,153 @@ impl<'d> Output<'d> {
 
     /// Ends an item that began blank, and that a blank line came after. The line of its marker is the first
     /// of those that are held as blank, and is none outside the item.
-    pub fn exit_blank_item(&mut self) -> Result<(), AllocError> {
+    pub fn exit_blank_item(&mut self) -> Result<(), AllocError>
+        requires { Stands self.old }
+        ensures stands { OnOk result (Stands self.new) }
+        ensures cursor { self.new.cursor ≡ self.old.cursor }
+    {
         if let Some(first) = self.blanks.first().copied() {
             self.make_filled(first.index);
         }
-        self.exit(Name::ListItem)
+        self.exit_before_held(Name::ListItem)
     }
 
     /// Makes a line ending that is held one of a line that is not blank.
-    fn make_filled(&mut self, index: usize) {
+    fn make_filled(&mut self, index: usize)
+        requires { Stands self.old }
+        ensures stands { Stands self.new }
+        ensures cursor { self.new.cursor ≡ self.old.cursor }
+    {
         if let Some(piece) = self.held.get_mut(index) {
-            if piece.kind == PieceKind::BlankLineEnding {
+            if let PieceKind::BlankLineEnding = piece.kind {
                 piece.kind = PieceKind::LineEnding;
             }
         }
     }
 
-    /// Adds a settled piece.
-    pub fn push(&mut self, piece: Piece) -> Result<(), AllocError>
-        ensures { self.new.cursor ≡ self.old.cursor }
+    /// Adds a piece of the line that is written, which ends at a place.
+    fn push(&mut self, piece: Piece, cursor: Cursor<'d>) -> Result<(), AllocError>
+        requires writes { Writes self.old }
+        requires document { cursor.extent.document.now ≡ document_of self.old }
+        requires end { end_of piece ≡ spot cursor }
+        requires goes { Goes (document_of self.old) piece.kind (spot self.old.cursor) (spot cursor) }
+        requires place { IsPlaceIn cursor }
+        ensures writes { OnOk result (Writes self.new) }
+        ensures cursor { OnOk result (self.new.cursor ≡ cursor.entry) }
     {
         self.pieces.push(piece)?;
+        self.cursor = cursor;
         Ok(())
     }
 
     /// Begins a span after the settled pieces.
-    pub fn enter(&mut self, name: Name) -> Result<(), AllocError> {
-        self.at_end(PieceKind::Enter(name))
+    pub fn enter(&mut self, name: Name) -> Result<(), AllocError>
+        requires { Writes self.old }
+        ensures writes { OnOk result (Writes self.new) }
+        ensures cursor { self.new.cursor ≡ self.old.cursor }
+    {
+        let piece = self.at_end(PieceKind::Enter(name));
+        self.pieces.push(piece)?;
+        Ok(())
     }
 
-    /// Ends a span after the settled pieces.
-    pub fn exit(&mut self, name: Name) -> Result<(), AllocError> {
-        self.at_end(PieceKind::Exit(name))
+    /// Ends a span in the line that is written.
+    pub fn exit(&mut self, name: Name) -> Result<(), AllocError>
+        requires { Writes self.old }
+        ensures writes { OnOk result (Writes self.new) }
+        ensures cursor { self.new.cursor ≡ self.old.cursor }
+    {
+        self.exit_before_held(name)
     }
 
-    /// Adds a piece that has no length.
-    fn at_end(&mut self, kind: PieceKind) -> Result<(), AllocError> {
-        let piece = match self.pieces.last() {
+    /// Ends a span after the settled pieces, before those that are held.
+    pub fn exit_before_held(&mut self, name: Name) -> Result<(), AllocError>
+        requires { Stands self.old }
+        ensures stands { OnOk result (Stands self.new) }
+        ensures writes { Writes self.old → OnOk result (Writes self.new) }
+        ensures cursor { self.new.cursor ≡ self.old.cursor }
+    {
+        let piece = self.at_end(PieceKind::Exit(name));
+        self.pieces.push(piece)?;
+        Ok(())
+    }
+
+    /// A piece that has no length, after the settled pieces.
+    fn at_end(&self, kind: PieceKind) -> Piece
+        ensures kind { result.kind ≡ kind }
+        ensures end { end_of result ≡ end_from origin self.now.pieces.items }
+    {
+        match self.pieces.last() {
             Some(last) => Piece { kind, ..*last },
             None => Piece::new(kind, 0),
-        };
-        self.push(piece)
+        }
     }
 
     /// What is left of the line that is written, without its ending.
     pub fn rest(&self) -> &'d [u8]
-        ensures { result.now ≡ self.now.cursor.rest.now }
+        requires { Writes self.now }
+        ensures length { length result.now ≡ self.now.cursor.extent.end - self.now.cursor.offset }
+        ensures bytes { result.now ≡ slice_range (document_of self.now) self.now.cursor.offset self.now.cursor.extent.end }
     {
-        self.cursor.rest
+        self.cursor.rest()
     }
 
     /// Adds a piece of so many bytes of the line, unless it would be empty.
     pub fn part(&mut self, kind: PieceKind, size: usize) -> Result<(), AllocError>
-        ensures { length self.new.cursor.rest.now ≡ length self.old.cursor.rest.now - size }
+        requires writes { Writes self.old }
+        requires kind { IsToken kind }
+        ensures writes { OnOk result (Writes self.new) }
+        ensures extent { OnOk result (self.new.cursor.extent ≡ self.old.cursor.extent) }
+        ensures offset { OnOk result (self.new.cursor.offset ≡ self.old.cursor.offset + min size (self.old.cursor.extent.end - self.old.cursor.offset)) }
     {
-        if size == 0 || self.cursor.rest.is_empty() {
+        let cursor = self.cursor.after(size);
+        if cursor.offset == self.cursor.offset {
             return Ok(());
         }
-        self.cursor = self.cursor.after(size);
-        self.push(Piece::new(kind, self.cursor.offset()))
+        self.push(Piece::new(kind, cursor.offset), cursor)
     }
 
     /// Adds a span of so many bytes of the line with no span in it, unless it would be empty.
     pub fn token(&mut self, name: Name, size: usize) -> Result<(), AllocError>
-        ensures { length self.new.cursor.rest.now ≡ length self.old.cursor.rest.now - size }
+        requires writes { Writes self.old }
+        ensures writes { OnOk result (Writes self.new) }
+        ensures extent { OnOk result (self.new.cursor.extent ≡ self.old.cursor.extent) }
+        ensures offset { OnOk result (self.new.cursor.offset ≡ self.old.cursor.offset + min size (self.old.cursor.extent.end - self.old.cursor.offset)) }
     {
         self.part(PieceKind::Token(name), size)
     }
 
     /// Adds a span of the rest of the line with no span in it, unless it would be empty.
-    pub fn token_of_rest(&mut self, name: Name) -> Result<(), AllocError> {
-        self.token(name, self.cursor.rest.len())
+    pub fn token_of_rest(&mut self, name: Name) -> Result<(), AllocError>
+        requires writes { Writes self.old }
+        ensures writes { OnOk result (Writes self.new) }
+        ensures extent { OnOk result (self.new.cursor.extent ≡ self.old.cursor.extent) }
+        ensures ended { OnOk result (self.new.cursor.offset ≡ self.new.cursor.extent.end) }
+    {
+        self.token(name, self.cursor.extent.end)
     }
 
     /// Adds a span of the white space that is next in the line, unless there is none.
     pub fn white_space(&mut self) -> Result<(), AllocError>
-        ensures { length self.new.cursor.rest.now ≤ length self.old.cursor.rest.now }
+        requires writes { Writes self.old }
+        ensures writes { OnOk result (Writes self.new) }
+        ensures extent { OnOk result (self.new.cursor.extent ≡ self.old.cursor.extent) }
+        ensures order { OnOk result (self.old.cursor.offset ≤ self.new.cursor.offset) }
+        ensures text { OnOk result (self.new.cursor.extent.end - self.new.cursor.offset ≡ length (after_spaces (slice_range (document_of self.old) self.old.cursor.offset self.old.cursor.extent.end))) }
     {
-        self.token(
-            Name::SpaceOrTab,
-            count_while(self.cursor.rest, is_space_or_tab),
-        )
+        let rest = self.rest();
+        self.token(Name::SpaceOrTab, rest.len() - after_spaces(rest).len())
     }
 
     /// Adds a span with a part of a content in it, of so many bytes of the line, unless it would be empty.
-    pub fn string(&mut self, name: Name, size: usize) -> Result<(), AllocError> {
-        if size == 0 || self.cursor.rest.is_empty() {
+    pub fn string(&mut self, name: Name, size: usize) -> Result<(), AllocError>
+        requires writes { Writes self.old }
+        ensures writes { OnOk result (Writes self.new) }
+        ensures extent { OnOk result (self.new.cursor.extent ≡ self.old.cursor.extent) }
+        ensures order { OnOk result (self.old.cursor.offset ≤ self.new.cursor.offset) }
+        ensures most { OnOk result (self.new.cursor.offset ≤ self.old.cursor.offset + size) }
+    {
+        if size == 0 || self.rest().is_empty() {
             return Ok(());
         }
         self.enter(name)?;
@@ -363,28 +543,41 @@ impl<'d> Output<'d> {
 
     /// Adds a span up to the cursor of the line that is written, with no span in it, unless it would be
     /// empty.
-    pub fn token_to(&mut self, name: Name, line: &Line<'d>) -> Result<(), AllocError> {
-        let before = self.cursor;
-        self.cursor = Cursor::of(line);
-        if self.cursor.rest.len() == before.rest.len()
-            && self.cursor.virtual_spaces == before.virtual_spaces
+    pub fn token_to(&mut self, name: Name, line: &Line<'d>) -> Result<(), AllocError>
+        requires writes { Writes self.old }
+        requires same { IsLater self.old.cursor line.now }
+        ensures writes { OnOk result (Writes self.new) }
+        ensures at { OnOk result (IsAt self.new.cursor line.now) }
+    {
+        let cursor = Cursor::of(line);
+        if cursor.offset == self.cursor.offset
+            && cursor.virtual_spaces == self.cursor.virtual_spaces
         {
             return Ok(());
         }
-        self.push(piece_to(PieceKind::Token(name), line))
+        self.push(piece_to(PieceKind::Token(name), line), cursor)
     }
 
     /// Moves the cursor of the line that is written over up to so many columns of white space, which are
     /// settled.
-    pub fn columns(&mut self, line: &mut Line<'d>, columns: usize) -> Result<(), AllocError> {
+    pub fn columns(&mut self, line: &mut Line<'d>, columns: usize) -> Result<(), AllocError>
+        requires writes { Writes self.old }
+        requires at { IsAt self.old.cursor line.old }
+        ensures writes { OnOk result (Writes self.new) }
+        ensures at { OnOk result (IsAt self.new.cursor line.new) }
+        ensures moved { HasMoved line.old line.new }
+    {
         line.skip_columns(columns);
         self.token_to(Name::SpaceOrTab, line)
     }
 
     /// All pieces, and the identifiers.
-    pub fn finish(self) -> Result<(Vec<Piece>, Identifiers), AllocError> {
+    pub fn finish(self) -> Result<(Vec<Piece>, Identifiers), AllocError>
+        requires { Stands self }
+        ensures { IfOk result (λ found. Tiles (document_of self.entry) origin found.0.items (spot self.entry.cursor)) }
+    {
         let mut output = self;
-        output.settle_held()?;
+        output.settle()?;
         let Output {
             alloc: _,
             identifiers,
@@ -392,8 +585,6 @@ impl<'d> Output<'d> {
             held: _,
             held_start: _,
             blanks: _,
-            prefix: _,
-            depth: _,
             cursor: _,
         } = output;
         Ok((pieces, identifiers))

@@ -1,5 +1,9 @@
 //! Paragraphs, and the definitions that they may begin with (CommonMark).
 
+ghost use Rattle.std.specs.Prelude.{OnOk, ◌≡◌};
+ghost use Rattle.markdown_flow.specs.Outputs.{Stands, document_of, spot};
+ghost use Rattle.markdown_flow.specs.Contents.{AreKept, after_lines};
+
 use crate::content::{Content, KeptLine};
 use crate::definition_pieces;
 use crate::output::Output;
@@ -12,11 +16,17 @@ pub fn write<'d>(
     content: &Content<'d>,
     lines: &[KeptLine<'d>],
     output: &mut Output<'d>,
-) -> Result<(), AllocError> {
+) -> Result<(), AllocError>
+    requires stands { Stands output.old }
+    requires lines { AreKept (document_of output.old) content.now.prefixes.items (spot output.old.cursor) lines.now }
+    ensures stands { OnOk result (Stands output.new) }
+    ensures document { OnOk result (document_of output.new ≡ document_of output.old) }
+    ensures spot { OnOk result (spot output.new.cursor ≡ after_lines (spot output.old.cursor) lines.now) }
+{
     let rest = definition_pieces::write(alloc, content, lines, output)?;
-    if let [first, ..] = rest {
+    if let [first, later @ ..] = rest {
         content.begin(first, output)?;
-        content.write_text(Name::Paragraph, rest, output)?;
+        content.write_text(Name::Paragraph, later, output)?;
     }
     Ok(())
 }

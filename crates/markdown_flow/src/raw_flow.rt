@@ -1,5 +1,8 @@
 //! Code and math between fences (micromark, raw flow).
 
+ghost use Rattle.std.specs.Prelude.{OnOk, ◌≡◌};
+ghost use Rattle.markdown_flow.specs.Outputs.{IsAt, Stands, Writes, WritesOut};
+
 use crate::line::Line;
 use crate::output::Output;
 use crate::space_or_tab::{is_blank, trimmed_size};
@@ -85,7 +88,10 @@ impl Fence {
     }
 
     /// Writes the line of a fence that opens.
-    pub fn open(self, output: &mut Output<'_>) -> Result<(), AllocError> {
+    pub fn open(self, output: &mut Output<'_>) -> Result<(), AllocError>
+        requires { Writes output.old }
+        ensures { OnOk result (WritesOut output.old output.new) }
+    {
         let names = self.content.names();
         output.white_space()?;
         output.enter(names.whole)?;
@@ -104,7 +110,11 @@ impl Fence {
         self,
         line: &mut Line<'d>,
         output: &mut Output<'d>,
-    ) -> Result<FencedLine, AllocError> {
+    ) -> Result<FencedLine, AllocError>
+        requires writes { Writes output.old }
+        requires at { IsAt output.old.cursor line.old }
+        ensures { OnOk result (WritesOut output.old output.new) }
+    {
         if let Some(size) = self.closing(line) {
             self.close(size, output)?;
             return Ok(FencedLine::Closing);
@@ -126,25 +136,35 @@ impl Fence {
     }
 
     /// Writes the line of a fence of so many signs, which closes.
-    fn close(self, size: usize, output: &mut Output<'_>) -> Result<(), AllocError> {
+    fn close(self, size: usize, output: &mut Output<'_>) -> Result<(), AllocError>
+        requires { Writes output.old }
+        ensures { OnOk result (WritesOut output.old output.new) }
+    {
         let names = self.content.names();
         output.enter(names.fence)?;
         output.white_space()?;
         output.token(names.sequence, size)?;
         output.token_of_rest(Name::SpaceOrTab)?;
         output.exit(names.fence)?;
-        self.end(output)
+        output.exit(names.whole)
     }
 
-    /// Writes that the construct ends.
-    pub fn end(self, output: &mut Output<'_>) -> Result<(), AllocError> {
-        output.exit(self.content.names().whole)
+    /// Writes that the construct ends, before what is held.
+    pub fn end(self, output: &mut Output<'_>) -> Result<(), AllocError>
+        requires { Stands output.old }
+        ensures stands { OnOk result (Stands output.new) }
+        ensures cursor { output.new.cursor ≡ output.old.cursor }
+    {
+        output.exit_before_held(self.content.names().whole)
     }
 }
 
 /// Writes the meta of a fence, with which the line ends. White space after it is no part of it
 /// (CommonMark).
-pub fn write_meta(name: Name, output: &mut Output<'_>) -> Result<(), AllocError> {
+pub fn write_meta(name: Name, output: &mut Output<'_>) -> Result<(), AllocError>
+    requires { Writes output.old }
+    ensures { OnOk result (WritesOut output.old output.new) }
+{
     let size = trimmed_size(output.rest());
     output.string(name, size)?;
     output.token_of_rest(Name::SpaceOrTab)

@@ -1,6 +1,7 @@
 //! Thematic breaks (CommonMark).
 
-ghost use Rattle.std.specs.Prelude.{◌≤◌, length};
+ghost use Rattle.std.specs.Prelude.{OnOk, length, ◌≤◌};
+ghost use Rattle.markdown_flow.specs.Outputs.{Writes, WritesOut};
 
 use crate::line::Line;
 use crate::output::Output;
@@ -47,7 +48,10 @@ fn has_enough(text: &[u8]) -> bool {
 }
 
 /// Writes the thematic break in a line.
-pub fn write(output: &mut Output<'_>) -> Result<(), AllocError> {
+pub fn write(output: &mut Output<'_>) -> Result<(), AllocError>
+    requires { Writes output.old }
+    ensures { OnOk result (WritesOut output.old output.new) }
+{
     output.enter(Name::ThematicBreak)?;
     output.white_space()?;
     'runs: while let [first, rest @ ..] = output.rest() {

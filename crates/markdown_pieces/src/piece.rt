@@ -1,5 +1,7 @@
 //! Pieces of a document.
 
+ghost use Rattle.std.specs.Prelude.{◌≡◌};
+
 use markdown_events::event::Name;
 
 /// What a piece is (ours).
@@ -38,7 +40,9 @@ impl Piece {
     /// A piece that ends before a byte.
     ///
     /// `Piece::new(PieceKind::Text, 3)` ends at offset 3, within no tab.
-    pub fn new(kind: PieceKind, end: usize) -> Piece {
+    pub fn new(kind: PieceKind, end: usize) -> Piece
+        ensures { result ≡ record { kind = kind; end = end; virtual_spaces = 0 } }
+    {
         Piece {
             kind,
             end,

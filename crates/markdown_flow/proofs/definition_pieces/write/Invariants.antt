@@ -1,5 +1,13 @@
-use Rattle.std.proofs.Common.{◌-◌, length}
+use Rattle.std.proofs.Common.{◌≡◌, ◌-◌, length}
+use Rattle.markdown_flow.specs.Definitions.{GoesOn, IsBeforeLine, end_before}
 use Rattle.markdown_flow.proofs.definition_pieces.write.Given as goal
 
+abbrev pub invariant-definitions : goal.invariant-definitions
+invariant-definitions l = record {
+  before : IsBeforeLine l.writer l.output;
+  on : GoesOn l.initial.writer l.writer l.initial.output l.output;
+  end : end_before l.writer l.output ≡ end_before l.initial.writer l.initial.output;
+}
+
 abbrev pub decreases-definitions : goal.decreases-definitions
-decreases-definitions l = length l.text - l.start
+decreases-definitions l = length l.writer.text.now - l.writer.at

@@ -1,5 +1,16 @@
-use Rattle.std.proofs.Common.{◌-◌, length}
+use Rattle.std.proofs.Common.{◌≡◌, ◌-◌, length}
+use Rattle.markdown_flow.specs.Outputs.{Writes, document_of}
 use Rattle.markdown_flow.proofs.frontmatter.write.Given as goal
+
+-- a line is written to its end
+abbrev pub invariant-lines : goal.invariant-lines
+invariant-lines l = record {
+  writes : Writes l.output;
+  ended : (l.output.cursor).offset ≡ (l.output.cursor.extent).end;
+  next : (l.output.cursor.extent).next ≡ l.line.next;
+  document : document_of l.output ≡ document_of l.fn.output;
+  source : l.line.source ≡ l.fn.first.source;
+}
 
 abbrev pub decreases-lines : goal.decreases-lines
 decreases-lines l = length l.line.source.document.now - l.line.next

@@ -1,5 +1,17 @@
-use Rattle.std.proofs.Common.{◌-◌, length}
+use Rattle.std.proofs.Common.{◌≡◌, ◌-◌, [], length}
+use Rattle.markdown_flow.specs.Flows.{StandsWith, end_with}
+use Rattle.markdown_flow.specs.Outputs.{document_of, next_of}
 use Rattle.markdown_flow.proofs.document.Reader.lines.Given as goal
+
+-- all is written up to the end of a line
+abbrev pub invariant-lines : goal.invariant-lines
+invariant-lines l = record {
+  stands : StandsWith l.self.flow l.self.output;
+  document : document_of l.self.output ≡ document_of l.fn.self.output;
+  taken : l.input.prefix.items ≡ [];
+  source : l.line.source.document.now ≡ document_of l.fn.self.output;
+  end : end_with l.self.flow l.self.output ≡ next_of l.line;
+}
 
 abbrev pub decreases-lines : goal.decreases-lines
 decreases-lines l = length l.line.source.document.now - l.line.next

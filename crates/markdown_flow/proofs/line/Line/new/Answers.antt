@@ -22,11 +22,11 @@ after_line_ending-requires c some =
 
 -- the line begins where it is to
 begun : (c : After-after_line_ending) → Begins c.args.source.document.now c.args.start (c.args.start + c.line_size.result)
-    (c.args.start + c.line_size.result + line_ending_length c.args.source.document.now (c.args.start + c.line_size.result)) (take c.line_size.result (drop c.args.start c.args.source.document.now)) c.args.columns
+    (c.args.start + c.line_size.result + line_ending_length c.args.source.document.now (c.args.start + c.line_size.result)) (take c.line_size.result (drop c.args.start c.args.source.document.now)) 0
 begun c =
     let is = c.after-rest.ensures.rest in
     let some : 0 < length c.after-rest.result.now = grind (arith, nat_tests) in
-    begins c.args.source.document.now c.args.start c.line_size.result c.args.columns c.requires
+    begins c.args.source.document.now c.args.start c.line_size.result 0 c.requires
     (subst (λ (text : List ℕ). 0 < length text) is some)
     (subst (λ (text : List ℕ). c.line_size.result ≤ length text) is c.line_size.ensures.within)
     (subst (λ (text : List ℕ). IsInLine text 0 c.line_size.result) is c.line_size.ensures.in_line)
@@ -42,8 +42,8 @@ invariant_of-result c =
     let size : line_ending_length c.split_at.result.1.now 0 ≡ line_ending_length bytes (c.args.start + c.line_size.result) = ap (λ (xs : List ℕ). line_ending_length xs 0) ending ∙ line_ending-drop bytes (c.args.start + c.line_size.result) in
     let end : c.args.start + c.line_size.result ≡ length bytes - length c.split_at.result.1.now = omega (arith, c.after-rest.ensures.length, c.split_at.ensures.back_len) in
     let next : c.args.start + c.line_size.result + line_ending_length bytes (c.args.start + c.line_size.result) ≡ length bytes - length c.after_line_ending.result.now = omega (arith, size, at.whole.within, c.after-rest.ensures.length, c.split_at.ensures.back_len, c.after_line_ending.ensures) in
-    let stands : Stands bytes c.args.start (length bytes - length c.split_at.result.1.now) c.split_at.result.0.now 0 c.args.columns = subst (λ (n : ℕ). Stands bytes c.args.start n c.split_at.result.0.now 0 c.args.columns) end
-    (subst (λ (xs : List ℕ). Stands bytes c.args.start (c.args.start + c.line_size.result) xs 0 c.args.columns) (sym text) at.stands) in
+    let stands : Stands bytes c.args.start (length bytes - length c.split_at.result.1.now) c.split_at.result.0.now 0 0 = subst (λ (n : ℕ). Stands bytes c.args.start n c.split_at.result.0.now 0 0) end
+    (subst (λ (xs : List ℕ). Stands bytes c.args.start (c.args.start + c.line_size.result) xs 0 0) (sym text) at.stands) in
     record {
       whole = subst (λ (n : ℕ). IsRest bytes c.args.start n (length bytes - length c.after_line_ending.result.now)) end
           (subst (λ (n : ℕ). IsRest bytes c.args.start (c.args.start + c.line_size.result) n) next at.whole);

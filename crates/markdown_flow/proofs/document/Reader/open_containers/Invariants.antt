@@ -1,0 +1,14 @@
+use Rattle.std.proofs.Common.{◌≡◌, []}
+use Rattle.markdown_flow.specs.Moves.{HasMoved}
+use Rattle.markdown_flow.specs.Outputs.{IsAt, Writes, document_of}
+use Rattle.markdown_flow.proofs.document.Reader.open_containers.Given as goal
+
+abbrev pub invariant-loop : goal.invariant-loop
+invariant-loop l = record {
+  writes : Writes l.self.output;
+  at : IsAt l.self.output.cursor l.input.line;
+  none : l.self.flow.content.lines.items ≡ [];
+  taken : l.input.prefix.items ≡ [];
+  document : document_of l.self.output ≡ document_of l.fn.self.output;
+  moved : HasMoved l.fn.input.line l.input.line;
+}

@@ -1,0 +1,49 @@
+use Rattle.std.proofs.Common.{◌≡◌, ◌≤◌, ◌<◌, ◌+◌, ◌-◌, ◌∙◌, ◌⊎◌, ap, arith, drop, inl, inr, length, min, subst, sym, ℕ, List}
+use Rattle.std.proofs.lemmas.Bool.{cases_lt}
+use Rattle.std.proofs.lemmas.Grind.{common_steps}
+use Rattle.markdown_flow.proofs.Lines.{after_spaces-length, end-within}
+use Rattle.markdown_flow.proofs.Outputs.{later_in}
+use Rattle.markdown_flow.specs.Lines.{after_spaces}
+use Rattle.markdown_flow.specs.Outputs.{spot}
+use Rattle.markdown_flow.specs.declared.line.Source.{Source}
+use Rattle.markdown_flow.specs.declared.output.Cursor.{Cursor}
+use Rattle.markdown_pieces.specs.Tilings.{Spot}
+use Rattle.markdown_flow.proofs.gfm_footnote_definition.open.Goals as goal
+
+-- a cursor after a label comes before the colon, unless the line is at its end
+before_colon : (offset end rest text skipped left size : ℕ) → skipped ≡ min (size + 4) 18446744073709551615 → left ≡ text - skipped → text ≤ rest → rest ≤ end → end < 18446744073709551615 → offset ≤ end → offset ≤ end - rest + size + 3
+    → ((offset < end - left) ⊎ (offset ≡ end - left)) × (offset ≡ end - left → end - left ≡ end)
+before_colon offset end rest text skipped left size s l t r e o m = by (cases_lt skipped text) (cases_lt offset end)
+  where
+    by : (skipped < text) ⊎ (text ≤ skipped) → (offset < end) ⊎ (end ≤ offset) → ((offset < end - left) ⊎ (offset ≡ end - left)) × (offset ≡ end - left → end - left ≡ end)
+    by (inl some) less = let strict : offset < end - left = grind arith in (inl strict, λ same. absurd (omega (arith, strict, same)))
+    by (inr none) (inl less) = (inl (grind arith), λ same. grind arith)
+    by (inr none) (inr last) = (inr (grind arith), λ same. grind arith)
+
+pub token_to-requires-clause-same : goal.token_to-requires-clause-same
+token_to-requires-clause-same c =
+    let line = c.columns.new.line in
+    let after = c.skip.new.self in
+    let cursor = c.write_label.new.output.cursor in
+    let written = c.in_ok-write_label.ensures.written in
+    let entered = c.enter-2.ensures.cursor in
+    let at = c.in_ok-columns.ensures.at in
+    let moved = c.skip.ensures.moved in
+    let end : cursor.extent.end ≡ after.end = written.end ∙ ap (λ (x : Cursor). x.extent.end) entered ∙ at.end ∙ sym moved.end in
+    let next : cursor.extent.next ≡ after.next = written.next ∙ ap (λ (x : Cursor). x.extent.next) entered ∙ at.next ∙ sym moved.next in
+    let document : cursor.extent.document.now ≡ after.source.document.now = written.document ∙ ap (λ (x : Cursor). x.extent.document.now) entered ∙ at.document ∙ sym (ap (λ (s : Source). s.document.now) moved.source) in
+    let from : c.enter-2.new.self.cursor.offset ≡ line.end - length line.rest.now = ap (λ (x : Cursor). x.offset) entered ∙ ap (λ (s : Spot). s.offset) at.spot in
+    let most = c.in_ok-write_label.ensures.most in
+    let order = written.writes.place.rest.order in
+    let shorter : length line.text.now ≤ length line.rest.now = subst (λ (text : List ℕ). length text ≤ length line.rest.now) (sym line.text_rests) (after_spaces-length line.rest.now) in
+    let size : length after.rest.now ≡ length line.text.now - c.saturating_add.result = ap (λ (text : List ℕ). length text) c.skip.ensures.rest ∙ grind (arith, common_steps) in
+    let short = line.source.short in
+    let whole = line.whole.within in
+    let last = end-within line.source.document.now line.start line.end line.next line.whole in
+    let fits = line.rest_fits in
+    let ends : cursor.extent.end ≡ line.end = end ∙ moved.end in
+    let places = before_colon cursor.offset line.end (length line.rest.now) (length line.text.now) c.saturating_add.result (length after.rest.now) c.args.size c.saturating_add.ensures size shorter (omega (arith, fits)) (omega (arith, short, whole, last))
+    (omega (arith, order, ends)) (omega (arith, most, from)) in
+    later_in cursor after written.writes.place document end next
+    (subst (λ (n : ℕ). (cursor.offset < n - length after.rest.now) ⊎ (cursor.offset ≡ n - length after.rest.now)) (sym moved.end) places.0)
+    (subst (λ (n : ℕ). cursor.offset ≡ n - length after.rest.now → n - length after.rest.now ≡ n) (sym moved.end) places.1)

@@ -1,0 +1,10 @@
+use Rattle.markdown_flow.proofs.Outputs.{begun}
+use Rattle.markdown_flow.specs.Outputs.{document_of, spot}
+use Rattle.markdown_flow.proofs.output.Output.begin.Goals as goal
+
+pub returns-clause-writes : goal.returns-clause-writes
+returns-clause-writes c =
+    let settled = c.in_ok-settle.ensures in
+    let reads = c.requires.reads in
+    begun _ (document_of c.args.self.now) c.settle.new.self.pieces.items c.args.input.now.prefix.items (spot c.args.self.now.cursor) c.args.input.now.line settled.none_held settled.from_start c.in_ok-take_prefix.ensures.taken c.of-self.ensures
+    reads.document settled.tiles reads.prefix

@@ -1,0 +1,16 @@
+use Rattle.std.proofs.Common.{◌≡◌, ap, subst, sym, ◌∙◌}
+use Rattle.markdown_flow.proofs.Outputs.{held_prefix}
+use Rattle.markdown_flow.specs.Outputs.{document_of, spot, spot_in}
+use Rattle.markdown_flow.specs.declared.line.Line.{Line}
+use Rattle.markdown_pieces.specs.Tilings.{Tiles}
+use Rattle.markdown_flow.proofs.output.Output.hold_blank.Goals as goal
+
+pub hold_blank_rest-requires-clause-stands : goal.hold_blank_rest-requires-clause-stands
+hold_blank_rest-requires-clause-stands c =
+    let output = c.args.self.now in
+    let prefix = c.args.input.now.prefix.items in
+    let same = c.take_prefix.ensures.line in
+    let reads = c.requires.reads in
+    let held = held_prefix output c.take_prefix.new.into.items prefix c.of-self.result c.take_prefix.new.self.line c.requires.stands c.in_ok-take_prefix.ensures.taken c.of-self.ensures (ap (λ (line : Line). line.source.document.now) same ∙ reads.document)
+    (subst (λ (line : Line). Tiles (document_of output) (spot output.cursor) prefix (spot_in line)) (sym same) reads.prefix) in
+    record { within = held.0; tiles = held.1 }

@@ -1,0 +1,30 @@
+use Rattle.std.proofs.Common.{◌≡◌, ◌≢◌, ◌∙◌, ap, arith, subst, sym}
+use Rattle.markdown_events.specs.declared.event.Name.TheVariants as names
+use Rattle.markdown_flow.proofs.Outputs.{held_on, rest_reached}
+use Rattle.markdown_flow.specs.Outputs.{document_of, spot}
+use Rattle.markdown_flow.specs.declared.output.Extent.{Extent}
+use Rattle.markdown_pieces.specs.Tilings.{Goes, Spot, Tiles, end_of, origin}
+use Rattle.markdown_pieces.specs.declared.piece.Piece.{Piece}
+use Rattle.markdown_pieces.specs.declared.piece.PieceKind.TheVariants.{Token}
+use Rattle.std.proofs.Common.{List, ℕ, ◌++◌, drop, min}
+use Rattle.markdown_flow.proofs.output.Output.hold_white_space.Goals as goal
+
+pub returns-clause-stands : goal.returns-clause-stands
+returns-clause-stands c =
+    let output = c.args.self.now in
+    let extent = output.cursor.extent in
+    let place = c.requires.place in
+    let after = c.after-end.ensures in
+    let order = place.rest.order in
+    let end : c.after-end.result.offset ≡ extent.end = grind arith in
+    let more : output.cursor.offset ≢ extent.end = λ same. absurd (omega (arith, same, end, c.if-end-self.false)) in
+    let there : spot c.after-end.result ≡ record { offset = extent.end; virtual_spaces = 0 } = λ t. record { offset = end t; virtual_spaces = after.whole t } in
+    let last : end_of c.new-space.result ≡ record { offset = extent.end; virtual_spaces = 0 } = ap end_of c.new-space.ensures ∙ (λ t. record { offset = end t; virtual_spaces = 0 }) in
+    let goes : Goes (document_of output) c.new-space.result.kind (spot output.cursor) (end_of c.new-space.result) =
+    subst (λ (s : Spot). Goes (document_of output) c.new-space.result.kind (spot output.cursor) s) (sym last)
+    (subst (λ (p : Piece). Goes (document_of output) p.kind (spot output.cursor) (record { offset = extent.end; virtual_spaces = 0 })) (sym c.new-space.ensures) (rest_reached output.cursor place more)) in
+    let held = held_on output c.push.new.self.items c.new-space.result (spot c.after-end.result) c.requires.stands c.in_ok-push.ensures.items goes (last ∙ sym there) in
+    record {
+      within = held.0;
+      tiles = subst (λ (x : Extent). Tiles x.document.now origin (output.pieces.items ++ drop output.held_start c.push.new.self.items) (spot c.after-end.result)) (sym after.extent) held.1;
+    }

@@ -1,0 +1,27 @@
+-- Lines that are kept.
+use Rattle.std.specs.Prelude.{List, [], length, slice_range, ◌∷◌, ◌≡◌, ◌≤◌, ℕ}
+use Rattle.markdown_pieces.specs.Tilings.{Spot, Tiles}
+use Rattle.markdown_pieces.specs.declared.piece.Piece.{Piece}
+use Rattle.markdown_flow.specs.Outputs.{next_of, spot_in}
+use Rattle.markdown_flow.specs.declared.content.KeptLine.{KeptLine}
+
+-- the pieces of the prefix of a line
+abbrev pub prefix_of : List Piece → KeptLine → List Piece
+prefix_of prefixes kept = slice_range prefixes kept.prefix_start kept.prefix_end
+
+-- a line of a document is kept: its prefix goes from a spot to its cursor
+pub record Kept (bytes : List ℕ) (prefixes : List Piece) (from : Spot) (kept : KeptLine) : Type 0 where
+  pub document : ((kept.line).source).document.now ≡ bytes
+  pub order : kept.prefix_start ≤ kept.prefix_end
+  pub within : kept.prefix_end ≤ length prefixes
+  pub prefix : Tiles bytes from (prefix_of prefixes kept) (spot_in kept.line)
+
+-- lines of a document are kept, one after the other, the first from a spot on
+abbrev pub AreKept : List ℕ → List Piece → Spot → List KeptLine → Type 0
+AreKept bytes prefixes from [] = Unit {0}
+AreKept bytes prefixes from (kept ∷ lines) = Kept bytes prefixes from kept × AreKept bytes prefixes (next_of kept.line) lines
+
+-- where the line after them begins
+abbrev pub after_lines : Spot → List KeptLine → Spot
+after_lines from [] = from
+after_lines from (kept ∷ lines) = after_lines (next_of kept.line) lines

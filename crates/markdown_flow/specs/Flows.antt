@@ -1,0 +1,25 @@
+-- The open leaf, and the lines that are kept of it.
+use Rattle.std.specs.Prelude.{Bool, [], false, true, ◌≡◌}
+use Rattle.markdown_pieces.specs.Tilings.{Spot}
+use Rattle.markdown_flow.specs.Contents.{AreKept, after_lines}
+use Rattle.markdown_flow.specs.Outputs.{Stands, document_of, spot}
+use Rattle.markdown_flow.specs.declared.flow.Flow.{Flow}
+use Rattle.markdown_flow.specs.declared.leaf.Leaf.{Leaf}
+use Rattle.markdown_flow.specs.declared.leaf.Leaf.TheVariants.{CodeIndented, Paragraph}
+use Rattle.markdown_flow.specs.declared.output.Output.{Output}
+
+-- lines are kept of a leaf
+abbrev pub keeps_lines : Leaf → Bool
+keeps_lines Paragraph = true
+keeps_lines CodeIndented = true
+keeps_lines _ = false
+
+-- the pieces tile the document up to the lines that are kept of the open leaf
+pub record StandsWith (flow : Flow) (output : Output) : Type 0 where
+  pub stands : Stands output
+  pub kept : AreKept (document_of output) flow.content.prefixes.items (spot output.cursor) flow.content.lines.items
+  pub none : keeps_lines flow.leaf ≡ false → flow.content.lines.items ≡ []
+
+-- where the line after these begins
+abbrev pub end_with : Flow → Output → Spot
+end_with flow output = after_lines (spot output.cursor) flow.content.lines.items

@@ -1,0 +1,85 @@
+-- What is written so far, and what is read of a line.
+use Rattle.std.specs.Prelude.{List, Some, [], drop, length, slice_get, ℕ, ◌+◌, ◌++◌, ◌-◌, ◌<◌, ◌≡◌, ◌≤◌, ◌⊎◌}
+use Rattle.event_writer.specs.Places.{after_tab, column_at}
+use Rattle.markdown_pieces.specs.Tilings.{Spot, Tiles, origin}
+use Rattle.markdown_pieces.specs.declared.piece.Piece.{Piece}
+use Rattle.markdown_flow.specs.Lines.{IsRest}
+use Rattle.markdown_flow.specs.declared.input.Input.{Input}
+use Rattle.markdown_flow.specs.declared.line.Line.{Line}
+use Rattle.markdown_flow.specs.declared.output.Cursor.{Cursor}
+use Rattle.markdown_flow.specs.declared.output.Output.{Output}
+
+-- where a cursor is
+abbrev pub spot : Cursor → Spot
+spot cursor = record { offset = cursor.offset; virtual_spaces = cursor.virtual_spaces }
+
+-- where the cursor of a line is
+abbrev pub spot_in : Line → Spot
+spot_in line = record { offset = line.end - length line.rest.now; virtual_spaces = line.virtual_spaces }
+
+-- a cursor is where that of a line is
+pub record IsAt (cursor : Cursor) (line : Line) : Type 0 where
+  pub document : (cursor.extent).document.now ≡ (line.source).document.now
+  pub end : (cursor.extent).end ≡ line.end
+  pub next : (cursor.extent).next ≡ line.next
+  pub spot : spot cursor ≡ spot_in line
+
+-- a cursor is in a line
+pub record HasLine (cursor : Cursor) (line : Line) : Type 0 where
+  pub document : (cursor.extent).document.now ≡ (line.source).document.now
+  pub next : (cursor.extent).next ≡ line.next
+
+-- where the line after a line begins
+abbrev pub next_of : Line → Spot
+next_of line = record { offset = line.next; virtual_spaces = 0 }
+
+-- where the line after that of a cursor begins
+abbrev pub line_after : Cursor → Spot
+line_after cursor = record { offset = (cursor.extent).next; virtual_spaces = 0 }
+
+-- the cursor of a line comes after a cursor in the line, or is where that is
+pub record IsLater (cursor : Cursor) (line : Line) : Type 0 where
+  pub document : (cursor.extent).document.now ≡ (line.source).document.now
+  pub end : (cursor.extent).end ≡ line.end
+  pub next : (cursor.extent).next ≡ line.next
+  pub order : (cursor.offset < line.end - length line.rest.now) ⊎ ((cursor.offset ≡ line.end - length line.rest.now) × (cursor.virtual_spaces ≤ line.virtual_spaces))
+
+-- a cursor is in a line: no line ends between it and the end of the line, and it is in a tab where it has virtual spaces
+pub record IsPlaceIn (cursor : Cursor) : Type 0 where
+  pub rest : IsRest (cursor.extent).document.now cursor.offset (cursor.extent).end (cursor.extent).next
+  pub tab : 0 < cursor.virtual_spaces → (slice_get (cursor.extent).document.now cursor.offset ≡ Some 9) × (column_at (cursor.extent).document.now cursor.offset + cursor.virtual_spaces < after_tab (column_at (cursor.extent).document.now cursor.offset))
+
+-- the bytes of the document
+abbrev pub document_of : Output → List ℕ
+document_of output = ((output.cursor).extent).document.now
+
+-- the pieces tile the document up to the cursor, with those that are held
+pub record Stands (output : Output) : Type 0 where
+  pub within : output.held_start ≤ length output.held.items
+  pub tiles : Tiles (document_of output) origin (output.pieces.items ++ drop output.held_start output.held.items) (spot output.cursor)
+
+-- a line is written. Nothing is held, and what is left of the line comes after the cursor
+pub record Writes (output : Output) : Type 0 where
+  pub stands : Stands output
+  pub none_held : output.held.items ≡ []
+  pub from_start : output.held_start ≡ 0
+  pub place : IsPlaceIn output.cursor
+
+-- a line is written on
+pub record WritesOn (old new : Output) : Type 0 where
+  pub writes : Writes new
+  pub document : document_of new ≡ document_of old
+  pub end : ((new.cursor).extent).end ≡ ((old.cursor).extent).end
+  pub next : ((new.cursor).extent).next ≡ ((old.cursor).extent).next
+
+-- a line is written to its end
+pub record WritesOut (old new : Output) : Type 0 where
+  pub writes : Writes new
+  pub document : document_of new ≡ document_of old
+  pub next : ((new.cursor).extent).next ≡ ((old.cursor).extent).next
+  pub ended : (new.cursor).offset ≡ ((new.cursor).extent).end
+
+-- a line is read: its prefix goes from a spot of the document to its cursor
+pub record Reads (bytes : List ℕ) (from : Spot) (input : Input) : Type 0 where
+  pub document : ((input.line).source).document.now ≡ bytes
+  pub prefix : Tiles bytes from input.prefix.items (spot_in input.line)

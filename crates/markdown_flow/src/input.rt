@@ -1,0 +1,111 @@
+//! The line that is read, and what the open containers took of it.
+
+ghost use Rattle.std.specs.Prelude.{List, [], ℕ, OnOk, ◌≡◌, ◌++◌};
+
+use crate::line::Line;
+use crate::output::piece_to;
+use markdown_events::event::Name;
+use markdown_pieces::piece::{Piece, PieceKind};
+use std::alloc::{AllocError, Global};
+
+/// A line that is read.
+#[derive(Drop)]
+pub struct Input<'d> {
+    /// The line, with its cursor after its prefix.
+    pub line: Line<'d>,
+    /// How many containers there are up to the last one that has a marker in it.
+    pub depth: usize,
+    /// The pieces of its prefix: of what the open containers took of it.
+    prefix: Vec<Piece>,
+}
+
+impl<'d> Input<'d> {
+    ghost use Rattle.markdown_flow.specs.Moves.{HasMoved};
+    ghost use Rattle.markdown_flow.specs.Outputs.{Reads};
+    ghost use Rattle.markdown_pieces.specs.Tilings.{Spot};
+
+    /// A line of which nothing is read yet.
+    pub fn new(alloc: Global, line: Line<'d>) -> Input<'d>
+        ensures line { result.line ≡ line.entry }
+        ensures prefix { result.prefix.items ≡ [] }
+    {
+        Input {
+            line,
+            depth: 0,
+            prefix: Vec::new(alloc),
+        }
+    }
+
+    /// Goes to another line, of which nothing is read yet.
+    pub fn go_to(&mut self, line: Line<'d>)
+        ensures line { self.new.line ≡ line.entry }
+        ensures prefix { self.new.prefix ≡ self.old.prefix }
+    {
+        self.line = line;
+        self.depth = 0;
+    }
+
+    /// Begins a span in the prefix.
+    pub fn enter(&mut self, name: Name) -> Result<(), AllocError>
+        ensures reads { (bytes : List ℕ) → (from : Spot) → Reads bytes from self.old → OnOk result (Reads bytes from self.new) }
+        ensures line { self.new.line ≡ self.old.line }
+    {
+        let piece = piece_to(PieceKind::Enter(name), &self.line);
+        self.prefix.push(piece)?;
+        Ok(())
+    }
+
+    /// Ends a span in the prefix.
+    pub fn exit(&mut self, name: Name) -> Result<(), AllocError>
+        ensures reads { (bytes : List ℕ) → (from : Spot) → Reads bytes from self.old → OnOk result (Reads bytes from self.new) }
+        ensures line { self.new.line ≡ self.old.line }
+    {
+        let piece = piece_to(PieceKind::Exit(name), &self.line);
+        self.prefix.push(piece)?;
+        Ok(())
+    }
+
+    /// Moves the cursor over the white space there and so many bytes, which go to the prefix.
+    pub fn token(&mut self, name: Name, size: usize) -> Result<(), AllocError>
+        ensures reads { (bytes : List ℕ) → (from : Spot) → Reads bytes from self.old → OnOk result (Reads bytes from self.new) }
+        ensures moved { OnOk result (HasMoved self.old.line self.new.line) }
+    {
+        let mut line = self.line;
+        line.skip(size);
+        self.token_to(name, line)
+    }
+
+    /// Moves the cursor over up to so many columns of white space, which go to the prefix.
+    pub fn columns(&mut self, columns: usize) -> Result<(), AllocError>
+        ensures reads { (bytes : List ℕ) → (from : Spot) → Reads bytes from self.old → OnOk result (Reads bytes from self.new) }
+        ensures moved { OnOk result (HasMoved self.old.line self.new.line) }
+    {
+        let mut line = self.line;
+        line.skip_columns(columns);
+        if line.columns() == self.line.columns() {
+            return Ok(());
+        }
+        self.token_to(Name::SpaceOrTab, line)
+    }
+
+    /// Moves the cursor to another place of the line. What is between them goes to the prefix.
+    fn token_to(&mut self, name: Name, line: Line<'d>) -> Result<(), AllocError>
+        requires { HasMoved self.old.line line }
+        ensures reads { (bytes : List ℕ) → (from : Spot) → Reads bytes from self.old → OnOk result (Reads bytes from self.new) }
+        ensures line { OnOk result (self.new.line ≡ line.entry) }
+    {
+        let piece = piece_to(PieceKind::Token(name), &line);
+        self.prefix.push(piece)?;
+        self.line = line;
+        Ok(())
+    }
+
+    /// Moves the prefix to the end of other pieces.
+    pub fn take_prefix(&mut self, into: &mut Vec<Piece>) -> Result<(), AllocError>
+        ensures taken { OnOk result (into.new.items ≡ into.old.items ++ self.old.prefix.items) }
+        ensures left { OnOk result (self.new.prefix.items ≡ []) }
+        ensures line { self.new.line ≡ self.old.line }
+    {
+        into.append(&mut self.prefix)
+    }
+}
