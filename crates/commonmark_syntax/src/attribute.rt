@@ -1,6 +1,7 @@
 //! Attributes of opening tags of HTML (CommonMark).
 
-ghost use Rattle.std.specs.Prelude.{◌≤◌, ◌<◌, length, IfSome};
+ghost use Rattle.std.specs.Prelude.{◌≡◌, ◌≢◌, ◌≤◌, ◌<◌, ◌-◌, length, slice_index, IfSome, IsTrue, false};
+ghost use Rattle.commonmark_syntax.specs.Cuts.{IsCut};
 
 use crate::bytes::{after, count_while, is_space_or_line_ending, white_space_length};
 
@@ -10,6 +11,7 @@ use crate::bytes::{after, count_while, is_space_or_line_ending, white_space_leng
 pub fn scan(text: &[u8]) -> Option<usize>
     ensures most { IfSome result (λ size. size ≤ length text.now) }
     ensures least { IfSome result (λ size. 0 < size) }
+    ensures cut { IfSome result (λ size. IsCut text.now size) }
 {
     let space = white_space_length(text);
     let first = text.get(space)?;
@@ -25,7 +27,8 @@ pub fn scan(text: &[u8]) -> Option<usize>
 
 /// The length of a value with the equals sign before it, and the white space around that.
 fn value_length(text: &[u8]) -> Option<usize>
-    ensures { IfSome result (λ size. size ≤ length text.now) }
+    ensures most { IfSome result (λ size. size ≤ length text.now) }
+    ensures cut { IfSome result (λ size. IsCut text.now size) }
 {
     let before = white_space_length(text);
     if *text.get(before)? != b'=' {
@@ -33,21 +36,31 @@ fn value_length(text: &[u8]) -> Option<usize>
     }
     let sign = before + 1;
     let start = sign + white_space_length(after(text, sign));
-    let value = after(text, start);
-    let size = match value.first()? {
-        b'"' => quoted_length(value, b'"')?,
-        b'\'' => quoted_length(value, b'\'')?,
-        _ => count_while(value, is_of_unquoted_value),
-    };
+    let size = bare_value_length(after(text, start))?;
     (size > 0).then_some(start + size)
+}
+
+/// The length of a value, with its quotes where it has them.
+fn bare_value_length(text: &[u8]) -> Option<usize>
+    ensures most { IfSome result (λ size. size ≤ length text.now) }
+    ensures cut { IfSome result (λ size. IsCut text.now size) }
+{
+    match text.first()? {
+        b'"' => quoted_length(text, b'"'),
+        b'\'' => quoted_length(text, b'\''),
+        _ => Some(count_while(text, is_of_unquoted_value)),
+    }
 }
 
 /// The length of a value in quotes, with these.
 fn quoted_length(text: &[u8], quote: u8) -> Option<usize>
-    ensures { IfSome result (λ size. size ≤ length text.now) }
+    ensures most { IfSome result (λ size. size ≤ length text.now) }
+    ensures last { IfSome result (λ size. slice_index text.now (size - 1) ≡ quote) }
+    ensures cut { quote < 128 → IfSome result (λ size. IsCut text.now size) }
 {
-    let size = after(text, 1).iter().position(|byte| *byte == quote)?;
-    Some(size + 2)
+    let inside = after(text, 1);
+    let size = count_while(inside, |byte| byte != quote);
+    (size < inside.len()).then_some(size + 2)
 }
 
 /// Whether the name of an attribute may begin with a byte.
@@ -56,11 +69,15 @@ fn begins_name(byte: u8) -> bool {
 }
 
 /// Whether a byte may stand in the name of an attribute.
-fn is_of_name(byte: u8) -> bool {
+fn is_of_name(byte: u8) -> bool
+    ensures { IsTrue result → byte < 128 }
+{
     byte.is_ascii_alphanumeric() || matches!(byte, b'_' | b':' | b'.' | b'-')
 }
 
 /// Whether a byte may stand in a value without quotes.
-fn is_of_unquoted_value(byte: u8) -> bool {
+fn is_of_unquoted_value(byte: u8) -> bool
+    ensures { result ≡ false → byte < 128 }
+{
     !is_space_or_line_ending(byte) && !matches!(byte, b'"' | b'\'' | b'=' | b'<' | b'>' | b'`')
 }

@@ -1,13 +1,19 @@
 //! Bytes of a text: which are alike, and how many of them come one after another.
 
-ghost use Rattle.std.specs.Prelude.{◌≡◌, ◌≤◌, ◌<◌, ◌-◌, ◌==◌, ◌||◌, drop, length, IfSome};
+ghost use Rattle.std.specs.Prelude.{◌≡◌, ◌≢◌, ◌≤◌, ◌<◌, ◌-◌, ◌==◌, ◌||◌, ◌&&◌, ◌+◌, ℕ, true, false, nat_le, drop, length, slice_index, IfSome, IsTrue};
+ghost use Rattle.commonmark_syntax.specs.Cuts.{IsCut, IsInLine, IsRunOf, IsOfAscii, IsOfLine, is_white_space};
 
 /// How many bytes at the start of a text are such.
 ///
 /// Of `aab` two are the letter `a`.
 pub fn count_while<F: Fn(u8) -> bool + Drop>(text: &[u8], is_such: F) -> usize
     requires { F.IsAlwaysCallable is_such }
-    ensures { result ≤ length text.now }
+    ensures most { result ≤ length text.now }
+    ensures counted { (k : ℕ) → k < result → F.post is_such (slice_index text.now k) true }
+    ensures next { result < length text.now → F.post is_such (slice_index text.now result) false }
+    ensures cut { IsOfAscii (F.post is_such) true → IsCut text.now result }
+    ensures cut_before { IsOfAscii (F.post is_such) false → IsCut text.now result }
+    ensures in_line { IsOfLine (F.post is_such) true → IsInLine text.now result }
 {
     for (size, byte) in text.iter().enumerate() {
         if !is_such(*byte) {
@@ -22,10 +28,14 @@ pub fn count_while<F: Fn(u8) -> bool + Drop>(text: &[u8], is_such: F) -> usize
 /// Of `abb` two are the letter `b`.
 pub fn count_back<F: Fn(u8) -> bool + Drop>(text: &[u8], is_such: F) -> usize
     requires { F.IsAlwaysCallable is_such }
-    ensures { result ≤ length text.now }
+    ensures most { result ≤ length text.now }
+    ensures counted { (k : ℕ) → length text.now - result ≤ k → k < length text.now → F.post is_such (slice_index text.now k) true }
+    ensures next { result < length text.now → F.post is_such (slice_index text.now (length text.now - result - 1)) false }
+    ensures cut { IsOfAscii (F.post is_such) true → IsCut text.now (length text.now - result) }
+    ensures cut_after { IsOfAscii (F.post is_such) false → IsCut text.now (length text.now - result) }
 {
-    for (size, byte) in text.iter().rev().enumerate() {
-        if !is_such(*byte) {
+    for size in 0..text.len() {
+        if !is_such(text[text.len() - size - 1]) {
             return size;
         }
     }
@@ -36,7 +46,11 @@ pub fn count_back<F: Fn(u8) -> bool + Drop>(text: &[u8], is_such: F) -> usize
 ///
 /// Of the grave accent it is 2 in two grave accents and an `a`.
 pub fn run_length(text: &[u8], of: u8) -> usize
-    ensures { result ≤ length text.now }
+    ensures most { result ≤ length text.now }
+    ensures run { IsRunOf text.now of result }
+    ensures next { result < length text.now → slice_index text.now result ≢ of }
+    ensures cut { of < 128 → IsCut text.now result }
+    ensures in_line { of ≢ 10 → IsInLine text.now result }
 {
     count_while(text, |byte| byte == of)
 }
@@ -46,13 +60,17 @@ pub fn run_length(text: &[u8], of: u8) -> usize
 ///
 /// It is 2 in a line feed, a space and an `a`.
 pub fn white_space_length(text: &[u8]) -> usize
-    ensures { result ≤ length text.now }
+    ensures most { result ≤ length text.now }
+    ensures white { (k : ℕ) → k < result → is_white_space (slice_index text.now k) ≡ true }
+    ensures feeds { (j : ℕ) → (k : ℕ) → j < k → k < result → slice_index text.now j ≡ 10 → slice_index text.now k ≢ 10 }
+    ensures cut { IsCut text.now result }
 {
     let size = count_while(text, is_space_or_tab);
-    match after(text, size) {
-        [b'\n', rest @ ..] => size + 1 + count_while(rest, is_space_or_tab),
-        _ => size,
+    if text.get(size) != Some(&b'\n') {
+        return size;
     }
+    let feed = size + 1;
+    feed + count_while(after(text, feed), is_space_or_tab)
 }
 
 /// The rest of a text after so many bytes. It is empty where the text has fewer.
@@ -61,6 +79,7 @@ pub fn white_space_length(text: &[u8]) -> usize
 pub fn after(text: &[u8], size: usize) -> &[u8]
     ensures length { length result.now ≡ length text.now - size }
     ensures rest { result.now ≡ drop size text.now }
+    ensures byte { (k : ℕ) → slice_index result.now k ≡ slice_index text.now (size + k) }
 {
     text.get(size..).unwrap_or(&[])
 }
@@ -71,14 +90,23 @@ pub fn after(text: &[u8], size: usize) -> &[u8]
 pub fn length_through(text: &[u8], end: &[u8]) -> Option<usize>
     ensures most { IfSome result (λ size. size ≤ length text.now) }
     ensures least { IfSome result (λ size. length end.now ≤ size) }
+    ensures end { IfSome result (λ size. (k : ℕ) → k < length end.now → slice_index text.now (size - length end.now + k) ≡ slice_index end.now k) }
+    ensures cut { IfSome result (λ size. 0 < length end.now → slice_index end.now (length end.now - 1) < 128 → IsCut text.now size) }
 {
     for start in 0..text.len() {
-        let rest = after(text, start);
-        if rest.len() >= end.len() && rest.starts_with(end) {
+        if begins_with(after(text, start), end) {
             return Some(start + end.len());
         }
     }
     None
+}
+
+/// Whether a text begins with another one.
+fn begins_with(text: &[u8], other: &[u8]) -> bool
+    ensures length { IsTrue result → length other.now ≤ length text.now }
+    ensures bytes { IsTrue result → (k : ℕ) → k < length other.now → slice_index text.now k ≡ slice_index other.now k }
+{
+    text.len() >= other.len() && text.starts_with(other)
 }
 
 /// Whether a byte is a space or a tab.
@@ -93,7 +121,9 @@ pub fn is_space_or_tab(byte: u8) -> bool
 /// Whether a byte is a space, a tab or a line ending.
 ///
 /// It is true of a line feed.
-pub fn is_space_or_line_ending(byte: u8) -> bool {
+pub fn is_space_or_line_ending(byte: u8) -> bool
+    ensures { result ≡ is_white_space byte }
+{
     is_space_or_tab(byte) || byte == b'\n'
 }
 
@@ -101,13 +131,17 @@ pub fn is_space_or_line_ending(byte: u8) -> bool {
 /// U+FFFD (CommonMark).
 ///
 /// It is true of a tab.
-pub fn is_control(byte: u8) -> bool {
+pub fn is_control(byte: u8) -> bool
+    ensures { result ≡ ((nat_le 1 byte && nat_le byte 31) || (byte == 127)) }
+{
     matches!(byte, 0x01..=0x1F | 0x7F)
 }
 
 /// Whether a byte goes on with a character of UTF-8 and begins none.
 ///
 /// It is true of the second byte of `é`.
-pub fn is_continuation(byte: u8) -> bool {
+pub fn is_continuation(byte: u8) -> bool
+    ensures { result ≡ (nat_le 128 byte && nat_le byte 191) }
+{
     matches!(byte, 0x80..=0xBF)
 }

@@ -1,6 +1,7 @@
 //! Closing tags of HTML (CommonMark).
 
 ghost use Rattle.std.specs.Prelude.{◌≤◌, ◌<◌, length, IfSome};
+ghost use Rattle.commonmark_syntax.specs.Cuts.{IsCut};
 
 use crate::bytes::{after, white_space_length};
 use crate::tag_name;
@@ -11,6 +12,7 @@ use crate::tag_name;
 pub fn scan(text: &[u8]) -> Option<usize>
     ensures most { IfSome result (λ size. size ≤ length text.now) }
     ensures least { IfSome result (λ size. 3 < size) }
+    ensures cut { IfSome result (λ size. IsCut text.now size) }
 {
     let name = text.strip_prefix(b"</")?;
     let name_size = tag_name::scan(name)?;

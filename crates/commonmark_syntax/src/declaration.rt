@@ -1,6 +1,7 @@
 //! Declarations of HTML (CommonMark).
 
 ghost use Rattle.std.specs.Prelude.{◌≤◌, ◌<◌, length, IfSome};
+ghost use Rattle.commonmark_syntax.specs.Cuts.{IsCut};
 
 use crate::bytes::length_through;
 
@@ -11,6 +12,7 @@ use crate::bytes::length_through;
 pub fn scan(text: &[u8]) -> Option<usize>
     ensures most { IfSome result (λ size. size ≤ length text.now) }
     ensures least { IfSome result (λ size. 3 < size) }
+    ensures cut { IfSome result (λ size. IsCut text.now size) }
 {
     match text {
         [b'<', b'!', letter, rest @ ..] if letter.is_ascii_alphabetic() => {

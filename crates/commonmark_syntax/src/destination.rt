@@ -1,6 +1,7 @@
 //! Destinations of links, images and definitions (CommonMark).
 
-ghost use Rattle.std.specs.Prelude.{◌≡◌, ◌≤◌, ◌<◌, length, IfSome};
+ghost use Rattle.std.specs.Prelude.{◌≡◌, ◌≢◌, ◌≤◌, ◌<◌, ◌-◌, length, slice_index, IfSome};
+ghost use Rattle.commonmark_syntax.specs.Cuts.{IsCut, IsInLine};
 
 use crate::bytes::{after, is_control};
 
@@ -15,27 +16,35 @@ const DEPTH_MOST: usize = 32;
 pub fn scan(text: &[u8]) -> Option<usize>
     ensures most { IfSome result (λ size. size ≤ length text.now) }
     ensures least { IfSome result (λ size. 0 < size) }
+    ensures cut { IfSome result (λ size. IsCut text.now size) }
+    ensures in_line { IfSome result (λ size. IsInLine text.now size) }
+    ensures enclosed { slice_index text.now 0 ≡ 60 → IfSome result (λ size. (1 < size) × (slice_index text.now (size - 1) ≡ 62)) }
+    ensures inside { slice_index text.now 0 ≡ 60 → IfSome result (λ size. IsCut text.now 1 × IsCut text.now (size - 1)) }
+    ensures raw { slice_index text.now 0 ≢ 60 → IfSome result (λ size. size < length text.now → slice_index text.now size < 128) }
 {
     match text.first()? {
-        b'<' => enclosed_length(text),
+        b'<' => Some(inside_length(after(text, 1))? + 2),
         _ => raw_length(text),
     }
 }
 
-/// The length of a destination in angle brackets, with these: it has no line ending in it, and no other
-/// angle bracket without a backslash before it.
-fn enclosed_length(text: &[u8]) -> Option<usize>
-    ensures most { IfSome result (λ size. size ≤ length text.now) }
-    ensures least { IfSome result (λ size. 0 < size) }
+/// How many bytes come before the angle bracket that closes a destination: no line ending is among them,
+/// and no other angle bracket without a backslash before it.
+fn inside_length(inside: &[u8]) -> Option<usize>
+    ensures within { IfSome result (λ size. size < length inside.now) }
+    ensures end { IfSome result (λ size. slice_index inside.now size ≡ 62) }
+    ensures in_line { IfSome result (λ size. IsInLine inside.now size) }
 {
     let mut is_escaped = false;
-    for (size, byte) in after(text, 1).iter().enumerate() {
+    for (size, byte) in inside.iter().enumerate() {
+        if *byte == b'\n' {
+            return None;
+        }
         match *byte {
-            b'\n' => return None,
             _ if is_escaped => is_escaped = false,
             b'\\' => is_escaped = true,
             b'<' => return None,
-            b'>' => return Some(size + 2),
+            b'>' => return Some(size),
             _ => {}
         }
     }
@@ -47,12 +56,16 @@ fn enclosed_length(text: &[u8]) -> Option<usize>
 fn raw_length(text: &[u8]) -> Option<usize>
     ensures most { IfSome result (λ size. size ≤ length text.now) }
     ensures least { IfSome result (λ size. 0 < size) }
+    ensures next { IfSome result (λ size. size < length text.now → slice_index text.now size < 128) }
+    ensures in_line { IfSome result (λ size. IsInLine text.now size) }
 {
     let mut depth = 0;
     let mut is_escaped = false;
     for (size, byte) in text.iter().enumerate() {
+        if *byte == b' ' || is_control(*byte) {
+            return whole(size, depth);
+        }
         match *byte {
-            byte if byte == b' ' || is_control(byte) => return whole(size, depth),
             _ if is_escaped => is_escaped = false,
             b'\\' => is_escaped = true,
             b'(' if depth >= DEPTH_MOST => return None,

@@ -1,6 +1,7 @@
 //! Labels of definitions and references (CommonMark).
 
-ghost use Rattle.std.specs.Prelude.{◌≡◌, ◌≤◌, ◌<◌, length, IfSome};
+ghost use Rattle.std.specs.Prelude.{◌≡◌, ◌≤◌, ◌<◌, ◌-◌, length, slice_index, IfSome, IsSome};
+ghost use Rattle.commonmark_syntax.specs.Cuts.{IsCut};
 
 use crate::bytes::{is_continuation, is_space_or_line_ending};
 
@@ -19,6 +20,10 @@ const BYTES_MOST: usize = 4;
 pub fn scan(text: &[u8]) -> Option<usize>
     ensures most { IfSome result (λ size. size ≤ length text.now) }
     ensures least { IfSome result (λ size. 2 < size) }
+    ensures first { IsSome result → slice_index text.now 0 ≡ 91 }
+    ensures last { IfSome result (λ size. slice_index text.now (size - 1) ≡ 93) }
+    ensures cut { IfSome result (λ size. IsCut text.now size) }
+    ensures inside { IfSome result (λ size. IsCut text.now 1 × IsCut text.now (size - 1)) }
 {
     let inside = text.strip_prefix(b"[")?;
     let size = inside_length(inside)?;
@@ -27,7 +32,8 @@ pub fn scan(text: &[u8]) -> Option<usize>
 
 /// How many bytes come before the bracket that closes a label.
 fn inside_length(inside: &[u8]) -> Option<usize>
-    ensures { IfSome result (λ size. size < length inside.now) }
+    ensures within { IfSome result (λ size. size < length inside.now) }
+    ensures end { IfSome result (λ size. slice_index inside.now size ≡ 93) }
 {
     let mut is_escaped = false;
     for (size, byte) in inside

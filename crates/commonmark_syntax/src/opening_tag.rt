@@ -1,6 +1,7 @@
 //! Opening tags of HTML (CommonMark).
 
 ghost use Rattle.std.specs.Prelude.{◌≤◌, ◌<◌, length, IfSome};
+ghost use Rattle.commonmark_syntax.specs.Cuts.{IsCut};
 
 use crate::bytes::{after, white_space_length};
 use crate::{attribute, tag_name};
@@ -12,23 +13,25 @@ use crate::{attribute, tag_name};
 pub fn scan(text: &[u8]) -> Option<usize>
     ensures most { IfSome result (λ size. size ≤ length text.now) }
     ensures least { IfSome result (λ size. 2 < size) }
+    ensures cut { IfSome result (λ size. IsCut text.now size) }
 {
-    let name = text.strip_prefix(b"<")?;
-    let rest = after_attributes(after(name, tag_name::scan(name)?));
-    let end = match after(rest, white_space_length(rest)) {
-        [b'/', b'>', end @ ..] | [b'>', end @ ..] => end,
-        _ => return None,
-    };
-    Some(text.len() - end.len())
+    let name = 1 + tag_name::scan(text.strip_prefix(b"<")?)?;
+    let attributes = name + attributes_length(after(text, name));
+    let end = attributes + white_space_length(after(text, attributes));
+    match after(text, end) {
+        [b'/', b'>', ..] => Some(end + 2),
+        [b'>', ..] => Some(end + 1),
+        _ => None,
+    }
 }
 
-/// What comes after the attributes that a text begins with.
-fn after_attributes(text: &[u8]) -> &[u8]
-    ensures { length result.now ≤ length text.now }
+/// The length of the attributes that a text begins with.
+fn attributes_length(text: &[u8]) -> usize
+    ensures { result ≤ length text.now }
 {
-    let mut rest = text;
-    'attributes: while let Some(size) = attribute::scan(rest) {
-        rest = after(rest, size);
+    let mut size = 0;
+    'attributes: while let Some(attribute) = attribute::scan(after(text, size)) {
+        size += attribute;
     }
-    rest
+    size
 }

@@ -1,0 +1,30 @@
+-- Where a text may be cut, and what the bytes before an offset are.
+use Rattle.std.specs.Prelude.{Bool, List, None, Option, Some, if◌then◌else◌, length, slice_index, ℕ, ◌-◌, ◌<◌, ◌==◌, ◌^◌, ◌||◌, ◌≡◌, ◌≢◌, ◌≤◌}
+
+-- no character goes over an offset of a text: it is an end of the text, or a byte beside it is ASCII
+abbrev pub IsCut : List ℕ → ℕ → Type 0
+IsCut bytes i = 0 < i → i < length bytes → 128 ≤ slice_index bytes (i - 1) → slice_index bytes i < 128
+
+-- no line feed is among the first n bytes
+abbrev pub IsInLine : List ℕ → ℕ → Type 0
+IsInLine bytes n = (k : ℕ) → k < n → slice_index bytes k ≢ 10
+
+-- the first n bytes are all the same byte
+abbrev pub IsRunOf : List ℕ → ℕ → ℕ → Type 0
+IsRunOf bytes byte n = (k : ℕ) → k < n → slice_index bytes k ≡ byte
+
+-- a test gives an answer of bytes of ASCII alone
+abbrev pub IsOfAscii : (ℕ → Bool → Type 0) → Bool → Type 0
+IsOfAscii gives answer = (b : ℕ) → b < 2 ^ 8 → gives b answer → b < 128
+
+-- a test gives an answer of no line feed
+abbrev pub IsOfLine : (ℕ → Bool → Type 0) → Bool → Type 0
+IsOfLine gives answer = (b : ℕ) → b < 2 ^ 8 → gives b answer → b ≢ 10
+
+-- a byte is a space, a tab or a line feed
+abbrev pub is_white_space : ℕ → Bool
+is_white_space b = ((b == 32) || (b == 9)) || (b == 10)
+
+-- the marker that closes a title after the one that opens it
+abbrev pub closing_mark : ℕ → Option ℕ
+closing_mark opening = if (opening == 34) || (opening == 39) then Some opening else if opening == 40 then Some 41 else None
