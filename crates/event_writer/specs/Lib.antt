@@ -4,3 +4,4 @@ pub mod Finished
 pub mod Written
 pub mod Invariants
 pub mod Calls
+pub mod Stages

@@ -17,7 +17,7 @@ fn pieces(rt: HostRuntime) -> Result<(), AllocError> {
         &rt,
         alloc,
         "> [a\n> b]:\n> <>",
-        "(BlockQuote (BlockQuotePrefix BlockQuoteMarker:1 SpaceOrTab:2 ) (Definition (DefinitionLabel DefinitionLabelMarker:3 (DefinitionLabelString Text:4 LineEnding:5 (BlockQuotePrefix BlockQuoteMarker:6 SpaceOrTab:7 ) Text:8 ) DefinitionLabelMarker:9 ) DefinitionMarker:10 LineEnding:11 (BlockQuotePrefix BlockQuoteMarker:12 SpaceOrTab:13 ) (DefinitionDestination (DefinitionDestinationLiteral DefinitionDestinationLiteralMarker:14 DefinitionDestinationLiteralMarker:15 ) ) ) ) ",
+        "(BlockQuote BlockQuotePrefix:2 (Definition (DefinitionLabel DefinitionLabelMarker:3 (DefinitionLabelString Text:4 LineEnding:5 BlockQuotePrefix:7 Text:8 ) DefinitionLabelMarker:9 ) DefinitionMarker:10 LineEnding:11 BlockQuotePrefix:13 (DefinitionDestination (DefinitionDestinationLiteral DefinitionDestinationLiteralMarker:14 DefinitionDestinationLiteralMarker:15 ) ) ) ) ",
     )
 }
 

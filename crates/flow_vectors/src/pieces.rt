@@ -40,13 +40,13 @@ fn block_quotes(rt: HostRuntime) -> Result<(), AllocError> {
         &rt,
         alloc,
         "> a\n>\n>b",
-        "(BlockQuote (BlockQuotePrefix BlockQuoteMarker:1 SpaceOrTab:2 ) (Paragraph Text:3 ) LineEnding:4 (BlockQuotePrefix BlockQuoteMarker:5 ) BlankLineEnding:6 (BlockQuotePrefix BlockQuoteMarker:7 ) (Paragraph Text:8 ) ) ",
+        "(BlockQuote BlockQuotePrefix:2 (Paragraph Text:3 ) LineEnding:4 BlockQuotePrefix:5 BlankLineEnding:6 BlockQuotePrefix:7 (Paragraph Text:8 ) ) ",
     )?;
     shows(
         &rt,
         alloc,
         ">\t\ta",
-        "(BlockQuote (BlockQuotePrefix BlockQuoteMarker:1 SpaceOrTab:1+1 ) (CodeIndented SpaceOrTab:2+2 CodeFlowChunk:4 ) ) ",
+        "(BlockQuote BlockQuotePrefix:1+1 (CodeIndented SpaceOrTab:2+2 CodeFlowChunk:4 ) ) ",
     )
 }
 

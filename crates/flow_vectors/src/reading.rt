@@ -65,6 +65,7 @@ fn show(text: &mut String, piece: &Piece) -> Result<(), AllocError> {
         PieceKind::LineEnding => show_token(text, "LineEnding", piece),
         PieceKind::BlankLineEnding => show_token(text, "BlankLineEnding", piece),
         PieceKind::Text => show_token(text, "Text", piece),
+        PieceKind::BlockQuotePrefix => show_token(text, "BlockQuotePrefix", piece),
     }
 }
 

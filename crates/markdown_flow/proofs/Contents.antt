@@ -5,6 +5,7 @@ use Rattle.markdown_flow.specs.Contents.{AreKept, Kept, after_lines, prefix_of}
 use Rattle.markdown_flow.specs.Outputs.{next_of, spot_in}
 use Rattle.markdown_flow.specs.declared.content.KeptLine.{KeptLine}
 use Rattle.markdown_pieces.specs.Tilings.{Spot, Tiles}
+use Rattle.markdown_pieces.specs.Walks.{AreBetween}
 use Rattle.markdown_pieces.specs.declared.piece.Piece.{Piece}
 
 range_before : {X : Type 0} (xs ys : List X) (i j : ℕ) → i ≤ j → j ≤ length xs → slice_range (xs ++ ys) i j ≡ slice_range xs i j
@@ -17,11 +18,13 @@ range_after xs ys = grind (arith, common_steps)
 kept_more : (bytes : List ℕ) (prefixes more : List Piece) (from : Spot) (kept : KeptLine) → Kept bytes prefixes from kept → Kept bytes (prefixes ++ more) from kept
 kept_more bytes prefixes more from kept k =
     let within = k.within in
+    let same : prefix_of prefixes kept ≡ prefix_of (prefixes ++ more) kept = sym (range_before prefixes more kept.prefix_start kept.prefix_end k.order k.within) in
     record {
       document = k.document;
       order = k.order;
       within = grind (arith, common_steps);
-      prefix = subst (λ (ps : List Piece). Tiles bytes from ps (spot_in kept.line)) (sym (range_before prefixes more kept.prefix_start kept.prefix_end k.order k.within)) k.prefix;
+      prefix = subst (λ (ps : List Piece). Tiles bytes from ps (spot_in kept.line)) same k.prefix;
+      between = subst AreBetween same k.between;
     }
 
 pub are_kept_more : (bytes : List ℕ) (prefixes more : List Piece) (from : Spot) (lines : List KeptLine) → AreKept bytes prefixes from lines → AreKept bytes (prefixes ++ more) from lines
@@ -39,14 +42,15 @@ after_one_more from (other ∷ lines) kept = after_one_more (next_of other.line)
 
 -- its prefix comes last
 pub kept_last : (bytes : List ℕ) (prefixes prefix : List Piece) (from : Spot) (kept : KeptLine) → (kept.line.source).document.now ≡ bytes → kept.prefix_start ≡ length prefixes → kept.prefix_end ≡ length (prefixes ++ prefix) → Tiles bytes from prefix (spot_in kept.line)
-    → Kept bytes (prefixes ++ prefix) from kept
-kept_last bytes prefixes prefix from kept document start end tiles =
+    → AreBetween prefix → Kept bytes (prefixes ++ prefix) from kept
+kept_last bytes prefixes prefix from kept document start end tiles between =
     let is : prefix_of (prefixes ++ prefix) kept ≡ prefix = (λ t. slice_range (prefixes ++ prefix) (start t) (end t)) ∙ range_after prefixes prefix in
     record {
       document = document;
       order = grind (arith, common_steps);
       within = grind (arith, common_steps);
       prefix = subst (λ (ps : List Piece). Tiles bytes from ps (spot_in kept.line)) (sym is) tiles;
+      between = subst AreBetween (sym is) between;
     }
 
 -- ---- One line after the other

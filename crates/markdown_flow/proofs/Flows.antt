@@ -9,6 +9,7 @@ use Rattle.markdown_flow.specs.declared.leaf.Leaf.{Leaf}
 use Rattle.markdown_flow.specs.declared.line.Line.{Line}
 use Rattle.markdown_flow.specs.declared.output.Output.{Output}
 use Rattle.markdown_pieces.specs.Tilings.{Spot, Tiles}
+use Rattle.markdown_pieces.specs.Walks.{AreBetween}
 use Rattle.markdown_pieces.specs.declared.piece.Piece.{Piece}
 
 -- no lines are kept
@@ -19,6 +20,7 @@ none_kept bytes prefixes from lines none = subst (λ (ls : List KeptLine). AreKe
 pub reads_begun : (output : Output) (input : Input) (line : Line) (lines : List KeptLine) → IsAt output.cursor line → input.line ≡ line → input.prefix.items ≡ [] → lines ≡ [] → Reads (document_of output) (after_lines (spot output.cursor) lines) input
 reads_begun output input line lines at same taken none =
     record {
+      between = subst AreBetween (sym taken) tt;
       document = ap (λ (l : Line). l.source.document.now) same ∙ sym at.document;
       prefix = subst (λ (ls : List KeptLine). Tiles (document_of output) (after_lines (spot output.cursor) ls) input.prefix.items (spot_in input.line)) (sym none)
           (subst (λ (ps : List Piece). Tiles (document_of output) (spot output.cursor) ps (spot_in input.line)) (sym taken) (at.spot ∙ ap spot_in (sym same)));

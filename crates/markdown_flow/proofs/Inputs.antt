@@ -1,16 +1,21 @@
 -- The prefix of a line, one piece after the other.
-use Rattle.std.proofs.Common.{◌≡◌, ◌≤◌, ◌<◌, ◌+◌, ◌-◌, ◌∷◌, ◌++◌, ◌∙◌, ◌⊎◌, List, [], Some, ℕ, ap, arith, inl, inr, length, slice_get, subst, sym}
+use Rattle.std.proofs.Common.{◌≡◌, ◌≤◌, ◌<◌, ◌+◌, ◌-◌, ◌∷◌, ◌++◌, ◌∙◌, ◌⊎◌, List, [], Some, ℕ, ap, arith, drop, eq-or-lt_of_le, inl, inr, length, length-drop, slice_get, subst, sym}
 use Rattle.event_writer.specs.Calls.{CanReach}
 use Rattle.event_writer.specs.Places.{after_tab, column_at}
-use Rattle.markdown_flow.proofs.Lines.{end-within}
+use Rattle.markdown_flow.proofs.Lines.{after_spaces-length, end-within}
+use Rattle.markdown_flow.proofs.Moves.{moved_on}
 use Rattle.markdown_flow.specs.Moves.{HasMoved}
-use Rattle.markdown_flow.specs.Outputs.{Reads, spot_in}
+use Rattle.markdown_flow.specs.Outputs.{IsAt, Reads, spot_in}
 use Rattle.markdown_flow.specs.declared.input.Input.{Input}
 use Rattle.markdown_flow.specs.declared.line.Line.{Line}
+use Rattle.markdown_flow.specs.declared.output.Cursor.{Cursor}
 use Rattle.markdown_flow.specs.declared.line.Source.{Source}
 use Rattle.markdown_pieces.proofs.Tilings.{joined}
+use Rattle.markdown_pieces.proofs.Walks.{between_on}
 use Rattle.markdown_pieces.specs.Tilings.{Goes, Spot, Tiles, end_of, point}
+use Rattle.markdown_pieces.specs.Walks.{AreBetween, IsBetween}
 use Rattle.markdown_pieces.specs.declared.piece.Piece.{Piece}
+use Rattle.markdown_pieces.specs.declared.piece.PieceKind.TheVariants.{BlockQuotePrefix}
 
 -- a piece more
 pub read_on : (bytes : List ℕ) (from : Spot) (input : Input) (line : Line) (items : List Piece) (p : Piece) → Reads bytes from input → items ≡ input.prefix.items ++ p ∷ [] → Goes bytes p.kind (spot_in input.line) (end_of p) → end_of p ≡ spot_in line
@@ -18,17 +23,21 @@ pub read_on : (bytes : List ℕ) (from : Spot) (input : Input) (line : Line) (it
 read_on bytes from input line items p reads is goes end =
     subst (λ (ps : List Piece). Tiles bytes from ps (spot_in line)) (sym is) (joined bytes from (spot_in input.line) (spot_in line) input.prefix.items (p ∷ []) reads.prefix (goes, end))
 
+pub between_read : (bytes : List ℕ) (from : Spot) (input : Input) (items : List Piece) (p : Piece) → Reads bytes from input → items ≡ input.prefix.items ++ p ∷ [] → IsBetween p.kind → AreBetween items
+between_read bytes from input items p reads is between = subst AreBetween (sym is) (between_on input.prefix.items (p ∷ []) reads.between (between, tt))
+
 tab_at : List ℕ → ℕ → ℕ → Type 0
 tab_at bytes offset virtual_spaces = 0 < virtual_spaces → (slice_get bytes offset ≡ Some 9) × (column_at bytes offset + virtual_spaces < after_tab (column_at bytes offset))
 
--- a token can end where a cursor that has moved is
-pub line_reached : (old new : Line) → HasMoved old new → CanReach old.source.document.now (point (spot_in old)) (new.end - length new.rest.now) new.virtual_spaces
+-- a token that begins at a spot after a cursor can end where the cursor is that has moved
+reached_from : (old new : Line) (from : Spot) → HasMoved old new → old.end - length old.rest.now ≤ from.offset
+    → (from.offset < new.end - length new.rest.now) ⊎ ((from.offset ≡ new.end - length new.rest.now) × (from.virtual_spaces ≤ new.virtual_spaces))
+    → CanReach old.source.document.now (point from) (new.end - length new.rest.now) new.virtual_spaces
 unfolding tab_at
-line_reached old new moved =
+reached_from old new from moved after order =
     let bytes = old.source.document.now in
     let fits = old.rest_fits in
     let new_fits = new.rest_fits in
-    let start = moved.start in
     let end = moved.end in
     let within = old.whole.within in
     let last = end-within bytes old.start old.end old.next old.whole in
@@ -36,13 +45,59 @@ line_reached old new moved =
     let offset = new.end - length new.rest.now in
     let tab : tab_at new.source.document.now offset new.virtual_spaces = λ some. let t = new.has_columns.tab some in (t.0, subst (λ (n : ℕ). n < after_tab (column_at new.source.document.now offset)) new.has_columns.column t.1) in
     record {
-      order = by moved.order;
+      order = order;
       within = omega (arith, new_fits, end, within, last);
-      line = λ k least most. old.whole.in_line k (omega (arith, fits, least)) (omega (arith, most, end));
+      line = λ k least most. old.whole.in_line k (omega (arith, fits, after, least)) (omega (arith, most, end));
       tab = subst (λ (bs : List ℕ). tab_at bs offset new.virtual_spaces) same tab;
     }
+
+-- one that begins at the cursor
+pub line_reached : (old new : Line) → HasMoved old new → CanReach old.source.document.now (point (spot_in old)) (new.end - length new.rest.now) new.virtual_spaces
+line_reached old new moved = reached_from old new (spot_in old) moved (omega arith) (by moved.order)
   where
     by : (length new.rest.now < length old.rest.now) ⊎ ((length new.rest.now ≡ length old.rest.now) × (old.virtual_spaces ≤ new.virtual_spaces))
         → (old.end - length old.rest.now < new.end - length new.rest.now) ⊎ ((old.end - length old.rest.now ≡ new.end - length new.rest.now) × (old.virtual_spaces ≤ new.virtual_spaces))
     by (inl less) = inl (omega (arith, less, moved.end, old.rest_fits, new.rest_fits))
     by (inr same) = inr (omega (arith, same.0, moved.end), same.1)
+
+at_or_after : (i j n : ℕ) → i ≤ j → (i < j) ⊎ ((i ≡ j) × (0 ≤ n))
+at_or_after i j n least = by (eq-or-lt_of_le least)
+  where
+    by : (i ≡ j) ⊎ (i < j) → (i < j) ⊎ ((i ≡ j) × (0 ≤ n))
+    by (inl same) = inr (same, omega arith)
+    by (inr less) = inl less
+
+-- the prefix of a block quote can end where a cursor is that went over a byte, and maybe further
+pub quote_reached : (old mid new : Line) → HasMoved old mid → HasMoved mid new → 0 < length old.text.now → mid.rest.now ≡ drop 1 old.text.now → Goes old.source.document.now BlockQuotePrefix (spot_in old) (spot_in new)
+quote_reached old mid new first later some rest =
+    let offset = old.end - length old.rest.now in
+    let bytes = old.source.document.now in
+    let fits = old.rest_fits in
+    let last = end-within bytes old.start old.end old.next old.whole in
+    let within = old.whole.within in
+    let shorter : length old.text.now ≤ length old.rest.now = subst (λ (text : List ℕ). length text ≤ length old.rest.now) (sym old.text_rests) (after_spaces-length old.rest.now) in
+    let left : length mid.rest.now ≡ length old.text.now - 1 = ap (λ (text : List ℕ). length text) rest ∙ length-drop 1 old.text.now in
+    let reaches = not_longer later.order in
+    let moved = moved_on old mid new first later in (
+      record {
+        order = inl (omega arith);
+        within = omega (arith, shorter, some, fits, within, last);
+        line = λ k least most. old.whole.in_line k (omega (arith, fits, least)) (omega (arith, most, shorter, some, fits));
+        tab = λ less. absurd (omega arith);
+      },
+      reached_from old new (record { offset = offset + 1; virtual_spaces = 0 }) moved (omega arith) (at_or_after (offset + 1) (new.end - length new.rest.now) new.virtual_spaces (omega (arith, shorter, some, fits, left, reaches, moved.end))),
+    )
+  where
+    not_longer : (length new.rest.now < length mid.rest.now) ⊎ ((length new.rest.now ≡ length mid.rest.now) × (mid.virtual_spaces ≤ new.virtual_spaces)) → length new.rest.now ≤ length mid.rest.now
+    not_longer (inl less) = omega (arith, less)
+    not_longer (inr same) = omega (arith, same.0)
+
+-- a cursor comes before that of a line which has skipped some of its text
+pub skips_some : (cursor : Cursor) (old new : Line) (size : ℕ) → IsAt cursor old → HasMoved old new → 0 < size → size < length old.text.now → new.rest.now ≡ drop size old.text.now → cursor.offset < new.end - length new.rest.now
+skips_some cursor old new size at moved some less rest =
+    let fits = old.rest_fits in
+    let end = moved.end in
+    let offset : cursor.offset ≡ old.end - length old.rest.now = ap (λ (s : Spot). s.offset) at.spot in
+    let shorter : length old.text.now ≤ length old.rest.now = subst (λ (text : List ℕ). length text ≤ length old.rest.now) (sym old.text_rests) (after_spaces-length old.rest.now) in
+    let left : length new.rest.now ≡ length old.text.now - size = ap (λ (text : List ℕ). length text) rest ∙ length-drop size old.text.now in
+    omega (arith, fits, end, offset, shorter, left, some, less)

@@ -5,3 +5,6 @@ pub mod Contents
 pub mod Moves
 pub mod Flows
 pub mod Inputs
+pub mod Opens
+pub mod Containers
+pub mod Readers

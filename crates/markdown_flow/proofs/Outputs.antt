@@ -13,9 +13,12 @@ use Rattle.markdown_flow.specs.declared.output.Cursor.{Cursor}
 use Rattle.markdown_flow.specs.declared.output.Extent.{Extent}
 use Rattle.markdown_flow.specs.declared.output.Output.{Output}
 use Rattle.markdown_pieces.proofs.Tilings.{IsLike, inserted, joined, like_after, like_dropped, like_length, like_set, like_tiles}
-use Rattle.markdown_pieces.specs.Tilings.{Goes, Spot, Tiles, end_from, end_of, origin, point}
+use Rattle.markdown_pieces.specs.Tilings.{Goes, IsEnding, Spot, Tiles, end_from, end_of, origin, point}
+use Rattle.markdown_pieces.proofs.Walks.{between_on}
+use Rattle.markdown_pieces.specs.Walks.{AreBetween, IsBetween}
 use Rattle.markdown_pieces.specs.declared.piece.Piece.{Piece}
-use Rattle.markdown_pieces.specs.declared.piece.PieceKind.TheVariants.{LineEnding}
+use Rattle.markdown_pieces.specs.declared.piece.PieceKind.{PieceKind}
+use Rattle.markdown_pieces.specs.declared.piece.PieceKind.TheVariants.{BlankLineEnding, BlockQuotePrefix, Enter, Exit, LineEnding, Text, Token}
 
 none_after : {X : Type 0} (xs : List X) (k : ℕ) (ys : List X) → ys ≡ [] → xs ++ drop k ys ≡ xs
 none_after xs k ys none = grind (arith, common_steps)
@@ -28,6 +31,7 @@ pub stands_alone : (output : Output) → output.held.items ≡ [] → output.hel
 stands_alone output none start tiles = record {
   within = grind (arith, common_steps);
   tiles = subst (λ (ps : List Piece). Tiles (document_of output) origin ps (spot output.cursor)) (sym (none_after output.pieces.items output.held_start output.held.items none)) tiles;
+  between = subst AreBetween (sym none) tt;
 }
 
 -- a piece more
@@ -75,6 +79,22 @@ held_all output items more to w is tiles =
 pub held_on : (output : Output) (items : List Piece) (p : Piece) (to : Spot) → Stands output → items ≡ output.held.items ++ p ∷ [] → Goes (document_of output) p.kind (spot output.cursor) (end_of p) → end_of p ≡ to
     → (output.held_start ≤ length items) × Tiles (document_of output) origin (output.pieces.items ++ drop output.held_start items) to
 held_on output items p to w is goes end = held_all output items (p ∷ []) to w is (goes, end)
+
+-- all that is held stands between lines
+pub all_between : (output : Output) (items more : List Piece) → Stands output → items ≡ output.held.items ++ more → AreBetween more → AreBetween items
+all_between output items more w is between = subst AreBetween (sym is) (between_on output.held.items more w.between between)
+
+pub held_between : (output : Output) (items : List Piece) (p : Piece) → Stands output → items ≡ output.held.items ++ p ∷ [] → IsBetween p.kind → AreBetween items
+held_between output items p w is between = all_between output items (p ∷ []) w is (between, tt)
+
+pub ending_between : (k : PieceKind) → IsEnding k → IsBetween k
+ending_between LineEnding ends = tt
+ending_between BlankLineEnding ends = tt
+ending_between BlockQuotePrefix ends = absurd ends
+ending_between (Enter n) ends = absurd ends
+ending_between (Exit n) ends = absurd ends
+ending_between (Token n) ends = absurd ends
+ending_between Text ends = absurd ends
 
 -- a line ends at a cursor, if it has an ending
 pub ends_here : (cursor : Cursor) → IsPlaceIn cursor → cursor.offset ≡ (cursor.extent).end → cursor.offset ≢ (cursor.extent).next

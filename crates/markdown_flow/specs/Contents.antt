@@ -1,6 +1,7 @@
 -- Lines that are kept.
 use Rattle.std.specs.Prelude.{List, [], length, slice_range, ◌∷◌, ◌≡◌, ◌≤◌, ℕ}
 use Rattle.markdown_pieces.specs.Tilings.{Spot, Tiles}
+use Rattle.markdown_pieces.specs.Walks.{AreBetween}
 use Rattle.markdown_pieces.specs.declared.piece.Piece.{Piece}
 use Rattle.markdown_flow.specs.Outputs.{next_of, spot_in}
 use Rattle.markdown_flow.specs.declared.content.KeptLine.{KeptLine}
@@ -15,6 +16,7 @@ pub record Kept (bytes : List ℕ) (prefixes : List Piece) (from : Spot) (kept :
   pub order : kept.prefix_start ≤ kept.prefix_end
   pub within : kept.prefix_end ≤ length prefixes
   pub prefix : Tiles bytes from (prefix_of prefixes kept) (spot_in kept.line)
+  pub between : AreBetween (prefix_of prefixes kept)
 
 -- lines of a document are kept, one after the other, the first from a spot on
 abbrev pub AreKept : List ℕ → List Piece → Spot → List KeptLine → Type 0

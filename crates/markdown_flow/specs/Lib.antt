@@ -2,5 +2,10 @@ pub mod Lines
 pub mod Moves
 pub mod Outputs
 pub mod Contents
+pub mod Markers
+pub mod Containers
+pub mod Starts
+pub mod Leaves
 pub mod Flows
 pub mod Definitions
+pub mod Readers

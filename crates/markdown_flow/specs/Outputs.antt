@@ -1,9 +1,11 @@
 -- What is written so far, and what is read of a line.
-use Rattle.std.specs.Prelude.{List, Some, [], drop, length, slice_get, ℕ, ◌+◌, ◌++◌, ◌-◌, ◌<◌, ◌≡◌, ◌≤◌, ◌⊎◌}
+use Rattle.std.specs.Prelude.{Bool, List, OnOk, Result, Some, [], drop, length, slice_get, slice_range, ℕ, ◌+◌, ◌++◌, ◌-◌, ◌<◌, ◌≡◌, ◌≤◌, ◌⊎◌}
 use Rattle.event_writer.specs.Places.{after_tab, column_at}
+use Rattle.event_writer.specs.Stages.{Enclosing, Stage, flow}
 use Rattle.markdown_pieces.specs.Tilings.{Spot, Tiles, origin}
+use Rattle.markdown_pieces.specs.Walks.{AreBetween, State, Walks, at, start}
 use Rattle.markdown_pieces.specs.declared.piece.Piece.{Piece}
-use Rattle.markdown_flow.specs.Lines.{IsRest}
+use Rattle.markdown_flow.specs.Lines.{IsRest, after_spaces}
 use Rattle.markdown_flow.specs.declared.input.Input.{Input}
 use Rattle.markdown_flow.specs.declared.line.Line.{Line}
 use Rattle.markdown_flow.specs.declared.output.Cursor.{Cursor}
@@ -53,10 +55,11 @@ pub record IsPlaceIn (cursor : Cursor) : Type 0 where
 abbrev pub document_of : Output → List ℕ
 document_of output = ((output.cursor).extent).document.now
 
--- the pieces tile the document up to the cursor, with those that are held
+-- the pieces tile the document up to the cursor, with those that are held, which stand between lines
 pub record Stands (output : Output) : Type 0 where
   pub within : output.held_start ≤ length output.held.items
   pub tiles : Tiles (document_of output) origin (output.pieces.items ++ drop output.held_start output.held.items) (spot output.cursor)
+  pub between : AreBetween output.held.items
 
 -- a line is written. Nothing is held, and what is left of the line comes after the cursor
 pub record Writes (output : Output) : Type 0 where
@@ -79,7 +82,30 @@ pub record WritesOut (old new : Output) : Type 0 where
   pub next : ((new.cursor).extent).next ≡ ((old.cursor).extent).next
   pub ended : (new.cursor).offset ≡ ((new.cursor).extent).end
 
--- a line is read: its prefix goes from a spot of the document to its cursor
+-- a line is read: its prefix goes from a spot of the document to its cursor, and holds nothing but what stands between lines
 pub record Reads (bytes : List ℕ) (from : Spot) (input : Input) : Type 0 where
   pub document : ((input.line).source).document.now ≡ bytes
   pub prefix : Tiles bytes from input.prefix.items (spot_in input.line)
+  pub between : AreBetween input.prefix.items
+
+-- what is left of the line that is written, without the white space that it begins with
+abbrev pub text_of : Output → List ℕ
+text_of output = after_spaces (slice_range (document_of output) (output.cursor).offset ((output.cursor).extent).end)
+
+-- ---- The spans that are open
+
+-- the settled pieces lead to a state
+abbrev pub Opens : Output → State → Type 0
+Opens output s = Walks start output.pieces.items s
+
+-- what is written at a stage leads back to it
+abbrev pub Stays : Stage → Output → Output → Type 0
+Stays a old new = (outer : List Enclosing) → Opens old (at a outer) → Opens new (at a outer)
+
+-- the same of a call, unless it fails
+abbrev pub Keeps : {X E : Type 0} → Result X E → Stage → Output → Output → Type 0
+Keeps result a old new = (outer : List Enclosing) → Opens old (at a outer) → OnOk result (Opens new (at a outer))
+
+-- the same of blocks
+abbrev pub KeepsFlow : {X E : Type 0} → Result X E → Output → Output → Type 0
+KeepsFlow result old new = (numbered : Bool) → Keeps result (flow numbered) old new

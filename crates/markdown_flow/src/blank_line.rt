@@ -1,7 +1,8 @@
 //! Blank lines (CommonMark).
 
 ghost use Rattle.std.specs.Prelude.{OnOk, ◌≡◌};
-ghost use Rattle.markdown_flow.specs.Outputs.{Stands, document_of, spot};
+ghost use Rattle.event_writer.specs.Stages.{Stage};
+ghost use Rattle.markdown_flow.specs.Outputs.{Keeps, Stands, document_of, spot};
 ghost use Rattle.markdown_flow.specs.Contents.{AreKept, after_lines};
 
 use crate::content::Content;
@@ -18,6 +19,7 @@ pub fn hold_kept<'d>(content: &Content<'d>, output: &mut Output<'d>) -> Result<(
     ensures stands { OnOk result (Stands output.new) }
     ensures document { OnOk result (document_of output.new ≡ document_of output.old) }
     ensures spot { OnOk result (spot output.new.cursor ≡ after_lines (spot output.old.cursor) content.now.lines.items) }
+    ensures opens { (a : Stage) → Keeps result a output.old output.new }
 {
     for kept in content.lines() {
         output.hold_kept_blank(content.prefix_of(kept), &kept.line, kept.depth)?;

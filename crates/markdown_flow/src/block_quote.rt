@@ -1,11 +1,13 @@
 //! Block quotes (CommonMark).
 
-ghost use Rattle.std.specs.Prelude.{List, [], ℕ, OnOk, ◌≡◌};
-ghost use Rattle.markdown_flow.specs.Outputs.{IsAt, Writes, Reads};
+ghost use Rattle.std.specs.Prelude.{Bool, List, [], ℕ, OnOk, false, length, true, ◌≡◌, ◌<◌};
+ghost use Rattle.event_writer.specs.Stages.{Enclosing, flow};
+ghost use Rattle.markdown_events.specs.declared.event.Name.TheVariants.{BlockQuote};
+ghost use Rattle.markdown_flow.specs.Outputs.{IsAt, Opens, Writes, Reads};
 ghost use Rattle.markdown_flow.specs.Moves.{HasMoved};
 ghost use Rattle.markdown_pieces.specs.Tilings.{Spot};
+ghost use Rattle.markdown_pieces.specs.Walks.{at, inside};
 
-use crate::container::Container;
 use crate::input::Input;
 use crate::line::Line;
 use crate::output::Output;
@@ -18,7 +20,9 @@ pub fn begins(line: &Line<'_>) -> bool {
 }
 
 /// Whether a line has the marker of a block quote at its cursor.
-fn has_marker(line: &Line<'_>) -> bool {
+fn has_marker(line: &Line<'_>) -> bool
+    ensures { result ≡ true → 0 < length line.now.text.now }
+{
     !line.is_indented() && line.text().first() == Some(&b'>')
 }
 
@@ -32,15 +36,12 @@ pub fn continues(input: &mut Input<'_>) -> Result<bool, AllocError>
     }
     let indent = input.line.indent();
     input.columns(indent)?;
-    input.enter(Name::BlockQuotePrefix)?;
-    input.token(Name::BlockQuoteMarker, 1)?;
-    input.columns(1)?;
-    input.exit(Name::BlockQuotePrefix)?;
+    input.block_quote_prefix()?;
     Ok(true)
 }
 
 /// Writes the start of a block quote at the cursor of the line that is read.
-pub fn open<'d>(input: &mut Input<'d>, output: &mut Output<'d>) -> Result<Container, AllocError>
+pub fn open<'d>(input: &mut Input<'d>, output: &mut Output<'d>) -> Result<(), AllocError>
     requires writes { Writes output.old }
     requires at { IsAt output.old.cursor input.old.line }
     requires taken { input.old.prefix.items ≡ [] }
@@ -48,9 +49,9 @@ pub fn open<'d>(input: &mut Input<'d>, output: &mut Output<'d>) -> Result<Contai
     ensures at { OnOk result (IsAt output.new.cursor input.new.line) }
     ensures taken { OnOk result (input.new.prefix.items ≡ []) }
     ensures moved { OnOk result (HasMoved input.old.line input.new.line) }
+    ensures opens { (n : Bool) → (outer : List Enclosing) → Opens output.old (at (flow n) outer) → OnOk result (Opens output.new (at (flow false) (inside BlockQuote (flow n) outer))) }
 {
     output.enter(Name::BlockQuote)?;
     continues(input)?;
-    output.begin(input)?;
-    Ok(Container::BlockQuote)
+    output.begin(input)
 }

@@ -1,7 +1,7 @@
 //! The byte order mark at the start of a document (micromark).
 
 ghost use Rattle.std.specs.Prelude.{OnOk, IfOk, ◌≡◌};
-ghost use Rattle.markdown_flow.specs.Outputs.{Stands, document_of, spot, spot_in};
+ghost use Rattle.markdown_flow.specs.Outputs.{KeepsFlow, Stands, document_of, spot, spot_in};
 
 use crate::line::Line;
 use crate::output::Output;
@@ -19,6 +19,7 @@ pub fn write<'d>(first: Line<'d>, output: &mut Output<'d>) -> Result<Line<'d>, A
     ensures stands { OnOk result (Stands output.new) }
     ensures document { OnOk result (document_of output.new ≡ document_of output.old) }
     ensures line { IfOk result (λ line. (line.source ≡ first.entry.source) × (spot output.new.cursor ≡ spot_in line)) }
+    ensures opens { KeepsFlow result output.old output.new }
 {
     if !first.rest().starts_with(BYTE_ORDER_MARK) {
         return Ok(first);

@@ -1,11 +1,15 @@
-//! Fenced code: its first fence (CommonMark).
+//! Fenced code (CommonMark).
 
-ghost use Rattle.std.specs.Prelude.{OnOk};
-ghost use Rattle.markdown_flow.specs.Outputs.{Writes, WritesOut};
+ghost use Rattle.std.specs.Prelude.{Bool, List, OnOk};
+ghost use Rattle.event_writer.specs.Stages.{Enclosing, code_fence, nothing};
+ghost use Rattle.markdown_flow.specs.Leaves.{in_flow, in_raw};
+ghost use Rattle.markdown_flow.specs.Outputs.{Opens, Writes, WritesOut};
+ghost use Rattle.markdown_flow.specs.declared.raw_flow.RawFlow.TheVariants.{Code};
+ghost use Rattle.markdown_pieces.specs.Walks.{at};
 
 use crate::line::Line;
 use crate::output::Output;
-use crate::raw_flow::{Fence, RawFlow, write_meta};
+use crate::raw_flow::{Fence, RawFlow, write_closing, write_meta};
 use commonmark_syntax::bytes::{after, count_while, is_space_or_tab, run_length};
 use markdown_events::event::Name;
 use std::alloc::AllocError;
@@ -34,10 +38,37 @@ pub fn begins(line: &Line<'_>) -> Option<Fence> {
     })
 }
 
+/// Writes the line of a fence of so many signs, after the white space that it begins with.
+pub fn open(size: usize, output: &mut Output<'_>) -> Result<(), AllocError>
+    requires { Writes output.old }
+    ensures written { OnOk result (WritesOut output.old output.new) }
+    ensures opens { (n : Bool) → (outer : List Enclosing) → Opens output.old (in_flow n outer) → OnOk result (Opens output.new (in_raw Code n outer)) }
+{
+    output.enter(Name::CodeFenced)?;
+    output.enter(Name::CodeFencedFence)?;
+    output.token(Name::CodeFencedFenceSequence, size)?;
+    output.white_space()?;
+    write_info(output)?;
+    output.exit(Name::CodeFencedFence)
+}
+
+/// Writes the line of a fence of so many signs, which closes.
+pub fn close(size: usize, output: &mut Output<'_>) -> Result<(), AllocError>
+    requires { Writes output.old }
+    ensures written { OnOk result (WritesOut output.old output.new) }
+    ensures opens { (n : Bool) → (outer : List Enclosing) → Opens output.old (in_raw Code n outer) → OnOk result (Opens output.new (in_flow n outer)) }
+{
+    output.enter(Name::CodeFencedFence)?;
+    write_closing(Name::CodeFencedFenceSequence, size, output)?;
+    output.exit(Name::CodeFencedFence)?;
+    output.exit(Name::CodeFenced)
+}
+
 /// Writes the info and the meta of a fence, with which the line ends (micromark).
 pub fn write_info(output: &mut Output<'_>) -> Result<(), AllocError>
     requires { Writes output.old }
-    ensures { OnOk result (WritesOut output.old output.new) }
+    ensures written { OnOk result (WritesOut output.old output.new) }
+    ensures opens { (outer : List Enclosing) → Opens output.old (at code_fence outer) → OnOk result (Opens output.new (at nothing outer)) }
 {
     let size = count_while(output.rest(), |byte| !is_space_or_tab(byte));
     output.string(Name::CodeFencedFenceInfo, size)?;

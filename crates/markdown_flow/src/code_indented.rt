@@ -1,11 +1,14 @@
 //! Indented code (CommonMark).
 
-ghost use Rattle.std.specs.Prelude.{OnOk, ◌≡◌};
-ghost use Rattle.markdown_flow.specs.Outputs.{IsAt, Stands, Writes, WritesOut, document_of, spot};
-ghost use Rattle.markdown_flow.specs.Contents.{AreKept, after_lines};
+ghost use Rattle.std.specs.Prelude.{Bool, List, OnOk, false, ◌≡◌};
+ghost use Rattle.event_writer.specs.Stages.{Enclosing, flow, inlines};
+ghost use Rattle.markdown_events.specs.declared.event.Name.TheVariants.{CodeIndented};
+ghost use Rattle.markdown_flow.specs.Outputs.{IsAt, Keeps, Opens, Stands, Writes, WritesOut, document_of, next_of, spot};
+ghost use Rattle.markdown_flow.specs.Contents.{AreKept, Kept, after_lines};
 ghost use Rattle.markdown_flow.specs.Moves.{HasMoved};
+ghost use Rattle.markdown_pieces.specs.Walks.{at, inside};
 
-use crate::content::Content;
+use crate::content::{Content, KeptLine};
 use crate::line::{Line, TAB_SIZE};
 use crate::output::Output;
 use markdown_events::event::Name;
@@ -17,6 +20,7 @@ pub fn open<'d>(line: &mut Line<'d>, output: &mut Output<'d>) -> Result<(), Allo
     requires at { IsAt output.old.cursor line.old }
     ensures written { OnOk result (WritesOut output.old output.new) }
     ensures moved { HasMoved line.old line.new }
+    ensures opens { (n : Bool) → (outer : List Enclosing) → Opens output.old (at (flow n) outer) → OnOk result (Opens output.new (at (inlines false) (inside CodeIndented (flow n) outer))) }
 {
     output.enter(Name::CodeIndented)?;
     write_line(line, output)
@@ -28,6 +32,7 @@ pub fn write_line<'d>(line: &mut Line<'d>, output: &mut Output<'d>) -> Result<()
     requires at { IsAt output.old.cursor line.old }
     ensures written { OnOk result (WritesOut output.old output.new) }
     ensures moved { HasMoved line.old line.new }
+    ensures opens { Keeps result (inlines false) output.old output.new }
 {
     output.columns(line, TAB_SIZE)?;
     output.token_of_rest(Name::CodeFlowChunk)
@@ -43,12 +48,29 @@ pub fn write_blank_lines<'d>(
     ensures stands { OnOk result (Stands output.new) }
     ensures document { OnOk result (document_of output.new ≡ document_of output.old) }
     ensures spot { OnOk result (spot output.new.cursor ≡ after_lines (spot output.old.cursor) content.now.lines.items) }
+    ensures opens { Keeps result (inlines false) output.old output.new }
 {
     for kept in content.lines() {
-        content.begin(kept, output)?;
-        let mut line = kept.line;
-        write_line(&mut line, output)?;
-        output.end_line()?;
+        write_blank_line(content, kept, output)?;
     }
     Ok(())
+}
+
+/// Writes a blank line that turned out to be in the code.
+fn write_blank_line<'d>(
+    content: &Content<'d>,
+    kept: &KeptLine<'d>,
+    output: &mut Output<'d>,
+) -> Result<(), AllocError>
+    requires stands { Stands output.old }
+    requires kept { Kept (document_of output.old) content.now.prefixes.items (spot output.old.cursor) kept.now }
+    ensures stands { OnOk result (Stands output.new) }
+    ensures document { OnOk result (document_of output.new ≡ document_of output.old) }
+    ensures spot { OnOk result (spot output.new.cursor ≡ next_of kept.now.line) }
+    ensures opens { Keeps result (inlines false) output.old output.new }
+{
+    content.begin(kept, output)?;
+    let mut line = kept.line;
+    write_line(&mut line, output)?;
+    output.end_line()
 }

@@ -1,6 +1,6 @@
 //! Containers: block quotes, items of lists and footnote definitions (CommonMark, GFM).
 
-ghost use Rattle.std.specs.Prelude.{List, ℕ, OnOk};
+ghost use Rattle.std.specs.Prelude.{Bool, List, ℕ, OnOk, IfSome, ◌≡◌};
 ghost use Rattle.markdown_flow.specs.Outputs.{Reads};
 ghost use Rattle.markdown_flow.specs.Moves.{HasMoved};
 ghost use Rattle.markdown_pieces.specs.Tilings.{Spot};
@@ -9,7 +9,6 @@ use crate::input::Input;
 use crate::line::Line;
 use crate::list_item::{self, Item, ItemStart};
 use crate::{block_quote, gfm_footnote_definition};
-use markdown_events::event::Name;
 use std::alloc::AllocError;
 
 /// An open container.
@@ -35,19 +34,15 @@ pub enum ContainerStart {
 }
 
 impl Container {
-    /// The name of its span.
-    pub fn name(self) -> Name {
-        match self {
-            Container::BlockQuote => Name::BlockQuote,
-            Container::ListItem(_) => Name::ListItem,
-            Container::FootnoteDefinition => Name::GfmFootnoteDefinition,
-        }
-    }
+    ghost use Rattle.event_writer.specs.Stages.{Enclosing};
+    ghost use Rattle.markdown_flow.specs.Containers.{has_number, in_container};
 
     /// Whether it goes on in a line. If it does, its prefix is read.
     pub fn continues(&mut self, input: &mut Input<'_>) -> Result<bool, AllocError>
         ensures reads { (bytes : List ℕ) → (from : Spot) → Reads bytes from input.old → OnOk result (Reads bytes from input.new) }
         ensures moved { OnOk result (HasMoved input.old.line input.new.line) }
+        ensures number { has_number self.new ≡ has_number self.old }
+        ensures spans { (n : Bool) → (outer : List Enclosing) → in_container self.new n outer ≡ in_container self.old n outer }
     {
         match self {
             Container::BlockQuote => block_quote::continues(input),
@@ -66,9 +61,13 @@ impl Container {
 }
 
 impl ContainerStart {
+    ghost use Rattle.markdown_flow.specs.Starts.{IsContainerStart, marker_of};
+
     /// The container that begins at the cursor of a line, if one does. Not every item can interrupt a
     /// paragraph (CommonMark).
-    pub fn find(line: &Line<'_>, interrupts: bool) -> Option<ContainerStart> {
+    pub fn find(line: &Line<'_>, interrupts: bool) -> Option<ContainerStart>
+        ensures { IfSome result (λ start. IsContainerStart start line.now) }
+    {
         if line.is_indented() {
             return None;
         }
@@ -83,7 +82,9 @@ impl ContainerStart {
     }
 
     /// The marker of the item that begins, if it is one.
-    pub fn marker(self) -> Option<u8> {
+    pub fn marker(self) -> Option<u8>
+        ensures { result ≡ marker_of self }
+    {
         match self {
             ContainerStart::ListItem(start) => Some(start.marker),
             _ => None,

@@ -1,10 +1,12 @@
 //! Content: lines that are kept until it is known what they are (micromark). They are those of a paragraph,
 //! which may turn out to be definitions, a heading or a table, and blank lines after indented code.
 
-ghost use Rattle.std.specs.Prelude.{List, [], ℕ, OnOk, length, ◌≡◌, ◌≤◌};
-ghost use Rattle.markdown_flow.specs.Outputs.{IsAt, Stands, Writes, Reads, document_of, line_after, next_of, spot};
+ghost use Rattle.std.specs.Prelude.{Bool, List, [], ℕ, OnOk, IfSome, length, true, ◌≡◌, ◌≤◌};
+ghost use Rattle.event_writer.specs.Stages.{Enclosing, Stage, inlines, takes_line_endings};
+ghost use Rattle.markdown_flow.specs.Outputs.{IsAt, Keeps, Opens, Stands, Writes, Reads, document_of, line_after, next_of, spot};
 ghost use Rattle.markdown_flow.specs.Contents.{Kept, AreKept, after_lines, prefix_of};
 ghost use Rattle.markdown_pieces.specs.Tilings.{Spot};
+ghost use Rattle.markdown_pieces.specs.Walks.{at, stage_after_string};
 
 use crate::input::Input;
 use crate::line::Line;
@@ -103,14 +105,28 @@ impl<'d> Content<'d> {
         ensures stands { OnOk result (Stands output.new) }
         ensures document { OnOk result (document_of output.new ≡ document_of output.old) }
         ensures spot { OnOk result (spot output.new.cursor ≡ after_lines (line_after output.old.cursor) later.now) }
+        ensures opens { (a : Stage) → (outer : List Enclosing) → Opens output.old (at a outer) → OnOk result (IfSome (stage_after_string a name) (λ b. Opens output.new (at b outer))) }
     {
         output.enter(name)?;
         write_text_of_line(output)?;
         for kept in later {
-            self.begin(kept, output)?;
-            write_text_of_line(output)?;
+            self.write_text_of(kept, output)?;
         }
-        output.exit_before_held(name)
+        output.exit_before_held(name)?;
+        Ok(())
+    }
+
+    /// Writes the text of a line, with what comes before it.
+    fn write_text_of(&self, kept: &KeptLine<'d>, output: &mut Output<'d>) -> Result<(), AllocError>
+        requires stands { Stands output.old }
+        requires kept { Kept (document_of output.old) self.now.prefixes.items (spot output.old.cursor) kept.now }
+        ensures stands { OnOk result (Stands output.new) }
+        ensures document { OnOk result (document_of output.new ≡ document_of output.old) }
+        ensures spot { OnOk result (spot output.new.cursor ≡ next_of kept.now.line) }
+        ensures opens { (h : Bool) → Keeps result (inlines h) output.old output.new }
+    {
+        self.begin(kept, output)?;
+        write_text_of_line(output)
     }
 
     /// Begins a line: writes what comes before it, and its prefix.
@@ -119,6 +135,7 @@ impl<'d> Content<'d> {
         requires kept { Kept (document_of output.old) self.now.prefixes.items (spot output.old.cursor) kept.now }
         ensures writes { OnOk result (Writes output.new) }
         ensures at { OnOk result (IsAt output.new.cursor kept.now.line) }
+        ensures opens { (a : Stage) → takes_line_endings a ≡ true → Keeps result a output.old output.new }
     {
         output.begin_kept(self.prefix_of(kept), &kept.line)
     }
@@ -130,6 +147,7 @@ fn write_text_of_line(output: &mut Output<'_>) -> Result<(), AllocError>
     ensures stands { OnOk result (Stands output.new) }
     ensures document { OnOk result (document_of output.new ≡ document_of output.old) }
     ensures spot { OnOk result (spot output.new.cursor ≡ line_after output.old.cursor) }
+    ensures opens { (h : Bool) → Keeps result (inlines h) output.old output.new }
 {
     output.white_space()?;
     let size = output.rest().len();

@@ -1,9 +1,14 @@
 //! Definitions of links, as pieces (micromark).
 
-ghost use Rattle.std.specs.Prelude.{OnOk, IfOk, IfSome, length, ◌≡◌, ◌≤◌, ◌<◌, ◌+◌, ◌-◌};
-ghost use Rattle.markdown_flow.specs.Outputs.{Stands, document_of, spot};
+ghost use Rattle.std.specs.Prelude.{List, OnOk, IfOk, IfSome, Some, length, true, ◌≡◌, ◌≤◌, ◌<◌, ◌+◌, ◌-◌};
+ghost use Rattle.event_writer.specs.Stages.{Enclosing, Stage, definition, definition_destination, definition_title, endings, skips, takes_line_endings};
+ghost use Rattle.markdown_events.specs.Names.{role_of};
+ghost use Rattle.markdown_events.specs.declared.role.Role.TheVariants.{Transparent};
+ghost use Rattle.markdown_events.specs.declared.role.TransparentKind.TheVariants.{Other};
+ghost use Rattle.markdown_flow.specs.Outputs.{Keeps, KeepsFlow, Opens, Stands, document_of, spot};
 ghost use Rattle.markdown_flow.specs.Contents.{AreKept, after_lines};
 ghost use Rattle.markdown_pieces.specs.Tilings.{IsToken};
+ghost use Rattle.markdown_pieces.specs.Walks.{at, stage_after, stage_after_string};
 ghost use Rattle.markdown_flow.specs.Definitions.{joined_size, left, IsBeforeLine, IsInText, HasBegun, end_before, end_in, GoesOn};
 
 use crate::content::{Content, KeptLine};
@@ -54,6 +59,7 @@ pub fn write<'c, 'd>(
     ensures document { OnOk result (document_of output.new ≡ document_of output.old) }
     ensures rest { IfOk result (λ rest. AreKept (document_of output.new) content.now.prefixes.items (spot output.new.cursor) rest.now) }
     ensures end { IfOk result (λ rest. after_lines (spot output.new.cursor) rest.now ≡ after_lines (spot output.old.cursor) lines.now) }
+    ensures opens { KeepsFlow result output.old output.new }
 {
     if !may_begin(lines) {
         return Ok(lines);
@@ -94,6 +100,7 @@ impl<'d> PartWriter<'_, '_, 'd> {
         ensures on { OnOk result (GoesOn self.old self.new output.old output.new) }
         ensures end { OnOk result (end_before self.new output.new ≡ end_before self.old output.old) }
         ensures less { OnOk result (self.old.at < self.new.at) }
+        ensures opens { KeepsFlow result output.old output.new }
     {
         self.begin_line(output)?;
         output.enter(Name::Definition)?;
@@ -124,6 +131,7 @@ impl<'d> PartWriter<'_, '_, 'd> {
         ensures on { OnOk result (GoesOn self.old self.new output.old output.new) }
         ensures at { self.new.at ≡ self.old.at }
         ensures end { OnOk result (end_in self.new output.new ≡ end_before self.old output.old) }
+        ensures opens { (a : Stage) → takes_line_endings a ≡ true → Keeps result a output.old output.new }
     {
         match self.lines.first() {
             Some(kept) => self.content.begin(kept, output),
@@ -138,6 +146,7 @@ impl<'d> PartWriter<'_, '_, 'd> {
         ensures on { OnOk result (GoesOn self.old self.new output.old output.new) }
         ensures at { self.new.at ≡ self.old.at }
         ensures end { OnOk result (end_in self.new output.new ≡ end_in self.old output.old) }
+        ensures opens { (a : Stage) → Keeps result a output.old output.new }
     {
         output.white_space()
     }
@@ -150,6 +159,7 @@ impl<'d> PartWriter<'_, '_, 'd> {
         ensures on { OnOk result (GoesOn self.old self.new output.old output.new) }
         ensures at { OnOk result (self.new.at ≡ self.old.at + 1) }
         ensures end { OnOk result (end_before self.new output.new ≡ end_in self.old output.old) }
+        ensures opens { (a : Stage) → Keeps result a output.old output.new }
     {
         output.end_line()?;
         self.at += 1;
@@ -173,6 +183,7 @@ impl<'d> PartWriter<'_, '_, 'd> {
         ensures on { OnOk result (GoesOn self.old self.new output.old output.new) }
         ensures order { OnOk result (self.old.at ≤ self.new.at) }
         ensures end { OnOk result (end_in self.new output.new ≡ end_in self.old output.old) }
+        ensures opens { (a : Stage) → takes_line_endings a ≡ true → stage_after a kind ≡ Some a → Keeps result a output.old output.new }
     {
         for _ in self.at..to {
             if to.saturating_sub(self.at) <= output.rest().len() {
@@ -196,6 +207,7 @@ impl<'d> PartWriter<'_, '_, 'd> {
         ensures lines { self.new.lines ≡ self.old.lines }
         ensures ended { OnOk result (left output.new.cursor ≡ 0) }
         ensures end { OnOk result (end_in self.new output.new ≡ end_in self.old output.old) }
+        ensures opens { (a : Stage) → stage_after a kind ≡ Some a → Keeps result a output.old output.new }
     {
         let size = output.rest().len();
         self.write_in_line(kind, size, output)
@@ -216,6 +228,7 @@ impl<'d> PartWriter<'_, '_, 'd> {
         ensures lines { self.new.lines ≡ self.old.lines }
         ensures left { OnOk result (left output.new.cursor ≡ left output.old.cursor - size) }
         ensures end { OnOk result (end_in self.new output.new ≡ end_in self.old output.old) }
+        ensures opens { (a : Stage) → stage_after a kind ≡ Some a → Keeps result a output.old output.new }
     {
         let size = size.min(output.rest().len());
         self.at += size;
@@ -235,13 +248,15 @@ impl<'d> PartWriter<'_, '_, 'd> {
         ensures on { OnOk result (GoesOn self.old self.new output.old output.new) }
         ensures order { OnOk result (self.old.at ≤ self.new.at) }
         ensures end { OnOk result (end_in self.new output.new ≡ end_in self.old output.old) }
+        ensures opens { (a : Stage) → (outer : List Enclosing) → Opens output.old (at a outer) → OnOk result (IfSome (stage_after_string a name) (λ b. skips a b ≡ true → Opens output.new (at b outer))) }
     {
         if part.is_empty() {
             return Ok(());
         }
         output.enter(name)?;
         self.part(PieceKind::Text, part.string_end, output)?;
-        output.exit(name)
+        output.exit(name)?;
+        Ok(())
     }
 
     /// Writes a label.
@@ -252,6 +267,7 @@ impl<'d> PartWriter<'_, '_, 'd> {
         ensures on { OnOk result (GoesOn self.old self.new output.old output.new) }
         ensures order { OnOk result (self.old.at ≤ self.new.at) }
         ensures end { OnOk result (end_in self.new output.new ≡ end_in self.old output.old) }
+        ensures opens { (outer : List Enclosing) → Opens output.old (at definition outer) → OnOk result (Opens output.new (at definition_destination outer)) }
     {
         let marker = PieceKind::Token(Name::DefinitionLabelMarker);
         output.enter(Name::DefinitionLabel)?;
@@ -273,20 +289,39 @@ impl<'d> PartWriter<'_, '_, 'd> {
         ensures on { OnOk result (GoesOn self.old self.new output.old output.new) }
         ensures order { OnOk result (self.old.at ≤ self.new.at) }
         ensures end { OnOk result (end_in self.new output.new ≡ end_in self.old output.old) }
+        ensures opens { (outer : List Enclosing) → Opens output.old (at definition_destination outer) → OnOk result (Opens output.new (at definition_title outer)) }
     {
-        let around = if destination.is_marked() {
-            Name::DefinitionDestinationLiteral
-        } else {
-            Name::DefinitionDestinationRaw
-        };
-        let marker = PieceKind::Token(Name::DefinitionDestinationLiteralMarker);
         output.enter(Name::DefinitionDestination)?;
-        output.enter(around)?;
+        if destination.is_marked() {
+            self.write_address(Name::DefinitionDestinationLiteral, destination, output)?;
+            return output.exit(Name::DefinitionDestination);
+        }
+        self.write_address(Name::DefinitionDestinationRaw, destination, output)?;
+        output.exit(Name::DefinitionDestination)
+    }
+
+    /// Writes the address of a destination in a span of a name, which is transparent.
+    fn write_address(
+        &mut self,
+        name: Name,
+        destination: &Part,
+        output: &mut Output<'d>,
+    ) -> Result<(), AllocError>
+        requires text { IsInText self.old output.old }
+        requires fits { destination.now.end < length self.old.text.now }
+        requires name { role_of name ≡ Transparent Other }
+        ensures text { OnOk result (IsInText self.new output.new) }
+        ensures on { OnOk result (GoesOn self.old self.new output.old output.new) }
+        ensures order { OnOk result (self.old.at ≤ self.new.at) }
+        ensures end { OnOk result (end_in self.new output.new ≡ end_in self.old output.old) }
+        ensures opens { (outer : List Enclosing) → Opens output.old (at definition_destination outer) → OnOk result (Opens output.new (at definition_title outer)) }
+    {
+        let marker = PieceKind::Token(Name::DefinitionDestinationLiteralMarker);
+        output.enter(name)?;
         self.part(marker, destination.string_start, output)?;
         self.write_string(Name::DefinitionDestinationString, destination, output)?;
         self.part(marker, destination.end, output)?;
-        output.exit(around)?;
-        output.exit(Name::DefinitionDestination)
+        output.exit(name)
     }
 
     /// Writes a title and the white space before it, if there is one.
@@ -301,6 +336,7 @@ impl<'d> PartWriter<'_, '_, 'd> {
         ensures on { OnOk result (GoesOn self.old self.new output.old output.new) }
         ensures order { OnOk result (self.old.at ≤ self.new.at) }
         ensures end { OnOk result (end_in self.new output.new ≡ end_in self.old output.old) }
+        ensures opens { (outer : List Enclosing) → Opens output.old (at definition_title outer) → OnOk result (Opens output.new (at endings outer)) }
     {
         let Some(title) = title else {
             return Ok(());

@@ -1,15 +1,22 @@
 //! Documents: the containers that are open, and what a line does to them (micromark).
 
-ghost use Rattle.std.specs.Prelude.{List, [], ℕ, OnOk, IfOk, IfSome, IfNone, length, ◌≡◌, false, true};
-ghost use Rattle.markdown_flow.specs.Outputs.{IsAt, Stands, Writes, Reads, document_of, next_of, spot, spot_in};
-ghost use Rattle.markdown_flow.specs.Moves.{HasMoved};
-ghost use Rattle.markdown_pieces.specs.Tilings.{Spot, Tiles, origin};
+ghost use Rattle.std.specs.Prelude.{List, [], ℕ, None, OnOk, IfOk, IfSome, IfNone, Some, length, ◌≡◌, ◌≤◌, ◌<◌, ◌-◌, false, true};
+ghost use Rattle.event_writer.specs.Stages.{flow};
+ghost use Rattle.markdown_flow.specs.Markers.{is_ordered};
 ghost use Rattle.markdown_flow.specs.Flows.{StandsWith, end_with};
+ghost use Rattle.markdown_flow.specs.Moves.{HasMoved};
+ghost use Rattle.markdown_flow.specs.Outputs.{IsAt, Opens, Stands, Writes, Reads, document_of, next_of, spot, spot_in};
+ghost use Rattle.markdown_flow.specs.Readers.{OpensAll, goes_on, in_containers, in_last, in_last_item, in_list_of};
+ghost use Rattle.markdown_flow.specs.Starts.{IsContainerStart, marker_of};
+ghost use Rattle.markdown_flow.specs.declared.leaf.Leaf.TheVariants as leaves;
+ghost use Rattle.markdown_pieces.specs.Tilings.{Spot, Tiles, origin};
+ghost use Rattle.markdown_pieces.specs.Walks.{Walks, at, start};
 
 use crate::container::{Container, ContainerStart};
 use crate::flow::Flow;
 use crate::input::Input;
 use crate::line::{Line, Source};
+use crate::list_item::{Item, ItemStart};
 use crate::output::Output;
 use crate::{block_quote, byte_order_mark, frontmatter, gfm_footnote_definition, list_item};
 use markdown_events::event::Name;
@@ -37,7 +44,9 @@ pub struct Blocks {
 /// Of `# a` the pieces are those that [`Piece`] shows, and there are no identifiers.
 pub fn read(alloc: Global, document: &[u8], options: &ParseOptions) -> Result<Blocks, AllocError>
     // The pieces tile the document: they go from its first byte to its last, and no token leaves its line.
-    ensures { IfOk result (λ blocks. Tiles document.now origin blocks.pieces.items (record { offset = length document.now; virtual_spaces = 0 })) }
+    ensures tiles { IfOk result (λ blocks. Tiles document.now origin blocks.pieces.items (record { offset = length document.now; virtual_spaces = 0 })) }
+    // The spans nest, each stands where the grammar takes it, and none is left open.
+    ensures nest { IfOk result (λ blocks. Walks start blocks.pieces.items start) }
 {
     if document.len() >= 1 << 61 {
         return Err(AllocError);
@@ -71,6 +80,9 @@ impl<'d> Reader<'d> {
         ensures none { result.flow.content.lines.items ≡ [] }
         ensures document { document_of result.output ≡ document.now }
         ensures spot { spot result.output.cursor ≡ origin }
+        ensures opens { OpensAll result }
+        ensures leaf { result.flow.leaf ≡ leaves.None }
+        ensures containers { result.containers.items ≡ [] }
     {
         Reader {
             output: Output::new(alloc, document),
@@ -85,10 +97,14 @@ impl<'d> Reader<'d> {
         requires document { document_of self.old.output ≡ source.document.now }
         requires none { self.old.flow.content.lines.items ≡ [] }
         requires end { spot self.old.output.cursor ≡ origin }
+        requires containers { self.old.containers.items ≡ [] }
+        requires leaf { self.old.flow.leaf ≡ leaves.None }
+        requires opens { OpensAll self.old }
         ensures stands { OnOk result (StandsWith self.new.flow self.new.output) }
         ensures document { OnOk result (document_of self.new.output ≡ document_of self.old.output) }
         ensures first { IfOk result (λ found. IfSome found (λ line. (line.source.document.now ≡ source.entry.document.now) × (end_with self.new.flow self.new.output ≡ spot_in line))) }
         ensures none { IfOk result (λ found. IfNone found (end_with self.new.flow self.new.output ≡ record { offset = length source.entry.document.now; virtual_spaces = 0 })) }
+        ensures opens { OnOk result (OpensAll self.new) }
     {
         let Some(first) = Line::new(source, 0) else {
             return Ok(None);
@@ -107,9 +123,11 @@ impl<'d> Reader<'d> {
     fn lines(&mut self, first: Input<'d>) -> Result<(), AllocError>
         requires stands { StandsWith self.old.flow self.old.output }
         requires reads { Reads (document_of self.old.output) (end_with self.old.flow self.old.output) first }
+        requires opens { OpensAll self.old }
         ensures stands { OnOk result (StandsWith self.new.flow self.new.output) }
         ensures document { OnOk result (document_of self.new.output ≡ document_of self.old.output) }
         ensures end { OnOk result (end_with self.new.flow self.new.output ≡ record { offset = length (document_of self.old.output); virtual_spaces = 0 }) }
+        ensures opens { OnOk result (OpensAll self.new) }
     {
         let mut input = first;
         let mut line = input.line;
@@ -126,10 +144,12 @@ impl<'d> Reader<'d> {
     fn line(&mut self, input: &mut Input<'d>) -> Result<(), AllocError>
         requires stands { StandsWith self.old.flow self.old.output }
         requires reads { Reads (document_of self.old.output) (end_with self.old.flow self.old.output) input.old }
+        requires opens { OpensAll self.old }
         ensures stands { OnOk result (StandsWith self.new.flow self.new.output) }
         ensures document { OnOk result (document_of self.new.output ≡ document_of self.old.output) }
         ensures end { OnOk result (end_with self.new.flow self.new.output ≡ next_of input.old.line) }
         ensures taken { OnOk result (input.new.prefix.items ≡ []) }
+        ensures opens { OnOk result (OpensAll self.new) }
     {
         let matched = self.continue_containers(input)?;
         let in_all = matched == self.containers.len();
@@ -144,27 +164,53 @@ impl<'d> Reader<'d> {
             return Ok(());
         }
         self.flow.close(&mut self.output)?;
-        self.close_containers(matched, None)?;
+        self.close_containers(matched)?;
         self.flow.line(input, &mut self.output)
     }
 
     /// Reads the prefixes of the open containers, and says how many of these go on.
     #[tactic(auto, using(crate::proofs::Moves::moved_on, crate::proofs::Moves::stays))]
     fn continue_containers(&mut self, input: &mut Input<'d>) -> Result<usize, AllocError>
+        requires { OpensAll self.old }
         ensures reads { (bytes : List ℕ) → (from : Spot) → Reads bytes from input.old → OnOk result (Reads bytes from input.new) }
         ensures moved { OnOk result (HasMoved input.old.line input.new.line) }
         ensures output { self.new.output ≡ self.old.output }
         ensures flow { self.new.flow ≡ self.old.flow }
+        ensures opens { OnOk result (OpensAll self.new) }
     {
-        for (number, container) in self.containers.iter_mut().enumerate() {
-            if !container.continues(input)? {
+        for number in 0..self.containers.len() {
+            if !self.continue_container(number, input)? {
                 return Ok(number);
-            }
-            if matches!(container, Container::BlockQuote) {
-                input.depth = number + 1;
             }
         }
         Ok(self.containers.len())
+    }
+
+    /// Reads the prefix of the open container of that number, and says whether it goes on.
+    fn continue_container(
+        &mut self,
+        number: usize,
+        input: &mut Input<'d>,
+    ) -> Result<bool, AllocError>
+        requires within { number < length self.old.containers.items }
+        requires opens { OpensAll self.old }
+        ensures reads { (bytes : List ℕ) → (from : Spot) → Reads bytes from input.old → OnOk result (Reads bytes from input.new) }
+        ensures moved { OnOk result (HasMoved input.old.line input.new.line) }
+        ensures output { self.new.output ≡ self.old.output }
+        ensures flow { self.new.flow ≡ self.old.flow }
+        ensures number { length self.new.containers.items ≡ length self.old.containers.items }
+        ensures opens { OnOk result (OpensAll self.new) }
+    {
+        let mut container = self.containers[number];
+        let goes_on = container.continues(input)?;
+        self.containers[number] = container;
+        if !goes_on {
+            return Ok(false);
+        }
+        if matches!(container, Container::BlockQuote) {
+            input.depth = number + 1;
+        }
+        Ok(true)
     }
 
     /// Whether the container of that number is the last one, and an item that has ended while its list may
@@ -180,125 +226,259 @@ impl<'d> Reader<'d> {
     fn open_containers(&mut self, matched: usize, input: &mut Input<'d>) -> Result<bool, AllocError>
         requires stands { StandsWith self.old.flow self.old.output }
         requires reads { Reads (document_of self.old.output) (end_with self.old.flow self.old.output) input.old }
+        requires opens { OpensAll self.old }
         ensures stands { OnOk result (StandsWith self.new.flow self.new.output) }
         ensures reads { OnOk result (Reads (document_of self.new.output) (end_with self.new.flow self.new.output) input.new) }
         ensures document { OnOk result (document_of self.new.output ≡ document_of self.old.output) }
         ensures moved { OnOk result (HasMoved input.old.line input.new.line) }
+        ensures opens { OnOk result (OpensAll self.new) }
     {
         let interrupts = matched == self.containers.len() && self.flow.is_paragraph();
         let Some(first) = ContainerStart::find(&input.line, interrupts) else {
             return Ok(false);
         };
-        let in_list = self.make_room(matched, first.marker(), input)?;
-        self.open(first, in_list, input)?;
+        self.open_first(matched, first, input)?;
         // Each container takes a byte of the text, so there are no more than that.
         for _ in input.line.text() {
             let Some(start) = ContainerStart::find(&input.line, false) else {
                 break;
             };
-            self.open(start, false, input)?;
+            self.open(start, input)?;
         }
         Ok(true)
     }
 
-    /// Ends what the first container that begins in a line is not in. Says whether it is the next item of a
-    /// list, by its marker (CommonMark).
-    fn make_room(
+    /// Reads the first container that begins in a line, after so many that go on.
+    fn open_first(
         &mut self,
         matched: usize,
-        marker: Option<u8>,
+        first: ContainerStart,
         input: &mut Input<'d>,
-    ) -> Result<bool, AllocError>
+    ) -> Result<(), AllocError>
         requires stands { StandsWith self.old.flow self.old.output }
+        requires opens { OpensAll self.old }
         requires reads { Reads (document_of self.old.output) (end_with self.old.flow self.old.output) input.old }
+        requires start { IsContainerStart first input.old.line }
         ensures writes { OnOk result (Writes self.new.output) }
-        ensures at { OnOk result (IsAt self.new.output.cursor input.old.line) }
-        ensures none { OnOk result (self.new.flow.content.lines.items ≡ []) }
-        ensures line { OnOk result (input.new.line ≡ input.old.line) }
+        ensures at { OnOk result (IsAt self.new.output.cursor input.new.line) }
         ensures taken { OnOk result (input.new.prefix.items ≡ []) }
+        ensures moved { OnOk result (HasMoved input.old.line input.new.line) }
+        ensures none { OnOk result (self.new.flow.content.lines.items ≡ []) }
+        ensures leaf { OnOk result (self.new.flow.leaf ≡ leaves.None) }
+        ensures opens { OnOk result (Opens self.new.output (in_containers self.new.containers.items)) }
+    {
+        if let ContainerStart::ListItem(item) = first {
+            return self.open_first_item(matched, item, input);
+        }
+        self.close_flow(matched)?;
+        self.close_containers(matched)?;
+        self.output.begin(input)?;
+        self.open(first, input)
+    }
+
+    /// Reads an item, which is the first container that begins in a line. It is the next one of its list, or
+    /// begins another (CommonMark).
+    fn open_first_item(
+        &mut self,
+        matched: usize,
+        item: ItemStart,
+        input: &mut Input<'d>,
+    ) -> Result<(), AllocError>
+        requires stands { StandsWith self.old.flow self.old.output }
+        requires opens { OpensAll self.old }
+        requires reads { Reads (document_of self.old.output) (end_with self.old.flow self.old.output) input.old }
+        requires digits { item.digits < length input.old.line.text.now }
+        ensures writes { OnOk result (Writes self.new.output) }
+        ensures at { OnOk result (IsAt self.new.output.cursor input.new.line) }
+        ensures taken { OnOk result (input.new.prefix.items ≡ []) }
+        ensures moved { OnOk result (HasMoved input.old.line input.new.line) }
+        ensures none { OnOk result (self.new.flow.content.lines.items ≡ []) }
+        ensures leaf { OnOk result (self.new.flow.leaf ≡ leaves.None) }
+        ensures opens { OnOk result (Opens self.new.output (in_containers self.new.containers.items)) }
+    {
+        self.close_flow(matched)?;
+        if self.close_to_list(matched, item.marker)? {
+            self.output.begin(input)?;
+            return self.open_item(item, input);
+        }
+        self.output.begin(input)?;
+        self.open(ContainerStart::ListItem(item), input)
+    }
+
+    /// Ends the leaf before a container that begins after so many that go on.
+    fn close_flow(&mut self, matched: usize) -> Result<(), AllocError>
+        requires stands { StandsWith self.old.flow self.old.output }
+        requires opens { OpensAll self.old }
+        ensures stands { OnOk result (Stands self.new.output) }
+        ensures none { OnOk result (self.new.flow.content.lines.items ≡ []) }
+        ensures leaf { OnOk result (self.new.flow.leaf ≡ leaves.None) }
+        ensures document { OnOk result (document_of self.new.output ≡ document_of self.old.output) }
+        ensures spot { OnOk result (spot self.new.output.cursor ≡ end_with self.old.flow self.old.output) }
+        ensures opens { OnOk result (Opens self.new.output (in_containers self.new.containers.items)) }
     {
         if matched == self.containers.len() {
-            self.flow.close(&mut self.output)?;
-        } else {
-            self.flow.flush(&mut self.output)?;
+            return self.flow.close(&mut self.output);
         }
-        let in_list = self.close_containers(matched, marker)?;
-        self.output.begin(input)?;
-        Ok(in_list)
+        self.flow.flush(&mut self.output)
     }
 
-    /// Ends all containers but the first `keep`. Says whether the list of the outermost of them goes on,
-    /// with an item of that marker.
-    fn close_containers(&mut self, keep: usize, marker: Option<u8>) -> Result<bool, AllocError>
-        requires { Stands self.old.output }
+    /// Ends all containers but the first `keep`.
+    fn close_containers(&mut self, keep: usize) -> Result<(), AllocError>
+        requires stands { Stands self.old.output }
+        requires opens { Opens self.old.output (in_containers self.old.containers.items) }
         ensures stands { OnOk result (Stands self.new.output) }
         ensures cursor { OnOk result (self.new.output.cursor ≡ self.old.output.cursor) }
         ensures flow { self.new.flow ≡ self.old.flow }
+        ensures opens { OnOk result (Opens self.new.output (in_containers self.new.containers.items)) }
+        ensures most { OnOk result (length self.new.containers.items ≤ keep) }
     {
-        let mut in_list = false;
-        for _ in keep..self.containers.len() {
-            in_list = self.close_container(keep, marker)?;
+        'containers: while self.containers.len() > keep {
+            self.close_last()?;
         }
-        Ok(in_list)
+        Ok(())
     }
 
-    /// Ends the last container, and the list of an item. If it is the outermost that ends, the list goes on
-    /// with an item of that marker: says whether it does.
-    fn close_container(&mut self, keep: usize, marker: Option<u8>) -> Result<bool, AllocError>
-        requires { Stands self.old.output }
+    /// Ends all containers but the first `keep`. Says whether the list of the outermost of them goes on, with
+    /// an item of that marker.
+    fn close_to_list(&mut self, keep: usize, marker: u8) -> Result<bool, AllocError>
+        requires stands { Stands self.old.output }
+        requires opens { Opens self.old.output (in_containers self.old.containers.items) }
         ensures stands { OnOk result (Stands self.new.output) }
         ensures cursor { OnOk result (self.new.output.cursor ≡ self.old.output.cursor) }
         ensures flow { self.new.flow ≡ self.old.flow }
+        ensures opens { IfOk result (λ in_list. Opens self.new.output (goes_on in_list (Some marker) self.new.containers.items)) }
+    {
+        self.close_containers(keep.saturating_add(1))?;
+        if self.containers.len() <= keep {
+            return Ok(false);
+        }
+        self.close_container(Some(marker))
+    }
+
+    /// Ends the last container, and the list of an item.
+    fn close_last(&mut self) -> Result<(), AllocError>
+        requires stands { Stands self.old.output }
+        requires opens { Opens self.old.output (in_containers self.old.containers.items) }
+        ensures stands { OnOk result (Stands self.new.output) }
+        ensures cursor { OnOk result (self.new.output.cursor ≡ self.old.output.cursor) }
+        ensures flow { self.new.flow ≡ self.old.flow }
+        ensures opens { OnOk result (Opens self.new.output (in_containers self.new.containers.items)) }
+        ensures number { OnOk result (length self.new.containers.items ≡ length self.old.containers.items - 1) }
+    {
+        self.close_container(None)?;
+        Ok(())
+    }
+
+    /// Ends the last container, and the list of an item, unless it goes on with an item of that marker: says
+    /// whether it does.
+    fn close_container(&mut self, marker: Option<u8>) -> Result<bool, AllocError>
+        requires stands { Stands self.old.output }
+        requires opens { Opens self.old.output (in_containers self.old.containers.items) }
+        ensures stands { OnOk result (Stands self.new.output) }
+        ensures cursor { OnOk result (self.new.output.cursor ≡ self.old.output.cursor) }
+        ensures flow { self.new.flow ≡ self.old.flow }
+        ensures opens { IfOk result (λ in_list. Opens self.new.output (goes_on in_list marker self.new.containers.items)) }
+        ensures number { OnOk result (length self.new.containers.items ≡ length self.old.containers.items - 1) }
     {
         let Some(container) = self.containers.pop() else {
             return Ok(false);
         };
         let outside = self.containers.len();
-        let Container::ListItem(item) = container else {
-            self.output.exit_container(container.name(), outside)?;
-            return Ok(false);
-        };
-        if item.is_ended() {
-            self.output.exit_blank_item()?;
-        } else {
-            self.output.exit_container(Name::ListItem, outside)?;
+        match container {
+            Container::BlockQuote => {
+                self.output.exit_container(Name::BlockQuote, outside)?;
+                Ok(false)
+            }
+            Container::ListItem(item) => self.close_item(&item, marker),
+            Container::FootnoteDefinition => {
+                self.output
+                    .exit_container(Name::GfmFootnoteDefinition, outside)?;
+                Ok(false)
+            }
         }
-        if outside == keep && marker == Some(item.marker) {
+    }
+
+    /// Ends the item that was the last container, and its list, unless it goes on with an item of that
+    /// marker: says whether it does.
+    fn close_item(&mut self, item: &Item, marker: Option<u8>) -> Result<bool, AllocError>
+        requires stands { Stands self.old.output }
+        requires opens { Opens self.old.output (in_last_item (is_ordered item.now.marker) self.old.containers.items) }
+        ensures stands { OnOk result (Stands self.new.output) }
+        ensures cursor { OnOk result (self.new.output.cursor ≡ self.old.output.cursor) }
+        ensures flow { self.new.flow ≡ self.old.flow }
+        ensures containers { self.new.containers ≡ self.old.containers }
+        ensures opens { IfOk result (λ in_list. Opens self.new.output (goes_on in_list marker self.new.containers.items)) }
+    {
+        let outside = self.containers.len();
+        list_item::close(item, outside, &mut self.output)?;
+        if let Some(marker) = marker
+            && marker == item.marker
+        {
             return Ok(true);
         }
-        self.output
-            .exit_before_held(list_item::list_name(item.marker))?;
+        let list = list_item::list_name(item.marker);
+        self.output.exit_before_held(list)?;
         Ok(false)
     }
 
-    /// Reads what a container begins with. `in_list` says whether it is the next item of a list.
-    fn open(
-        &mut self,
-        start: ContainerStart,
-        in_list: bool,
-        input: &mut Input<'d>,
-    ) -> Result<(), AllocError>
+    /// Reads what a container begins with. An item begins a list.
+    fn open(&mut self, start: ContainerStart, input: &mut Input<'d>) -> Result<(), AllocError>
         requires writes { Writes self.old.output }
         requires at { IsAt self.old.output.cursor input.old.line }
         requires taken { input.old.prefix.items ≡ [] }
+        requires start { IsContainerStart start input.old.line }
+        requires opens { Opens self.old.output (in_containers self.old.containers.items) }
         ensures writes { OnOk result (Writes self.new.output) }
         ensures at { OnOk result (IsAt self.new.output.cursor input.new.line) }
         ensures flow { self.new.flow ≡ self.old.flow }
         ensures taken { OnOk result (input.new.prefix.items ≡ []) }
         ensures moved { OnOk result (HasMoved input.old.line input.new.line) }
+        ensures opens { OnOk result (Opens self.new.output (in_containers self.new.containers.items)) }
     {
-        let container = match start {
-            ContainerStart::BlockQuote => block_quote::open(input, &mut self.output)?,
+        match start {
+            ContainerStart::BlockQuote => {
+                block_quote::open(input, &mut self.output)?;
+                self.push(Container::BlockQuote, input)
+            }
             ContainerStart::ListItem(item) => {
-                if !in_list {
-                    self.output.enter(list_item::list_name(item.marker))?;
-                }
-                list_item::open(item, &mut input.line, &mut self.output)?
+                let list = list_item::list_name(item.marker);
+                self.output.enter(list)?;
+                self.open_item(item, input)
             }
             ContainerStart::FootnoteDefinition(size) => {
-                gfm_footnote_definition::open(size, &mut input.line, &mut self.output)?
+                gfm_footnote_definition::open(size, &mut input.line, &mut self.output)?;
+                self.push(Container::FootnoteDefinition, input)
             }
-        };
+        }
+    }
+
+    /// Reads what an item in a list begins with.
+    fn open_item(&mut self, start: ItemStart, input: &mut Input<'d>) -> Result<(), AllocError>
+        requires writes { Writes self.old.output }
+        requires at { IsAt self.old.output.cursor input.old.line }
+        requires taken { input.old.prefix.items ≡ [] }
+        requires digits { start.digits < length input.old.line.text.now }
+        requires opens { Opens self.old.output (in_list_of (is_ordered start.marker) self.old.containers.items) }
+        ensures writes { OnOk result (Writes self.new.output) }
+        ensures at { OnOk result (IsAt self.new.output.cursor input.new.line) }
+        ensures flow { self.new.flow ≡ self.old.flow }
+        ensures taken { OnOk result (input.new.prefix.items ≡ []) }
+        ensures moved { OnOk result (HasMoved input.old.line input.new.line) }
+        ensures opens { OnOk result (Opens self.new.output (in_containers self.new.containers.items)) }
+    {
+        let item = list_item::open(start, &mut input.line, &mut self.output)?;
+        self.push(Container::ListItem(item), input)
+    }
+
+    /// Keeps a container whose start is read.
+    fn push(&mut self, container: Container, input: &mut Input<'d>) -> Result<(), AllocError>
+        requires { Opens self.old.output (in_last container self.old.containers.items) }
+        ensures output { self.new.output ≡ self.old.output }
+        ensures flow { self.new.flow ≡ self.old.flow }
+        ensures line { input.new.line ≡ input.old.line }
+        ensures prefix { input.new.prefix ≡ input.old.prefix }
+        ensures opens { OnOk result (Opens self.new.output (in_containers self.new.containers.items)) }
+    {
         self.containers.push(container)?;
         input.depth = self.containers.len();
         Ok(())
@@ -306,20 +486,24 @@ impl<'d> Reader<'d> {
 
     /// Ends all that is open.
     fn end(&mut self) -> Result<(), AllocError>
-        requires { StandsWith self.old.flow self.old.output }
+        requires stands { StandsWith self.old.flow self.old.output }
+        requires opens { OpensAll self.old }
         ensures stands { OnOk result (Stands self.new.output) }
         ensures document { OnOk result (document_of self.new.output ≡ document_of self.old.output) }
         ensures spot { OnOk result (spot self.new.output.cursor ≡ end_with self.old.flow self.old.output) }
+        ensures opens { OnOk result (Opens self.new.output start) }
     {
         self.flow.flush(&mut self.output)?;
-        self.close_containers(0, None)?;
+        self.close_containers(0)?;
         Ok(())
     }
 
     /// Ends all that is open, and gives what was found.
     fn finish(self) -> Result<Blocks, AllocError>
-        requires { StandsWith self.flow self.output }
-        ensures { IfOk result (λ blocks. Tiles (document_of self.entry.output) origin blocks.pieces.items (end_with self.entry.flow self.entry.output)) }
+        requires stands { StandsWith self.flow self.output }
+        requires opens { OpensAll self }
+        ensures tiles { IfOk result (λ blocks. Tiles (document_of self.entry.output) origin blocks.pieces.items (end_with self.entry.flow self.entry.output)) }
+        ensures nest { IfOk result (λ blocks. Walks start blocks.pieces.items start) }
     {
         let mut reader = self;
         reader.end()?;

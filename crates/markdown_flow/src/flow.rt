@@ -1,10 +1,15 @@
 //! Flow: the leaf that is open, and what a line does to it (micromark).
 
-ghost use Rattle.std.specs.Prelude.{[], OnOk, IfOk, length, ◌≡◌, ◌<◌, true, false};
-ghost use Rattle.markdown_flow.specs.Outputs.{IsAt, Stands, Writes, WritesOut, Reads, document_of, line_after, next_of, spot};
-ghost use Rattle.markdown_flow.specs.Flows.{StandsWith, end_with, keeps_lines};
+ghost use Rattle.std.specs.Prelude.{Bool, List, [], OnOk, IfOk, length, ◌≡◌, ◌<◌, true, false};
+ghost use Rattle.event_writer.specs.Stages.{Enclosing};
+ghost use Rattle.markdown_flow.specs.Outputs.{IsAt, Opens, Stands, Writes, WritesOut, Reads, document_of, line_after, next_of, spot};
+ghost use Rattle.markdown_flow.specs.Flows.{LeadsOn, OpensIn, StandsWith, end_with};
+ghost use Rattle.markdown_flow.specs.Leaves.{after_fenced, in_flow, in_leaf, in_raw};
+ghost use Rattle.markdown_flow.specs.Starts.{IsStart};
+ghost use Rattle.markdown_flow.specs.declared.leaf.Leaf.TheVariants as leaves;
 
 use crate::content::Content;
+use crate::html_flow::Html;
 use crate::input::Input;
 use crate::leaf::{Leaf, LeafStart};
 use crate::line::Line;
@@ -31,7 +36,8 @@ pub struct Flow<'d> {
 impl<'d> Flow<'d> {
     /// No open leaf.
     pub fn new(alloc: Global) -> Flow<'d>
-        ensures { result.content.lines.items ≡ [] }
+        ensures content { result.content.lines.items ≡ [] }
+        ensures leaf { result.leaf ≡ leaves.None }
     {
         Flow {
             alloc,
@@ -42,7 +48,7 @@ impl<'d> Flow<'d> {
 
     /// Whether a paragraph is open.
     pub fn is_paragraph(&self) -> bool
-        ensures { result ≡ true → keeps_lines self.now.leaf ≡ true }
+        ensures { result ≡ true → self.now.leaf ≡ leaves.Paragraph }
     {
         matches!(self.leaf, Leaf::Paragraph)
     }
@@ -59,30 +65,42 @@ impl<'d> Flow<'d> {
         ensures none { OnOk result (self.new.content.lines.items ≡ []) }
         ensures document { OnOk result (document_of output.new ≡ document_of output.old) }
         ensures spot { OnOk result (spot output.new.cursor ≡ end_with self.old output.old) }
+        ensures leaf { OnOk result (self.new.leaf ≡ leaves.None) }
+        ensures opens { (n : Bool) → (outer : List Enclosing) → OpensIn self.old output.old n outer → OnOk result (Opens output.new (in_flow n outer)) }
     {
-        match self.leaf {
-            Leaf::None => {}
-            Leaf::Paragraph => {
-                let lines = self.content.lines();
-                paragraph::write(self.alloc, &self.content, lines, output)?;
-            }
-            Leaf::CodeIndented => {
-                output.exit_before_held(Name::CodeIndented)?;
-                blank_line::hold_kept(&self.content, output)?;
-            }
-            Leaf::RawFlow { fence, ends_empty } => {
-                // An empty line at the end is one of the lines only if its ending is in the span.
-                if ends_empty {
-                    output.settle()?;
-                }
-                fence.end(output)?;
-            }
-            Leaf::Html(_) => output.exit_before_held(Name::HtmlFlow)?,
-            Leaf::Table { has_body } => gfm_table::end(has_body, output)?,
-        }
+        self.end_leaf(output)?;
         self.content.clear();
         self.leaf = Leaf::None;
         Ok(())
+    }
+
+    /// Writes that the leaf ends, with the lines that are kept of it.
+    fn end_leaf(&self, output: &mut Output<'d>) -> Result<(), AllocError>
+        requires { StandsWith self.now output.old }
+        ensures stands { OnOk result (Stands output.new) }
+        ensures document { OnOk result (document_of output.new ≡ document_of output.old) }
+        ensures spot { OnOk result (spot output.new.cursor ≡ end_with self.now output.old) }
+        ensures opens { (n : Bool) → (outer : List Enclosing) → OpensIn self.now output.old n outer → OnOk result (Opens output.new (in_flow n outer)) }
+    {
+        match self.leaf {
+            Leaf::None => Ok(()),
+            Leaf::Paragraph => {
+                let lines = self.content.lines();
+                paragraph::write(self.alloc, &self.content, lines, output)
+            }
+            Leaf::CodeIndented => {
+                output.exit_before_held(Name::CodeIndented)?;
+                blank_line::hold_kept(&self.content, output)
+            }
+            // An empty line at the end is one of the lines only if its ending is in the span.
+            Leaf::RawFlow { fence, ends_empty } if ends_empty => {
+                output.settle()?;
+                fence.end(output)
+            }
+            Leaf::RawFlow { fence, .. } => fence.end(output),
+            Leaf::Html(_) => output.exit_before_held(Name::HtmlFlow),
+            Leaf::Table { has_body } => gfm_table::end(has_body, output),
+        }
     }
 
     /// Ends the leaf where the document ends, or where a container begins that is not in it: code, math and
@@ -93,13 +111,23 @@ impl<'d> Flow<'d> {
         ensures none { OnOk result (self.new.content.lines.items ≡ []) }
         ensures document { OnOk result (document_of output.new ≡ document_of output.old) }
         ensures spot { OnOk result (spot output.new.cursor ≡ end_with self.old output.old) }
+        ensures leaf { OnOk result (self.new.leaf ≡ leaves.None) }
+        ensures opens { (n : Bool) → (outer : List Enclosing) → OpensIn self.old output.old n outer → OnOk result (Opens output.new (in_flow n outer)) }
     {
-        match self.leaf {
-            Leaf::RawFlow { .. } => output.settle()?,
-            Leaf::Html(html) if !html.ends_at_blank_line() => output.settle()?,
-            _ => {}
+        if self.takes_ending() {
+            output.settle()?;
+            return self.close(output);
         }
         self.close(output)
+    }
+
+    /// Whether the leaf takes the line ending that is held where it is flushed.
+    fn takes_ending(&self) -> bool {
+        match self.leaf {
+            Leaf::RawFlow { .. } => true,
+            Leaf::Html(html) => !html.ends_at_blank_line(),
+            _ => false,
+        }
     }
 
     /// Adds a line that is not in all its containers to a paragraph, if it can be, and says whether it was
@@ -115,6 +143,7 @@ impl<'d> Flow<'d> {
         ensures yes { IfOk result (λ r. r ≡ true → (end_with self.new output.now ≡ next_of input.old.line) × (input.new.prefix.items ≡ [])) }
         ensures no { IfOk result (λ r. r ≡ false → (self.new ≡ self.old) × (input.new ≡ input.old)) }
         ensures line { input.new.line ≡ input.old.line }
+        ensures leaf { self.new.leaf ≡ self.old.leaf }
     {
         let is_text = !input.line.is_blank() && LeafStart::find(&input.line, true).is_none();
         if !self.is_paragraph() || !is_text {
@@ -132,6 +161,7 @@ impl<'d> Flow<'d> {
         ensures document { OnOk result (document_of output.new ≡ document_of output.old) }
         ensures end { OnOk result (end_with self.new output.new ≡ next_of input.old.line) }
         ensures taken { OnOk result (input.new.prefix.items ≡ []) }
+        ensures opens { LeadsOn result self.old self.new output.old output.new }
     {
         match self.leaf {
             Leaf::None => self.start(input, output),
@@ -141,11 +171,7 @@ impl<'d> Flow<'d> {
             Leaf::Html(html) if html.ends_at_blank_line() && input.line.is_blank() => {
                 self.restart(input, output)
             }
-            Leaf::Html(html) => {
-                output.begin(input)?;
-                let ends = html.write_line(output)?;
-                self.go_on(if ends { Leaf::None } else { Leaf::Html(html) }, output)
-            }
+            Leaf::Html(html) => self.html_line(html, input, output),
             Leaf::Table { has_body } => self.table_line(has_body, input, output),
         }
     }
@@ -158,6 +184,7 @@ impl<'d> Flow<'d> {
         ensures stands { OnOk result (StandsWith self.new output.new) }
         ensures document { OnOk result (document_of output.new ≡ document_of output.old) }
         ensures end { OnOk result (end_with self.new output.new ≡ line_after output.old.cursor) }
+        ensures opens { (n : Bool) → (outer : List Enclosing) → Opens output.old (in_leaf leaf n outer) → OnOk result (OpensIn self.new output.new n outer) }
     {
         self.leaf = leaf;
         output.end_line()
@@ -171,6 +198,7 @@ impl<'d> Flow<'d> {
         ensures document { OnOk result (document_of output.new ≡ document_of output.old) }
         ensures end { OnOk result (end_with self.new output.new ≡ next_of input.old.line) }
         ensures taken { OnOk result (input.new.prefix.items ≡ []) }
+        ensures opens { LeadsOn result self.old self.new output.old output.new }
     {
         self.close(output)?;
         self.start(input, output)
@@ -179,12 +207,14 @@ impl<'d> Flow<'d> {
     /// Reads a line where no leaf is open.
     fn start(&mut self, input: &mut Input<'d>, output: &mut Output<'d>) -> Result<(), AllocError>
         requires stands { Stands output.old }
+        requires leaf { self.old.leaf ≡ leaves.None }
         requires none { self.old.content.lines.items ≡ [] }
         requires reads { Reads (document_of output.old) (spot output.old.cursor) input.old }
         ensures stands { OnOk result (StandsWith self.new output.new) }
         ensures document { OnOk result (document_of output.new ≡ document_of output.old) }
         ensures end { OnOk result (end_with self.new output.new ≡ next_of input.old.line) }
         ensures taken { OnOk result (input.new.prefix.items ≡ []) }
+        ensures opens { (n : Bool) → (outer : List Enclosing) → Opens output.old (in_flow n outer) → OnOk result (OpensIn self.new output.new n outer) }
     {
         if input.line.is_blank() {
             return output.hold_blank(input);
@@ -208,12 +238,14 @@ impl<'d> Flow<'d> {
         output: &mut Output<'d>,
     ) -> Result<(), AllocError>
         requires stands { Stands output.old }
+        requires start { IsStart start input.old.line }
         requires none { self.old.content.lines.items ≡ [] }
         requires reads { Reads (document_of output.old) (spot output.old.cursor) input.old }
         ensures stands { OnOk result (StandsWith self.new output.new) }
         ensures document { OnOk result (document_of output.new ≡ document_of output.old) }
         ensures end { OnOk result (end_with self.new output.new ≡ next_of input.old.line) }
         ensures taken { OnOk result (input.new.prefix.items ≡ []) }
+        ensures opens { (n : Bool) → (outer : List Enclosing) → Opens output.old (in_flow n outer) → OnOk result (OpensIn self.new output.new n outer) }
     {
         output.begin(input)?;
         let leaf = write_first(start, &mut input.line, output)?;
@@ -227,12 +259,13 @@ impl<'d> Flow<'d> {
         output: &mut Output<'d>,
     ) -> Result<(), AllocError>
         requires stands { StandsWith self.old output.old }
-        requires keeps { keeps_lines self.old.leaf ≡ true }
+        requires leaf { self.old.leaf ≡ leaves.Paragraph }
         requires reads { Reads (document_of output.old) (end_with self.old output.old) input.old }
         ensures stands { OnOk result (StandsWith self.new output.new) }
         ensures document { OnOk result (document_of output.new ≡ document_of output.old) }
         ensures end { OnOk result (end_with self.new output.new ≡ next_of input.old.line) }
         ensures taken { OnOk result (input.new.prefix.items ≡ []) }
+        ensures opens { LeadsOn result self.old self.new output.old output.new }
     {
         if input.line.is_blank() {
             return self.restart(input, output);
@@ -260,12 +293,15 @@ impl<'d> Flow<'d> {
         output: &mut Output<'d>,
     ) -> Result<(), AllocError>
         requires stands { StandsWith self.old output.old }
-        requires keeps { keeps_lines self.old.leaf ≡ true }
+        requires leaf { self.old.leaf ≡ leaves.Paragraph }
+        requires filled { 0 < size }
+        requires text { 0 < length input.old.line.text.now }
         requires reads { Reads (document_of output.old) (end_with self.old output.old) input.old }
         ensures stands { OnOk result (StandsWith self.new output.new) }
         ensures document { OnOk result (document_of output.new ≡ document_of output.old) }
         ensures end { OnOk result (end_with self.new output.new ≡ next_of input.old.line) }
         ensures taken { OnOk result (input.new.prefix.items ≡ []) }
+        ensures opens { LeadsOn result self.old self.new output.old output.new }
     {
         let lines = self.content.lines();
         let rest = definition_pieces::write(self.alloc, &self.content, lines, output)?;
@@ -297,12 +333,14 @@ impl<'d> Flow<'d> {
         output: &mut Output<'d>,
     ) -> Result<(), AllocError>
         requires stands { StandsWith self.old output.old }
+        requires leaf { self.old.leaf ≡ leaves.Paragraph }
         requires some { 0 < length self.old.content.lines.items }
         requires reads { Reads (document_of output.old) (end_with self.old output.old) input.old }
         ensures stands { OnOk result (StandsWith self.new output.new) }
         ensures document { OnOk result (document_of output.new ≡ document_of output.old) }
         ensures end { OnOk result (end_with self.new output.new ≡ next_of input.old.line) }
         ensures taken { OnOk result (input.new.prefix.items ≡ []) }
+        ensures opens { LeadsOn result self.old self.new output.old output.new }
     {
         let [before @ .., header] = self.content.lines() else {
             return Ok(());
@@ -321,12 +359,13 @@ impl<'d> Flow<'d> {
         output: &mut Output<'d>,
     ) -> Result<(), AllocError>
         requires stands { StandsWith self.old output.old }
-        requires none { self.old.content.lines.items ≡ [] }
+        requires leaf { self.old.leaf ≡ leaves.Table has_body }
         requires reads { Reads (document_of output.old) (end_with self.old output.old) input.old }
         ensures stands { OnOk result (StandsWith self.new output.new) }
         ensures document { OnOk result (document_of output.new ≡ document_of output.old) }
         ensures end { OnOk result (end_with self.new output.new ≡ next_of input.old.line) }
         ensures taken { OnOk result (input.new.prefix.items ≡ []) }
+        ensures opens { LeadsOn result self.old self.new output.old output.new }
     {
         if input.line.is_blank() || LeafStart::find(&input.line, false).is_some() {
             return self.restart(input, output);
@@ -343,12 +382,13 @@ impl<'d> Flow<'d> {
         output: &mut Output<'d>,
     ) -> Result<(), AllocError>
         requires stands { StandsWith self.old output.old }
-        requires keeps { keeps_lines self.old.leaf ≡ true }
+        requires leaf { self.old.leaf ≡ leaves.CodeIndented }
         requires reads { Reads (document_of output.old) (end_with self.old output.old) input.old }
         ensures stands { OnOk result (StandsWith self.new output.new) }
         ensures document { OnOk result (document_of output.new ≡ document_of output.old) }
         ensures end { OnOk result (end_with self.new output.new ≡ next_of input.old.line) }
         ensures taken { OnOk result (input.new.prefix.items ≡ []) }
+        ensures opens { LeadsOn result self.old self.new output.old output.new }
     {
         if input.line.is_blank() {
             self.content.keep(input)?;
@@ -364,6 +404,29 @@ impl<'d> Flow<'d> {
         self.go_on(Leaf::CodeIndented, output)
     }
 
+    /// Reads a line of a block of HTML.
+    fn html_line(
+        &mut self,
+        html: Html,
+        input: &mut Input<'d>,
+        output: &mut Output<'d>,
+    ) -> Result<(), AllocError>
+        requires stands { StandsWith self.old output.old }
+        requires leaf { self.old.leaf ≡ leaves.Html html }
+        requires reads { Reads (document_of output.old) (end_with self.old output.old) input.old }
+        ensures stands { OnOk result (StandsWith self.new output.new) }
+        ensures document { OnOk result (document_of output.new ≡ document_of output.old) }
+        ensures end { OnOk result (end_with self.new output.new ≡ next_of input.old.line) }
+        ensures taken { OnOk result (input.new.prefix.items ≡ []) }
+        ensures opens { LeadsOn result self.old self.new output.old output.new }
+    {
+        output.begin(input)?;
+        if html.write_line(output)? {
+            return self.go_on(Leaf::None, output);
+        }
+        self.go_on(Leaf::Html(html), output)
+    }
+
     /// Reads a line after a fence that opens.
     fn raw_line(
         &mut self,
@@ -373,25 +436,17 @@ impl<'d> Flow<'d> {
     ) -> Result<(), AllocError>
         requires stands { StandsWith self.old output.old }
         requires none { self.old.content.lines.items ≡ [] }
+        requires leaf { (n : Bool) → (outer : List Enclosing) → in_leaf self.old.leaf n outer ≡ in_raw fence.content n outer }
         requires reads { Reads (document_of output.old) (end_with self.old output.old) input.old }
         ensures stands { OnOk result (StandsWith self.new output.new) }
         ensures document { OnOk result (document_of output.new ≡ document_of output.old) }
         ensures end { OnOk result (end_with self.new output.new ≡ next_of input.old.line) }
         ensures taken { OnOk result (input.new.prefix.items ≡ []) }
+        ensures opens { LeadsOn result self.old self.new output.old output.new }
     {
         output.begin(input)?;
-        let leaf = match fence.write_line(&mut input.line, output)? {
-            FencedLine::Closing => Leaf::None,
-            FencedLine::Empty => Leaf::RawFlow {
-                fence,
-                ends_empty: true,
-            },
-            FencedLine::Chunk => Leaf::RawFlow {
-                fence,
-                ends_empty: false,
-            },
-        };
-        self.go_on(leaf, output)
+        let found = fence.write_line(&mut input.line, output)?;
+        self.go_on(leaf_after(fence, found), output)
     }
 }
 
@@ -403,7 +458,9 @@ fn write_first<'d>(
 ) -> Result<Leaf, AllocError>
     requires writes { Writes output.old }
     requires at { IsAt output.old.cursor line.old }
-    ensures { OnOk result (WritesOut output.old output.new) }
+    requires start { IsStart start line.old }
+    ensures written { OnOk result (WritesOut output.old output.new) }
+    ensures opens { (n : Bool) → (outer : List Enclosing) → Opens output.old (in_flow n outer) → IfOk result (λ leaf. Opens output.new (in_leaf leaf n outer)) }
 {
     match start {
         LeafStart::CodeIndented => {
@@ -416,8 +473,10 @@ fn write_first<'d>(
             Ok(Leaf::RawFlow { fence, ends_empty })
         }
         LeafStart::Html(html) => {
-            let ends = html.open(output)?;
-            Ok(if ends { Leaf::None } else { Leaf::Html(html) })
+            if html.open(output)? {
+                return Ok(Leaf::None);
+            }
+            Ok(Leaf::Html(html))
         }
         LeafStart::HeadingAtx(size) => {
             heading_atx::write(size, output)?;
@@ -427,5 +486,22 @@ fn write_first<'d>(
             thematic_break::write(output)?;
             Ok(Leaf::None)
         }
+    }
+}
+
+/// The leaf that is open after a line that comes after a fence.
+fn leaf_after(fence: Fence, found: FencedLine) -> Leaf
+    ensures { (n : Bool) → (outer : List Enclosing) → in_leaf result n outer ≡ after_fenced found fence.content n outer }
+{
+    match found {
+        FencedLine::Closing => Leaf::None,
+        FencedLine::Empty => Leaf::RawFlow {
+            fence,
+            ends_empty: true,
+        },
+        FencedLine::Chunk => Leaf::RawFlow {
+            fence,
+            ends_empty: false,
+        },
     }
 }

@@ -1,7 +1,10 @@
 //! Frontmatter: YAML or TOML at the start of a document (micromark).
 
-ghost use Rattle.std.specs.Prelude.{OnOk, IfOk, ◌≡◌};
-ghost use Rattle.markdown_flow.specs.Outputs.{Stands, Writes, WritesOut, document_of, next_of, spot, spot_in};
+ghost use Rattle.std.specs.Prelude.{Bool, List, OnOk, IfOk, false, ◌≡◌};
+ghost use Rattle.event_writer.specs.Stages.{Enclosing, flow, inlines};
+ghost use Rattle.markdown_events.specs.declared.event.Name.TheVariants.{Frontmatter};
+ghost use Rattle.markdown_flow.specs.Outputs.{Keeps, KeepsFlow, Opens, Stands, Writes, WritesOut, document_of, line_after, next_of, spot, spot_in};
+ghost use Rattle.markdown_pieces.specs.Walks.{at, inside};
 
 use crate::line::Line;
 use crate::output::Output;
@@ -48,6 +51,7 @@ pub fn write<'d>(first: Line<'d>, sign: u8, output: &mut Output<'d>) -> Result<L
     ensures stands { OnOk result (Stands output.new) }
     ensures document { OnOk result (document_of output.new ≡ document_of output.old) }
     ensures line { IfOk result (λ line. (line.source ≡ first.entry.source) × (spot output.new.cursor ≡ next_of line)) }
+    ensures opens { KeepsFlow result output.old output.new }
 {
     output.begin_kept(&[], &first)?;
     output.enter(Name::Frontmatter)?;
@@ -59,19 +63,33 @@ pub fn write<'d>(first: Line<'d>, sign: u8, output: &mut Output<'d>) -> Result<L
         output.begin_kept(&[], &line)?;
         if is_fence(&line, sign) {
             write_fence(output)?;
-            break;
+            end(output)?;
+            return Ok(line);
         }
         output.token_of_rest(Name::FrontmatterChunk)?;
     }
-    output.exit(Name::Frontmatter)?;
-    output.end_line()?;
+    end(output)?;
     Ok(line)
+}
+
+/// Writes that the frontmatter ends with the line that is written.
+fn end(output: &mut Output<'_>) -> Result<(), AllocError>
+    requires writes { Writes output.old }
+    requires ended { output.old.cursor.offset ≡ output.old.cursor.extent.end }
+    ensures stands { OnOk result (Stands output.new) }
+    ensures document { OnOk result (document_of output.new ≡ document_of output.old) }
+    ensures spot { OnOk result (spot output.new.cursor ≡ line_after output.old.cursor) }
+    ensures opens { (n : Bool) → (outer : List Enclosing) → Opens output.old (at (inlines false) (inside Frontmatter (flow n) outer)) → OnOk result (Opens output.new (at (flow n) outer)) }
+{
+    output.exit(Name::Frontmatter)?;
+    output.end_line()
 }
 
 /// Writes the line of a fence.
 fn write_fence(output: &mut Output<'_>) -> Result<(), AllocError>
     requires { Writes output.old }
-    ensures { OnOk result (WritesOut output.old output.new) }
+    ensures written { OnOk result (WritesOut output.old output.new) }
+    ensures opens { Keeps result (inlines false) output.old output.new }
 {
     output.enter(Name::FrontmatterFence)?;
     output.token(Name::FrontmatterSequence, SIGNS)?;

@@ -1,11 +1,13 @@
 //! Footnote definitions (GFM).
 
-ghost use Rattle.std.specs.Prelude.{List, ℕ, OnOk, IfSome, length, ◌≤◌, ◌+◌};
-ghost use Rattle.markdown_flow.specs.Outputs.{IsAt, Writes, WritesOn, Reads};
+ghost use Rattle.std.specs.Prelude.{Bool, List, ℕ, OnOk, IfSome, false, length, ◌≤◌, ◌+◌};
+ghost use Rattle.event_writer.specs.Stages.{Enclosing, flow, footnote_definition};
+ghost use Rattle.markdown_events.specs.declared.event.Name.TheVariants.{GfmFootnoteDefinition};
+ghost use Rattle.markdown_flow.specs.Outputs.{IsAt, Opens, Writes, WritesOn, Reads};
 ghost use Rattle.markdown_flow.specs.Moves.{HasMoved};
 ghost use Rattle.markdown_pieces.specs.Tilings.{Spot};
+ghost use Rattle.markdown_pieces.specs.Walks.{at, inside};
 
-use crate::container::Container;
 use crate::input::Input;
 use crate::line::{Line, TAB_SIZE};
 use crate::output::Output;
@@ -60,16 +62,13 @@ pub fn continues(input: &mut Input<'_>) -> Result<bool, AllocError>
 }
 
 /// Writes the start of a footnote definition with a label of so many bytes, at the cursor of a line.
-pub fn open<'d>(
-    size: usize,
-    line: &mut Line<'d>,
-    output: &mut Output<'d>,
-) -> Result<Container, AllocError>
+pub fn open<'d>(size: usize, line: &mut Line<'d>, output: &mut Output<'d>) -> Result<(), AllocError>
     requires writes { Writes output.old }
     requires at { IsAt output.old.cursor line.old }
     ensures writes { OnOk result (Writes output.new) }
     ensures at { OnOk result (IsAt output.new.cursor line.new) }
     ensures moved { HasMoved line.old line.new }
+    ensures opens { (n : Bool) → (outer : List Enclosing) → Opens output.old (at (flow n) outer) → OnOk result (Opens output.new (at (flow false) (inside GfmFootnoteDefinition (flow n) outer))) }
 {
     output.enter(Name::GfmFootnoteDefinition)?;
     output.columns(line, line.indent())?;
@@ -78,8 +77,7 @@ pub fn open<'d>(
     line.skip(size.saturating_add(4));
     output.token_to(Name::DefinitionMarker, line)?;
     output.columns(line, line.indent())?;
-    output.exit(Name::GfmFootnoteDefinitionPrefix)?;
-    Ok(Container::FootnoteDefinition)
+    output.exit(Name::GfmFootnoteDefinitionPrefix)
 }
 
 /// Writes a label of so many bytes with its brackets. It is added to what the document defines.
@@ -87,6 +85,7 @@ fn write_label(size: usize, output: &mut Output<'_>) -> Result<(), AllocError>
     requires { Writes output.old }
     ensures written { OnOk result (WritesOn output.old output.new) }
     ensures most { OnOk result (output.new.cursor.offset ≤ output.old.cursor.offset + size + 3) }
+    ensures opens { (outer : List Enclosing) → Opens output.old (at footnote_definition outer) → OnOk result (Opens output.new (at (flow false) outer)) }
 {
     let marker = Name::GfmFootnoteDefinitionLabelMarker;
     output.enter(Name::GfmFootnoteDefinitionLabel)?;

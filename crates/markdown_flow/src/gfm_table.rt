@@ -1,7 +1,10 @@
 //! Tables (GFM).
 
-ghost use Rattle.std.specs.Prelude.{[], OnOk, ◌≡◌};
-ghost use Rattle.markdown_flow.specs.Outputs.{HasLine, Stands, Writes, WritesOn, WritesOut, Reads, document_of, next_of, spot};
+ghost use Rattle.std.specs.Prelude.{Bool, List, [], OnOk, Some, false, true, ◌≡◌};
+ghost use Rattle.event_writer.specs.Stages.{Enclosing, Stage, delimiter_row, inlines, written};
+ghost use Rattle.markdown_events.specs.Names.{role_of};
+ghost use Rattle.markdown_flow.specs.Leaves.{in_flow, in_table};
+ghost use Rattle.markdown_flow.specs.Outputs.{HasLine, Keeps, Opens, Stands, Writes, WritesOn, WritesOut, Reads, document_of, next_of, spot};
 ghost use Rattle.markdown_flow.specs.Contents.{Kept};
 
 use crate::content::{Content, KeptLine};
@@ -69,6 +72,7 @@ pub fn open<'d>(
     ensures ended { OnOk result (output.new.cursor.offset ≡ output.new.cursor.extent.end) }
     ensures line { OnOk result (input.new.line ≡ input.old.line) }
     ensures taken { OnOk result (input.new.prefix.items ≡ []) }
+    ensures opens { (n : Bool) → (outer : List Enclosing) → Opens output.old (in_flow n outer) → OnOk result (Opens output.new (in_table false n outer)) }
 {
     content.begin(header, output)?;
     output.enter(Name::GfmTable)?;
@@ -83,7 +87,8 @@ pub fn open<'d>(
 /// Writes the delimiter row.
 fn write_delimiter_row(output: &mut Output<'_>) -> Result<(), AllocError>
     requires { Writes output.old }
-    ensures { OnOk result (WritesOut output.old output.new) }
+    ensures written { OnOk result (WritesOut output.old output.new) }
+    ensures opens { Keeps result (inlines false) output.old output.new }
 {
     output.enter(Name::GfmTableDelimiterRow)?;
     let mut cell = Cell::first(after_spaces(output.rest()));
@@ -100,6 +105,7 @@ fn write_delimiter(cell: &Cell<'_>, output: &mut Output<'_>) -> Result<(), Alloc
     requires { Writes output.old }
     ensures written { OnOk result (WritesOn output.old output.new) }
     ensures ended { cell.now.next.now ≡ [] → OnOk result (output.new.cursor.offset ≡ output.new.cursor.extent.end) }
+    ensures opens { Keeps result delimiter_row output.old output.new }
 {
     output.enter(Name::GfmTableDelimiterCell)?;
     cell.write_before(output)?;
@@ -115,7 +121,8 @@ fn write_delimiter(cell: &Cell<'_>, output: &mut Output<'_>) -> Result<(), Alloc
 /// Writes the run of a byte that is next in the line, unless there is none.
 fn write_run(name: Name, of: u8, output: &mut Output<'_>) -> Result<(), AllocError>
     requires { Writes output.old }
-    ensures { OnOk result (WritesOn output.old output.new) }
+    ensures written { OnOk result (WritesOn output.old output.new) }
+    ensures opens { (a : Stage) → written a (role_of name) ≡ Some a → Keeps result a output.old output.new }
 {
     let size = run_length(output.rest(), of);
     output.token(name, size)
@@ -124,11 +131,13 @@ fn write_run(name: Name, of: u8, output: &mut Output<'_>) -> Result<(), AllocErr
 /// Writes a row of the body, which is the first one or not.
 pub fn write_row(has_body: bool, output: &mut Output<'_>) -> Result<(), AllocError>
     requires { Writes output.old }
-    ensures { OnOk result (WritesOut output.old output.new) }
+    ensures written { OnOk result (WritesOut output.old output.new) }
+    ensures opens { (n : Bool) → (outer : List Enclosing) → Opens output.old (in_table has_body n outer) → OnOk result (Opens output.new (in_table true n outer)) }
 {
-    if !has_body {
-        output.enter(Name::GfmTableBody)?;
+    if has_body {
+        return gfm_table_row::write(output);
     }
+    output.enter(Name::GfmTableBody)?;
     gfm_table_row::write(output)
 }
 
@@ -137,9 +146,11 @@ pub fn end(has_body: bool, output: &mut Output<'_>) -> Result<(), AllocError>
     requires { Stands output.old }
     ensures stands { OnOk result (Stands output.new) }
     ensures cursor { output.new.cursor ≡ output.old.cursor }
+    ensures opens { (n : Bool) → (outer : List Enclosing) → Opens output.old (in_table has_body n outer) → OnOk result (Opens output.new (in_flow n outer)) }
 {
-    if has_body {
-        output.exit_before_held(Name::GfmTableBody)?;
+    if !has_body {
+        return output.exit_before_held(Name::GfmTable);
     }
+    output.exit_before_held(Name::GfmTableBody)?;
     output.exit_before_held(Name::GfmTable)
 }

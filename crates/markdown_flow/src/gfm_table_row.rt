@@ -1,7 +1,8 @@
 //! Rows of tables: how they are parted into cells (GFM).
 
-ghost use Rattle.std.specs.Prelude.{[], OnOk, length, ◌≡◌, ◌≤◌, ◌<◌};
-ghost use Rattle.markdown_flow.specs.Outputs.{Writes, WritesOn, WritesOut};
+ghost use Rattle.std.specs.Prelude.{[], OnOk, false, length, ◌≡◌, ◌≤◌, ◌<◌};
+ghost use Rattle.event_writer.specs.Stages.{Stage, inlines};
+ghost use Rattle.markdown_flow.specs.Outputs.{Keeps, Writes, WritesOn, WritesOut};
 
 use crate::output::Output;
 use crate::space_or_tab::{after_spaces, is_blank, trimmed_size};
@@ -41,7 +42,8 @@ impl<'d> Cell<'d> {
     /// Writes what comes before its text: a divider, and white space around that.
     pub fn write_before(&self, output: &mut Output<'_>) -> Result<(), AllocError>
         requires { Writes output.old }
-        ensures { OnOk result (WritesOn output.old output.new) }
+        ensures written { OnOk result (WritesOn output.old output.new) }
+        ensures opens { (a : Stage) → Keeps result a output.old output.new }
     {
         output.white_space()?;
         output.token(Name::GfmTableCellDivider, self.divider_size)?;
@@ -53,6 +55,7 @@ impl<'d> Cell<'d> {
         requires { Writes output.old }
         ensures written { OnOk result (WritesOn output.old output.new) }
         ensures ended { self.now.next.now ≡ [] → OnOk result (output.new.cursor.offset ≡ output.new.cursor.extent.end) }
+        ensures opens { (a : Stage) → Keeps result a output.old output.new }
     {
         output.white_space()?;
         if !self.next.is_empty() {
@@ -103,7 +106,8 @@ pub fn count(row: &[u8]) -> usize {
 /// Writes the row that a line is, with the white space before it.
 pub fn write(output: &mut Output<'_>) -> Result<(), AllocError>
     requires { Writes output.old }
-    ensures { OnOk result (WritesOut output.old output.new) }
+    ensures written { OnOk result (WritesOut output.old output.new) }
+    ensures opens { Keeps result (inlines false) output.old output.new }
 {
     output.enter(Name::GfmTableRow)?;
     let mut cell = Cell::first(after_spaces(output.rest()));
@@ -120,6 +124,7 @@ fn write_cell(cell: &Cell<'_>, output: &mut Output<'_>) -> Result<(), AllocError
     requires { Writes output.old }
     ensures written { OnOk result (WritesOn output.old output.new) }
     ensures ended { cell.now.next.now ≡ [] → OnOk result (output.new.cursor.offset ≡ output.new.cursor.extent.end) }
+    ensures opens { Keeps result (inlines false) output.old output.new }
 {
     output.enter(Name::GfmTableCell)?;
     cell.write_before(output)?;

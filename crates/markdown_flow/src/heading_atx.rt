@@ -1,7 +1,7 @@
 //! Headings with number signs (CommonMark).
 
-ghost use Rattle.std.specs.Prelude.{OnOk, length, ◌≤◌};
-ghost use Rattle.markdown_flow.specs.Outputs.{Writes, WritesOut};
+ghost use Rattle.std.specs.Prelude.{OnOk, IfSome, length, ◌≤◌, ◌<◌};
+ghost use Rattle.markdown_flow.specs.Outputs.{KeepsFlow, Writes, WritesOut, text_of};
 
 use crate::line::Line;
 use crate::output::Output;
@@ -17,7 +17,10 @@ const SIGNS_MOST: usize = 6;
 /// with `heading_atx` off.
 ///
 /// It is 2 in `## a`.
-pub fn begins(line: &Line<'_>) -> Option<usize> {
+pub fn begins(line: &Line<'_>) -> Option<usize>
+    ensures least { IfSome result (λ size. 0 < size) }
+    ensures text { IfSome result (λ _. 0 < length line.now.text.now) }
+{
     let size = run_length(line.text(), b'#');
     let fits = 0 < size && size <= SIGNS_MOST;
     let is_heading = fits && is_at_space_or_end(after(line.text(), size));
@@ -26,8 +29,11 @@ pub fn begins(line: &Line<'_>) -> Option<usize> {
 
 /// Writes the heading in a line, which begins with so many signs.
 pub fn write(size: usize, output: &mut Output<'_>) -> Result<(), AllocError>
-    requires { Writes output.old }
-    ensures { OnOk result (WritesOut output.old output.new) }
+    requires writes { Writes output.old }
+    requires filled { 0 < size }
+    requires text { 0 < length (text_of output.old) }
+    ensures written { OnOk result (WritesOut output.old output.new) }
+    ensures opens { KeepsFlow result output.old output.new }
 {
     output.enter(Name::HeadingAtx)?;
     output.white_space()?;

@@ -1,8 +1,10 @@
 //! Headings with an underline (CommonMark).
 
-ghost use Rattle.std.specs.Prelude.{[], OnOk, ◌≡◌};
-ghost use Rattle.markdown_flow.specs.Outputs.{HasLine, Stands, Writes, WritesOut, Reads, document_of, next_of, spot};
+ghost use Rattle.std.specs.Prelude.{List, [], OnOk, IfSome, length, ◌≡◌, ◌<◌};
+ghost use Rattle.event_writer.specs.Stages.{Enclosing, heading_setext_underline, nothing};
+ghost use Rattle.markdown_flow.specs.Outputs.{HasLine, KeepsFlow, Opens, Stands, Writes, WritesOut, Reads, document_of, next_of, spot, text_of};
 ghost use Rattle.markdown_flow.specs.Contents.{Kept, AreKept, after_lines};
+ghost use Rattle.markdown_pieces.specs.Walks.{at};
 
 use crate::content::{Content, KeptLine};
 use crate::input::Input;
@@ -17,13 +19,16 @@ use std::alloc::AllocError;
 /// off.
 ///
 /// It is 3 in `===`.
-pub fn underline(line: &Line<'_>) -> Option<usize> {
+pub fn underline(line: &Line<'_>) -> Option<usize>
+    ensures least { IfSome result (λ size. 0 < size) }
+    ensures text { IfSome result (λ _. 0 < length line.now.text.now) }
+{
     if !line.constructs().heading_setext || line.is_indented() {
         return None;
     }
     let size = match line.text() {
-        [b'=', ..] => run_length(line.text(), b'='),
-        [b'-', ..] => run_length(line.text(), b'-'),
+        [b'=', rest @ ..] => 1 + run_length(rest, b'='),
+        [b'-', rest @ ..] => 1 + run_length(rest, b'-'),
         _ => return None,
     };
     is_blank(after(line.text(), size)).then_some(size)
@@ -42,11 +47,14 @@ pub fn write<'d>(
     requires first { Kept (document_of output.old) content.now.prefixes.items (spot output.old.cursor) first.now }
     requires later { AreKept (document_of output.old) content.now.prefixes.items (next_of first.now.line) later.now }
     requires input { Reads (document_of output.old) (after_lines (next_of first.now.line) later.now) input.old }
+    requires filled { 0 < size }
+    requires text { 0 < length input.old.line.text.now }
     ensures writes { OnOk result (Writes output.new) }
     ensures at { OnOk result (HasLine output.new.cursor input.old.line) }
     ensures ended { OnOk result (output.new.cursor.offset ≡ output.new.cursor.extent.end) }
     ensures line { OnOk result (input.new.line ≡ input.old.line) }
     ensures taken { OnOk result (input.new.prefix.items ≡ []) }
+    ensures opens { KeepsFlow result output.old output.new }
 {
     content.begin(first, output)?;
     output.enter(Name::HeadingSetext)?;
@@ -58,8 +66,11 @@ pub fn write<'d>(
 
 /// Writes an underline of so many signs.
 fn write_underline(size: usize, output: &mut Output<'_>) -> Result<(), AllocError>
-    requires { Writes output.old }
-    ensures { OnOk result (WritesOut output.old output.new) }
+    requires writes { Writes output.old }
+    requires filled { 0 < size }
+    requires text { 0 < length (text_of output.old) }
+    ensures written { OnOk result (WritesOut output.old output.new) }
+    ensures opens { (outer : List Enclosing) → Opens output.old (at heading_setext_underline outer) → OnOk result (Opens output.new (at nothing outer)) }
 {
     output.enter(Name::HeadingSetextUnderline)?;
     output.white_space()?;

@@ -1,7 +1,9 @@
 //! Blocks of HTML (CommonMark).
 
-ghost use Rattle.std.specs.Prelude.{OnOk};
-ghost use Rattle.markdown_flow.specs.Outputs.{Writes, WritesOut};
+ghost use Rattle.std.specs.Prelude.{Bool, List, OnOk, IfOk, false};
+ghost use Rattle.event_writer.specs.Stages.{Enclosing};
+ghost use Rattle.markdown_flow.specs.Leaves.{in_flow, in_html};
+ghost use Rattle.markdown_flow.specs.Outputs.{Opens, Writes, WritesOut};
 
 use crate::html_names::{is_basic, is_raw};
 use crate::line::Line;
@@ -71,7 +73,8 @@ impl Html {
     /// Writes its first line, and says whether it ends there.
     pub fn open(self, output: &mut Output<'_>) -> Result<bool, AllocError>
         requires { Writes output.old }
-        ensures { OnOk result (WritesOut output.old output.new) }
+        ensures written { OnOk result (WritesOut output.old output.new) }
+        ensures opens { (n : Bool) → (outer : List Enclosing) → Opens output.old (in_flow n outer) → IfOk result (λ ends. Opens output.new (in_html ends n outer)) }
     {
         output.enter(Name::HtmlFlow)?;
         let indent = count_while(output.rest(), is_space_or_tab);
@@ -82,14 +85,16 @@ impl Html {
     /// Writes a line of it, and says whether it ends there.
     pub fn write_line(self, output: &mut Output<'_>) -> Result<bool, AllocError>
         requires { Writes output.old }
-        ensures { OnOk result (WritesOut output.old output.new) }
+        ensures written { OnOk result (WritesOut output.old output.new) }
+        ensures opens { (n : Bool) → (outer : List Enclosing) → Opens output.old (in_html false n outer) → IfOk result (λ ends. Opens output.new (in_html ends n outer)) }
     {
         let ends = self.ends_in(output.rest());
         output.token_of_rest(Name::HtmlFlowData)?;
-        if ends {
-            output.exit(Name::HtmlFlow)?;
+        if !ends {
+            return Ok(false);
         }
-        Ok(ends)
+        output.exit(Name::HtmlFlow)?;
+        Ok(true)
     }
 }
 

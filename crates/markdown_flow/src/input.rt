@@ -1,6 +1,6 @@
 //! The line that is read, and what the open containers took of it.
 
-ghost use Rattle.std.specs.Prelude.{List, [], ℕ, OnOk, ◌≡◌, ◌++◌};
+ghost use Rattle.std.specs.Prelude.{List, [], ℕ, OnOk, length, ◌≡◌, ◌<◌, ◌++◌};
 
 use crate::line::Line;
 use crate::output::piece_to;
@@ -21,8 +21,9 @@ pub struct Input<'d> {
 
 impl<'d> Input<'d> {
     ghost use Rattle.markdown_flow.specs.Moves.{HasMoved};
-    ghost use Rattle.markdown_flow.specs.Outputs.{Reads};
-    ghost use Rattle.markdown_pieces.specs.Tilings.{Spot};
+    ghost use Rattle.markdown_flow.specs.Outputs.{Reads, spot_in};
+    ghost use Rattle.markdown_pieces.specs.Tilings.{Goes, Spot};
+    ghost use Rattle.markdown_pieces.specs.Walks.{IsBetween};
 
     /// A line of which nothing is read yet.
     pub fn new(alloc: Global, line: Line<'d>) -> Input<'d>
@@ -45,56 +46,42 @@ impl<'d> Input<'d> {
         self.depth = 0;
     }
 
-    /// Begins a span in the prefix.
-    pub fn enter(&mut self, name: Name) -> Result<(), AllocError>
-        ensures reads { (bytes : List ℕ) → (from : Spot) → Reads bytes from self.old → OnOk result (Reads bytes from self.new) }
-        ensures line { self.new.line ≡ self.old.line }
-    {
-        let piece = piece_to(PieceKind::Enter(name), &self.line);
-        self.prefix.push(piece)?;
-        Ok(())
-    }
-
-    /// Ends a span in the prefix.
-    pub fn exit(&mut self, name: Name) -> Result<(), AllocError>
-        ensures reads { (bytes : List ℕ) → (from : Spot) → Reads bytes from self.old → OnOk result (Reads bytes from self.new) }
-        ensures line { self.new.line ≡ self.old.line }
-    {
-        let piece = piece_to(PieceKind::Exit(name), &self.line);
-        self.prefix.push(piece)?;
-        Ok(())
-    }
-
-    /// Moves the cursor over the white space there and so many bytes, which go to the prefix.
-    pub fn token(&mut self, name: Name, size: usize) -> Result<(), AllocError>
+    /// Moves the cursor over the white space there, a byte, and a column of white space, if there is one. They
+    /// are the prefix of a block quote.
+    pub fn block_quote_prefix(&mut self) -> Result<(), AllocError>
+        requires { 0 < length self.old.line.text.now }
         ensures reads { (bytes : List ℕ) → (from : Spot) → Reads bytes from self.old → OnOk result (Reads bytes from self.new) }
         ensures moved { OnOk result (HasMoved self.old.line self.new.line) }
     {
         let mut line = self.line;
-        line.skip(size);
-        self.token_to(name, line)
+        line.skip(1);
+        line.skip_columns(1);
+        self.push(PieceKind::BlockQuotePrefix, line)
     }
 
     /// Moves the cursor over up to so many columns of white space, which go to the prefix.
     pub fn columns(&mut self, columns: usize) -> Result<(), AllocError>
         ensures reads { (bytes : List ℕ) → (from : Spot) → Reads bytes from self.old → OnOk result (Reads bytes from self.new) }
         ensures moved { OnOk result (HasMoved self.old.line self.new.line) }
+        ensures text { OnOk result (self.new.line.text ≡ self.old.line.text) }
     {
         let mut line = self.line;
         line.skip_columns(columns);
         if line.columns() == self.line.columns() {
             return Ok(());
         }
-        self.token_to(Name::SpaceOrTab, line)
+        self.push(PieceKind::Token(Name::SpaceOrTab), line)
     }
 
     /// Moves the cursor to another place of the line. What is between them goes to the prefix.
-    fn token_to(&mut self, name: Name, line: Line<'d>) -> Result<(), AllocError>
-        requires { HasMoved self.old.line line }
+    fn push(&mut self, kind: PieceKind, line: Line<'d>) -> Result<(), AllocError>
+        requires source { line.source ≡ self.old.line.source }
+        requires goes { Goes self.old.line.source.document.now kind (spot_in self.old.line) (spot_in line) }
+        requires between { IsBetween kind }
         ensures reads { (bytes : List ℕ) → (from : Spot) → Reads bytes from self.old → OnOk result (Reads bytes from self.new) }
         ensures line { OnOk result (self.new.line ≡ line.entry) }
     {
-        let piece = piece_to(PieceKind::Token(name), &line);
+        let piece = piece_to(kind, &line);
         self.prefix.push(piece)?;
         self.line = line;
         Ok(())

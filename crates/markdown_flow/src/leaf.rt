@@ -1,5 +1,7 @@
 //! Leaves: what the flow of a document is made of, but for containers (CommonMark).
 
+ghost use Rattle.std.specs.Prelude.{IfSome};
+
 use crate::html_flow::Html;
 use crate::line::Line;
 use crate::raw_flow::Fence;
@@ -46,10 +48,14 @@ pub enum LeafStart {
 }
 
 impl LeafStart {
+    ghost use Rattle.markdown_flow.specs.Starts.{IsStart};
+
     /// The leaf that begins at the cursor of a line that is not blank, unless it is a paragraph.
     ///
     /// Indented code and some HTML cannot interrupt a paragraph (CommonMark).
-    pub fn find(line: &Line<'_>, interrupts: bool) -> Option<LeafStart> {
+    pub fn find(line: &Line<'_>, interrupts: bool) -> Option<LeafStart>
+        ensures { IfSome result (λ start. IsStart start line.now) }
+    {
         if line.is_indented() {
             return (!interrupts).then_some(LeafStart::CodeIndented);
         }

@@ -217,7 +217,8 @@ impl<'d> Line<'d> {
 
     /// Moves the cursor over up to so many columns of white space.
     pub fn skip_columns(&mut self, columns: usize)
-        ensures { HasMoved self.old self.new }
+        ensures moved { HasMoved self.old self.new }
+        ensures text { self.new.text ≡ self.old.text }
     {
         let moved = columns.min(self.indent);
         let mut left = moved;

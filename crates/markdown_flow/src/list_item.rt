@@ -1,11 +1,15 @@
 //! Items, and the lists that they make (CommonMark).
 
-ghost use Rattle.std.specs.Prelude.{List, ℕ, OnOk};
-ghost use Rattle.markdown_flow.specs.Outputs.{IsAt, Writes, Reads};
+ghost use Rattle.std.specs.Prelude.{List, ℕ, OnOk, IfOk, IfSome, length, nat_lt, true, ◌≡◌, ◌<◌};
+ghost use Rattle.event_writer.specs.Stages.{Enclosing, flow, item};
+ghost use Rattle.markdown_events.specs.declared.event.Name.TheVariants.{ListItem};
+ghost use Rattle.markdown_flow.specs.Containers.{after_item, before_number, in_list, list_name};
+ghost use Rattle.markdown_flow.specs.Markers.{is_ordered};
+ghost use Rattle.markdown_flow.specs.Outputs.{IsAt, Opens, Stands, Writes, Reads};
 ghost use Rattle.markdown_flow.specs.Moves.{HasMoved};
 ghost use Rattle.markdown_pieces.specs.Tilings.{Spot};
+ghost use Rattle.markdown_pieces.specs.Walks.{at, inside};
 
-use crate::container::Container;
 use crate::input::Input;
 use crate::line::{Line, TAB_SIZE};
 use crate::output::Output;
@@ -47,10 +51,13 @@ pub struct ItemStart {
     pub marker: u8,
     /// How many digits come before it.
     digits: usize,
+    ghost counted: { is_ordered marker ≡ nat_lt 0 digits },
 }
 
 /// The name of the list of items with a marker.
-pub fn list_name(marker: u8) -> Name {
+pub fn list_name(marker: u8) -> Name
+    ensures { result ≡ list_name (is_ordered marker) }
+{
     match marker {
         b'.' | b')' => Name::ListOrdered,
         _ => Name::ListUnordered,
@@ -61,24 +68,34 @@ pub fn list_name(marker: u8) -> Name {
 ///
 /// An item can interrupt a paragraph only if it is not blank, and only if its number is 1, where it has one
 /// (CommonMark).
-pub fn begins(line: &Line<'_>, interrupts: bool) -> Option<ItemStart> {
+pub fn begins(line: &Line<'_>, interrupts: bool) -> Option<ItemStart>
+    ensures { IfSome result (λ start. start.digits < length line.now.text.now) }
+{
     if !line.constructs().list_item || thematic_break::begins(line) {
         return None;
     }
     let digits = count_while(line.text(), |byte| byte.is_ascii_digit());
     let (number, rest) = line.text().split_at_checked(digits)?;
     let (marker, rest) = rest.split_first()?;
-    let is_marker = match *marker {
-        b'*' | b'-' | b'+' => digits == 0,
-        b'.' | b')' => 0 < digits && digits <= DIGITS_MOST,
-        _ => false,
-    };
     let may_interrupt = !is_blank(rest) && (digits == 0 || is_one(number));
-    let begins = is_marker && is_at_space_or_end(rest) && (may_interrupt || !interrupts);
-    begins.then_some(ItemStart {
+    if !is_marker(*marker, digits) || !is_at_space_or_end(rest) || (interrupts && !may_interrupt) {
+        return None;
+    }
+    Some(ItemStart {
         marker: *marker,
         digits,
     })
+}
+
+/// Whether a byte is the marker of an item after so many digits (CommonMark).
+fn is_marker(byte: u8, digits: usize) -> bool
+    ensures { result ≡ true → is_ordered byte ≡ nat_lt 0 digits }
+{
+    match byte {
+        b'*' | b'-' | b'+' => digits == 0,
+        b'.' | b')' => 0 < digits && digits <= DIGITS_MOST,
+        _ => false,
+    }
 }
 
 /// Whether digits say the number 1.
@@ -94,6 +111,7 @@ impl Item {
     pub fn continues(&mut self, input: &mut Input<'_>) -> Result<bool, AllocError>
         ensures reads { (bytes : List ℕ) → (from : Spot) → Reads bytes from input.old → OnOk result (Reads bytes from input.new) }
         ensures moved { OnOk result (HasMoved input.old.line input.new.line) }
+        ensures marker { self.new.marker ≡ self.old.marker }
     {
         if input.line.is_blank() && self.progress != Progress::Filled {
             self.progress = Progress::Ended;
@@ -113,31 +131,39 @@ impl Item {
     }
 }
 
+/// Writes that an item ends inside so many containers.
+pub fn close(item: &Item, outside: usize, output: &mut Output<'_>) -> Result<(), AllocError>
+    requires { Stands output.old }
+    ensures stands { OnOk result (Stands output.new) }
+    ensures cursor { output.new.cursor ≡ output.old.cursor }
+    ensures opens { (outer : List Enclosing) → Opens output.old (at (flow (is_ordered item.now.marker)) (inside ListItem (in_list (is_ordered item.now.marker)) outer)) → OnOk result (Opens output.new (at (after_item (is_ordered item.now.marker)) outer)) }
+{
+    if item.is_ended() {
+        return output.exit_blank_item();
+    }
+    output.exit_container(Name::ListItem, outside)
+}
+
 /// Writes the start of an item at the cursor of a line.
 pub fn open<'d>(
     start: ItemStart,
     line: &mut Line<'d>,
     output: &mut Output<'d>,
-) -> Result<Container, AllocError>
+) -> Result<Item, AllocError>
     requires writes { Writes output.old }
     requires at { IsAt output.old.cursor line.old }
+    requires digits { start.digits < length line.old.text.now }
     ensures writes { OnOk result (Writes output.new) }
     ensures at { OnOk result (IsAt output.new.cursor line.new) }
     ensures moved { HasMoved line.old line.new }
+    ensures marker { IfOk result (λ item. item.marker ≡ start.marker) }
+    ensures opens { (outer : List Enclosing) → Opens output.old (at (in_list (is_ordered start.marker)) outer) → OnOk result (Opens output.new (at (item (is_ordered start.marker)) (inside ListItem (in_list (is_ordered start.marker)) outer))) }
 {
     let before = line.columns();
-    output.enter(Name::ListItem)?;
-    output.columns(line, line.indent())?;
-    output.enter(Name::ListItemPrefix)?;
-    write_marker(start, line, output)?;
+    write_start(start, line, output)?;
     let is_blank = line.is_blank();
-    if !is_blank {
-        let indent = line.indent();
-        output.columns(line, padding(indent))?;
-    }
-    output.exit(Name::ListItemPrefix)?;
     let size = line.columns().saturating_sub(before);
-    Ok(Container::ListItem(Item {
+    Ok(Item {
         marker: start.marker,
         size: if is_blank {
             size.saturating_add(1)
@@ -149,7 +175,53 @@ pub fn open<'d>(
         } else {
             Progress::Filled
         },
-    }))
+    })
+}
+
+/// Writes what an item begins with.
+fn write_start<'d>(
+    start: ItemStart,
+    line: &mut Line<'d>,
+    output: &mut Output<'d>,
+) -> Result<(), AllocError>
+    requires writes { Writes output.old }
+    requires at { IsAt output.old.cursor line.old }
+    requires digits { start.digits < length line.old.text.now }
+    ensures writes { OnOk result (Writes output.new) }
+    ensures at { OnOk result (IsAt output.new.cursor line.new) }
+    ensures moved { HasMoved line.old line.new }
+    ensures opens { (outer : List Enclosing) → Opens output.old (at (in_list (is_ordered start.marker)) outer) → OnOk result (Opens output.new (at (item (is_ordered start.marker)) (inside ListItem (in_list (is_ordered start.marker)) outer))) }
+{
+    output.enter(Name::ListItem)?;
+    output.columns(line, line.indent())?;
+    write_prefix(start, line, output)?;
+    Ok(())
+}
+
+/// Writes the number and the marker of an item, and the white space after them that belongs to it.
+fn write_prefix<'d>(
+    start: ItemStart,
+    line: &mut Line<'d>,
+    output: &mut Output<'d>,
+) -> Result<(), AllocError>
+    requires writes { Writes output.old }
+    requires at { IsAt output.old.cursor line.old }
+    requires digits { start.digits < length line.old.text.now }
+    ensures writes { OnOk result (Writes output.new) }
+    ensures at { OnOk result (IsAt output.new.cursor line.new) }
+    ensures moved { HasMoved line.old line.new }
+    ensures opens { (outer : List Enclosing) → Opens output.old (at (before_number (is_ordered start.marker)) outer) → OnOk result (Opens output.new (at (item (is_ordered start.marker)) outer)) }
+{
+    output.enter(Name::ListItemPrefix)?;
+    write_marker(start, line, output)?;
+    if line.is_blank() {
+        output.exit(Name::ListItemPrefix)?;
+        return Ok(());
+    }
+    let indent = line.indent();
+    output.columns(line, padding(indent))?;
+    output.exit(Name::ListItemPrefix)?;
+    Ok(())
 }
 
 /// Writes the number and the marker of an item.
@@ -160,14 +232,37 @@ fn write_marker<'d>(
 ) -> Result<(), AllocError>
     requires writes { Writes output.old }
     requires at { IsAt output.old.cursor line.old }
+    requires digits { start.digits < length line.old.text.now }
     ensures writes { OnOk result (Writes output.new) }
     ensures at { OnOk result (IsAt output.new.cursor line.new) }
     ensures moved { HasMoved line.old line.new }
+    ensures opens { (outer : List Enclosing) → Opens output.old (at (before_number (is_ordered start.marker)) outer) → OnOk result (Opens output.new (at (item (is_ordered start.marker)) outer)) }
 {
-    line.skip(start.digits);
-    output.token_to(Name::ListItemValue, line)?;
+    write_number(start, line, output)?;
     line.skip(1);
     output.token_to(Name::ListItemMarker, line)
+}
+
+/// Writes the number of an item, if it has one.
+fn write_number<'d>(
+    start: ItemStart,
+    line: &mut Line<'d>,
+    output: &mut Output<'d>,
+) -> Result<(), AllocError>
+    requires writes { Writes output.old }
+    requires at { IsAt output.old.cursor line.old }
+    requires digits { start.digits < length line.old.text.now }
+    ensures writes { OnOk result (Writes output.new) }
+    ensures at { OnOk result (IsAt output.new.cursor line.new) }
+    ensures moved { HasMoved line.old line.new }
+    ensures opens { (outer : List Enclosing) → Opens output.old (at (before_number (is_ordered start.marker)) outer) → OnOk result (Opens output.new (at (item (is_ordered start.marker)) outer)) }
+{
+    if start.digits == 0 {
+        return Ok(());
+    }
+    line.skip(start.digits);
+    output.token_to(Name::ListItemValue, line)?;
+    Ok(())
 }
 
 /// How many columns of the white space after a marker belong to the item: all, unless what comes is

@@ -1,8 +1,17 @@
-//! Math between fences: its first fence (micromark).
+//! Math between fences (micromark).
+
+ghost use Rattle.std.specs.Prelude.{Bool, List, OnOk};
+ghost use Rattle.event_writer.specs.Stages.{Enclosing};
+ghost use Rattle.markdown_flow.specs.Leaves.{in_flow, in_raw};
+ghost use Rattle.markdown_flow.specs.Outputs.{Opens, Writes, WritesOut};
+ghost use Rattle.markdown_flow.specs.declared.raw_flow.RawFlow.TheVariants.{Math};
 
 use crate::line::Line;
-use crate::raw_flow::{Fence, RawFlow};
+use crate::output::Output;
+use crate::raw_flow::{Fence, RawFlow, write_closing, write_meta};
 use commonmark_syntax::bytes::{after, run_length};
+use markdown_events::event::Name;
+use std::alloc::AllocError;
 
 /// The sign of a fence.
 const SIGN: u8 = b'$';
@@ -23,4 +32,30 @@ pub fn begins(line: &Line<'_>) -> Option<Fence> {
         size,
         indent: line.indent(),
     })
+}
+
+/// Writes the line of a fence of so many signs, after the white space that it begins with.
+pub fn open(size: usize, output: &mut Output<'_>) -> Result<(), AllocError>
+    requires { Writes output.old }
+    ensures written { OnOk result (WritesOut output.old output.new) }
+    ensures opens { (n : Bool) → (outer : List Enclosing) → Opens output.old (in_flow n outer) → OnOk result (Opens output.new (in_raw Math n outer)) }
+{
+    output.enter(Name::MathFlow)?;
+    output.enter(Name::MathFlowFence)?;
+    output.token(Name::MathFlowFenceSequence, size)?;
+    output.white_space()?;
+    write_meta(Name::MathFlowFenceMeta, output)?;
+    output.exit(Name::MathFlowFence)
+}
+
+/// Writes the line of a fence of so many signs, which closes.
+pub fn close(size: usize, output: &mut Output<'_>) -> Result<(), AllocError>
+    requires { Writes output.old }
+    ensures written { OnOk result (WritesOut output.old output.new) }
+    ensures opens { (n : Bool) → (outer : List Enclosing) → Opens output.old (in_raw Math n outer) → OnOk result (Opens output.new (in_flow n outer)) }
+{
+    output.enter(Name::MathFlowFence)?;
+    write_closing(Name::MathFlowFenceSequence, size, output)?;
+    output.exit(Name::MathFlowFence)?;
+    output.exit(Name::MathFlow)
 }

@@ -1,10 +1,14 @@
 //! The pieces that were made so far, those that wait, and the line that is written.
 
-ghost use Rattle.std.specs.Prelude.{[], OnOk, IfOk, length, min, ◌≡◌, ◌≤◌, ◌+◌, ◌-◌, slice_range};
-ghost use Rattle.markdown_flow.specs.Outputs.{IsAt, IsLater, IsPlaceIn, Stands, Writes, Reads, document_of, line_after, next_of, spot, spot_in};
+ghost use Rattle.std.specs.Prelude.{List, [], OnOk, IfOk, IfSome, Some, true, length, min, ◌≡◌, ◌≤◌, ◌<◌, ◌+◌, ◌-◌, slice_range};
+ghost use Rattle.event_writer.specs.Stages.{Enclosing, Stage, entered, exited, skips, takes_line_endings, written};
+ghost use Rattle.markdown_events.specs.Names.{role_of};
+ghost use Rattle.markdown_events.specs.declared.event.Name.TheVariants.{ListItem};
+ghost use Rattle.markdown_flow.specs.Outputs.{IsAt, IsLater, IsPlaceIn, Keeps, Opens, Stands, Writes, Reads, document_of, line_after, next_of, spot, spot_in};
 ghost use Rattle.markdown_flow.specs.Moves.{HasMoved};
 ghost use Rattle.markdown_flow.specs.Lines.{after_spaces};
 ghost use Rattle.markdown_pieces.specs.Tilings.{Goes, IsEnding, IsToken, Tiles, end_from, end_of, origin};
+ghost use Rattle.markdown_pieces.specs.Walks.{AreBetween, State, Walks, at, inside, stage_after, stage_after_string, start};
 
 use crate::input::Input;
 use crate::line::Line;
@@ -162,6 +166,7 @@ impl<'d> Output<'d> {
         ensures stands { Stands result }
         ensures document { document_of result ≡ document.now }
         ensures spot { spot result.cursor ≡ origin }
+        ensures opens { Opens result start }
     {
         Output {
             alloc,
@@ -179,6 +184,7 @@ impl<'d> Output<'d> {
         ensures stands { Stands self.old → Stands self.new }
         ensures writes { Writes self.old → Writes self.new }
         ensures cursor { self.new.cursor ≡ self.old.cursor }
+        ensures opens { (s : State) → Opens self.old s → Opens self.new s }
     {
         self.identifiers.define(self.alloc, label)
     }
@@ -188,6 +194,7 @@ impl<'d> Output<'d> {
         ensures stands { Stands self.old → Stands self.new }
         ensures writes { Writes self.old → Writes self.new }
         ensures cursor { self.new.cursor ≡ self.old.cursor }
+        ensures opens { (s : State) → Opens self.old s → Opens self.new s }
     {
         self.identifiers.define_footnote(self.alloc, label)
     }
@@ -199,6 +206,7 @@ impl<'d> Output<'d> {
         ensures none_held { OnOk result (self.new.held.items ≡ []) }
         ensures from_start { OnOk result (self.new.held_start ≡ 0) }
         ensures cursor { OnOk result (self.new.cursor ≡ self.old.cursor) }
+        ensures opens { (a : Stage) → takes_line_endings a ≡ true → Keeps result a self.old self.new }
     {
         let length = self.held.len();
         self.settle_to(length)?;
@@ -215,6 +223,7 @@ impl<'d> Output<'d> {
         ensures held { self.new.held ≡ self.old.held }
         ensures cursor { self.new.cursor ≡ self.old.cursor }
         ensures number { self.old.held_start ≤ number → number ≤ length self.old.held.items → OnOk result (self.new.held_start ≡ number) }
+        ensures opens { (a : Stage) → takes_line_endings a ≡ true → Keeps result a self.old self.new }
     {
         if let Some(held) = self.held.as_slice().get(self.held_start..number) {
             self.pieces.extend_from_slice(held)?;
@@ -231,6 +240,7 @@ impl<'d> Output<'d> {
         ensures at { OnOk result (IsAt self.new.cursor input.old.line) }
         ensures line { OnOk result (input.new.line ≡ input.old.line) }
         ensures taken { OnOk result (input.new.prefix.items ≡ []) }
+        ensures opens { (a : Stage) → takes_line_endings a ≡ true → Keeps result a self.old self.new }
     {
         self.settle()?;
         self.cursor = Cursor::of(&input.line);
@@ -243,8 +253,10 @@ impl<'d> Output<'d> {
         requires stands { Stands self.old }
         requires document { line.now.source.document.now ≡ document_of self.old }
         requires prefix { Tiles (document_of self.old) (spot self.old.cursor) prefix.now (spot_in line.now) }
+        requires between { AreBetween prefix.now }
         ensures writes { OnOk result (Writes self.new) }
         ensures at { OnOk result (IsAt self.new.cursor line.now) }
+        ensures opens { (a : Stage) → takes_line_endings a ≡ true → Keeps result a self.old self.new }
     {
         self.settle()?;
         self.cursor = Cursor::of(line);
@@ -259,6 +271,7 @@ impl<'d> Output<'d> {
         ensures stands { OnOk result (Stands self.new) }
         ensures document { OnOk result (document_of self.new ≡ document_of self.old) }
         ensures spot { OnOk result (spot self.new.cursor ≡ line_after self.old.cursor) }
+        ensures opens { (a : Stage) → Keeps result a self.old self.new }
     {
         self.hold_ending(PieceKind::LineEnding)
     }
@@ -272,6 +285,7 @@ impl<'d> Output<'d> {
         ensures stands { OnOk result (Stands self.new) }
         ensures document { OnOk result (document_of self.new ≡ document_of self.old) }
         ensures spot { OnOk result (spot self.new.cursor ≡ line_after self.old.cursor) }
+        ensures opens { (a : Stage) → Keeps result a self.old self.new }
     {
         let next = self.cursor.next_line();
         if self.cursor.offset == next.offset {
@@ -291,6 +305,7 @@ impl<'d> Output<'d> {
         ensures spot { OnOk result (spot self.new.cursor ≡ next_of input.old.line) }
         ensures line { input.new.line ≡ input.old.line }
         ensures taken { OnOk result (input.new.prefix.items ≡ []) }
+        ensures opens { (a : Stage) → Keeps result a self.old self.new }
     {
         input.take_prefix(&mut self.held)?;
         self.cursor = Cursor::of(&input.line);
@@ -307,9 +322,11 @@ impl<'d> Output<'d> {
         requires stands { Stands self.old }
         requires document { line.now.source.document.now ≡ document_of self.old }
         requires prefix { Tiles (document_of self.old) (spot self.old.cursor) prefix.now (spot_in line.now) }
+        requires between { AreBetween prefix.now }
         ensures stands { OnOk result (Stands self.new) }
         ensures document { OnOk result (document_of self.new ≡ document_of self.old) }
         ensures spot { OnOk result (spot self.new.cursor ≡ next_of line.now) }
+        ensures opens { (a : Stage) → Keeps result a self.old self.new }
     {
         self.held.extend_from_slice(prefix)?;
         self.cursor = Cursor::of(line);
@@ -323,6 +340,7 @@ impl<'d> Output<'d> {
         ensures stands { OnOk result (Stands self.new) }
         ensures document { OnOk result (document_of self.new ≡ document_of self.old) }
         ensures spot { OnOk result (spot self.new.cursor ≡ line_after self.old.cursor) }
+        ensures opens { (a : Stage) → Keeps result a self.old self.new }
     {
         self.hold_white_space()?;
         let index = self.held.len();
@@ -338,6 +356,7 @@ impl<'d> Output<'d> {
         ensures place { OnOk result (IsPlaceIn self.new.cursor) }
         ensures extent { OnOk result (self.new.cursor.extent ≡ self.old.cursor.extent) }
         ensures ended { OnOk result (self.new.cursor.offset ≡ self.new.cursor.extent.end) }
+        ensures opens { (a : Stage) → Keeps result a self.old self.new }
     {
         let end = self.cursor.after(self.cursor.extent.end);
         if end.offset == self.cursor.offset {
@@ -356,6 +375,7 @@ impl<'d> Output<'d> {
         requires { Stands self.old }
         ensures stands { OnOk result (Stands self.new) }
         ensures cursor { self.new.cursor ≡ self.old.cursor }
+        ensures opens { (a b : Stage) → (outer : List Enclosing) → takes_line_endings a ≡ true → Opens self.old (at a (inside name b outer)) → OnOk result (IfSome (exited a b (role_of name)) (λ c. Opens self.new (at c outer))) }
     {
         let blank = self
             .blanks
@@ -391,6 +411,7 @@ impl<'d> Output<'d> {
         requires { Stands self.old }
         ensures stands { OnOk result (Stands self.new) }
         ensures cursor { self.new.cursor ≡ self.old.cursor }
+        ensures opens { (a b : Stage) → (outer : List Enclosing) → Opens self.old (at a (inside ListItem b outer)) → OnOk result (IfSome (exited a b (role_of ListItem)) (λ c. Opens self.new (at c outer))) }
     {
         if let Some(first) = self.blanks.first().copied() {
             self.make_filled(first.index);
@@ -403,6 +424,7 @@ impl<'d> Output<'d> {
         requires { Stands self.old }
         ensures stands { Stands self.new }
         ensures cursor { self.new.cursor ≡ self.old.cursor }
+        ensures opens { (s : State) → Opens self.old s → Opens self.new s }
     {
         if let Some(piece) = self.held.get_mut(index) {
             if let PieceKind::BlankLineEnding = piece.kind {
@@ -420,6 +442,7 @@ impl<'d> Output<'d> {
         requires place { IsPlaceIn cursor }
         ensures writes { OnOk result (Writes self.new) }
         ensures cursor { OnOk result (self.new.cursor ≡ cursor.entry) }
+        ensures opens { (a : Stage) → (outer : List Enclosing) → Opens self.old (at a outer) → OnOk result (IfSome (stage_after a piece.kind) (λ b. Opens self.new (at b outer))) }
     {
         self.pieces.push(piece)?;
         self.cursor = cursor;
@@ -431,6 +454,7 @@ impl<'d> Output<'d> {
         requires { Writes self.old }
         ensures writes { OnOk result (Writes self.new) }
         ensures cursor { self.new.cursor ≡ self.old.cursor }
+        ensures opens { (a : Stage) → (outer : List Enclosing) → Opens self.old (at a outer) → OnOk result (IfSome (entered a (role_of name)) (λ b. Opens self.new (at b (inside name a outer)))) }
     {
         let piece = self.at_end(PieceKind::Enter(name));
         self.pieces.push(piece)?;
@@ -442,6 +466,7 @@ impl<'d> Output<'d> {
         requires { Writes self.old }
         ensures writes { OnOk result (Writes self.new) }
         ensures cursor { self.new.cursor ≡ self.old.cursor }
+        ensures opens { (a b : Stage) → (outer : List Enclosing) → Opens self.old (at a (inside name b outer)) → OnOk result (IfSome (exited a b (role_of name)) (λ c. Opens self.new (at c outer))) }
     {
         self.exit_before_held(name)
     }
@@ -452,6 +477,7 @@ impl<'d> Output<'d> {
         ensures stands { OnOk result (Stands self.new) }
         ensures writes { Writes self.old → OnOk result (Writes self.new) }
         ensures cursor { self.new.cursor ≡ self.old.cursor }
+        ensures opens { (a b : Stage) → (outer : List Enclosing) → Opens self.old (at a (inside name b outer)) → OnOk result (IfSome (exited a b (role_of name)) (λ c. Opens self.new (at c outer))) }
     {
         let piece = self.at_end(PieceKind::Exit(name));
         self.pieces.push(piece)?;
@@ -485,6 +511,8 @@ impl<'d> Output<'d> {
         ensures writes { OnOk result (Writes self.new) }
         ensures extent { OnOk result (self.new.cursor.extent ≡ self.old.cursor.extent) }
         ensures offset { OnOk result (self.new.cursor.offset ≡ self.old.cursor.offset + min size (self.old.cursor.extent.end - self.old.cursor.offset)) }
+        ensures same { (a : Stage) → stage_after a kind ≡ Some a → Keeps result a self.old self.new }
+        ensures filled { (a : Stage) → (outer : List Enclosing) → 0 < size → self.old.cursor.offset < self.old.cursor.extent.end → Opens self.old (at a outer) → OnOk result (IfSome (stage_after a kind) (λ b. Opens self.new (at b outer))) }
     {
         let cursor = self.cursor.after(size);
         if cursor.offset == self.cursor.offset {
@@ -499,6 +527,8 @@ impl<'d> Output<'d> {
         ensures writes { OnOk result (Writes self.new) }
         ensures extent { OnOk result (self.new.cursor.extent ≡ self.old.cursor.extent) }
         ensures offset { OnOk result (self.new.cursor.offset ≡ self.old.cursor.offset + min size (self.old.cursor.extent.end - self.old.cursor.offset)) }
+        ensures same { (a : Stage) → written a (role_of name) ≡ Some a → Keeps result a self.old self.new }
+        ensures filled { (a : Stage) → (outer : List Enclosing) → 0 < size → self.old.cursor.offset < self.old.cursor.extent.end → Opens self.old (at a outer) → OnOk result (IfSome (written a (role_of name)) (λ b. Opens self.new (at b outer))) }
     {
         self.part(PieceKind::Token(name), size)
     }
@@ -509,6 +539,7 @@ impl<'d> Output<'d> {
         ensures writes { OnOk result (Writes self.new) }
         ensures extent { OnOk result (self.new.cursor.extent ≡ self.old.cursor.extent) }
         ensures ended { OnOk result (self.new.cursor.offset ≡ self.new.cursor.extent.end) }
+        ensures same { (a : Stage) → written a (role_of name) ≡ Some a → Keeps result a self.old self.new }
     {
         self.token(name, self.cursor.extent.end)
     }
@@ -520,6 +551,7 @@ impl<'d> Output<'d> {
         ensures extent { OnOk result (self.new.cursor.extent ≡ self.old.cursor.extent) }
         ensures order { OnOk result (self.old.cursor.offset ≤ self.new.cursor.offset) }
         ensures text { OnOk result (self.new.cursor.extent.end - self.new.cursor.offset ≡ length (after_spaces (slice_range (document_of self.old) self.old.cursor.offset self.old.cursor.extent.end))) }
+        ensures same { (a : Stage) → Keeps result a self.old self.new }
     {
         let rest = self.rest();
         self.token(Name::SpaceOrTab, rest.len() - after_spaces(rest).len())
@@ -532,6 +564,9 @@ impl<'d> Output<'d> {
         ensures extent { OnOk result (self.new.cursor.extent ≡ self.old.cursor.extent) }
         ensures order { OnOk result (self.old.cursor.offset ≤ self.new.cursor.offset) }
         ensures most { OnOk result (self.new.cursor.offset ≤ self.old.cursor.offset + size) }
+        ensures same { (a : Stage) → stage_after_string a name ≡ Some a → Keeps result a self.old self.new }
+        ensures less { (a : Stage) → (outer : List Enclosing) → Opens self.old (at a outer) → OnOk result (IfSome (stage_after_string a name) (λ b. skips a b ≡ true → Opens self.new (at b outer))) }
+        ensures filled { (a : Stage) → (outer : List Enclosing) → 0 < size → self.old.cursor.offset < self.old.cursor.extent.end → Opens self.old (at a outer) → OnOk result (IfSome (stage_after_string a name) (λ b. Opens self.new (at b outer))) }
     {
         if size == 0 || self.rest().is_empty() {
             return Ok(());
@@ -548,6 +583,8 @@ impl<'d> Output<'d> {
         requires same { IsLater self.old.cursor line.now }
         ensures writes { OnOk result (Writes self.new) }
         ensures at { OnOk result (IsAt self.new.cursor line.now) }
+        ensures same { (a : Stage) → written a (role_of name) ≡ Some a → Keeps result a self.old self.new }
+        ensures filled { (a : Stage) → (outer : List Enclosing) → self.old.cursor.offset < line.now.end - length line.now.rest.now → Opens self.old (at a outer) → OnOk result (IfSome (written a (role_of name)) (λ b. Opens self.new (at b outer))) }
     {
         let cursor = Cursor::of(line);
         if cursor.offset == self.cursor.offset
@@ -566,6 +603,8 @@ impl<'d> Output<'d> {
         ensures writes { OnOk result (Writes self.new) }
         ensures at { OnOk result (IsAt self.new.cursor line.new) }
         ensures moved { HasMoved line.old line.new }
+        ensures same { (a : Stage) → Keeps result a self.old self.new }
+        ensures text { line.new.text ≡ line.old.text }
     {
         line.skip_columns(columns);
         self.token_to(Name::SpaceOrTab, line)
@@ -574,7 +613,8 @@ impl<'d> Output<'d> {
     /// All pieces, and the identifiers.
     pub fn finish(self) -> Result<(Vec<Piece>, Identifiers), AllocError>
         requires { Stands self }
-        ensures { IfOk result (λ found. Tiles (document_of self.entry) origin found.0.items (spot self.entry.cursor)) }
+        ensures tiles { IfOk result (λ found. Tiles (document_of self.entry) origin found.0.items (spot self.entry.cursor)) }
+        ensures opens { (a : Stage) → (outer : List Enclosing) → takes_line_endings a ≡ true → Opens self.entry (at a outer) → IfOk result (λ found. Walks start found.0.items (at a outer)) }
     {
         let mut output = self;
         output.settle()?;

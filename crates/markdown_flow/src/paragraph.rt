@@ -1,7 +1,7 @@
 //! Paragraphs, and the definitions that they may begin with (CommonMark).
 
 ghost use Rattle.std.specs.Prelude.{OnOk, ◌≡◌};
-ghost use Rattle.markdown_flow.specs.Outputs.{Stands, document_of, spot};
+ghost use Rattle.markdown_flow.specs.Outputs.{KeepsFlow, Stands, document_of, spot};
 ghost use Rattle.markdown_flow.specs.Contents.{AreKept, after_lines};
 
 use crate::content::{Content, KeptLine};
@@ -22,6 +22,7 @@ pub fn write<'d>(
     ensures stands { OnOk result (Stands output.new) }
     ensures document { OnOk result (document_of output.new ≡ document_of output.old) }
     ensures spot { OnOk result (spot output.new.cursor ≡ after_lines (spot output.old.cursor) lines.now) }
+    ensures opens { KeepsFlow result output.old output.new }
 {
     let rest = definition_pieces::write(alloc, content, lines, output)?;
     if let [first, later @ ..] = rest {

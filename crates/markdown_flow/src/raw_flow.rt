@@ -1,7 +1,11 @@
 //! Code and math between fences (micromark, raw flow).
 
-ghost use Rattle.std.specs.Prelude.{OnOk, ◌≡◌};
-ghost use Rattle.markdown_flow.specs.Outputs.{IsAt, Stands, Writes, WritesOut};
+ghost use Rattle.std.specs.Prelude.{Bool, List, OnOk, IfOk, IfSome, Some, true, ◌≡◌};
+ghost use Rattle.event_writer.specs.Stages.{Enclosing, Stage, skips, written};
+ghost use Rattle.markdown_events.specs.Names.{role_of};
+ghost use Rattle.markdown_flow.specs.Leaves.{after_fenced, in_flow, in_raw};
+ghost use Rattle.markdown_flow.specs.Outputs.{IsAt, Keeps, Opens, Stands, Writes, WritesOut};
+ghost use Rattle.markdown_pieces.specs.Walks.{at, stage_after_string};
 
 use crate::line::Line;
 use crate::output::Output;
@@ -44,39 +48,6 @@ pub enum FencedLine {
     Chunk,
 }
 
-/// The names of the spans of a construct.
-#[derive(Clone, Copy)]
-struct Names {
-    /// All of it.
-    whole: Name,
-    /// A fence.
-    fence: Name,
-    /// The signs of a fence.
-    sequence: Name,
-    /// A line.
-    chunk: Name,
-}
-
-impl RawFlow {
-    /// The names of its spans.
-    fn names(self) -> Names {
-        match self {
-            RawFlow::Code => Names {
-                whole: Name::CodeFenced,
-                fence: Name::CodeFencedFence,
-                sequence: Name::CodeFencedFenceSequence,
-                chunk: Name::CodeFlowChunk,
-            },
-            RawFlow::Math => Names {
-                whole: Name::MathFlow,
-                fence: Name::MathFlowFence,
-                sequence: Name::MathFlowFenceSequence,
-                chunk: Name::MathFlowChunk,
-            },
-        }
-    }
-}
-
 impl Fence {
     /// The fence that a line opens, if it opens one.
     pub fn find(line: &Line<'_>) -> Option<Fence> {
@@ -90,19 +61,14 @@ impl Fence {
     /// Writes the line of a fence that opens.
     pub fn open(self, output: &mut Output<'_>) -> Result<(), AllocError>
         requires { Writes output.old }
-        ensures { OnOk result (WritesOut output.old output.new) }
+        ensures written { OnOk result (WritesOut output.old output.new) }
+        ensures opens { (n : Bool) → (outer : List Enclosing) → Opens output.old (in_flow n outer) → OnOk result (Opens output.new (in_raw self.content n outer)) }
     {
-        let names = self.content.names();
-        output.white_space()?;
-        output.enter(names.whole)?;
-        output.enter(names.fence)?;
-        output.token(names.sequence, self.size)?;
         output.white_space()?;
         match self.content {
-            RawFlow::Code => code_fenced::write_info(output)?,
-            RawFlow::Math => write_meta(Name::MathFlowFenceMeta, output)?,
+            RawFlow::Code => code_fenced::open(self.size, output),
+            RawFlow::Math => math_flow::open(self.size, output),
         }
-        output.exit(names.fence)
     }
 
     /// Writes a line after a fence that opens, and says what it is.
@@ -113,19 +79,32 @@ impl Fence {
     ) -> Result<FencedLine, AllocError>
         requires writes { Writes output.old }
         requires at { IsAt output.old.cursor line.old }
-        ensures { OnOk result (WritesOut output.old output.new) }
+        ensures written { OnOk result (WritesOut output.old output.new) }
+        ensures opens { (n : Bool) → (outer : List Enclosing) → Opens output.old (in_raw self.content n outer) → IfOk result (λ found. Opens output.new (after_fenced found self.content n outer)) }
     {
         if let Some(size) = self.closing(line) {
             self.close(size, output)?;
             return Ok(FencedLine::Closing);
         }
         output.columns(line, self.indent)?;
-        output.token_of_rest(self.content.names().chunk)?;
+        self.write_chunk(output)?;
         Ok(if line.rest().is_empty() {
             FencedLine::Empty
         } else {
             FencedLine::Chunk
         })
+    }
+
+    /// Writes the rest of a line between the fences.
+    fn write_chunk(self, output: &mut Output<'_>) -> Result<(), AllocError>
+        requires { Writes output.old }
+        ensures written { OnOk result (WritesOut output.old output.new) }
+        ensures opens { (n : Bool) → (outer : List Enclosing) → Opens output.old (in_raw self.content n outer) → OnOk result (Opens output.new (in_raw self.content n outer)) }
+    {
+        match self.content {
+            RawFlow::Code => output.token_of_rest(Name::CodeFlowChunk),
+            RawFlow::Math => output.token_of_rest(Name::MathFlowChunk),
+        }
     }
 
     /// The number of signs of the fence that closes, if the line has it (CommonMark).
@@ -138,15 +117,13 @@ impl Fence {
     /// Writes the line of a fence of so many signs, which closes.
     fn close(self, size: usize, output: &mut Output<'_>) -> Result<(), AllocError>
         requires { Writes output.old }
-        ensures { OnOk result (WritesOut output.old output.new) }
+        ensures written { OnOk result (WritesOut output.old output.new) }
+        ensures opens { (n : Bool) → (outer : List Enclosing) → Opens output.old (in_raw self.content n outer) → OnOk result (Opens output.new (in_flow n outer)) }
     {
-        let names = self.content.names();
-        output.enter(names.fence)?;
-        output.white_space()?;
-        output.token(names.sequence, size)?;
-        output.token_of_rest(Name::SpaceOrTab)?;
-        output.exit(names.fence)?;
-        output.exit(names.whole)
+        match self.content {
+            RawFlow::Code => code_fenced::close(size, output),
+            RawFlow::Math => math_flow::close(size, output),
+        }
     }
 
     /// Writes that the construct ends, before what is held.
@@ -154,16 +131,32 @@ impl Fence {
         requires { Stands output.old }
         ensures stands { OnOk result (Stands output.new) }
         ensures cursor { output.new.cursor ≡ output.old.cursor }
+        ensures opens { (n : Bool) → (outer : List Enclosing) → Opens output.old (in_raw self.content n outer) → OnOk result (Opens output.new (in_flow n outer)) }
     {
-        output.exit_before_held(self.content.names().whole)
+        match self.content {
+            RawFlow::Code => output.exit_before_held(Name::CodeFenced),
+            RawFlow::Math => output.exit_before_held(Name::MathFlow),
+        }
     }
+}
+
+/// Writes the signs of a fence that closes, which end the line.
+pub fn write_closing(name: Name, size: usize, output: &mut Output<'_>) -> Result<(), AllocError>
+    requires { Writes output.old }
+    ensures written { OnOk result (WritesOut output.old output.new) }
+    ensures opens { (a : Stage) → written a (role_of name) ≡ Some a → Keeps result a output.old output.new }
+{
+    output.white_space()?;
+    output.token(name, size)?;
+    output.token_of_rest(Name::SpaceOrTab)
 }
 
 /// Writes the meta of a fence, with which the line ends. White space after it is no part of it
 /// (CommonMark).
 pub fn write_meta(name: Name, output: &mut Output<'_>) -> Result<(), AllocError>
     requires { Writes output.old }
-    ensures { OnOk result (WritesOut output.old output.new) }
+    ensures written { OnOk result (WritesOut output.old output.new) }
+    ensures opens { (a : Stage) → (outer : List Enclosing) → Opens output.old (at a outer) → OnOk result (IfSome (stage_after_string a name) (λ b. skips a b ≡ true → Opens output.new (at b outer))) }
 {
     let size = trimmed_size(output.rest());
     output.string(name, size)?;

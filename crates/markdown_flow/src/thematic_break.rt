@@ -1,7 +1,7 @@
 //! Thematic breaks (CommonMark).
 
 ghost use Rattle.std.specs.Prelude.{OnOk, length, ◌≤◌};
-ghost use Rattle.markdown_flow.specs.Outputs.{Writes, WritesOut};
+ghost use Rattle.markdown_flow.specs.Outputs.{KeepsFlow, Writes, WritesOut};
 
 use crate::line::Line;
 use crate::output::Output;
@@ -50,7 +50,8 @@ fn has_enough(text: &[u8]) -> bool {
 /// Writes the thematic break in a line.
 pub fn write(output: &mut Output<'_>) -> Result<(), AllocError>
     requires { Writes output.old }
-    ensures { OnOk result (WritesOut output.old output.new) }
+    ensures written { OnOk result (WritesOut output.old output.new) }
+    ensures opens { KeepsFlow result output.old output.new }
 {
     output.enter(Name::ThematicBreak)?;
     output.white_space()?;

@@ -1,1 +1,2 @@
 pub mod Tilings
+pub mod Walks

@@ -1,9 +1,10 @@
 -- Pieces one after the other.
 use Rattle.std.proofs.Common.{◌≡◌, ◌∷◌, ◌++◌, ◌∙◌, ◌⊎◌, ◌-◌, List, [], ℕ, Option, None, Some, ap, arith, drop, get_or, inl, inr, length, refl, set, slice_get, subst, suc, sym, zero}
+use mathlib.Core.Path.{transport}
 use Rattle.markdown_pieces.specs.Tilings.{Goes, IsEnding, Spot, Tiles, end_from, end_of}
 use Rattle.markdown_pieces.specs.declared.piece.Piece.{Piece}
 use Rattle.markdown_pieces.specs.declared.piece.PieceKind.{PieceKind}
-use Rattle.markdown_pieces.specs.declared.piece.PieceKind.TheVariants.{BlankLineEnding, Enter, Exit, LineEnding, Text, Token}
+use Rattle.markdown_pieces.specs.declared.piece.PieceKind.TheVariants.{BlankLineEnding, BlockQuotePrefix, Enter, Exit, LineEnding, Text, Token}
 
 -- pieces end where they say
 pub ends : (bytes : List ℕ) (a b : Spot) (ps : List Piece) → Tiles bytes a ps b → end_from a ps ≡ b
@@ -50,25 +51,20 @@ AreLike (p ∷ ps) (q ∷ qs) = IsLike p q × AreLike ps qs
 AreLike _ _ = ⊥
 
 -- all kinds that end a line go the same way
-goes_as_ending : (bytes : List ℕ) (k : PieceKind) (a b : Spot) → IsEnding k → Goes bytes k a b → Goes bytes LineEnding a b
-goes_as_ending bytes (Enter n) a b i g = absurd i
-goes_as_ending bytes (Exit n) a b i g = absurd i
-goes_as_ending bytes (Token n) a b i g = absurd i
-goes_as_ending bytes LineEnding a b i g = g
-goes_as_ending bytes BlankLineEnding a b i g = g
-goes_as_ending bytes Text a b i g = absurd i
-
-pub ending_goes : (bytes : List ℕ) (k : PieceKind) (a b : Spot) → IsEnding k → Goes bytes LineEnding a b → Goes bytes k a b
-ending_goes bytes (Enter n) a b i g = absurd i
-ending_goes bytes (Exit n) a b i g = absurd i
-ending_goes bytes (Token n) a b i g = absurd i
-ending_goes bytes LineEnding a b i g = g
-ending_goes bytes BlankLineEnding a b i g = g
-ending_goes bytes Text a b i g = absurd i
+pub goes_as_ending : (bytes : List ℕ) (k : PieceKind) (a b : Spot) → IsEnding k → Goes bytes k a b ≡ Goes bytes LineEnding a b
+goes_as_ending bytes (Enter n) a b i = absurd i
+goes_as_ending bytes (Exit n) a b i = absurd i
+goes_as_ending bytes (Token n) a b i = absurd i
+goes_as_ending bytes LineEnding a b i = refl
+goes_as_ending bytes BlankLineEnding a b i = refl
+goes_as_ending bytes Text a b i = absurd i
+goes_as_ending bytes BlockQuotePrefix a b i = absurd i
 
 like_goes : (bytes : List ℕ) (a : Spot) (p q : Piece) → IsLike p q → Goes bytes p.kind a (end_of p) → Goes bytes q.kind a (end_of q) × (end_of p ≡ end_of q)
 like_goes bytes a p q (inl same) g = (subst (λ (x : Piece). Goes bytes x.kind a (end_of x)) same g, ap end_of same)
-like_goes bytes a p q (inr both) g = (subst (λ (s : Spot). Goes bytes q.kind a s) both.2 (ending_goes bytes q.kind a (end_of p) both.1 (goes_as_ending bytes p.kind a (end_of p) both.0 g)), both.2)
+like_goes bytes a p q (inr both) g =
+    let same : Goes bytes p.kind a (end_of p) ≡ Goes bytes q.kind a (end_of p) = goes_as_ending bytes p.kind a (end_of p) both.0 ∙ sym (goes_as_ending bytes q.kind a (end_of p) both.1) in
+    (subst (λ (s : Spot). Goes bytes q.kind a s) both.2 (transport same g), both.2)
 
 pub like_tiles : (bytes : List ℕ) (a b : Spot) (ps qs : List Piece) → AreLike ps qs → Tiles bytes a ps b → Tiles bytes a qs b
 like_tiles bytes a b [] [] l t = t

@@ -4,7 +4,7 @@ use Rattle.event_writer.specs.Calls.{CanReach, EndsLine, line_ending_length}
 use Rattle.markdown_events.specs.declared.event.Point.{Point}
 use Rattle.markdown_pieces.specs.declared.piece.Piece.{Piece}
 use Rattle.markdown_pieces.specs.declared.piece.PieceKind.{PieceKind}
-use Rattle.markdown_pieces.specs.declared.piece.PieceKind.TheVariants.{BlankLineEnding, Enter, Exit, LineEnding, Text, Token}
+use Rattle.markdown_pieces.specs.declared.piece.PieceKind.TheVariants.{BlankLineEnding, BlockQuotePrefix, Enter, Exit, LineEnding, Text, Token}
 
 -- a place between two pieces: an offset, and so many columns into the tab there
 pub record Spot : Type 0 where
@@ -23,7 +23,8 @@ point a = record { line = 1; column = 1; index = a.offset; vs = a.virtual_spaces
 abbrev pub end_of : Piece → Spot
 end_of p = record { offset = p.end; virtual_spaces = p.virtual_spaces }
 
--- a piece of this kind goes from one spot to another: the ends of spans have no length, tokens and texts stand in a line, and line endings go to the start of the next line
+-- a piece of this kind goes from one spot to another: the ends of spans have no length, tokens and texts stand in a line, line endings go to the start of the next line,
+-- and the prefix of a block quote goes over a byte, and maybe further
 abbrev pub Goes : List ℕ → PieceKind → Spot → Spot → Type 0
 Goes bytes (Enter name) a b = a ≡ b
 Goes bytes (Exit name) a b = a ≡ b
@@ -31,6 +32,7 @@ Goes bytes (Token name) a b = CanReach bytes (point a) b.offset b.virtual_spaces
 Goes bytes Text a b = CanReach bytes (point a) b.offset b.virtual_spaces × (b.virtual_spaces ≡ 0)
 Goes bytes LineEnding a b = EndsLine bytes a.offset × (b ≡ record { offset = a.offset + line_ending_length bytes a.offset; virtual_spaces = 0 })
 Goes bytes BlankLineEnding a b = EndsLine bytes a.offset × (b ≡ record { offset = a.offset + line_ending_length bytes a.offset; virtual_spaces = 0 })
+Goes bytes BlockQuotePrefix a b = CanReach bytes (point a) (a.offset + 1) 0 × CanReach bytes (point (record { offset = a.offset + 1; virtual_spaces = 0 })) b.offset b.virtual_spaces
 
 -- pieces go from one spot of a document to another
 abbrev pub Tiles : List ℕ → Spot → List Piece → Spot → Type 0

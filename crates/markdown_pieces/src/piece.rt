@@ -19,6 +19,8 @@ pub enum PieceKind {
     BlankLineEnding,
     /// The part of a line that belongs to a content whose inlines are still to be read.
     Text,
+    /// The prefix of a block quote: a span with its marker, and the white space after that, if there is any.
+    BlockQuotePrefix,
 }
 
 /// A piece of a document. It begins where the piece before it ends, and the first one at the start of

@@ -30,6 +30,7 @@ pub fn write_piece<R: References>(
 {
     let cursor = writer.cursor();
     let written = match piece.kind {
+        PieceKind::BlockQuotePrefix => return write_block_quote_prefix(writer, piece),
         PieceKind::Enter(name) => writer.enter(name),
         PieceKind::Exit(_) => writer.exit(),
         PieceKind::Token(name) => writer.token(name, piece.end, piece.virtual_spaces),
@@ -38,4 +39,23 @@ pub fn write_piece<R: References>(
         PieceKind::Text => writer.token(Name::Data, piece.end, 0),
     };
     TextError::at(cursor, written)
+}
+
+/// Writes the prefix of a block quote: its marker, and the white space after that, if there is any.
+fn write_block_quote_prefix<R: References>(
+    writer: &mut Writer<'_, R>,
+    piece: &Piece,
+) -> Result<(), TextError>
+    ensures given { writer.new.given ≡ writer.old.given }
+{
+    let start = writer.cursor();
+    let marker_end = start.index.saturating_add(1);
+    TextError::at(start, writer.enter(Name::BlockQuotePrefix))?;
+    TextError::at(start, writer.token(Name::BlockQuoteMarker, marker_end, 0))?;
+    let cursor = writer.cursor();
+    if cursor.index != piece.end || cursor.vs != piece.virtual_spaces {
+        let space = writer.token(Name::SpaceOrTab, piece.end, piece.virtual_spaces);
+        TextError::at(cursor, space)?;
+    }
+    TextError::at(writer.cursor(), writer.exit())
 }

@@ -1,9 +1,12 @@
-use Rattle.std.proofs.Common.{◌≡◌, ◌-◌, length}
+use Rattle.std.proofs.Common.{◌≡◌, ◌-◌, Bool, length}
+use Rattle.event_writer.specs.Stages.{flow}
+use Rattle.markdown_flow.specs.Outputs.{Stays}
 use Rattle.markdown_flow.specs.Definitions.{GoesOn, IsBeforeLine, end_before}
 use Rattle.markdown_flow.proofs.definition_pieces.write.Given as goal
 
 abbrev pub invariant-definitions : goal.invariant-definitions
 invariant-definitions l = record {
+  stays : (n : Bool) → Stays (flow n) l.initial.output l.output;
   before : IsBeforeLine l.writer l.output;
   on : GoesOn l.initial.writer l.writer l.initial.output l.output;
   end : end_before l.writer l.output ≡ end_before l.initial.writer l.initial.output;

@@ -1,5 +1,6 @@
-use Rattle.std.proofs.Common.{◌≡◌, ◌-◌, length}
-use Rattle.markdown_flow.specs.Outputs.{Writes, document_of}
+use Rattle.std.proofs.Common.{◌≡◌, ◌-◌, false, length}
+use Rattle.event_writer.specs.Stages.{inlines}
+use Rattle.markdown_flow.specs.Outputs.{Stays, Writes, document_of}
 use Rattle.markdown_flow.proofs.frontmatter.write.Given as goal
 
 -- a line is written to its end
@@ -10,6 +11,7 @@ invariant-lines l = record {
   next : (l.output.cursor.extent).next ≡ l.line.next;
   document : document_of l.output ≡ document_of l.fn.output;
   source : l.line.source ≡ l.fn.first.source;
+  stays : Stays (inlines false) l.initial.output l.output;
 }
 
 abbrev pub decreases-lines : goal.decreases-lines

@@ -21,7 +21,7 @@ returns-clause-kept c = λ bytes from kept reads.
     let size : length c.take_prefix.new.into.items ≡ length prefixes = ap (λ (ps : List Piece). length ps) taken in
     let end : line.prefix_end ≡ length prefixes = omega (arith, c.len.ensures, c.take_prefix.new.into.ok.0, size) in
     let tiles : Tiles bytes mid prefix (spot_in line.line) = subst (λ (l : Line). Tiles bytes mid prefix (spot_in l)) (sym same) reads.prefix in
-    let last = kept_last bytes content.prefixes.items prefix mid line (ap (λ (l : Line). l.source.document.now) same ∙ reads.document) start end tiles in
+    let last = kept_last bytes content.prefixes.items prefix mid line (ap (λ (l : Line). l.source.document.now) same ∙ reads.document) start end tiles reads.between in
     let all = are_kept_on bytes prefixes from content.lines.items line (are_kept_more bytes content.prefixes.items prefix from content.lines.items kept) last in (
       subst (λ (ps : List Piece). AreKept bytes ps from c.push.new.self.items) (sym taken) (subst (λ (ls : List KeptLine). AreKept bytes prefixes from ls) (sym c.in_ok-push.ensures.items) all),
       ap (after_lines from) c.in_ok-push.ensures.items ∙ after_one_more from content.lines.items line ∙ ap next_of same,

@@ -1,11 +1,16 @@
-use Rattle.std.proofs.Common.{List, ℕ}
+use Rattle.std.proofs.Common.{◌≡◌, List, length, ℕ}
 use Rattle.markdown_flow.specs.Moves.{HasMoved}
 use Rattle.markdown_flow.specs.Outputs.{Reads}
+use Rattle.markdown_flow.specs.Readers.{OpensAll}
 use Rattle.markdown_pieces.specs.Tilings.{Spot}
 use Rattle.markdown_flow.proofs.document.Reader.continue_containers.Given as goal
 
 abbrev pub invariant-loop-number : goal.invariant-loop-number
 invariant-loop-number l = record {
+  output : l.self.output ≡ l.initial.self.output;
+  flow : l.self.flow ≡ l.initial.self.flow;
+  number : length l.self.containers.items ≡ length l.initial.self.containers.items;
+  opens : OpensAll l.self;
   reads : (bytes : List ℕ) → (from : Spot) → Reads bytes from l.initial.input → Reads bytes from l.input;
   moved : HasMoved l.initial.input.line l.input.line;
 }

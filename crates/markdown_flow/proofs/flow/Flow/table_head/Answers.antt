@@ -28,6 +28,7 @@ open-requires-clause-input c =
     let written = c.in_ok-write.ensures in
     let input = c.args.input.now in
     record {
+      between = c.requires.reads.between;
       document = c.requires.reads.document ∙ sym written.document;
       prefix = subst (λ (bytes : List ℕ). Tiles bytes (record { offset = c.header-item.result.line.next; virtual_spaces = 0 }) input.prefix.items (spot_in input.line)) (sym written.document)
           (subst (λ (from : Spot). Tiles (document_of output) from input.prefix.items (spot_in input.line)) end c.requires.reads.prefix);

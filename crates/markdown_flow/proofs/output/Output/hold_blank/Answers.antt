@@ -1,5 +1,5 @@
 use Rattle.std.proofs.Common.{◌≡◌, ap, subst, sym, ◌∙◌}
-use Rattle.markdown_flow.proofs.Outputs.{held_prefix}
+use Rattle.markdown_flow.proofs.Outputs.{all_between, held_prefix}
 use Rattle.markdown_flow.specs.Outputs.{document_of, spot, spot_in}
 use Rattle.markdown_flow.specs.declared.line.Line.{Line}
 use Rattle.markdown_pieces.specs.Tilings.{Tiles}
@@ -13,4 +13,4 @@ hold_blank_rest-requires-clause-stands c =
     let reads = c.requires.reads in
     let held = held_prefix output c.take_prefix.new.into.items prefix c.of-self.result c.take_prefix.new.self.line c.requires.stands c.in_ok-take_prefix.ensures.taken c.of-self.ensures (ap (λ (line : Line). line.source.document.now) same ∙ reads.document)
     (subst (λ (line : Line). Tiles (document_of output) (spot output.cursor) prefix (spot_in line)) (sym same) reads.prefix) in
-    record { within = held.0; tiles = held.1 }
+    record { within = held.0; tiles = held.1; between = all_between output c.take_prefix.new.into.items prefix c.requires.stands c.in_ok-take_prefix.ensures.taken reads.between }

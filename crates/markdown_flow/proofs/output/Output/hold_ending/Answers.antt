@@ -1,8 +1,10 @@
 use Rattle.std.proofs.Common.{◌≡◌, ◌≢◌, ◌++◌, ◌∙◌, List, ℕ, ap, arith, drop, subst, sym}
-use Rattle.markdown_flow.proofs.Outputs.{ends_here, held_on}
+use Rattle.markdown_flow.proofs.Outputs.{ends_here, ending_between, held_between, held_on}
 use Rattle.markdown_flow.specs.Outputs.{document_of, line_after, spot}
-use Rattle.markdown_pieces.proofs.Tilings.{ending_goes}
+use mathlib.Core.Path.{transport}
+use Rattle.markdown_pieces.proofs.Tilings.{goes_as_ending}
 use Rattle.markdown_pieces.specs.Tilings.{Goes, Spot, Tiles, end_of, origin}
+use Rattle.markdown_pieces.specs.Walks.{IsBetween}
 use Rattle.markdown_pieces.specs.declared.piece.Piece.{Piece}
 use Rattle.markdown_flow.proofs.output.Output.hold_ending.Goals as goal
 
@@ -12,7 +14,7 @@ returns-clause-stands c =
     let next = c.next_line-next.ensures in
     let start : c.next_line-next.result.offset ≡ ((output.cursor).extent).next = ap (λ (s : Spot). s.offset) next.spot in
     let more : (output.cursor).offset ≢ ((output.cursor).extent).next = λ same. absurd (omega (arith, start, same, c.if-self-next.false)) in
-    let here = ending_goes (document_of output) c.args.kind (spot output.cursor) (line_after output.cursor) c.requires.kind (ends_here output.cursor c.requires.place c.requires.ended more) in
+    let here = transport (sym (goes_as_ending (document_of output) c.args.kind (spot output.cursor) (line_after output.cursor) c.requires.kind)) (ends_here output.cursor c.requires.place c.requires.ended more) in
     let end : end_of c.new.result ≡ line_after output.cursor = ap end_of c.new.ensures ∙ ap (λ (i : ℕ). record { offset = i; virtual_spaces = 0 }) start in
     let goes : Goes (document_of output) c.new.result.kind (spot output.cursor) (end_of c.new.result) =
     subst (λ (s : Spot). Goes (document_of output) c.new.result.kind (spot output.cursor) s) (sym end)
@@ -21,4 +23,5 @@ returns-clause-stands c =
     record {
       within = held.0;
       tiles = subst (λ (bytes : List ℕ). Tiles bytes origin (output.pieces.items ++ drop output.held_start c.push.new.self.items) (spot c.next_line-next.result)) (sym next.document) held.1;
+      between = held_between output c.push.new.self.items c.new.result c.requires.stands c.in_ok-push.ensures.items (subst (λ (p : Piece). IsBetween p.kind) (sym c.new.ensures) (ending_between c.args.kind c.requires.kind));
     }

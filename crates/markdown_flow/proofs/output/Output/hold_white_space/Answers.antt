@@ -1,9 +1,10 @@
-use Rattle.std.proofs.Common.{◌≡◌, ◌≢◌, ◌∙◌, ap, arith, subst, sym}
+use Rattle.std.proofs.Common.{◌≡◌, ◌≢◌, ◌∙◌, ap, arith, refl, subst, sym}
 use Rattle.markdown_events.specs.declared.event.Name.TheVariants as names
-use Rattle.markdown_flow.proofs.Outputs.{held_on, rest_reached}
+use Rattle.markdown_flow.proofs.Outputs.{held_between, held_on, rest_reached}
 use Rattle.markdown_flow.specs.Outputs.{document_of, spot}
 use Rattle.markdown_flow.specs.declared.output.Extent.{Extent}
 use Rattle.markdown_pieces.specs.Tilings.{Goes, Spot, Tiles, end_of, origin}
+use Rattle.markdown_pieces.specs.Walks.{IsBetween}
 use Rattle.markdown_pieces.specs.declared.piece.Piece.{Piece}
 use Rattle.markdown_pieces.specs.declared.piece.PieceKind.TheVariants.{Token}
 use Rattle.std.proofs.Common.{List, ℕ, ◌++◌, drop, min}
@@ -27,4 +28,5 @@ returns-clause-stands c =
     record {
       within = held.0;
       tiles = subst (λ (x : Extent). Tiles x.document.now origin (output.pieces.items ++ drop output.held_start c.push.new.self.items) (spot c.after-end.result)) (sym after.extent) held.1;
+      between = held_between output c.push.new.self.items c.new-space.result c.requires.stands c.in_ok-push.ensures.items (subst (λ (p : Piece). IsBetween p.kind) (sym c.new-space.ensures) refl);
     }

@@ -1,5 +1,6 @@
 use Rattle.std.proofs.Common.{◌≡◌, inr, refl, subst, sym}
 use Rattle.markdown_flow.proofs.Outputs.{refilled}
+use Rattle.markdown_pieces.proofs.Walks.{between_set}
 use Rattle.markdown_pieces.specs.Tilings.{IsEnding}
 use Rattle.markdown_pieces.specs.declared.piece.Piece.{Piece}
 use Rattle.markdown_pieces.specs.declared.piece.PieceKind.{PieceKind}
@@ -12,4 +13,4 @@ returns-in-BlankLineEnding-clause-stands c =
     let blank : piece.kind ≡ BlankLineEnding = c.in-BlankLineEnding.is in
     let filled : Piece = record { kind = LineEnding; end = piece.end; virtual_spaces = piece.virtual_spaces } in
     let held = refilled c.args.self.now c.args.index piece filled c.requires c.in-Some.ensures.value (inr (subst (λ (k : PieceKind). IsEnding k) (sym blank) tt, tt, refl)) in
-    record { within = held.0; tiles = held.1 }
+    record { within = held.0; tiles = held.1; between = between_set c.args.index c.args.self.now.held.items filled c.requires.between tt }

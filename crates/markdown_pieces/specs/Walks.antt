@@ -1,0 +1,79 @@
+-- Pieces that the grammar takes: which spans are open after them, and what may stand next.
+use Rattle.std.specs.Prelude.{Bool, List, None, Option, Some, [], false, if◌then◌else◌, true, ◌∷◌, ◌≡◌}
+use Rattle.event_writer.specs.Stages.{Enclosing, Stage, entered, exited, flow, inlines, skips, takes_line_endings, written}
+use Rattle.markdown_events.specs.Names.{role_of}
+use Rattle.markdown_events.specs.declared.event.Name.{Name}
+use Rattle.markdown_events.specs.declared.event.Name.TheVariants.{SpaceOrTab}
+use Rattle.markdown_pieces.specs.declared.piece.Piece.{Piece}
+use Rattle.markdown_pieces.specs.declared.piece.PieceKind.{PieceKind}
+use Rattle.markdown_pieces.specs.declared.piece.PieceKind.TheVariants.{BlankLineEnding, BlockQuotePrefix, Enter, Exit, LineEnding, Text, Token}
+
+-- the stage between two pieces, and the spans that are open there, the innermost first
+pub record State : Type 0 where
+  pub stage : Stage
+  pub outer : List Enclosing
+
+-- a stage with spans around it
+abbrev pub at : Stage → List Enclosing → State
+at a outer = record { stage = a; outer = outer }
+
+-- what is around a span that began at a stage
+abbrev pub inside : Name → Stage → List Enclosing → List Enclosing
+inside name a outer = record { name = name; stage = a } ∷ outer
+
+-- the start of a document
+abbrev pub start : State
+start = at (flow false) []
+
+-- a text may stand
+abbrev pub takes_text : Stage → Bool
+takes_text (inlines _) = true
+takes_text _ = false
+
+-- the stage after a token or a text at a stage, where it may stand
+abbrev pub stage_after : Stage → PieceKind → Option Stage
+stage_after a (Token name) = written a (role_of name)
+stage_after a Text = if takes_text a then Some a else None
+stage_after a _ = None
+
+-- the stage after a span at a stage with a text in it, by the stage in that
+abbrev pub stage_after_text : Stage → Name → Option Stage → Option Stage
+stage_after_text a name None = None
+stage_after_text a name (Some b) = if takes_text b then exited b a (role_of name) else None
+
+-- the same
+abbrev pub stage_after_string : Stage → Name → Option Stage
+stage_after_string a name = stage_after_text a name (entered a (role_of name))
+
+-- a piece of this kind leads from one state to another
+abbrev pub Steps : PieceKind → State → State → Type 0
+Steps (Enter name) s t = (entered s.stage (role_of name) ≡ Some t.stage) × (t.outer ≡ inside name s.stage s.outer)
+Steps (Exit name) s t = (a : Stage) × (exited s.stage a (role_of name) ≡ Some t.stage) × (s.outer ≡ inside name a t.outer)
+Steps (Token name) s t = (written s.stage (role_of name) ≡ Some t.stage) × (t.outer ≡ s.outer)
+Steps Text s t = (takes_text s.stage ≡ true) × (t ≡ s)
+Steps LineEnding s t = (takes_line_endings s.stage ≡ true) × (t ≡ s)
+Steps BlankLineEnding s t = t ≡ s
+Steps BlockQuotePrefix s t = t ≡ s
+
+-- what is true in a state is true in another
+pub data SaysAll (less : State) : State → Type 0 where
+  same : (s : State) → s ≡ less → SaysAll less s
+  more : (s t : State) → skips s.stage t.stage ≡ true → s.outer ≡ t.outer → SaysAll less t → SaysAll less s
+
+-- pieces lead from one state to another
+abbrev pub Walks : State → List Piece → State → Type 0
+Walks s [] u = SaysAll u s
+Walks s (p ∷ ps) u = (r t : State) × SaysAll r s × Steps p.kind r t × Walks t ps u
+
+-- a piece of this kind stands between the lines of a block: a line ending, white space, or the prefix of a block quote
+abbrev pub IsBetween : PieceKind → Type 0
+IsBetween LineEnding = Unit {0}
+IsBetween BlankLineEnding = Unit {0}
+IsBetween BlockQuotePrefix = Unit {0}
+IsBetween (Token name) = name ≡ SpaceOrTab
+IsBetween _ = ⊥
+
+-- all pieces do
+abbrev pub AreBetween : List Piece → Type 0
+AreBetween [] = Unit {0}
+AreBetween (p ∷ ps) = IsBetween p.kind × AreBetween ps
