@@ -11,13 +11,13 @@ fn headings_and_thematic_breaks(rt: HostRuntime) -> Result<(), AllocError> {
         &rt,
         alloc,
         "# a",
-        "(HeadingAtx HeadingAtxSequence:1 SpaceOrTab:2 (HeadingAtxText Text:3 ) ) ",
+        "(HeadingAtx OpeningSequence:1 SpaceOrTab:2 (HeadingAtxText Text:3 ) ) ",
     )?;
     shows(
         &rt,
         alloc,
         "## a b ##",
-        "(HeadingAtx HeadingAtxSequence:2 SpaceOrTab:3 (HeadingAtxText Text:6 ) SpaceOrTab:7 HeadingAtxSequence:9 ) ",
+        "(HeadingAtx OpeningSequence:2 SpaceOrTab:3 (HeadingAtxText Text:6 ) SpaceOrTab:7 HeadingAtxSequence:9 ) ",
     )?;
     shows(
         &rt,

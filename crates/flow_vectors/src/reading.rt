@@ -62,6 +62,7 @@ fn show(text: &mut String, piece: &Piece) -> Result<(), AllocError> {
         }
         PieceKind::Exit(_) => text.push_str(") "),
         PieceKind::Token(name) => show_token(text, name.text(), piece),
+        PieceKind::OpeningSequence => show_token(text, "OpeningSequence", piece),
         PieceKind::LineEnding => show_token(text, "LineEnding", piece),
         PieceKind::BlankLineEnding => show_token(text, "BlankLineEnding", piece),
         PieceKind::Text => show_token(text, "Text", piece),

@@ -1,10 +1,9 @@
 -- The spans of containers, one after the other.
-use Rattle.std.proofs.Common.{◌≡◌, ◌∷◌, ◌++◌, ◌∙◌, ◌<◌, ◌⊎◌, Bool, IfSome, List, Option, Some, [], ap, false, get_or, eq-zero-or-pos, inl, inr, nat_lt, refl, set, subst, suc, sym, true, zero, ℕ}
+use Rattle.std.proofs.Common.{◌≡◌, ◌∷◌, ◌++◌, ◌∙◌, ◌<◌, ◌⊎◌, Bool, List, Some, [], ap, false, get_or, eq-zero-or-pos, inl, inr, nat_lt, refl, set, suc, sym, true, zero, ℕ}
 use Rattle.std.proofs.lemmas.Bool.{lt-ltb}
-use Rattle.event_writer.specs.Stages.{Enclosing, Stage, entered, exited, flow, item, skips}
+use Rattle.event_writer.specs.Stages.{Enclosing, entered, exited, flow, item}
 use Rattle.markdown_events.specs.Names.{role_of}
 use Rattle.markdown_events.specs.declared.event.Name.TheVariants as names
-use Rattle.markdown_flow.proofs.Opens.{some_stage}
 use Rattle.markdown_flow.specs.Containers.{AreAlike, after_item, before_number, has_number, in_container, in_list, list_name, number_in, outer_in}
 use Rattle.markdown_flow.specs.declared.container.Container.{Container}
 use Rattle.markdown_pieces.proofs.Walks.{at_less}

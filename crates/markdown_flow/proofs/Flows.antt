@@ -1,8 +1,8 @@
 -- A line that is kept of the open leaf.
-use Rattle.std.proofs.Common.{◌≡◌, ◌∙◌, Bool, List, [], ap, false, subst, sym, true}
+use Rattle.std.proofs.Common.{◌≡◌, ◌∙◌, List, [], ap, false, subst, sym, true}
 use Rattle.markdown_flow.specs.Contents.{AreKept, after_lines}
-use Rattle.markdown_flow.specs.Flows.{StandsWith, keeps_lines}
-use Rattle.markdown_flow.specs.Outputs.{IsAt, Reads, Stands, Writes, document_of, spot, spot_in}
+use Rattle.markdown_flow.specs.Flows.{keeps_lines}
+use Rattle.markdown_flow.specs.Outputs.{IsAt, Reads, document_of, spot, spot_in}
 use Rattle.markdown_flow.specs.declared.content.KeptLine.{KeptLine}
 use Rattle.markdown_flow.specs.declared.input.Input.{Input}
 use Rattle.markdown_flow.specs.declared.leaf.Leaf.{Leaf}

@@ -8,3 +8,10 @@ pub mod Inputs
 pub mod Opens
 pub mod Containers
 pub mod Readers
+pub mod Cuts
+pub mod Ascii
+pub mod Rows
+pub mod Numbers
+pub mod Items
+pub mod Marks
+pub mod Definitions

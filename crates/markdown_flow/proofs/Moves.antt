@@ -1,5 +1,5 @@
 -- A cursor that has moved, one time after the other.
-use Rattle.std.proofs.Common.{◌≡◌, ◌<◌, ◌≤◌, ◌∙◌, ◌⊎◌, ap, arith, inl, inr, length, refl, subst}
+use Rattle.std.proofs.Common.{◌≡◌, ◌<◌, ◌≤◌, ◌∙◌, ◌⊎◌, arith, inl, inr, length, refl}
 use Rattle.markdown_flow.specs.Moves.{HasMoved}
 use Rattle.markdown_flow.specs.declared.line.Line.{Line}
 

@@ -1,24 +1,27 @@
 -- Pieces that stand, one operation after the other.
-use Rattle.std.proofs.Common.{◌≡◌, ◌≢◌, ◌≤◌, ◌+◌, ◌∷◌, ◌++◌, ◌∙◌, ◌⊎◌, List, [], ℕ, ap, arith, drop, get_or, inl, inr, length, refl, set, slice_range, subst, sym, ◌-◌, ◌<◌, Some, slice_get, zero, suc}
-use Rattle.std.proofs.lemmas.Option.{same_Some, slice_get_within}
+use Rattle.std.proofs.Common.{◌≡◌, ◌≢◌, ◌≤◌, ◌+◌, ◌∷◌, ◌++◌, ◌∙◌, ◌⊎◌, List, [], ℕ, ap, arith, drop, eq-or-lt_of_le, false, get_or, inl, inr, length, min, refl, set, slice_range, subst, sym, ◌-◌, ◌<◌, Some, slice_get, slice_index, zero, suc}
+use Rattle.std.proofs.lemmas.Option.{get_or_from_slice_get, same_Some, slice_get_within}
 use Rattle.event_writer.specs.Calls.{CanReach, EndsLine, line_ending_length}
+use Rattle.commonmark_syntax.specs.Cuts.{IsCut}
+use Rattle.markdown_events.specs.declared.event.Name.{Name}
+use Rattle.markdown_events.specs.declared.event.Name.TheVariants.{SpaceOrTab}
+use Rattle.markdown_flow.proofs.Cuts.{after_black, end_cut, part_cut, slice_at, slice_later}
 use Rattle.markdown_flow.proofs.Lines.{end-within}
 use Rattle.event_writer.specs.Places.{after_tab, column_at}
-use Rattle.markdown_flow.specs.Lines.{IsRest}
+use Rattle.markdown_flow.specs.Lines.{IsRest, after_spaces, is_space_or_tab}
 use Rattle.std.proofs.lemmas.Grind.{common_steps}
 use Rattle.std.proofs.lemmas.List.Folds.{drop_split}
-use Rattle.markdown_flow.specs.Outputs.{IsAt, IsLater, IsPlaceIn, Stands, Writes, document_of, line_after, spot, spot_in}
+use Rattle.markdown_flow.specs.Outputs.{IsAt, IsLater, IsPlaceIn, Stands, Writes, document_of, line_after, rest_of, spot, spot_in}
 use Rattle.markdown_flow.specs.declared.line.Line.{Line}
 use Rattle.markdown_flow.specs.declared.output.Cursor.{Cursor}
-use Rattle.markdown_flow.specs.declared.output.Extent.{Extent}
 use Rattle.markdown_flow.specs.declared.output.Output.{Output}
-use Rattle.markdown_pieces.proofs.Tilings.{IsLike, inserted, joined, like_after, like_dropped, like_length, like_set, like_tiles}
-use Rattle.markdown_pieces.specs.Tilings.{Goes, IsEnding, Spot, Tiles, end_from, end_of, origin, point}
+use Rattle.markdown_pieces.proofs.Tilings.{IsLike, inserted, joined, like_after, like_dropped, like_length, like_set, like_tiles, plain_cut, plain_value}
+use Rattle.markdown_pieces.specs.Tilings.{EndsCharacter, Goes, GoesAsToken, HasValue, IsEnding, IsToken, Spot, Tiles, end_from, end_of, origin, point}
 use Rattle.markdown_pieces.proofs.Walks.{between_on}
 use Rattle.markdown_pieces.specs.Walks.{AreBetween, IsBetween}
 use Rattle.markdown_pieces.specs.declared.piece.Piece.{Piece}
 use Rattle.markdown_pieces.specs.declared.piece.PieceKind.{PieceKind}
-use Rattle.markdown_pieces.specs.declared.piece.PieceKind.TheVariants.{BlankLineEnding, BlockQuotePrefix, Enter, Exit, LineEnding, Text, Token}
+use Rattle.markdown_pieces.specs.declared.piece.PieceKind.TheVariants.{BlankLineEnding, BlockQuotePrefix, Enter, Exit, LineEnding, OpeningSequence, Text, Token}
 
 none_after : {X : Type 0} (xs : List X) (k : ℕ) (ys : List X) → ys ≡ [] → xs ++ drop k ys ≡ xs
 none_after xs k ys none = grind (arith, common_steps)
@@ -45,12 +48,12 @@ written_on output items cursor p w is same end goes =
     (subst (λ (ps : List Piece). Tiles (cursor.extent).document.now origin ps (spot cursor)) (sym is) (subst (λ (bs : List ℕ). Tiles bs origin (output.pieces.items ++ p ∷ []) (spot cursor)) (sym bytes) more))
 
 -- a piece without length, after the settled pieces
-pub stands_with : (output : Output) (items : List Piece) (p : Piece) → Stands output → items ≡ output.pieces.items ++ p ∷ [] → end_of p ≡ end_from origin output.pieces.items → ((s : Spot) → Goes (document_of output) p.kind s s)
+pub stands_with : (output : Output) (items : List Piece) (p : Piece) → Stands output → items ≡ output.pieces.items ++ p ∷ [] → end_of p ≡ end_from origin output.pieces.items → Goes (document_of output) p.kind (end_from origin output.pieces.items) (end_from origin output.pieces.items)
     → Tiles (document_of output) origin (items ++ drop output.held_start output.held.items) (spot output.cursor)
 stands_with output items p w is end stays =
     subst (λ (ps : List Piece). Tiles (document_of output) origin (ps ++ drop output.held_start output.held.items) (spot output.cursor)) (sym is)
     (inserted (document_of output) origin (spot output.cursor) output.pieces.items (drop output.held_start output.held.items) p w.tiles end
-    (subst (λ (s : Spot). Goes (document_of output) p.kind (end_from origin output.pieces.items) s) (sym end) (stays (end_from origin output.pieces.items))))
+    (subst (λ (s : Spot). Goes (document_of output) p.kind (end_from origin output.pieces.items) s) (sym end) stays))
 
 -- ---- What is held
 
@@ -94,6 +97,7 @@ ending_between BlockQuotePrefix ends = absurd ends
 ending_between (Enter n) ends = absurd ends
 ending_between (Exit n) ends = absurd ends
 ending_between (Token n) ends = absurd ends
+ending_between OpeningSequence ends = absurd ends
 ending_between Text ends = absurd ends
 
 -- a line ends at a cursor, if it has an ending
@@ -173,21 +177,81 @@ held_prefix output items prefix cursor line w is at document tiles =
           (subst (λ (s : Spot). Tiles (document_of output) origin (output.pieces.items ++ drop output.held_start items) s) (sym at.spot) held.1),
     )
 
--- a token can end where the line does
-pub rest_reached : (cursor : Cursor) → IsPlaceIn cursor → cursor.offset ≢ (cursor.extent).end → CanReach (cursor.extent).document.now (point (spot cursor)) (cursor.extent).end 0
-rest_reached cursor place more =
-    let order = place.rest.order in
+-- a token can end at a later place of the line
+pub reached : (cursor : Cursor) (to : ℕ) → IsPlaceIn cursor → cursor.offset < to → to ≤ (cursor.extent).end → CanReach (cursor.extent).document.now (point (spot cursor)) to 0
+reached cursor to place less most =
     let within = place.rest.within in
     let end = end-within (cursor.extent).document.now cursor.offset (cursor.extent).end (cursor.extent).next place.rest in
     record {
-      order = inl (strictly cursor.offset (cursor.extent).end order more);
-      within = omega (arith, within, end);
-      line = place.rest.in_line;
-      tab = λ less. absurd (omega arith);
+      order = inl less;
+      within = omega (arith, within, end, most);
+      line = λ k from before. place.rest.in_line k from (omega (arith, before, most));
+      tab = λ some. absurd (omega arith);
     }
+
+-- and white space where the line does
+pub rest_goes : (cursor : Cursor) → IsPlaceIn cursor → cursor.offset ≢ (cursor.extent).end → Goes (cursor.extent).document.now (Token SpaceOrTab) (spot cursor) (record { offset = (cursor.extent).end; virtual_spaces = 0 })
+rest_goes cursor place more = record {
+  reaches = reached cursor (cursor.extent).end place (strictly cursor.offset (cursor.extent).end place.rest.order more) (omega arith);
+  cut = end_cut (cursor.extent).document.now cursor.offset (cursor.extent).end (cursor.extent).next place.rest;
+  value = tt;
+}
   where
     strictly : (i j : ℕ) → i ≤ j → i ≢ j → i < j
     strictly i j h n = grind arith
+
+-- where so many bytes end
+after_some : (offset end size to : ℕ) → offset ≤ end → to ≡ offset + min size (end - offset) → to ≢ offset → (offset < to) × (to ≤ end)
+after_some offset end size to order is more = (grind arith, grind arith)
+
+-- a token or a text of so many bytes goes there
+pub part_goes : (cursor after : Cursor) (kind : PieceKind) (size : ℕ) → IsPlaceIn cursor → IsToken kind → after.offset ≡ cursor.offset + min size ((cursor.extent).end - cursor.offset) → after.virtual_spaces ≡ 0 → after.offset ≢ cursor.offset
+    → IsCut (slice_range (cursor.extent).document.now cursor.offset (cursor.extent).end) size → Goes (cursor.extent).document.now kind (spot cursor) (spot after)
+part_goes cursor after kind size place token is whole more cut = by kind token
+  where
+    bytes : List ℕ
+    bytes = (cursor.extent).document.now
+
+    within : (cursor.offset < after.offset) × (after.offset ≤ (cursor.extent).end)
+    within = after_some cursor.offset (cursor.extent).end size after.offset place.rest.order is more
+
+    there : IsCut bytes after.offset
+    there = part_cut bytes cursor.offset (cursor.extent).end (cursor.extent).next size after.offset place.rest is more cut
+
+    reaches : CanReach bytes (point (spot cursor)) after.offset after.virtual_spaces
+    reaches = subst (λ (n : ℕ). CanReach bytes (point (spot cursor)) after.offset n) (sym whole) (reached cursor after.offset place within.0 within.1)
+
+    by : (k : PieceKind) → IsToken k → Goes bytes k (spot cursor) (spot after)
+    by (Token name) plain = record { reaches = reaches; cut = plain_cut bytes name after.offset plain there; value = plain_value bytes name (spot cursor) (spot after) plain within.0 }
+    by Text t = record { reaches = reaches; whole = whole; cut = there }
+    by (Enter n) t = absurd t
+    by (Exit n) t = absurd t
+    by OpeningSequence t = absurd t
+    by LineEnding t = absurd t
+    by BlankLineEnding t = absurd t
+    by BlockQuotePrefix t = absurd t
+
+-- a token can end at the cursor of a line
+line_reached : (cursor : Cursor) (line : Line) → IsPlaceIn cursor → IsLater cursor line → CanReach (cursor.extent).document.now (point (spot cursor)) (line.end - length line.rest.now) line.virtual_spaces
+unfolding tab_in
+line_reached cursor line place later =
+    let bytes = line.source.document.now in
+    let offset = line.end - length line.rest.now in
+    let within = place.rest.within in
+    let end = end-within (cursor.extent).document.now cursor.offset (cursor.extent).end (cursor.extent).next place.rest in
+    let last = later.end in
+    let tab : tab_in bytes offset line.virtual_spaces = λ some. let t = line.has_columns.tab some in (t.0, subst (λ (n : ℕ). n < after_tab (column_at bytes offset)) line.has_columns.column t.1) in
+    record {
+      order = later.order;
+      within = omega (arith, within, end, last);
+      line = λ k from before. place.rest.in_line k from (omega (arith, before, last));
+      tab = subst (λ (bs : List ℕ). tab_in bs offset line.virtual_spaces) (sym later.document) tab;
+    }
+
+-- and a token goes there
+pub line_goes : (cursor : Cursor) (line : Line) (name : Name) → IsPlaceIn cursor → IsLater cursor line → EndsCharacter (cursor.extent).document.now name (line.end - length line.rest.now) → HasValue (cursor.extent).document.now name (spot cursor) (spot_in line)
+    → GoesAsToken (cursor.extent).document.now name (spot cursor) (spot_in line)
+line_goes cursor line name place later cut value = record { reaches = line_reached cursor line place later; cut = cut; value = value }
 
 -- ---- A cursor and that of a line
 
@@ -219,3 +283,41 @@ later_in cursor line place document end next order ended = record {
         → (cursor.offset < line.end - length line.rest.now) ⊎ ((cursor.offset ≡ line.end - length line.rest.now) × (cursor.virtual_spaces ≤ line.virtual_spaces))
     by (inl less) = inl less
     by (inr same) = let whole = whole_at_end cursor place (same ∙ ended same ∙ sym end) in inr (same, omega (arith, whole))
+
+-- ---- What is left of a line
+
+-- at the cursor of a line it is the rest of the line
+pub rest_at : (output : Output) (line : Line) → IsAt output.cursor line → rest_of output ≡ line.rest.now
+rest_at output line at = (λ t. slice_range (at.document t) ((at.spot t).offset) (at.end t)) ∙ sym line.rest_stands
+
+-- after so many bytes it is the rest of what was left
+pub rest_after : (old new : Output) (size : ℕ) → document_of new ≡ document_of old → ((new.cursor).extent).end ≡ ((old.cursor).extent).end → (new.cursor).offset ≡ (old.cursor).offset + min size (((old.cursor).extent).end - (old.cursor).offset)
+    → rest_of new ≡ drop size (rest_of old)
+rest_after old new size document end offset =
+    (λ t. slice_range (document t) (offset t) (end t))
+    ∙ slice_later (document_of old) (old.cursor).offset ((old.cursor).extent).end (min size (((old.cursor).extent).end - (old.cursor).offset))
+    ∙ all (rest_of old) size (((old.cursor).extent).end - (old.cursor).offset) (grind (arith, common_steps))
+  where
+    all : (xs : List ℕ) (n m : ℕ) → length xs ≤ m → drop (min n m) xs ≡ drop n xs
+    all xs n m h = grind (arith, common_steps)
+
+-- where the cursor is, that is left
+pub rest_same : (old new : Output) → new.cursor ≡ old.cursor → rest_of new ≡ rest_of old
+rest_same old new same = ap (λ (c : Cursor). slice_range (c.extent).document.now c.offset (c.extent).end) same
+
+-- after white space the cursor is in no tab
+pub whole_at_black : (output : Output) (text : List ℕ) → IsPlaceIn output.cursor → rest_of output ≡ after_spaces text → (output.cursor).virtual_spaces ≡ 0
+whole_at_black output text place is = by (eq-or-lt_of_le place.rest.order)
+  where
+    cursor : Cursor
+    cursor = output.cursor
+
+    by : (cursor.offset ≡ (cursor.extent).end) ⊎ (cursor.offset < (cursor.extent).end) → cursor.virtual_spaces ≡ 0
+    by (inl ended) = whole_at_end cursor place ended
+    by (inr less) = positive cursor.virtual_spaces (λ some.
+        let bytes = document_of output in
+        let tab = get_or_from_slice_get bytes cursor.offset 9 0 (place.tab some).0 in
+        let start : cursor.offset + 0 ≡ cursor.offset = omega arith in
+        let first : slice_index (after_spaces text) 0 ≡ 9 = ap (λ (xs : List ℕ). slice_index xs 0) (sym is) ∙ slice_at bytes cursor.offset (cursor.extent).end 0 (omega arith) ∙ ap (slice_index bytes) start ∙ tab in
+        let white : is_space_or_tab 9 ≡ false = ap is_space_or_tab (sym first) ∙ after_black text in
+        absurd cc)

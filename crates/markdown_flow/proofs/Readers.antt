@@ -1,18 +1,16 @@
 -- The spans that are open while a document is read, one container after the other.
-use Rattle.std.proofs.Common.{◌≡◌, ◌∷◌, ◌++◌, ◌∙◌, Bool, IfSome, List, None, Option, Some, [], option_to_list, ap, false, refl, subst, sym, true, ℕ}
-use Rattle.event_writer.specs.Stages.{Enclosing, Stage, exited, flow}
-use Rattle.markdown_events.specs.Names.{role_of}
-use Rattle.markdown_events.specs.declared.event.Name.{Name}
-use Rattle.markdown_flow.proofs.Containers.{first_block, next_item, number_last, outer_last}
-use Rattle.markdown_flow.specs.Containers.{AreAlike, after_item, has_number, in_container, in_item, list_name, number_in, outer_in}
+use Rattle.std.proofs.Common.{◌≡◌, ◌∷◌, ◌++◌, ◌∙◌, Bool, List, None, Option, Some, [], option_to_list, ap, false, subst, sym, true, ℕ}
+use Rattle.event_writer.specs.Stages.{flow}
+use Rattle.markdown_flow.proofs.Containers.{next_item, number_last, outer_last}
+use Rattle.markdown_flow.specs.Containers.{AreAlike, after_item, list_name, number_in, outer_in}
 use Rattle.markdown_flow.specs.Leaves.{in_leaf}
 use Rattle.markdown_flow.specs.Markers.{is_ordered}
 use Rattle.markdown_flow.specs.Outputs.{Opens}
-use Rattle.markdown_flow.specs.Readers.{OpensAll, goes_on, in_containers, in_last, in_last_item, in_list_of}
+use Rattle.markdown_flow.specs.Readers.{OpensAll, goes_on, in_containers, in_last}
 use Rattle.markdown_flow.specs.declared.container.Container.{Container}
 use Rattle.markdown_flow.specs.declared.document.Reader.{Reader}
 use Rattle.markdown_flow.specs.declared.output.Output.{Output}
-use Rattle.markdown_pieces.specs.Walks.{State, at, inside, start}
+use Rattle.markdown_pieces.specs.Walks.{at, inside, start}
 
 -- one container more
 in_one_more : (cs : List Container) (c : Container) → in_containers (cs ++ c ∷ []) ≡ in_last c cs

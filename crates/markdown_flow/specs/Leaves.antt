@@ -1,5 +1,5 @@
 -- The spans that are open in a leaf, by those around it.
-use Rattle.std.specs.Prelude.{Bool, List, false, if◌then◌else◌, true}
+use Rattle.std.specs.Prelude.{Bool, List, false, true}
 use Rattle.event_writer.specs.Stages.{Enclosing, code_lines, flow, inlines, math_lines}
 use Rattle.markdown_events.specs.declared.event.Name.TheVariants as names
 use Rattle.markdown_pieces.specs.Walks.{State, at, inside}

@@ -7,5 +7,7 @@ pub mod Containers
 pub mod Starts
 pub mod Leaves
 pub mod Flows
+pub mod Parts
 pub mod Definitions
 pub mod Readers
+pub mod Rows

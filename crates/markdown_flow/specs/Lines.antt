@@ -40,6 +40,10 @@ ending-prop bytes end next = either-prop (hlevel props) (hlevel (EndsLine-prop, 
 pub IsRest-prop : (bytes : List ℕ) (from end next : ℕ) → IsProp (IsRest bytes from end next)
 IsRest-prop bytes from end next = hlevel (ending-prop bytes end next, props)
 
+-- each byte between two offsets is ASCII
+abbrev pub IsAsciiBetween : List ℕ → ℕ → ℕ → Type 0
+IsAsciiBetween bytes from to = (k : ℕ) → from ≤ k → k < to → slice_index bytes k < 128
+
 -- a text is the bytes of the document before an offset
 abbrev pub IsBefore : List ℕ → ℕ → List ℕ → Type 0
 IsBefore bytes end text = text ≡ slice_range bytes (end - length text) end

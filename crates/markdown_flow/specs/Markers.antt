@@ -1,6 +1,32 @@
--- The markers of items.
-use Rattle.std.specs.Prelude.{Bool, ℕ, ◌==◌, ◌||◌}
+-- The markers of blocks: what a text begins with.
+use Rattle.std.specs.Prelude.{Bool, List, false, length, slice_index, take, true, ℕ, ◌+◌, ◌<◌, ◌==◌, ◌||◌, ◌≡◌, ◌≤◌}
+use Rattle.std.specs.Str.{all_ascii_digits}
+use Rattle.commonmark_syntax.specs.Cuts.{IsCut}
+use Rattle.markdown_flow.specs.Lines.{is_space_or_tab}
 
 -- items with this marker have numbers
 abbrev pub is_ordered : ℕ → Bool
 is_ordered marker = (marker == 46) || (marker == 41)
+
+-- a text begins with so many signs of a heading: one to six
+pub record HasSigns (text : List ℕ) (size : ℕ) : Type 0 where
+  pub least : 0 < size
+  pub most : size ≤ 6
+  pub within : size ≤ length text
+  pub cut : IsCut text size
+
+-- a text begins with so many digits of an item, and its marker: nine digits at most
+pub record HasMarker (text : List ℕ) (digits : ℕ) : Type 0 where
+  pub within : digits < length text
+  pub most : digits ≤ 9
+  pub number : all_ascii_digits (take digits text) ≡ true
+  pub marker : slice_index text digits < 128
+  pub not_white : is_space_or_tab (slice_index text digits) ≡ false
+
+-- a text begins with the label of a footnote definition, which has so many bytes
+pub record HasLabel (text : List ℕ) (size : ℕ) : Type 0 where
+  pub within : size + 3 < length text
+  pub opening : slice_index text 0 < 128
+  pub caret : slice_index text 1 < 128
+  pub closing : slice_index text (size + 2) < 128
+  pub colon : slice_index text (size + 3) < 128

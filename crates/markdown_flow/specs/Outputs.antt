@@ -1,10 +1,10 @@
 -- What is written so far, and what is read of a line.
-use Rattle.std.specs.Prelude.{Bool, List, OnOk, Result, Some, [], drop, length, slice_get, slice_range, ℕ, ◌+◌, ◌++◌, ◌-◌, ◌<◌, ◌≡◌, ◌≤◌, ◌⊎◌}
+use Rattle.std.specs.Prelude.{Bool, List, OnOk, Result, Some, [], drop, length, slice_get, slice_range, ℕ, ◌+◌, ◌++◌, ◌-◌, ◌<◌, ◌≡◌, ◌≢◌, ◌≤◌, ◌⊎◌}
+use Rattle.commonmark_syntax.specs.Cuts.{IsCut}
 use Rattle.event_writer.specs.Places.{after_tab, column_at}
 use Rattle.event_writer.specs.Stages.{Enclosing, Stage, flow}
 use Rattle.markdown_pieces.specs.Tilings.{Spot, Tiles, origin}
 use Rattle.markdown_pieces.specs.Walks.{AreBetween, State, Walks, at, start}
-use Rattle.markdown_pieces.specs.declared.piece.Piece.{Piece}
 use Rattle.markdown_flow.specs.Lines.{IsRest, after_spaces}
 use Rattle.markdown_flow.specs.declared.input.Input.{Input}
 use Rattle.markdown_flow.specs.declared.line.Line.{Line}
@@ -30,6 +30,10 @@ pub record IsAt (cursor : Cursor) (line : Line) : Type 0 where
 pub record HasLine (cursor : Cursor) (line : Line) : Type 0 where
   pub document : (cursor.extent).document.now ≡ (line.source).document.now
   pub next : (cursor.extent).next ≡ line.next
+
+-- the cursor of a line has come to a cut of the document, or stands where it did
+abbrev pub ComesToCut : Line → Line → Type 0
+ComesToCut old new = spot_in new ≢ spot_in old → IsCut (new.source).document.now (new.end - length new.rest.now)
 
 -- where the line after a line begins
 abbrev pub next_of : Line → Spot
@@ -88,9 +92,13 @@ pub record Reads (bytes : List ℕ) (from : Spot) (input : Input) : Type 0 where
   pub prefix : Tiles bytes from input.prefix.items (spot_in input.line)
   pub between : AreBetween input.prefix.items
 
--- what is left of the line that is written, without the white space that it begins with
+-- what is left of the line that is written
+abbrev pub rest_of : Output → List ℕ
+rest_of output = slice_range (document_of output) (output.cursor).offset ((output.cursor).extent).end
+
+-- the same without the white space that it begins with
 abbrev pub text_of : Output → List ℕ
-text_of output = after_spaces (slice_range (document_of output) (output.cursor).offset ((output.cursor).extent).end)
+text_of output = after_spaces (rest_of output)
 
 -- ---- The spans that are open
 

@@ -1,6 +1,6 @@
 //! Block quotes (CommonMark).
 
-ghost use Rattle.std.specs.Prelude.{Bool, List, [], ℕ, OnOk, false, length, true, ◌≡◌, ◌<◌};
+ghost use Rattle.std.specs.Prelude.{Bool, List, [], ℕ, OnOk, false, length, slice_index, true, ◌≡◌, ◌<◌};
 ghost use Rattle.event_writer.specs.Stages.{Enclosing, flow};
 ghost use Rattle.markdown_events.specs.declared.event.Name.TheVariants.{BlockQuote};
 ghost use Rattle.markdown_flow.specs.Outputs.{IsAt, Opens, Writes, Reads};
@@ -21,7 +21,8 @@ pub fn begins(line: &Line<'_>) -> bool {
 
 /// Whether a line has the marker of a block quote at its cursor.
 fn has_marker(line: &Line<'_>) -> bool
-    ensures { result ≡ true → 0 < length line.now.text.now }
+    ensures some { result ≡ true → 0 < length line.now.text.now }
+    ensures ascii { result ≡ true → slice_index line.now.text.now 0 < 128 }
 {
     !line.is_indented() && line.text().first() == Some(&b'>')
 }

@@ -2,6 +2,7 @@
 
 ghost use Rattle.std.specs.Prelude.{OnOk, IfOk, ◌≡◌};
 ghost use Rattle.markdown_flow.specs.Outputs.{KeepsFlow, Stands, document_of, spot, spot_in};
+ghost use Rattle.markdown_pieces.specs.Tilings.{origin};
 
 use crate::line::Line;
 use crate::output::Output;
@@ -16,6 +17,7 @@ pub fn write<'d>(first: Line<'d>, output: &mut Output<'d>) -> Result<Line<'d>, A
     requires stands { Stands output.old }
     requires document { first.source.document.now ≡ document_of output.old }
     requires start { spot output.old.cursor ≡ spot_in first }
+    requires origin { spot output.old.cursor ≡ origin }
     ensures stands { OnOk result (Stands output.new) }
     ensures document { OnOk result (document_of output.new ≡ document_of output.old) }
     ensures line { IfOk result (λ line. (line.source ≡ first.entry.source) × (spot output.new.cursor ≡ spot_in line)) }

@@ -1,9 +1,10 @@
 //! Fenced code (CommonMark).
 
-ghost use Rattle.std.specs.Prelude.{Bool, List, OnOk};
+ghost use Rattle.std.specs.Prelude.{Bool, IfSome, List, OnOk, true, ◌≡◌, ◌<◌};
+ghost use Rattle.commonmark_syntax.specs.Cuts.{IsCut};
 ghost use Rattle.event_writer.specs.Stages.{Enclosing, code_fence, nothing};
 ghost use Rattle.markdown_flow.specs.Leaves.{in_flow, in_raw};
-ghost use Rattle.markdown_flow.specs.Outputs.{Opens, Writes, WritesOut};
+ghost use Rattle.markdown_flow.specs.Outputs.{Opens, Writes, WritesOut, rest_of, text_of};
 ghost use Rattle.markdown_flow.specs.declared.raw_flow.RawFlow.TheVariants.{Code};
 ghost use Rattle.markdown_pieces.specs.Walks.{at};
 
@@ -21,16 +22,19 @@ const SIGNS_LEAST: usize = 3;
 /// (CommonMark). Always `None` with `code_fenced` off.
 ///
 /// In `~~~ a` it has three tildes.
-pub fn begins(line: &Line<'_>) -> Option<Fence> {
+pub fn begins(line: &Line<'_>) -> Option<Fence>
+    ensures { IfSome result (λ fence. IsCut line.now.text.now fence.size) }
+{
     let sign = *line.text().first()?;
+    if !line.constructs().code_fenced || !is_sign(sign) {
+        return None;
+    }
     let size = run_length(line.text(), sign);
-    let is_fence = match sign {
-        b'`' => !after(line.text(), size).contains(&b'`'),
-        b'~' => true,
-        _ => false,
-    };
-    let fits = line.constructs().code_fenced && size >= SIGNS_LEAST;
-    (fits && is_fence).then_some(Fence {
+    let info = after(line.text(), size);
+    if size < SIGNS_LEAST || (sign == b'`' && info.contains(&b'`')) {
+        return None;
+    }
+    Some(Fence {
         content: RawFlow::Code,
         sign,
         size,
@@ -38,9 +42,17 @@ pub fn begins(line: &Line<'_>) -> Option<Fence> {
     })
 }
 
+/// Whether a byte is the sign of a fence.
+fn is_sign(byte: u8) -> bool
+    ensures { result ≡ true → byte < 128 }
+{
+    matches!(byte, b'`' | b'~')
+}
+
 /// Writes the line of a fence of so many signs, after the white space that it begins with.
 pub fn open(size: usize, output: &mut Output<'_>) -> Result<(), AllocError>
-    requires { Writes output.old }
+    requires writes { Writes output.old }
+    requires cut { IsCut (rest_of output.old) size }
     ensures written { OnOk result (WritesOut output.old output.new) }
     ensures opens { (n : Bool) → (outer : List Enclosing) → Opens output.old (in_flow n outer) → OnOk result (Opens output.new (in_raw Code n outer)) }
 {
@@ -54,7 +66,8 @@ pub fn open(size: usize, output: &mut Output<'_>) -> Result<(), AllocError>
 
 /// Writes the line of a fence of so many signs, which closes.
 pub fn close(size: usize, output: &mut Output<'_>) -> Result<(), AllocError>
-    requires { Writes output.old }
+    requires writes { Writes output.old }
+    requires cut { IsCut (text_of output.old) size }
     ensures written { OnOk result (WritesOut output.old output.new) }
     ensures opens { (n : Bool) → (outer : List Enclosing) → Opens output.old (in_raw Code n outer) → OnOk result (Opens output.new (in_flow n outer)) }
 {

@@ -5,7 +5,7 @@ ghost use Rattle.std.specs.Prelude.{Bool, List, [], ℕ, OnOk, IfSome, length, t
 ghost use Rattle.event_writer.specs.Stages.{Enclosing, Stage, inlines, takes_line_endings};
 ghost use Rattle.markdown_flow.specs.Outputs.{IsAt, Keeps, Opens, Stands, Writes, Reads, document_of, line_after, next_of, spot};
 ghost use Rattle.markdown_flow.specs.Contents.{Kept, AreKept, after_lines, prefix_of};
-ghost use Rattle.markdown_pieces.specs.Tilings.{Spot};
+ghost use Rattle.markdown_pieces.specs.Tilings.{MayBegin, Spot};
 ghost use Rattle.markdown_pieces.specs.Walks.{at, stage_after_string};
 
 use crate::input::Input;
@@ -101,6 +101,7 @@ impl<'d> Content<'d> {
         output: &mut Output<'d>,
     ) -> Result<(), AllocError>
         requires writes { Writes output.old }
+        requires begins { MayBegin (document_of output.old) name (spot output.old.cursor) }
         requires later { AreKept (document_of output.old) self.now.prefixes.items (line_after output.old.cursor) later.now }
         ensures stands { OnOk result (Stands output.new) }
         ensures document { OnOk result (document_of output.new ≡ document_of output.old) }

@@ -1,6 +1,8 @@
 //! Definitions of links: how they are found (CommonMark).
 
 ghost use Rattle.std.specs.Prelude.{IfSome, length, ◌≡◌, ◌≤◌, ◌<◌, ◌+◌, ◌^◌};
+ghost use Rattle.commonmark_syntax.specs.Cuts.{IsCut};
+ghost use Rattle.markdown_flow.specs.Parts.{AreCuts};
 
 use commonmark_syntax::bytes::{after, count_while, is_space_or_tab, white_space_length};
 use commonmark_syntax::{destination, label, title};
@@ -44,6 +46,7 @@ impl Part {
     fn marked(start: usize, size: usize) -> Part
         requires filled { 0 < size }
         requires fits { start + size < 2 ^ 64 }
+        ensures start { result.start ≡ start }
         ensures end { result.end ≡ start + size }
         ensures string_start { result.string_start ≡ start + 1 }
         ensures string_end { result.string_end + 1 ≡ start + size }
@@ -60,7 +63,10 @@ impl Part {
     /// A part of so many bytes that has no marks.
     fn bare(start: usize, size: usize) -> Part
         requires fits { start + size < 2 ^ 64 }
-        ensures { result.end ≡ start + size }
+        ensures start { result.start ≡ start }
+        ensures end { result.end ≡ start + size }
+        ensures string_start { result.string_start ≡ start }
+        ensures string_end { result.string_end ≡ start + size }
     {
         let end = start + size;
         Part {
@@ -92,6 +98,10 @@ pub fn scan(text: &[u8], start: usize) -> Option<Definition>
     ensures title { IfSome result (λ found. IfSome found.title (λ title. title.end ≤ found.end)) }
     ensures label { IfSome result (λ found. found.label.string_start ≤ found.label.string_end) }
     ensures label_end { IfSome result (λ found. found.label.string_end ≤ length text.now) }
+    ensures label_cuts { IfSome result (λ found. AreCuts text.now found.label.start found.label.string_start found.label.string_end found.label.end) }
+    ensures marker_cut { IfSome result (λ found. IsCut text.now found.marker_end) }
+    ensures destination_cuts { IfSome result (λ found. AreCuts text.now found.destination.start found.destination.string_start found.destination.string_end found.destination.end) }
+    ensures title_cuts { IfSome result (λ found. IfSome found.title (λ title. AreCuts text.now title.start title.string_start title.string_end title.end)) }
 {
     let size = label::scan(after(text, start))?;
     let label = Part::marked(start, size);
@@ -117,8 +127,10 @@ pub fn scan(text: &[u8], start: usize) -> Option<Definition>
 
 /// The destination that begins at an offset of a text.
 fn scan_destination(text: &[u8], start: usize) -> Option<Part>
+    requires { IsCut text.now start }
     ensures most { IfSome result (λ found. found.end ≤ length text.now) }
     ensures least { IfSome result (λ found. start < found.end) }
+    ensures cuts { IfSome result (λ found. AreCuts text.now found.start found.string_start found.string_end found.end) }
 {
     let rest = after(text, start);
     let size = destination::scan(rest)?;
@@ -133,6 +145,7 @@ fn scan_destination(text: &[u8], start: usize) -> Option<Part>
 fn scan_title(text: &[u8], offset: usize) -> Option<Part>
     ensures most { IfSome result (λ found. found.end ≤ length text.now) }
     ensures least { IfSome result (λ found. offset < found.end) }
+    ensures cuts { IfSome result (λ found. AreCuts text.now found.start found.string_start found.string_end found.end) }
 {
     let space = white_space_length(after(text, offset));
     if space == 0 {

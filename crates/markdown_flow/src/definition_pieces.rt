@@ -1,15 +1,16 @@
 //! Definitions of links, as pieces (micromark).
 
 ghost use Rattle.std.specs.Prelude.{List, OnOk, IfOk, IfSome, Some, length, true, ◌≡◌, ◌≤◌, ◌<◌, ◌+◌, ◌-◌};
+ghost use Rattle.commonmark_syntax.specs.Cuts.{IsCut};
 ghost use Rattle.event_writer.specs.Stages.{Enclosing, Stage, definition, definition_destination, definition_title, endings, skips, takes_line_endings};
 ghost use Rattle.markdown_events.specs.Names.{role_of};
 ghost use Rattle.markdown_events.specs.declared.role.Role.TheVariants.{Transparent};
 ghost use Rattle.markdown_events.specs.declared.role.TransparentKind.TheVariants.{Other};
-ghost use Rattle.markdown_flow.specs.Outputs.{Keeps, KeepsFlow, Opens, Stands, document_of, spot};
+ghost use Rattle.markdown_flow.specs.Outputs.{Keeps, KeepsFlow, Opens, Stands, document_of, rest_of, spot};
 ghost use Rattle.markdown_flow.specs.Contents.{AreKept, after_lines};
-ghost use Rattle.markdown_pieces.specs.Tilings.{IsToken};
+ghost use Rattle.markdown_pieces.specs.Tilings.{IsToken, MayBegin};
 ghost use Rattle.markdown_pieces.specs.Walks.{at, stage_after, stage_after_string};
-ghost use Rattle.markdown_flow.specs.Definitions.{joined_size, left, IsBeforeLine, IsInText, HasBegun, end_before, end_in, GoesOn};
+ghost use Rattle.markdown_flow.specs.Definitions.{HasCuts, joined, left, IsBeforeLine, IsInText, HasBegun, end_before, end_in, GoesOn};
 
 use crate::content::{Content, KeptLine};
 use crate::definition::{self, Definition, Part};
@@ -20,7 +21,7 @@ use std::alloc::{AllocError, Global};
 
 /// The text of lines without their prefixes. Each line ends with a line feed, the last one too.
 fn join(alloc: Global, lines: &[KeptLine<'_>]) -> Result<Vec<u8>, AllocError>
-    ensures { IfOk result (λ text. length text.items ≡ joined_size lines.now) }
+    ensures { IfOk result (λ text. text.items ≡ joined lines.now) }
 {
     let mut text = Vec::new(alloc);
     for kept in lines {
@@ -96,6 +97,10 @@ impl<'d> PartWriter<'_, '_, 'd> {
         requires fits { found.now.end < length self.old.text.now }
         requires starts { self.old.at ≤ found.now.end }
         requires title { IfSome found.now.title (λ title. title.end ≤ found.now.end) }
+        requires label_cuts { HasCuts self.old.text.now found.now.label }
+        requires marker_cut { IsCut self.old.text.now found.now.marker_end }
+        requires destination_cuts { HasCuts self.old.text.now found.now.destination }
+        requires title_cuts { IfSome found.now.title (λ title. HasCuts self.old.text.now title) }
         ensures before { OnOk result (IsBeforeLine self.new output.new) }
         ensures on { OnOk result (GoesOn self.old self.new output.old output.new) }
         ensures end { OnOk result (end_before self.new output.new ≡ end_before self.old output.old) }
@@ -120,7 +125,8 @@ impl<'d> PartWriter<'_, '_, 'd> {
         self.write_title(found.title, output)?;
         self.write_rest(PieceKind::Token(Name::SpaceOrTab), output)?;
         output.exit(Name::Definition)?;
-        self.end_line(output)
+        self.end_line(output)?;
+        Ok(())
     }
 
     /// Begins the first of the lines that are left, of which there is one.
@@ -179,6 +185,7 @@ impl<'d> PartWriter<'_, '_, 'd> {
         requires text { IsInText self.old output.old }
         requires kind { IsToken kind }
         requires fits { to < length self.old.text.now }
+        requires cut { IsCut self.old.text.now to }
         ensures text { OnOk result (IsInText self.new output.new) }
         ensures on { OnOk result (GoesOn self.old self.new output.old output.new) }
         ensures order { OnOk result (self.old.at ≤ self.new.at) }
@@ -222,6 +229,7 @@ impl<'d> PartWriter<'_, '_, 'd> {
     ) -> Result<(), AllocError>
         requires text { IsInText self.old output.old }
         requires kind { IsToken kind }
+        requires cut { IsCut (rest_of output.old) size }
         ensures text { OnOk result (IsInText self.new output.new) }
         ensures on { OnOk result (GoesOn self.old self.new output.old output.new) }
         ensures order { OnOk result (self.old.at ≤ self.new.at) }
@@ -232,7 +240,8 @@ impl<'d> PartWriter<'_, '_, 'd> {
     {
         let size = size.min(output.rest().len());
         self.at += size;
-        output.part(kind, size)
+        output.part(kind, size)?;
+        Ok(())
     }
 
     /// Writes a span with the string of a part in it, unless that is empty.
@@ -244,6 +253,8 @@ impl<'d> PartWriter<'_, '_, 'd> {
     ) -> Result<(), AllocError>
         requires text { IsInText self.old output.old }
         requires fits { part.now.end < length self.old.text.now }
+        requires cuts { HasCuts self.old.text.now part.now }
+        requires begins { MayBegin (document_of output.old) name (spot output.old.cursor) }
         ensures text { OnOk result (IsInText self.new output.new) }
         ensures on { OnOk result (GoesOn self.old self.new output.old output.new) }
         ensures order { OnOk result (self.old.at ≤ self.new.at) }
@@ -263,6 +274,7 @@ impl<'d> PartWriter<'_, '_, 'd> {
     fn write_label(&mut self, label: &Part, output: &mut Output<'d>) -> Result<(), AllocError>
         requires text { IsInText self.old output.old }
         requires fits { label.now.end < length self.old.text.now }
+        requires cuts { HasCuts self.old.text.now label.now }
         ensures text { OnOk result (IsInText self.new output.new) }
         ensures on { OnOk result (GoesOn self.old self.new output.old output.new) }
         ensures order { OnOk result (self.old.at ≤ self.new.at) }
@@ -285,6 +297,7 @@ impl<'d> PartWriter<'_, '_, 'd> {
     ) -> Result<(), AllocError>
         requires text { IsInText self.old output.old }
         requires fits { destination.now.end < length self.old.text.now }
+        requires cuts { HasCuts self.old.text.now destination.now }
         ensures text { OnOk result (IsInText self.new output.new) }
         ensures on { OnOk result (GoesOn self.old self.new output.old output.new) }
         ensures order { OnOk result (self.old.at ≤ self.new.at) }
@@ -309,7 +322,9 @@ impl<'d> PartWriter<'_, '_, 'd> {
     ) -> Result<(), AllocError>
         requires text { IsInText self.old output.old }
         requires fits { destination.now.end < length self.old.text.now }
+        requires cuts { HasCuts self.old.text.now destination.now }
         requires name { role_of name ≡ Transparent Other }
+        requires begins { MayBegin (document_of output.old) name (spot output.old.cursor) }
         ensures text { OnOk result (IsInText self.new output.new) }
         ensures on { OnOk result (GoesOn self.old self.new output.old output.new) }
         ensures order { OnOk result (self.old.at ≤ self.new.at) }
@@ -332,6 +347,7 @@ impl<'d> PartWriter<'_, '_, 'd> {
     ) -> Result<(), AllocError>
         requires text { IsInText self.old output.old }
         requires fits { IfSome title (λ title. title.end < length self.old.text.now) }
+        requires cuts { IfSome title (λ title. HasCuts self.old.text.now title) }
         ensures text { OnOk result (IsInText self.new output.new) }
         ensures on { OnOk result (GoesOn self.old self.new output.old output.new) }
         ensures order { OnOk result (self.old.at ≤ self.new.at) }

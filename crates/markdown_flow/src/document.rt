@@ -2,7 +2,7 @@
 
 ghost use Rattle.std.specs.Prelude.{List, [], ℕ, None, OnOk, IfOk, IfSome, IfNone, Some, length, ◌≡◌, ◌≤◌, ◌<◌, ◌-◌, false, true};
 ghost use Rattle.event_writer.specs.Stages.{flow};
-ghost use Rattle.markdown_flow.specs.Markers.{is_ordered};
+ghost use Rattle.markdown_flow.specs.Markers.{HasMarker, is_ordered};
 ghost use Rattle.markdown_flow.specs.Flows.{StandsWith, end_with};
 ghost use Rattle.markdown_flow.specs.Moves.{HasMoved};
 ghost use Rattle.markdown_flow.specs.Outputs.{IsAt, Opens, Stands, Writes, Reads, document_of, next_of, spot, spot_in};
@@ -44,6 +44,7 @@ pub struct Blocks {
 /// Of `# a` the pieces are those that [`Piece`] shows, and there are no identifiers.
 pub fn read(alloc: Global, document: &[u8], options: &ParseOptions) -> Result<Blocks, AllocError>
     // The pieces tile the document: they go from its first byte to its last, and no token leaves its line.
+    // Each token ends where a character does, and what is read of it can be read.
     ensures tiles { IfOk result (λ blocks. Tiles document.now origin blocks.pieces.items (record { offset = length document.now; virtual_spaces = 0 })) }
     // The spans nest, each stands where the grammar takes it, and none is left open.
     ensures nest { IfOk result (λ blocks. Walks start blocks.pieces.items start) }
@@ -287,7 +288,7 @@ impl<'d> Reader<'d> {
         requires stands { StandsWith self.old.flow self.old.output }
         requires opens { OpensAll self.old }
         requires reads { Reads (document_of self.old.output) (end_with self.old.flow self.old.output) input.old }
-        requires digits { item.digits < length input.old.line.text.now }
+        requires marker { HasMarker input.old.line.text.now item.digits }
         ensures writes { OnOk result (Writes self.new.output) }
         ensures at { OnOk result (IsAt self.new.output.cursor input.new.line) }
         ensures taken { OnOk result (input.new.prefix.items ≡ []) }
@@ -457,7 +458,7 @@ impl<'d> Reader<'d> {
         requires writes { Writes self.old.output }
         requires at { IsAt self.old.output.cursor input.old.line }
         requires taken { input.old.prefix.items ≡ [] }
-        requires digits { start.digits < length input.old.line.text.now }
+        requires marker { HasMarker input.old.line.text.now start.digits }
         requires opens { Opens self.old.output (in_list_of (is_ordered start.marker) self.old.containers.items) }
         ensures writes { OnOk result (Writes self.new.output) }
         ensures at { OnOk result (IsAt self.new.output.cursor input.new.line) }

@@ -1,6 +1,8 @@
 //! Flow: the leaf that is open, and what a line does to it (micromark).
 
 ghost use Rattle.std.specs.Prelude.{Bool, List, [], OnOk, IfOk, length, ◌≡◌, ◌<◌, true, false};
+ghost use Rattle.std.specs.Str.{IsAscii};
+ghost use Rattle.commonmark_syntax.specs.Cuts.{IsCut};
 ghost use Rattle.event_writer.specs.Stages.{Enclosing};
 ghost use Rattle.markdown_flow.specs.Outputs.{IsAt, Opens, Stands, Writes, WritesOut, Reads, document_of, line_after, next_of, spot};
 ghost use Rattle.markdown_flow.specs.Flows.{LeadsOn, OpensIn, StandsWith, end_with};
@@ -296,6 +298,7 @@ impl<'d> Flow<'d> {
         requires leaf { self.old.leaf ≡ leaves.Paragraph }
         requires filled { 0 < size }
         requires text { 0 < length input.old.line.text.now }
+        requires cut { IsCut input.old.line.text.now size }
         requires reads { Reads (document_of output.old) (end_with self.old output.old) input.old }
         ensures stands { OnOk result (StandsWith self.new output.new) }
         ensures document { OnOk result (document_of output.new ≡ document_of output.old) }
@@ -318,7 +321,8 @@ impl<'d> Flow<'d> {
 
     /// Whether a line makes the last line of the paragraph the head of a table.
     fn is_table_head(&self, line: &Line<'d>) -> bool
-        ensures { result ≡ true → 0 < length self.now.content.lines.items }
+        ensures some { result ≡ true → 0 < length self.now.content.lines.items }
+        ensures ascii { result ≡ true → IsAscii line.now.text.now }
     {
         match self.content.lines().last() {
             Some(header) => gfm_table::begins(&header.line, line),
@@ -335,6 +339,7 @@ impl<'d> Flow<'d> {
         requires stands { StandsWith self.old output.old }
         requires leaf { self.old.leaf ≡ leaves.Paragraph }
         requires some { 0 < length self.old.content.lines.items }
+        requires ascii { IsAscii input.old.line.text.now }
         requires reads { Reads (document_of output.old) (end_with self.old output.old) input.old }
         ensures stands { OnOk result (StandsWith self.new output.new) }
         ensures document { OnOk result (document_of output.new ≡ document_of output.old) }

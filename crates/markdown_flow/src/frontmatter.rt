@@ -1,9 +1,10 @@
 //! Frontmatter: YAML or TOML at the start of a document (micromark).
 
-ghost use Rattle.std.specs.Prelude.{Bool, List, OnOk, IfOk, false, ◌≡◌};
+ghost use Rattle.std.specs.Prelude.{Bool, List, OnOk, IfOk, IfSome, false, length, true, ◌≡◌, ◌<◌};
+ghost use Rattle.commonmark_syntax.specs.Cuts.{IsCut};
 ghost use Rattle.event_writer.specs.Stages.{Enclosing, flow, inlines};
 ghost use Rattle.markdown_events.specs.declared.event.Name.TheVariants.{Frontmatter};
-ghost use Rattle.markdown_flow.specs.Outputs.{Keeps, KeepsFlow, Opens, Stands, Writes, WritesOut, document_of, line_after, next_of, spot, spot_in};
+ghost use Rattle.markdown_flow.specs.Outputs.{Keeps, KeepsFlow, Opens, Stands, Writes, WritesOut, document_of, line_after, next_of, rest_of, spot, spot_in};
 ghost use Rattle.markdown_pieces.specs.Walks.{at, inside};
 
 use crate::line::Line;
@@ -18,7 +19,11 @@ const SIGNS: usize = 3;
 
 /// The sign of the fences of frontmatter that begins in the first line of a document, if there is any
 /// (micromark). Always `None` with `frontmatter` off.
-pub fn begins(first: &Line<'_>) -> Option<u8> {
+pub fn begins(first: &Line<'_>) -> Option<u8>
+    ensures sign { IfSome result (λ sign. sign < 128) }
+    ensures some { IfSome result (λ _. 0 < length first.now.rest.now) }
+    ensures cut { IfSome result (λ _. IsCut first.now.rest.now 3) }
+{
     let sign = *first.rest().first()?;
     let is_sign = matches!(sign, b'-' | b'+');
     let may_begin = first.constructs().frontmatter && is_sign && is_fence(first, sign);
@@ -26,7 +31,9 @@ pub fn begins(first: &Line<'_>) -> Option<u8> {
 }
 
 /// Whether a line is a fence.
-fn is_fence(line: &Line<'_>, sign: u8) -> bool {
+fn is_fence(line: &Line<'_>, sign: u8) -> bool
+    ensures { result ≡ true → sign < 128 → IsCut line.now.rest.now 3 }
+{
     let size = run_length(line.rest(), sign);
     size == SIGNS && is_blank(after(line.rest(), size))
 }
@@ -48,6 +55,9 @@ pub fn write<'d>(first: Line<'d>, sign: u8, output: &mut Output<'d>) -> Result<L
     requires stands { Stands output.old }
     requires document { first.source.document.now ≡ document_of output.old }
     requires start { spot output.old.cursor ≡ spot_in first }
+    requires sign { sign < 128 }
+    requires some { 0 < length first.rest.now }
+    requires cut { IsCut first.rest.now 3 }
     ensures stands { OnOk result (Stands output.new) }
     ensures document { OnOk result (document_of output.new ≡ document_of output.old) }
     ensures line { IfOk result (λ line. (line.source ≡ first.entry.source) × (spot output.new.cursor ≡ next_of line)) }
@@ -87,7 +97,8 @@ fn end(output: &mut Output<'_>) -> Result<(), AllocError>
 
 /// Writes the line of a fence.
 fn write_fence(output: &mut Output<'_>) -> Result<(), AllocError>
-    requires { Writes output.old }
+    requires writes { Writes output.old }
+    requires cut { IsCut (rest_of output.old) 3 }
     ensures written { OnOk result (WritesOut output.old output.new) }
     ensures opens { Keeps result (inlines false) output.old output.new }
 {

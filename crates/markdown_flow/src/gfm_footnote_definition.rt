@@ -3,8 +3,9 @@
 ghost use Rattle.std.specs.Prelude.{Bool, List, ℕ, OnOk, IfSome, false, length, ◌≤◌, ◌+◌};
 ghost use Rattle.event_writer.specs.Stages.{Enclosing, flow, footnote_definition};
 ghost use Rattle.markdown_events.specs.declared.event.Name.TheVariants.{GfmFootnoteDefinition};
-ghost use Rattle.markdown_flow.specs.Outputs.{IsAt, Opens, Writes, WritesOn, Reads};
+ghost use Rattle.markdown_flow.specs.Outputs.{IsAt, Opens, Writes, WritesOn, Reads, rest_of};
 ghost use Rattle.markdown_flow.specs.Moves.{HasMoved};
+ghost use Rattle.markdown_flow.specs.Markers.{HasLabel};
 ghost use Rattle.markdown_pieces.specs.Tilings.{Spot};
 ghost use Rattle.markdown_pieces.specs.Walks.{at, inside};
 
@@ -20,7 +21,9 @@ use std::alloc::AllocError;
 /// bytes between the caret and the bracket (GFM). Always `None` with `gfm_footnote_definition` off.
 ///
 /// It is 1 in `[^a]: b`.
-pub fn begins(line: &Line<'_>) -> Option<usize> {
+pub fn begins(line: &Line<'_>) -> Option<usize>
+    ensures { IfSome result (λ size. HasLabel line.now.text.now size) }
+{
     let inside = line.text().strip_prefix(b"[^")?;
     let size = label_size(inside)?;
     let label = inside.get(..size)?;
@@ -65,6 +68,7 @@ pub fn continues(input: &mut Input<'_>) -> Result<bool, AllocError>
 pub fn open<'d>(size: usize, line: &mut Line<'d>, output: &mut Output<'d>) -> Result<(), AllocError>
     requires writes { Writes output.old }
     requires at { IsAt output.old.cursor line.old }
+    requires label { HasLabel line.old.text.now size }
     ensures writes { OnOk result (Writes output.new) }
     ensures at { OnOk result (IsAt output.new.cursor line.new) }
     ensures moved { HasMoved line.old line.new }
@@ -82,7 +86,8 @@ pub fn open<'d>(size: usize, line: &mut Line<'d>, output: &mut Output<'d>) -> Re
 
 /// Writes a label of so many bytes with its brackets. It is added to what the document defines.
 fn write_label(size: usize, output: &mut Output<'_>) -> Result<(), AllocError>
-    requires { Writes output.old }
+    requires writes { Writes output.old }
+    requires label { HasLabel (rest_of output.old) size }
     ensures written { OnOk result (WritesOn output.old output.new) }
     ensures most { OnOk result (output.new.cursor.offset ≤ output.old.cursor.offset + size + 3) }
     ensures opens { (outer : List Enclosing) → Opens output.old (at footnote_definition outer) → OnOk result (Opens output.new (at (flow false) outer)) }

@@ -1,11 +1,13 @@
 //! Tables (GFM).
 
-ghost use Rattle.std.specs.Prelude.{Bool, List, [], OnOk, Some, false, true, ◌≡◌};
-ghost use Rattle.event_writer.specs.Stages.{Enclosing, Stage, delimiter_row, inlines, written};
-ghost use Rattle.markdown_events.specs.Names.{role_of};
+ghost use Rattle.std.specs.Prelude.{Bool, List, [], OnOk, Some, false, length, true, ◌≡◌, ◌<◌};
+ghost use Rattle.std.specs.Str.{IsAscii};
+ghost use Rattle.event_writer.specs.Stages.{Enclosing, Stage, delimiter_row, inlines};
 ghost use Rattle.markdown_flow.specs.Leaves.{in_flow, in_table};
-ghost use Rattle.markdown_flow.specs.Outputs.{HasLine, Keeps, Opens, Stands, Writes, WritesOn, WritesOut, Reads, document_of, next_of, spot};
+ghost use Rattle.markdown_flow.specs.Outputs.{HasLine, Keeps, Opens, Stands, Writes, WritesOn, WritesOut, Reads, document_of, next_of, rest_of, spot, text_of};
 ghost use Rattle.markdown_flow.specs.Contents.{Kept};
+ghost use Rattle.markdown_pieces.specs.Tilings.{IsPlain};
+ghost use Rattle.markdown_pieces.specs.Walks.{after_token};
 
 use crate::content::{Content, KeptLine};
 use crate::gfm_table_row::{self, Cell};
@@ -19,7 +21,9 @@ use std::alloc::AllocError;
 
 /// Whether the last line of a paragraph and the line after it are the head of a table (GFM). Never, with
 /// `gfm_table` off.
-pub fn begins(header: &Line<'_>, line: &Line<'_>) -> bool {
+pub fn begins(header: &Line<'_>, line: &Line<'_>) -> bool
+    ensures { result ≡ true → IsAscii line.now.text.now }
+{
     if !line.constructs().gfm_table || line.is_indented() || header.is_indented() {
         return false;
     }
@@ -34,7 +38,10 @@ fn is_bare_divider(row: &[u8]) -> bool {
 }
 
 /// Whether a text is a delimiter row (GFM). Hyphens alone are none, since they are an underline.
-fn is_delimiter_row(text: &[u8]) -> bool {
+#[tactic(auto, using(crate::proofs::Rows::row_ascii))]
+fn is_delimiter_row(text: &[u8]) -> bool
+    ensures { result ≡ true → IsAscii text.now }
+{
     if !text.iter().any(|byte| matches!(*byte, b':' | b'|')) {
         return false;
     }
@@ -51,10 +58,21 @@ fn is_delimiter_row(text: &[u8]) -> bool {
 
 /// Whether the text of a cell says how its column is aligned: hyphens, and maybe a colon before or after
 /// them (GFM).
-fn is_delimiter(text: &[u8]) -> bool {
-    let rest = text.strip_prefix(b":").unwrap_or(text);
-    let hyphens = run_length(rest, b'-');
-    hyphens > 0 && matches!(after(rest, hyphens), [] | [b':'])
+fn is_delimiter(text: &[u8]) -> bool
+    ensures { result ≡ true → IsAscii text.now }
+{
+    match text {
+        [b':', rest @ ..] => is_hyphens(rest),
+        _ => is_hyphens(text),
+    }
+}
+
+/// Whether a text is hyphens, and maybe a colon after them.
+fn is_hyphens(text: &[u8]) -> bool
+    ensures { result ≡ true → IsAscii text.now }
+{
+    let hyphens = run_length(text, b'-');
+    hyphens > 0 && matches!(after(text, hyphens), [] | [b':'])
 }
 
 /// Writes the head of a table: the last line of a paragraph, and the line after it.
@@ -67,6 +85,7 @@ pub fn open<'d>(
     requires stands { Stands output.old }
     requires header { Kept (document_of output.old) content.now.prefixes.items (spot output.old.cursor) header.now }
     requires input { Reads (document_of output.old) (next_of header.now.line) input.old }
+    requires ascii { IsAscii input.old.line.text.now }
     ensures writes { OnOk result (Writes output.new) }
     ensures at { OnOk result (HasLine output.new.cursor input.old.line) }
     ensures ended { OnOk result (output.new.cursor.offset ≡ output.new.cursor.extent.end) }
@@ -86,7 +105,8 @@ pub fn open<'d>(
 
 /// Writes the delimiter row.
 fn write_delimiter_row(output: &mut Output<'_>) -> Result<(), AllocError>
-    requires { Writes output.old }
+    requires writes { Writes output.old }
+    requires ascii { IsAscii (text_of output.old) }
     ensures written { OnOk result (WritesOut output.old output.new) }
     ensures opens { Keeps result (inlines false) output.old output.new }
 {
@@ -102,8 +122,10 @@ fn write_delimiter_row(output: &mut Output<'_>) -> Result<(), AllocError>
 
 /// Writes a cell of the delimiter row.
 fn write_delimiter(cell: &Cell<'_>, output: &mut Output<'_>) -> Result<(), AllocError>
-    requires { Writes output.old }
+    requires writes { Writes output.old }
+    requires ascii { IsAscii (text_of output.old) }
     ensures written { OnOk result (WritesOn output.old output.new) }
+    ensures ascii { 0 < length cell.now.next.now → OnOk result (IsAscii (text_of output.new)) }
     ensures ended { cell.now.next.now ≡ [] → OnOk result (output.new.cursor.offset ≡ output.new.cursor.extent.end) }
     ensures opens { Keeps result delimiter_row output.old output.new }
 {
@@ -115,14 +137,18 @@ fn write_delimiter(cell: &Cell<'_>, output: &mut Output<'_>) -> Result<(), Alloc
     write_run(Name::GfmTableDelimiterMarker, b':', output)?;
     output.exit(Name::GfmTableDelimiterCellValue)?;
     cell.write_after(output)?;
-    output.exit(Name::GfmTableDelimiterCell)
+    output.exit(Name::GfmTableDelimiterCell)?;
+    Ok(())
 }
 
 /// Writes the run of a byte that is next in the line, unless there is none.
 fn write_run(name: Name, of: u8, output: &mut Output<'_>) -> Result<(), AllocError>
-    requires { Writes output.old }
+    requires writes { Writes output.old }
+    requires plain { IsPlain name }
+    requires ascii { of < 128 }
     ensures written { OnOk result (WritesOn output.old output.new) }
-    ensures opens { (a : Stage) → written a (role_of name) ≡ Some a → Keeps result a output.old output.new }
+    ensures rest { IsAscii (rest_of output.old) → OnOk result (IsAscii (rest_of output.new)) }
+    ensures opens { (a : Stage) → after_token a name ≡ Some a → Keeps result a output.old output.new }
 {
     let size = run_length(output.rest(), of);
     output.token(name, size)

@@ -1,8 +1,12 @@
 //! Rows of tables: how they are parted into cells (GFM).
 
-ghost use Rattle.std.specs.Prelude.{[], OnOk, false, length, ◌≡◌, ◌≤◌, ◌<◌};
+ghost use Rattle.std.specs.Prelude.{[], OnOk, drop, false, length, slice_index, take, ◌≡◌, ◌≤◌, ◌<◌, ◌⊎◌};
+ghost use Rattle.std.specs.Str.{IsAscii};
+ghost use Rattle.commonmark_syntax.specs.Cuts.{IsCut};
 ghost use Rattle.event_writer.specs.Stages.{Stage, inlines};
-ghost use Rattle.markdown_flow.specs.Outputs.{Keeps, Writes, WritesOn, WritesOut};
+ghost use Rattle.markdown_flow.specs.Lines.{after_spaces};
+ghost use Rattle.markdown_flow.specs.Outputs.{Keeps, Writes, WritesOn, WritesOut, rest_of, text_of};
+ghost use Rattle.markdown_flow.specs.Rows.{IsFirst};
 
 use crate::output::Output;
 use crate::space_or_tab::{after_spaces, is_blank, trimmed_size};
@@ -27,10 +31,11 @@ impl<'d> Cell<'d> {
     /// That of `| a | b |` has the text `a`, and the next is that of `| b |`.
     pub fn first(row: &'d [u8]) -> Cell<'d>
         ensures less { 0 < length row.now → length result.next.now < length row.now }
+        ensures first { IsFirst row.now result }
     {
         let size = cell_size(row);
         let cell = &row[..size];
-        let divider_size = usize::from(cell.starts_with(b"|"));
+        let divider_size = divider_size(row);
         let text = after_spaces(after(cell, divider_size));
         Cell {
             divider_size,
@@ -41,8 +46,10 @@ impl<'d> Cell<'d> {
 
     /// Writes what comes before its text: a divider, and white space around that.
     pub fn write_before(&self, output: &mut Output<'_>) -> Result<(), AllocError>
-        requires { Writes output.old }
+        requires writes { Writes output.old }
+        requires cut { IsCut (text_of output.old) self.now.divider_size }
         ensures written { OnOk result (WritesOn output.old output.new) }
+        ensures rest { OnOk result (rest_of output.new ≡ after_spaces (drop self.now.divider_size (text_of output.old))) }
         ensures opens { (a : Stage) → Keeps result a output.old output.new }
     {
         output.white_space()?;
@@ -52,8 +59,10 @@ impl<'d> Cell<'d> {
 
     /// Writes what comes after its text: white space, and what the row ends with after its last cell.
     pub fn write_after(&self, output: &mut Output<'_>) -> Result<(), AllocError>
-        requires { Writes output.old }
+        requires writes { Writes output.old }
+        requires cut { IsCut (text_of output.old) 1 }
         ensures written { OnOk result (WritesOn output.old output.new) }
+        ensures rest { 0 < length self.now.next.now → OnOk result (rest_of output.new ≡ text_of output.old) }
         ensures ended { self.now.next.now ≡ [] → OnOk result (output.new.cursor.offset ≡ output.new.cursor.extent.end) }
         ensures opens { (a : Stage) → Keeps result a output.old output.new }
     {
@@ -66,11 +75,24 @@ impl<'d> Cell<'d> {
     }
 }
 
+/// How many bytes the divider that a row begins with has: 0 where there is none.
+fn divider_size(row: &[u8]) -> usize
+    ensures within { result ≤ length row.now }
+    ensures most { result ≤ 1 }
+    ensures ascii { IsAscii (take result row.now) }
+{
+    match row {
+        [b'|', ..] => 1,
+        _ => 0,
+    }
+}
+
 /// How many bytes the first cell of a row has, with the divider before it. It ends before the next divider
 /// that is not escaped (GFM).
 fn cell_size(row: &[u8]) -> usize
     ensures most { result ≤ length row.now }
     ensures least { 0 < length row.now → 0 < result }
+    ensures divider { result < length row.now → slice_index row.now result ≡ 124 }
 {
     let mut is_escaped = false;
     for (size, byte) in row.iter().enumerate() {
@@ -85,7 +107,8 @@ fn cell_size(row: &[u8]) -> usize
 
 /// The end of a row from the next cell on, where a divider comes first. A last divider begins no cell.
 fn next_cell(end: &[u8]) -> &[u8]
-    ensures { length result.now ≤ length end.now }
+    ensures less { length result.now ≤ length end.now }
+    ensures next { (result.now ≡ end.now) ⊎ ((result.now ≡ []) × IsAscii (drop 1 end.now)) }
 {
     if is_blank(after(end, 1)) { &[] } else { end }
 }
@@ -121,8 +144,10 @@ pub fn write(output: &mut Output<'_>) -> Result<(), AllocError>
 
 /// Writes a cell.
 fn write_cell(cell: &Cell<'_>, output: &mut Output<'_>) -> Result<(), AllocError>
-    requires { Writes output.old }
+    requires writes { Writes output.old }
+    requires first { IsFirst (text_of output.old) cell.now }
     ensures written { OnOk result (WritesOn output.old output.new) }
+    ensures next { 0 < length cell.now.next.now → OnOk result (text_of output.new ≡ cell.now.next.now) }
     ensures ended { cell.now.next.now ≡ [] → OnOk result (output.new.cursor.offset ≡ output.new.cursor.extent.end) }
     ensures opens { Keeps result (inlines false) output.old output.new }
 {
@@ -130,5 +155,6 @@ fn write_cell(cell: &Cell<'_>, output: &mut Output<'_>) -> Result<(), AllocError
     cell.write_before(output)?;
     output.string(Name::GfmTableCellText, cell.text.len())?;
     cell.write_after(output)?;
-    output.exit(Name::GfmTableCell)
+    output.exit(Name::GfmTableCell)?;
+    Ok(())
 }

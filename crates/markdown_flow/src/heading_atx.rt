@@ -1,7 +1,9 @@
 //! Headings with number signs (CommonMark).
 
-ghost use Rattle.std.specs.Prelude.{OnOk, IfSome, length, ◌≤◌, ◌<◌};
+ghost use Rattle.std.specs.Prelude.{OnOk, IfSome, length, ◌≤◌};
+ghost use Rattle.commonmark_syntax.specs.Cuts.{IsCut};
 ghost use Rattle.markdown_flow.specs.Outputs.{KeepsFlow, Writes, WritesOut, text_of};
+ghost use Rattle.markdown_flow.specs.Markers.{HasSigns};
 
 use crate::line::Line;
 use crate::output::Output;
@@ -18,8 +20,7 @@ const SIGNS_MOST: usize = 6;
 ///
 /// It is 2 in `## a`.
 pub fn begins(line: &Line<'_>) -> Option<usize>
-    ensures least { IfSome result (λ size. 0 < size) }
-    ensures text { IfSome result (λ _. 0 < length line.now.text.now) }
+    ensures { IfSome result (λ size. HasSigns line.now.text.now size) }
 {
     let size = run_length(line.text(), b'#');
     let fits = 0 < size && size <= SIGNS_MOST;
@@ -30,14 +31,13 @@ pub fn begins(line: &Line<'_>) -> Option<usize>
 /// Writes the heading in a line, which begins with so many signs.
 pub fn write(size: usize, output: &mut Output<'_>) -> Result<(), AllocError>
     requires writes { Writes output.old }
-    requires filled { 0 < size }
-    requires text { 0 < length (text_of output.old) }
+    requires signs { HasSigns (text_of output.old) size }
     ensures written { OnOk result (WritesOut output.old output.new) }
     ensures opens { KeepsFlow result output.old output.new }
 {
     output.enter(Name::HeadingAtx)?;
     output.white_space()?;
-    output.token(Name::HeadingAtxSequence, size)?;
+    output.opening_sequence(size)?;
     output.white_space()?;
     let text_size = text_size(output.rest());
     output.string(Name::HeadingAtxText, text_size)?;
@@ -51,7 +51,8 @@ pub fn write(size: usize, output: &mut Output<'_>) -> Result<(), AllocError>
 /// The size of the text of a heading: without the signs that close it and the white space around them.
 /// Signs close a heading where white space comes before them (CommonMark).
 fn text_size(inside: &[u8]) -> usize
-    ensures { result ≤ length inside.now }
+    ensures within { result ≤ length inside.now }
+    ensures cut { IsCut inside.now result }
 {
     let trimmed = trimmed_size(inside);
     let text = &inside[..trimmed];

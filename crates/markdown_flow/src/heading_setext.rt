@@ -1,6 +1,7 @@
 //! Headings with an underline (CommonMark).
 
 ghost use Rattle.std.specs.Prelude.{List, [], OnOk, IfSome, length, ◌≡◌, ◌<◌};
+ghost use Rattle.commonmark_syntax.specs.Cuts.{IsCut};
 ghost use Rattle.event_writer.specs.Stages.{Enclosing, heading_setext_underline, nothing};
 ghost use Rattle.markdown_flow.specs.Outputs.{HasLine, KeepsFlow, Opens, Stands, Writes, WritesOut, Reads, document_of, next_of, spot, text_of};
 ghost use Rattle.markdown_flow.specs.Contents.{Kept, AreKept, after_lines};
@@ -22,6 +23,7 @@ use std::alloc::AllocError;
 pub fn underline(line: &Line<'_>) -> Option<usize>
     ensures least { IfSome result (λ size. 0 < size) }
     ensures text { IfSome result (λ _. 0 < length line.now.text.now) }
+    ensures cut { IfSome result (λ size. IsCut line.now.text.now size) }
 {
     if !line.constructs().heading_setext || line.is_indented() {
         return None;
@@ -49,6 +51,7 @@ pub fn write<'d>(
     requires input { Reads (document_of output.old) (after_lines (next_of first.now.line) later.now) input.old }
     requires filled { 0 < size }
     requires text { 0 < length input.old.line.text.now }
+    requires cut { IsCut input.old.line.text.now size }
     ensures writes { OnOk result (Writes output.new) }
     ensures at { OnOk result (HasLine output.new.cursor input.old.line) }
     ensures ended { OnOk result (output.new.cursor.offset ≡ output.new.cursor.extent.end) }
@@ -69,6 +72,7 @@ fn write_underline(size: usize, output: &mut Output<'_>) -> Result<(), AllocErro
     requires writes { Writes output.old }
     requires filled { 0 < size }
     requires text { 0 < length (text_of output.old) }
+    requires cut { IsCut (text_of output.old) size }
     ensures written { OnOk result (WritesOut output.old output.new) }
     ensures opens { (outer : List Enclosing) → Opens output.old (at heading_setext_underline outer) → OnOk result (Opens output.new (at nothing outer)) }
 {

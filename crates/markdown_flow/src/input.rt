@@ -1,6 +1,6 @@
 //! The line that is read, and what the open containers took of it.
 
-ghost use Rattle.std.specs.Prelude.{List, [], ℕ, OnOk, length, ◌≡◌, ◌<◌, ◌++◌};
+ghost use Rattle.std.specs.Prelude.{List, [], ℕ, OnOk, length, slice_index, ◌≡◌, ◌<◌, ◌++◌};
 
 use crate::line::Line;
 use crate::output::piece_to;
@@ -49,7 +49,8 @@ impl<'d> Input<'d> {
     /// Moves the cursor over the white space there, a byte, and a column of white space, if there is one. They
     /// are the prefix of a block quote.
     pub fn block_quote_prefix(&mut self) -> Result<(), AllocError>
-        requires { 0 < length self.old.line.text.now }
+        requires some { 0 < length self.old.line.text.now }
+        requires ascii { slice_index self.old.line.text.now 0 < 128 }
         ensures reads { (bytes : List ℕ) → (from : Spot) → Reads bytes from self.old → OnOk result (Reads bytes from self.new) }
         ensures moved { OnOk result (HasMoved self.old.line self.new.line) }
     {

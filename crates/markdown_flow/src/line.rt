@@ -13,11 +13,14 @@ ghost use Rattle.std.specs.Prelude.{
   drop,
   length,
   nat_lt,
+  true,
 };
+ghost use Rattle.std.specs.Str.{IsAscii};
 ghost use Rattle.std.proofs.Props.{props};
 ghost use Rattle.event_writer.specs.Calls.{EndsLine, line_ending_length};
 ghost use Rattle.markdown_flow.specs.Lines.{
   HasColumns,
+  IsAsciiBetween,
   IsBefore,
   IsInLine,
   IsRest,
@@ -78,10 +81,13 @@ pub struct Line<'d> {
     ghost text_rests: { text.now ≡ after_spaces rest.now },
     ghost has_columns: { HasColumns source.document.now (end - length rest.now) virtual_spaces columns } by { Prim.hlevel props },
     ghost has_indent: { indent ≡ indentation columns rest.now },
+    ghost tail_ascii: { IsAsciiBetween source.document.now (end - tail) end } by { Prim.hlevel props },
 }
 
 impl<'d> Line<'d> {
+    ghost use Rattle.commonmark_syntax.specs.Cuts.{IsCut};
     ghost use Rattle.markdown_flow.specs.Moves.{HasMoved};
+    ghost use Rattle.markdown_flow.specs.Outputs.{ComesToCut};
 
     /// The line that begins at an offset, or `None` at the end of the document.
     pub fn new(source: Source<'d>, start: usize) -> Option<Line<'d>>
@@ -167,7 +173,9 @@ impl<'d> Line<'d> {
     }
 
     /// How many columns come before the cursor.
-    pub fn columns(&self) -> usize {
+    pub fn columns(&self) -> usize
+        ensures { result ≡ self.now.columns }
+    {
         self.columns
     }
 
@@ -193,7 +201,9 @@ impl<'d> Line<'d> {
     }
 
     /// How many columns of white space come after the cursor.
-    pub fn indent(&self) -> usize {
+    pub fn indent(&self) -> usize
+        ensures { result ≡ self.now.indent }
+    {
         self.indent
     }
 
@@ -211,7 +221,9 @@ impl<'d> Line<'d> {
     /// Whether the text has only white space and one of the signs of thematic breaks.
     ///
     /// This is found once for a line, since each of many nested markers may ask for it.
-    pub fn is_in_tail(&self) -> bool {
+    pub fn is_in_tail(&self) -> bool
+        ensures { result ≡ true → IsAscii self.now.text.now }
+    {
         self.text.len() <= self.tail
     }
 
@@ -219,6 +231,7 @@ impl<'d> Line<'d> {
     pub fn skip_columns(&mut self, columns: usize)
         ensures moved { HasMoved self.old self.new }
         ensures text { self.new.text ≡ self.old.text }
+        ensures indent { self.new.indent ≡ self.old.indent - columns }
     {
         let moved = columns.min(self.indent);
         let mut left = moved;
@@ -256,6 +269,7 @@ impl<'d> Line<'d> {
     /// Moves the cursor over so many bytes of the text, and the white space before it.
     pub fn skip(&mut self, size: usize)
         ensures moved { HasMoved self.old self.new }
+        ensures cut { IsCut self.old.text.now size → ComesToCut self.old self.new }
         ensures rest { self.new.rest.now ≡ drop size self.old.text.now }
         ensures whole { self.new.virtual_spaces ≡ 0 }
     {

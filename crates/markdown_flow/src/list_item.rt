@@ -1,10 +1,12 @@
 //! Items, and the lists that they make (CommonMark).
 
-ghost use Rattle.std.specs.Prelude.{List, ℕ, OnOk, IfOk, IfSome, length, nat_lt, true, ◌≡◌, ◌<◌};
+ghost use Rattle.std.specs.Prelude.{List, ℕ, OnOk, IfOk, IfSome, false, length, nat_lt, slice_index, true, ◌≡◌, ◌<◌, ◌≤◌};
+ghost use Rattle.std.specs.Char.{is_ascii_digit};
 ghost use Rattle.event_writer.specs.Stages.{Enclosing, flow, item};
 ghost use Rattle.markdown_events.specs.declared.event.Name.TheVariants.{ListItem};
 ghost use Rattle.markdown_flow.specs.Containers.{after_item, before_number, in_list, list_name};
-ghost use Rattle.markdown_flow.specs.Markers.{is_ordered};
+ghost use Rattle.markdown_flow.specs.Lines.{is_space_or_tab};
+ghost use Rattle.markdown_flow.specs.Markers.{HasMarker, is_ordered};
 ghost use Rattle.markdown_flow.specs.Outputs.{IsAt, Opens, Stands, Writes, Reads};
 ghost use Rattle.markdown_flow.specs.Moves.{HasMoved};
 ghost use Rattle.markdown_pieces.specs.Tilings.{Spot};
@@ -15,7 +17,7 @@ use crate::line::{Line, TAB_SIZE};
 use crate::output::Output;
 use crate::space_or_tab::{is_at_space_or_end, is_blank};
 use crate::thematic_break;
-use commonmark_syntax::bytes::count_while;
+use commonmark_syntax::bytes::{after, count_while};
 use markdown_events::event::Name;
 use std::alloc::AllocError;
 
@@ -69,27 +71,35 @@ pub fn list_name(marker: u8) -> Name
 /// An item can interrupt a paragraph only if it is not blank, and only if its number is 1, where it has one
 /// (CommonMark).
 pub fn begins(line: &Line<'_>, interrupts: bool) -> Option<ItemStart>
-    ensures { IfSome result (λ start. start.digits < length line.now.text.now) }
+    ensures { IfSome result (λ start. HasMarker line.now.text.now start.digits) }
 {
     if !line.constructs().list_item || thematic_break::begins(line) {
         return None;
     }
-    let digits = count_while(line.text(), |byte| byte.is_ascii_digit());
-    let (number, rest) = line.text().split_at_checked(digits)?;
-    let (marker, rest) = rest.split_first()?;
-    let may_interrupt = !is_blank(rest) && (digits == 0 || is_one(number));
-    if !is_marker(*marker, digits) || !is_at_space_or_end(rest) || (interrupts && !may_interrupt) {
+    let text = line.text();
+    let digits = count_while(text, is_digit);
+    let marker = *text.get(digits)?;
+    let rest = after(text, digits + 1);
+    let may_interrupt = !is_blank(rest) && (digits == 0 || is_one(&text[..digits]));
+    if !is_marker(marker, digits) || !is_at_space_or_end(rest) || (interrupts && !may_interrupt) {
         return None;
     }
-    Some(ItemStart {
-        marker: *marker,
-        digits,
-    })
+    Some(ItemStart { marker, digits })
+}
+
+/// Whether a byte is a decimal digit.
+fn is_digit(byte: u8) -> bool
+    ensures { result ≡ is_ascii_digit byte }
+{
+    byte.is_ascii_digit()
 }
 
 /// Whether a byte is the marker of an item after so many digits (CommonMark).
 fn is_marker(byte: u8, digits: usize) -> bool
-    ensures { result ≡ true → is_ordered byte ≡ nat_lt 0 digits }
+    ensures ordered { result ≡ true → is_ordered byte ≡ nat_lt 0 digits }
+    ensures most { result ≡ true → digits ≤ 9 }
+    ensures ascii { result ≡ true → byte < 128 }
+    ensures not_white { result ≡ true → is_space_or_tab byte ≡ false }
 {
     match byte {
         b'*' | b'-' | b'+' => digits == 0,
@@ -152,7 +162,7 @@ pub fn open<'d>(
 ) -> Result<Item, AllocError>
     requires writes { Writes output.old }
     requires at { IsAt output.old.cursor line.old }
-    requires digits { start.digits < length line.old.text.now }
+    requires marker { HasMarker line.old.text.now start.digits }
     ensures writes { OnOk result (Writes output.new) }
     ensures at { OnOk result (IsAt output.new.cursor line.new) }
     ensures moved { HasMoved line.old line.new }
@@ -186,7 +196,7 @@ fn write_start<'d>(
 ) -> Result<(), AllocError>
     requires writes { Writes output.old }
     requires at { IsAt output.old.cursor line.old }
-    requires digits { start.digits < length line.old.text.now }
+    requires marker { HasMarker line.old.text.now start.digits }
     ensures writes { OnOk result (Writes output.new) }
     ensures at { OnOk result (IsAt output.new.cursor line.new) }
     ensures moved { HasMoved line.old line.new }
@@ -206,7 +216,8 @@ fn write_prefix<'d>(
 ) -> Result<(), AllocError>
     requires writes { Writes output.old }
     requires at { IsAt output.old.cursor line.old }
-    requires digits { start.digits < length line.old.text.now }
+    requires indent { line.old.indent ≡ 0 }
+    requires marker { HasMarker line.old.text.now start.digits }
     ensures writes { OnOk result (Writes output.new) }
     ensures at { OnOk result (IsAt output.new.cursor line.new) }
     ensures moved { HasMoved line.old line.new }
@@ -232,7 +243,8 @@ fn write_marker<'d>(
 ) -> Result<(), AllocError>
     requires writes { Writes output.old }
     requires at { IsAt output.old.cursor line.old }
-    requires digits { start.digits < length line.old.text.now }
+    requires indent { line.old.indent ≡ 0 }
+    requires marker { HasMarker line.old.text.now start.digits }
     ensures writes { OnOk result (Writes output.new) }
     ensures at { OnOk result (IsAt output.new.cursor line.new) }
     ensures moved { HasMoved line.old line.new }
@@ -251,10 +263,12 @@ fn write_number<'d>(
 ) -> Result<(), AllocError>
     requires writes { Writes output.old }
     requires at { IsAt output.old.cursor line.old }
-    requires digits { start.digits < length line.old.text.now }
+    requires indent { line.old.indent ≡ 0 }
+    requires marker { HasMarker line.old.text.now start.digits }
     ensures writes { OnOk result (Writes output.new) }
     ensures at { OnOk result (IsAt output.new.cursor line.new) }
     ensures moved { HasMoved line.old line.new }
+    ensures marker { slice_index line.new.text.now 0 < 128 }
     ensures opens { (outer : List Enclosing) → Opens output.old (at (before_number (is_ordered start.marker)) outer) → OnOk result (Opens output.new (at (item (is_ordered start.marker)) outer)) }
 {
     if start.digits == 0 {

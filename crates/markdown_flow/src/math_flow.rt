@@ -1,9 +1,10 @@
 //! Math between fences (micromark).
 
-ghost use Rattle.std.specs.Prelude.{Bool, List, OnOk};
+ghost use Rattle.std.specs.Prelude.{Bool, IfSome, List, OnOk};
+ghost use Rattle.commonmark_syntax.specs.Cuts.{IsCut};
 ghost use Rattle.event_writer.specs.Stages.{Enclosing};
 ghost use Rattle.markdown_flow.specs.Leaves.{in_flow, in_raw};
-ghost use Rattle.markdown_flow.specs.Outputs.{Opens, Writes, WritesOut};
+ghost use Rattle.markdown_flow.specs.Outputs.{Opens, Writes, WritesOut, rest_of, text_of};
 ghost use Rattle.markdown_flow.specs.declared.raw_flow.RawFlow.TheVariants.{Math};
 
 use crate::line::Line;
@@ -23,7 +24,9 @@ const SIGNS_LEAST: usize = 2;
 /// `None` with `math_flow` off.
 ///
 /// In `$$ a` it has two dollars.
-pub fn begins(line: &Line<'_>) -> Option<Fence> {
+pub fn begins(line: &Line<'_>) -> Option<Fence>
+    ensures { IfSome result (λ fence. IsCut line.now.text.now fence.size) }
+{
     let size = run_length(line.text(), SIGN);
     let is_fence = size >= SIGNS_LEAST && !after(line.text(), size).contains(&SIGN);
     (line.constructs().math_flow && is_fence).then_some(Fence {
@@ -36,7 +39,8 @@ pub fn begins(line: &Line<'_>) -> Option<Fence> {
 
 /// Writes the line of a fence of so many signs, after the white space that it begins with.
 pub fn open(size: usize, output: &mut Output<'_>) -> Result<(), AllocError>
-    requires { Writes output.old }
+    requires writes { Writes output.old }
+    requires cut { IsCut (rest_of output.old) size }
     ensures written { OnOk result (WritesOut output.old output.new) }
     ensures opens { (n : Bool) → (outer : List Enclosing) → Opens output.old (in_flow n outer) → OnOk result (Opens output.new (in_raw Math n outer)) }
 {
@@ -50,7 +54,8 @@ pub fn open(size: usize, output: &mut Output<'_>) -> Result<(), AllocError>
 
 /// Writes the line of a fence of so many signs, which closes.
 pub fn close(size: usize, output: &mut Output<'_>) -> Result<(), AllocError>
-    requires { Writes output.old }
+    requires writes { Writes output.old }
+    requires cut { IsCut (text_of output.old) size }
     ensures written { OnOk result (WritesOut output.old output.new) }
     ensures opens { (n : Bool) → (outer : List Enclosing) → Opens output.old (in_raw Math n outer) → OnOk result (Opens output.new (in_flow n outer)) }
 {

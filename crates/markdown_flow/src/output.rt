@@ -1,14 +1,15 @@
 //! The pieces that were made so far, those that wait, and the line that is written.
 
-ghost use Rattle.std.specs.Prelude.{List, [], OnOk, IfOk, IfSome, Some, true, length, min, ◌≡◌, ◌≤◌, ◌<◌, ◌+◌, ◌-◌, slice_range};
-ghost use Rattle.event_writer.specs.Stages.{Enclosing, Stage, entered, exited, skips, takes_line_endings, written};
+ghost use Rattle.std.specs.Prelude.{List, [], OnOk, IfOk, IfSome, Some, true, drop, length, min, ◌≡◌, ◌≢◌, ◌≤◌, ◌<◌, ◌+◌, ◌-◌, slice_range};
+ghost use Rattle.commonmark_syntax.specs.Cuts.{IsCut};
+ghost use Rattle.event_writer.specs.Stages.{Enclosing, Stage, entered, exited, heading_atx, inlines, skips, takes_line_endings};
 ghost use Rattle.markdown_events.specs.Names.{role_of};
 ghost use Rattle.markdown_events.specs.declared.event.Name.TheVariants.{ListItem};
-ghost use Rattle.markdown_flow.specs.Outputs.{IsAt, IsLater, IsPlaceIn, Keeps, Opens, Stands, Writes, Reads, document_of, line_after, next_of, spot, spot_in};
+ghost use Rattle.markdown_flow.specs.Outputs.{IsAt, IsLater, IsPlaceIn, Keeps, Opens, Stands, Writes, Reads, document_of, line_after, next_of, rest_of, spot, spot_in, text_of};
 ghost use Rattle.markdown_flow.specs.Moves.{HasMoved};
 ghost use Rattle.markdown_flow.specs.Lines.{after_spaces};
-ghost use Rattle.markdown_pieces.specs.Tilings.{Goes, IsEnding, IsToken, Tiles, end_from, end_of, origin};
-ghost use Rattle.markdown_pieces.specs.Walks.{AreBetween, State, Walks, at, inside, stage_after, stage_after_string, start};
+ghost use Rattle.markdown_pieces.specs.Tilings.{EndsCharacter, Goes, HasValue, IsEnding, IsPlain, IsToken, MayBegin, Tiles, end_from, end_of, origin};
+ghost use Rattle.markdown_pieces.specs.Walks.{AreBetween, State, Walks, after_token, at, inside, stage_after, stage_after_string, start};
 
 use crate::input::Input;
 use crate::line::Line;
@@ -451,7 +452,8 @@ impl<'d> Output<'d> {
 
     /// Begins a span after the settled pieces.
     pub fn enter(&mut self, name: Name) -> Result<(), AllocError>
-        requires { Writes self.old }
+        requires writes { Writes self.old }
+        requires begins { MayBegin (document_of self.old) name (spot self.old.cursor) }
         ensures writes { OnOk result (Writes self.new) }
         ensures cursor { self.new.cursor ≡ self.old.cursor }
         ensures opens { (a : Stage) → (outer : List Enclosing) → Opens self.old (at a outer) → OnOk result (IfSome (entered a (role_of name)) (λ b. Opens self.new (at b (inside name a outer)))) }
@@ -508,9 +510,11 @@ impl<'d> Output<'d> {
     pub fn part(&mut self, kind: PieceKind, size: usize) -> Result<(), AllocError>
         requires writes { Writes self.old }
         requires kind { IsToken kind }
+        requires cut { IsCut (rest_of self.old) size }
         ensures writes { OnOk result (Writes self.new) }
         ensures extent { OnOk result (self.new.cursor.extent ≡ self.old.cursor.extent) }
         ensures offset { OnOk result (self.new.cursor.offset ≡ self.old.cursor.offset + min size (self.old.cursor.extent.end - self.old.cursor.offset)) }
+        ensures rest { OnOk result (rest_of self.new ≡ drop size (rest_of self.old)) }
         ensures same { (a : Stage) → stage_after a kind ≡ Some a → Keeps result a self.old self.new }
         ensures filled { (a : Stage) → (outer : List Enclosing) → 0 < size → self.old.cursor.offset < self.old.cursor.extent.end → Opens self.old (at a outer) → OnOk result (IfSome (stage_after a kind) (λ b. Opens self.new (at b outer))) }
     {
@@ -518,28 +522,52 @@ impl<'d> Output<'d> {
         if cursor.offset == self.cursor.offset {
             return Ok(());
         }
-        self.push(Piece::new(kind, cursor.offset), cursor)
+        self.push(Piece::new(kind, cursor.offset), cursor)?;
+        Ok(())
     }
 
     /// Adds a span of so many bytes of the line with no span in it, unless it would be empty.
     pub fn token(&mut self, name: Name, size: usize) -> Result<(), AllocError>
         requires writes { Writes self.old }
+        requires plain { IsPlain name }
+        requires cut { IsCut (rest_of self.old) size }
         ensures writes { OnOk result (Writes self.new) }
         ensures extent { OnOk result (self.new.cursor.extent ≡ self.old.cursor.extent) }
         ensures offset { OnOk result (self.new.cursor.offset ≡ self.old.cursor.offset + min size (self.old.cursor.extent.end - self.old.cursor.offset)) }
-        ensures same { (a : Stage) → written a (role_of name) ≡ Some a → Keeps result a self.old self.new }
-        ensures filled { (a : Stage) → (outer : List Enclosing) → 0 < size → self.old.cursor.offset < self.old.cursor.extent.end → Opens self.old (at a outer) → OnOk result (IfSome (written a (role_of name)) (λ b. Opens self.new (at b outer))) }
+        ensures rest { OnOk result (rest_of self.new ≡ drop size (rest_of self.old)) }
+        ensures same { (a : Stage) → after_token a name ≡ Some a → Keeps result a self.old self.new }
+        ensures filled { (a : Stage) → (outer : List Enclosing) → 0 < size → self.old.cursor.offset < self.old.cursor.extent.end → Opens self.old (at a outer) → OnOk result (IfSome (after_token a name) (λ b. Opens self.new (at b outer))) }
     {
         self.part(PieceKind::Token(name), size)
+    }
+
+    /// Adds the sequence that opens a heading: so many bytes of the line, of which there are as many.
+    pub fn opening_sequence(&mut self, size: usize) -> Result<(), AllocError>
+        requires writes { Writes self.old }
+        requires least { 0 < size }
+        requires most { size ≤ 6 }
+        requires fits { size ≤ length (rest_of self.old) }
+        requires cut { IsCut (rest_of self.old) size }
+        requires whole { self.old.cursor.virtual_spaces ≡ 0 }
+        ensures writes { OnOk result (Writes self.new) }
+        ensures extent { OnOk result (self.new.cursor.extent ≡ self.old.cursor.extent) }
+        ensures opens { (outer : List Enclosing) → Opens self.old (at heading_atx outer) → OnOk result (Opens self.new (at (inlines true) outer)) }
+    {
+        let cursor = self.cursor.after(size);
+        self.push(
+            Piece::new(PieceKind::OpeningSequence, cursor.offset),
+            cursor,
+        )
     }
 
     /// Adds a span of the rest of the line with no span in it, unless it would be empty.
     pub fn token_of_rest(&mut self, name: Name) -> Result<(), AllocError>
         requires writes { Writes self.old }
+        requires plain { IsPlain name }
         ensures writes { OnOk result (Writes self.new) }
         ensures extent { OnOk result (self.new.cursor.extent ≡ self.old.cursor.extent) }
         ensures ended { OnOk result (self.new.cursor.offset ≡ self.new.cursor.extent.end) }
-        ensures same { (a : Stage) → written a (role_of name) ≡ Some a → Keeps result a self.old self.new }
+        ensures same { (a : Stage) → after_token a name ≡ Some a → Keeps result a self.old self.new }
     {
         self.token(name, self.cursor.extent.end)
     }
@@ -550,20 +578,26 @@ impl<'d> Output<'d> {
         ensures writes { OnOk result (Writes self.new) }
         ensures extent { OnOk result (self.new.cursor.extent ≡ self.old.cursor.extent) }
         ensures order { OnOk result (self.old.cursor.offset ≤ self.new.cursor.offset) }
-        ensures text { OnOk result (self.new.cursor.extent.end - self.new.cursor.offset ≡ length (after_spaces (slice_range (document_of self.old) self.old.cursor.offset self.old.cursor.extent.end))) }
+        ensures text { OnOk result (self.new.cursor.extent.end - self.new.cursor.offset ≡ length (text_of self.old)) }
+        ensures rest { OnOk result (rest_of self.new ≡ text_of self.old) }
+        ensures whole { OnOk result (self.new.cursor.virtual_spaces ≡ 0) }
         ensures same { (a : Stage) → Keeps result a self.old self.new }
     {
         let rest = self.rest();
-        self.token(Name::SpaceOrTab, rest.len() - after_spaces(rest).len())
+        self.token(Name::SpaceOrTab, rest.len() - after_spaces(rest).len())?;
+        Ok(())
     }
 
     /// Adds a span with a part of a content in it, of so many bytes of the line, unless it would be empty.
     pub fn string(&mut self, name: Name, size: usize) -> Result<(), AllocError>
         requires writes { Writes self.old }
+        requires begins { MayBegin (document_of self.old) name (spot self.old.cursor) }
+        requires cut { IsCut (rest_of self.old) size }
         ensures writes { OnOk result (Writes self.new) }
         ensures extent { OnOk result (self.new.cursor.extent ≡ self.old.cursor.extent) }
         ensures order { OnOk result (self.old.cursor.offset ≤ self.new.cursor.offset) }
         ensures most { OnOk result (self.new.cursor.offset ≤ self.old.cursor.offset + size) }
+        ensures rest { OnOk result (rest_of self.new ≡ drop size (rest_of self.old)) }
         ensures same { (a : Stage) → stage_after_string a name ≡ Some a → Keeps result a self.old self.new }
         ensures less { (a : Stage) → (outer : List Enclosing) → Opens self.old (at a outer) → OnOk result (IfSome (stage_after_string a name) (λ b. skips a b ≡ true → Opens self.new (at b outer))) }
         ensures filled { (a : Stage) → (outer : List Enclosing) → 0 < size → self.old.cursor.offset < self.old.cursor.extent.end → Opens self.old (at a outer) → OnOk result (IfSome (stage_after_string a name) (λ b. Opens self.new (at b outer))) }
@@ -573,7 +607,8 @@ impl<'d> Output<'d> {
         }
         self.enter(name)?;
         self.part(PieceKind::Text, size)?;
-        self.exit(name)
+        self.exit(name)?;
+        Ok(())
     }
 
     /// Adds a span up to the cursor of the line that is written, with no span in it, unless it would be
@@ -581,10 +616,12 @@ impl<'d> Output<'d> {
     pub fn token_to(&mut self, name: Name, line: &Line<'d>) -> Result<(), AllocError>
         requires writes { Writes self.old }
         requires same { IsLater self.old.cursor line.now }
+        requires cut { spot_in line.now ≢ spot self.old.cursor → EndsCharacter (document_of self.old) name (line.now.end - length line.now.rest.now) }
+        requires value { HasValue (document_of self.old) name (spot self.old.cursor) (spot_in line.now) }
         ensures writes { OnOk result (Writes self.new) }
         ensures at { OnOk result (IsAt self.new.cursor line.now) }
-        ensures same { (a : Stage) → written a (role_of name) ≡ Some a → Keeps result a self.old self.new }
-        ensures filled { (a : Stage) → (outer : List Enclosing) → self.old.cursor.offset < line.now.end - length line.now.rest.now → Opens self.old (at a outer) → OnOk result (IfSome (written a (role_of name)) (λ b. Opens self.new (at b outer))) }
+        ensures same { (a : Stage) → after_token a name ≡ Some a → Keeps result a self.old self.new }
+        ensures filled { (a : Stage) → (outer : List Enclosing) → self.old.cursor.offset < line.now.end - length line.now.rest.now → Opens self.old (at a outer) → OnOk result (IfSome (after_token a name) (λ b. Opens self.new (at b outer))) }
     {
         let cursor = Cursor::of(line);
         if cursor.offset == self.cursor.offset
@@ -605,6 +642,7 @@ impl<'d> Output<'d> {
         ensures moved { HasMoved line.old line.new }
         ensures same { (a : Stage) → Keeps result a self.old self.new }
         ensures text { line.new.text ≡ line.old.text }
+        ensures indent { line.new.indent ≡ line.old.indent - columns }
     {
         line.skip_columns(columns);
         self.token_to(Name::SpaceOrTab, line)

@@ -1,11 +1,11 @@
 //! Code and math between fences (micromark, raw flow).
 
-ghost use Rattle.std.specs.Prelude.{Bool, List, OnOk, IfOk, IfSome, Some, true, ◌≡◌};
-ghost use Rattle.event_writer.specs.Stages.{Enclosing, Stage, skips, written};
-ghost use Rattle.markdown_events.specs.Names.{role_of};
-ghost use Rattle.markdown_flow.specs.Leaves.{after_fenced, in_flow, in_raw};
-ghost use Rattle.markdown_flow.specs.Outputs.{IsAt, Keeps, Opens, Stands, Writes, WritesOut};
-ghost use Rattle.markdown_pieces.specs.Walks.{at, stage_after_string};
+ghost use Rattle.std.specs.Prelude.{Bool, List, OnOk, IfOk, IfSome, Some, true, ◌≡◌, ◌<◌};
+ghost use Rattle.commonmark_syntax.specs.Cuts.{IsCut};
+ghost use Rattle.event_writer.specs.Stages.{Enclosing, Stage, skips};
+ghost use Rattle.markdown_flow.specs.Outputs.{IsAt, Keeps, Opens, Stands, Writes, WritesOut, document_of, spot, text_of};
+ghost use Rattle.markdown_pieces.specs.Tilings.{IsPlain, MayBegin};
+ghost use Rattle.markdown_pieces.specs.Walks.{after_token, at, stage_after_string};
 
 use crate::line::Line;
 use crate::output::Output;
@@ -35,6 +35,7 @@ pub struct Fence {
     pub size: usize,
     /// How many columns it is indented: white space up to that is no part of the lines after it.
     pub indent: usize,
+    ghost ascii: { sign < 128 },
 }
 
 /// What a line is that comes after a fence that opens.
@@ -49,8 +50,12 @@ pub enum FencedLine {
 }
 
 impl Fence {
+    ghost use Rattle.markdown_flow.specs.Leaves.{after_fenced, in_flow, in_raw};
+
     /// The fence that a line opens, if it opens one.
-    pub fn find(line: &Line<'_>) -> Option<Fence> {
+    pub fn find(line: &Line<'_>) -> Option<Fence>
+        ensures { IfSome result (λ fence. IsCut line.now.text.now fence.size) }
+    {
         match line.text().first()? {
             b'`' | b'~' => code_fenced::begins(line),
             b'$' => math_flow::begins(line),
@@ -60,7 +65,8 @@ impl Fence {
 
     /// Writes the line of a fence that opens.
     pub fn open(self, output: &mut Output<'_>) -> Result<(), AllocError>
-        requires { Writes output.old }
+        requires writes { Writes output.old }
+        requires cut { IsCut (text_of output.old) self.size }
         ensures written { OnOk result (WritesOut output.old output.new) }
         ensures opens { (n : Bool) → (outer : List Enclosing) → Opens output.old (in_flow n outer) → OnOk result (Opens output.new (in_raw self.content n outer)) }
     {
@@ -108,7 +114,9 @@ impl Fence {
     }
 
     /// The number of signs of the fence that closes, if the line has it (CommonMark).
-    fn closing(self, line: &Line<'_>) -> Option<usize> {
+    fn closing(self, line: &Line<'_>) -> Option<usize>
+        ensures { IfSome result (λ size. IsCut line.now.text.now size) }
+    {
         let size = run_length(line.text(), self.sign);
         let is_closing = size >= self.size && is_blank(after(line.text(), size));
         (is_closing && !line.is_indented()).then_some(size)
@@ -116,7 +124,8 @@ impl Fence {
 
     /// Writes the line of a fence of so many signs, which closes.
     fn close(self, size: usize, output: &mut Output<'_>) -> Result<(), AllocError>
-        requires { Writes output.old }
+        requires writes { Writes output.old }
+        requires cut { IsCut (text_of output.old) size }
         ensures written { OnOk result (WritesOut output.old output.new) }
         ensures opens { (n : Bool) → (outer : List Enclosing) → Opens output.old (in_raw self.content n outer) → OnOk result (Opens output.new (in_flow n outer)) }
     {
@@ -142,9 +151,11 @@ impl Fence {
 
 /// Writes the signs of a fence that closes, which end the line.
 pub fn write_closing(name: Name, size: usize, output: &mut Output<'_>) -> Result<(), AllocError>
-    requires { Writes output.old }
+    requires writes { Writes output.old }
+    requires plain { IsPlain name }
+    requires cut { IsCut (text_of output.old) size }
     ensures written { OnOk result (WritesOut output.old output.new) }
-    ensures opens { (a : Stage) → written a (role_of name) ≡ Some a → Keeps result a output.old output.new }
+    ensures opens { (a : Stage) → after_token a name ≡ Some a → Keeps result a output.old output.new }
 {
     output.white_space()?;
     output.token(name, size)?;
@@ -154,7 +165,8 @@ pub fn write_closing(name: Name, size: usize, output: &mut Output<'_>) -> Result
 /// Writes the meta of a fence, with which the line ends. White space after it is no part of it
 /// (CommonMark).
 pub fn write_meta(name: Name, output: &mut Output<'_>) -> Result<(), AllocError>
-    requires { Writes output.old }
+    requires writes { Writes output.old }
+    requires begins { MayBegin (document_of output.old) name (spot output.old.cursor) }
     ensures written { OnOk result (WritesOut output.old output.new) }
     ensures opens { (a : Stage) → (outer : List Enclosing) → Opens output.old (at a outer) → OnOk result (IfSome (stage_after_string a name) (λ b. skips a b ≡ true → Opens output.new (at b outer))) }
 {

@@ -1,6 +1,8 @@
 //! Spaces and tabs (micromark).
 
-ghost use Rattle.std.specs.Prelude.{◌≡◌, ◌≤◌, length};
+ghost use Rattle.std.specs.Prelude.{[], ◌≡◌, ◌≤◌, drop, length, true};
+ghost use Rattle.std.specs.Str.{IsAscii};
+ghost use Rattle.commonmark_syntax.specs.Cuts.{IsCut};
 ghost use Rattle.markdown_flow.specs.Lines.{after_spaces};
 
 use commonmark_syntax::bytes::{after, count_back, count_while, is_space_or_tab};
@@ -24,7 +26,9 @@ pub fn after_spaces(text: &[u8]) -> &[u8]
 ///
 /// In ` a ` it is 2.
 pub fn trimmed_size(text: &[u8]) -> usize
-    ensures { result ≤ length text.now }
+    ensures within { result ≤ length text.now }
+    ensures cut { IsCut text.now result }
+    ensures blank { after_spaces (drop result text.now) ≡ [] }
 {
     text.len() - count_back(text, is_space_or_tab)
 }
@@ -32,7 +36,9 @@ pub fn trimmed_size(text: &[u8]) -> usize
 /// Whether a text is nothing but spaces and tabs.
 ///
 /// It is true of the empty text.
-pub fn is_blank(text: &[u8]) -> bool {
+pub fn is_blank(text: &[u8]) -> bool
+    ensures { result ≡ true → IsAscii text.now }
+{
     count_while(text, is_space_or_tab) == text.len()
 }
 

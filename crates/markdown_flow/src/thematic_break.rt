@@ -1,7 +1,9 @@
 //! Thematic breaks (CommonMark).
 
-ghost use Rattle.std.specs.Prelude.{OnOk, length, ◌≤◌};
-ghost use Rattle.markdown_flow.specs.Outputs.{KeepsFlow, Writes, WritesOut};
+ghost use Rattle.std.specs.Prelude.{OnOk, length, true, ◌≡◌, ◌≤◌, ◌<◌, ◌-◌};
+ghost use Rattle.std.specs.Str.{IsAscii};
+ghost use Rattle.markdown_flow.specs.Lines.{IsAsciiBetween};
+ghost use Rattle.markdown_flow.specs.Outputs.{KeepsFlow, Writes, WritesOut, text_of};
 
 use crate::line::Line;
 use crate::output::Output;
@@ -16,28 +18,34 @@ const SIGNS_LEAST: usize = 3;
 ///
 /// In `- a **` it is 3.
 pub fn tail_size(line: &[u8]) -> usize
-    ensures { result ≤ length line.now }
+    ensures within { result ≤ length line.now }
+    ensures ascii { IsAsciiBetween line.now (length line.now - result) (length line.now) }
 {
     let mut sign = None;
-    for (size, byte) in line.iter().rev().enumerate() {
-        if is_space_or_tab(*byte) {
+    for size in 0..line.len() {
+        let byte = line[line.len() - size - 1];
+        if is_space_or_tab(byte) {
             continue;
         }
-        if !is_sign(*byte) || sign.is_some_and(|sign| sign != *byte) {
+        if !is_sign(byte) || sign.is_some_and(|sign| sign != byte) {
             return size;
         }
-        sign = Some(*byte);
+        sign = Some(byte);
     }
     line.len()
 }
 
 /// Whether a byte is a sign of thematic breaks.
-fn is_sign(byte: u8) -> bool {
+fn is_sign(byte: u8) -> bool
+    ensures { result ≡ true → byte < 128 }
+{
     matches!(byte, b'*' | b'-' | b'_')
 }
 
 /// Whether the text of a line is a thematic break (CommonMark). Never, with `thematic_break` off.
-pub fn begins(line: &Line<'_>) -> bool {
+pub fn begins(line: &Line<'_>) -> bool
+    ensures { result ≡ true → IsAscii line.now.text.now }
+{
     line.constructs().thematic_break && line.is_in_tail() && has_enough(line.text())
 }
 
@@ -48,8 +56,10 @@ fn has_enough(text: &[u8]) -> bool {
 }
 
 /// Writes the thematic break in a line.
+#[tactic(auto, using(crate::proofs::Ascii::ascii_cut, crate::proofs::Ascii::ascii_later, crate::proofs::Ascii::ascii_black))]
 pub fn write(output: &mut Output<'_>) -> Result<(), AllocError>
-    requires { Writes output.old }
+    requires writes { Writes output.old }
+    requires ascii { IsAscii (text_of output.old) }
     ensures written { OnOk result (WritesOut output.old output.new) }
     ensures opens { KeepsFlow result output.old output.new }
 {

@@ -1,10 +1,13 @@
 -- Pieces one after the other.
-use Rattle.std.proofs.Common.{◌≡◌, ◌∷◌, ◌++◌, ◌∙◌, ◌⊎◌, ◌-◌, List, [], ℕ, Option, None, Some, ap, arith, drop, get_or, inl, inr, length, refl, set, slice_get, subst, suc, sym, zero}
+use Rattle.std.proofs.Common.{◌≡◌, ◌∷◌, ◌++◌, ◌∙◌, ◌⊎◌, ◌-◌, ◌<◌, List, [], ℕ, Some, ap, arith, drop, get_or, inl, inr, length, refl, set, slice_get, subst, suc, sym, zero}
 use mathlib.Core.Path.{transport}
-use Rattle.markdown_pieces.specs.Tilings.{Goes, IsEnding, Spot, Tiles, end_from, end_of}
+use Rattle.commonmark_syntax.specs.Cuts.{IsCut}
+use Rattle.markdown_events.specs.declared.event.Name.{Name}
+use Rattle.markdown_events.specs.declared.event.Name.TheVariants.{ByteOrderMark, HeadingSetextUnderlineSequence, ListItemValue}
+use Rattle.markdown_pieces.specs.Tilings.{EndsCharacter, Goes, HasValue, IsEnding, IsPlain, Spot, Tiles, end_from, end_of}
 use Rattle.markdown_pieces.specs.declared.piece.Piece.{Piece}
 use Rattle.markdown_pieces.specs.declared.piece.PieceKind.{PieceKind}
-use Rattle.markdown_pieces.specs.declared.piece.PieceKind.TheVariants.{BlankLineEnding, BlockQuotePrefix, Enter, Exit, LineEnding, Text, Token}
+use Rattle.markdown_pieces.specs.declared.piece.PieceKind.TheVariants.{BlankLineEnding, BlockQuotePrefix, Enter, Exit, LineEnding, OpeningSequence, Text, Token}
 
 -- pieces end where they say
 pub ends : (bytes : List ℕ) (a b : Spot) (ps : List Piece) → Tiles bytes a ps b → end_from a ps ≡ b
@@ -55,6 +58,7 @@ pub goes_as_ending : (bytes : List ℕ) (k : PieceKind) (a b : Spot) → IsEndin
 goes_as_ending bytes (Enter n) a b i = absurd i
 goes_as_ending bytes (Exit n) a b i = absurd i
 goes_as_ending bytes (Token n) a b i = absurd i
+goes_as_ending bytes OpeningSequence a b i = absurd i
 goes_as_ending bytes LineEnding a b i = refl
 goes_as_ending bytes BlankLineEnding a b i = refl
 goes_as_ending bytes Text a b i = absurd i
@@ -100,3 +104,16 @@ like_length [] [] l = refl
 like_length [] (q ∷ qs) l = absurd l
 like_length (p ∷ ps) [] l = absurd l
 like_length (p ∷ ps) (q ∷ qs) l = ap suc (like_length ps qs l.1)
+
+-- ---- Plain tokens
+
+-- one ends at a cut
+pub plain_cut : (bytes : List ℕ) (name : Name) (i : ℕ) → IsPlain name → IsCut bytes i → EndsCharacter bytes name i
+plain_cut bytes ByteOrderMark i plain cut = absurd plain
+plain_cut bytes _ i plain cut = cut
+
+-- and can be read
+pub plain_value : (bytes : List ℕ) (name : Name) (a b : Spot) → IsPlain name → a.offset < b.offset → HasValue bytes name a b
+plain_value bytes ListItemValue a b plain some = absurd plain
+plain_value bytes HeadingSetextUnderlineSequence a b plain some = some
+plain_value bytes _ a b plain some = tt

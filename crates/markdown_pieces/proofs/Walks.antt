@@ -1,13 +1,13 @@
 -- Pieces that the grammar takes, one after the other.
 use Rattle.std.proofs.Common.{Bool, None, false, if◌then◌else◌, ◌≡◌, ◌∷◌, ◌++◌, ◌-◌, List, Some, [], ap, drop, refl, set, slice_range, subst, suc, sym, take, true, zero, ℕ}
 use Rattle.std.proofs.lemmas.Option.{same_Some}
-use Rattle.event_writer.specs.Stages.{Enclosing, Stage, entered, exited, skips, takes_line_endings, written}
+use Rattle.event_writer.specs.Stages.{Enclosing, Stage, entered, exited, heading_atx, inlines, skips, takes_line_endings}
 use Rattle.markdown_events.specs.Names.{role_of}
 use Rattle.markdown_events.specs.declared.event.Name.{Name}
-use Rattle.markdown_pieces.specs.Walks.{AreBetween, IsBetween, SaysAll, State, Steps, Walks, at, inside, more, same, stage_after, takes_text}
+use Rattle.markdown_pieces.specs.Walks.{AreBetween, IsBetween, SaysAll, State, Steps, Walks, after_opening, after_token, at, inside, more, same, stage_after, takes_text}
 use Rattle.markdown_pieces.specs.declared.piece.Piece.{Piece}
 use Rattle.markdown_pieces.specs.declared.piece.PieceKind.{PieceKind}
-use Rattle.markdown_pieces.specs.declared.piece.PieceKind.TheVariants.{BlankLineEnding, BlockQuotePrefix, Enter, Exit, LineEnding, Text, Token}
+use Rattle.markdown_pieces.specs.declared.piece.PieceKind.TheVariants.{BlankLineEnding, BlockQuotePrefix, Enter, Exit, LineEnding, OpeningSequence, Text, Token}
 
 -- of three states the first says what the last does
 says_all_on : (u t s : State) → SaysAll t s → SaysAll u t → SaysAll u s
@@ -38,10 +38,11 @@ step_between : (k : PieceKind) (s : State) → takes_line_endings s.stage ≡ tr
 step_between LineEnding s takes between = (takes, refl)
 step_between BlankLineEnding s takes between = refl
 step_between BlockQuotePrefix s takes between = refl
-step_between (Token name) s takes between = (ap (λ (n : Name). written s.stage (role_of n)) between, refl)
+step_between (Token name) s takes between = (ap (λ (n : Name). after_token s.stage n) between, refl)
 step_between (Enter name) s takes between = absurd between
 step_between (Exit name) s takes between = absurd between
 step_between Text s takes between = absurd between
+step_between OpeningSequence s takes between = absurd between
 
 walks_between : (s : State) (ps : List Piece) → takes_line_endings s.stage ≡ true → AreBetween ps → Walks s ps s
 walks_between s [] takes between = same s refl
@@ -77,6 +78,11 @@ between_on (p ∷ ps) qs first later = (first.0, between_on ps qs first.1 later)
 
 -- ---- A piece more, by its kind
 
+-- where the signs that open a heading may stand, the heading has begun
+opens_heading : (a b : Stage) (outer : List Enclosing) → after_opening a ≡ Some b → (a ≡ heading_atx) × (at b outer ≡ at (inlines true) outer)
+opens_heading heading_atx b outer is = (refl, ap (λ (x : Stage). at x outer) (sym (same_Some (inlines true) b is)))
+opens_heading _ b outer is = absurd cc
+
 -- a token, or a text
 step_after : (k : PieceKind) (a b : Stage) (outer : List Enclosing) → stage_after a k ≡ Some b → Steps k (at a outer) (at b outer)
 step_after (Token name) a b outer is = (is, refl)
@@ -87,6 +93,7 @@ step_after Text a b outer is = by (takes_text a) refl is
     by false takes eq = absurd cc
 step_after (Enter name) a b outer is = absurd cc
 step_after (Exit name) a b outer is = absurd cc
+step_after OpeningSequence a b outer is = opens_heading a b outer is
 step_after LineEnding a b outer is = absurd cc
 step_after BlankLineEnding a b outer is = absurd cc
 step_after BlockQuotePrefix a b outer is = absurd cc

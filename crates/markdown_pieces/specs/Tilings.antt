@@ -1,10 +1,14 @@
 -- Pieces that tile a document: each begins where the one before it ends.
-use Rattle.std.specs.Prelude.{List, [], ℕ, ◌+◌, ◌∷◌, ◌≡◌}
+use Rattle.std.specs.Prelude.{List, Some, [], length, slice_range, take, true, ℕ, ◌+◌, ◌-◌, ◌<◌, ◌∷◌, ◌≡◌}
+use Rattle.commonmark_syntax.specs.Cuts.{IsCut}
 use Rattle.event_writer.specs.Calls.{CanReach, EndsLine, line_ending_length}
+use Rattle.markdown_events.specs.declared.event.Name.{Name}
+use Rattle.markdown_events.specs.declared.event.Name.TheVariants.{ByteOrderMark, Frontmatter, HeadingSetextUnderlineSequence, ListItemValue}
+use Rattle.markdown_grammar.specs.Document.{is_depth, is_item_number}
 use Rattle.markdown_events.specs.declared.event.Point.{Point}
 use Rattle.markdown_pieces.specs.declared.piece.Piece.{Piece}
 use Rattle.markdown_pieces.specs.declared.piece.PieceKind.{PieceKind}
-use Rattle.markdown_pieces.specs.declared.piece.PieceKind.TheVariants.{BlankLineEnding, BlockQuotePrefix, Enter, Exit, LineEnding, Text, Token}
+use Rattle.markdown_pieces.specs.declared.piece.PieceKind.TheVariants.{BlankLineEnding, BlockQuotePrefix, Enter, Exit, LineEnding, OpeningSequence, Text, Token}
 
 -- a place between two pieces: an offset, and so many columns into the tab there
 pub record Spot : Type 0 where
@@ -23,16 +27,59 @@ point a = record { line = 1; column = 1; index = a.offset; vs = a.virtual_spaces
 abbrev pub end_of : Piece → Spot
 end_of p = record { offset = p.end; virtual_spaces = p.virtual_spaces }
 
--- a piece of this kind goes from one spot to another: the ends of spans have no length, tokens and texts stand in a line, line endings go to the start of the next line,
--- and the prefix of a block quote goes over a byte, and maybe further
+-- a span of this name may begin at a spot: frontmatter only before a byte
+abbrev pub MayBegin : List ℕ → Name → Spot → Type 0
+MayBegin bytes Frontmatter a = a.offset < length bytes
+MayBegin bytes _ a = Unit {0}
+
+-- a token of this name ends where a character does. The byte order mark does so after its three bytes, whatever comes next
+abbrev pub EndsCharacter : List ℕ → Name → ℕ → Type 0
+EndsCharacter bytes ByteOrderMark i = take i bytes ≡ 239 ∷ 187 ∷ 191 ∷ []
+EndsCharacter bytes _ i = IsCut bytes i
+
+-- what is read of a token of this name can be read
+abbrev pub HasValue : List ℕ → Name → Spot → Spot → Type 0
+HasValue bytes ListItemValue a b = (a.virtual_spaces ≡ 0) × (b.virtual_spaces ≡ 0) × (is_item_number (Some (slice_range bytes a.offset b.offset)) ≡ true)
+HasValue bytes HeadingSetextUnderlineSequence a b = a.offset < b.offset
+HasValue bytes _ a b = Unit {0}
+
+-- a token of this name goes from one spot to another: it stands in a line
+pub record GoesAsToken (bytes : List ℕ) (name : Name) (a b : Spot) : Type 0 where
+  pub reaches : CanReach bytes (point a) b.offset b.virtual_spaces
+  pub cut : EndsCharacter bytes name b.offset
+  pub value : HasValue bytes name a b
+
+-- so does a text
+pub record GoesAsText (bytes : List ℕ) (a b : Spot) : Type 0 where
+  pub reaches : CanReach bytes (point a) b.offset b.virtual_spaces
+  pub whole : b.virtual_spaces ≡ 0
+  pub cut : IsCut bytes b.offset
+
+-- so does the sequence that opens a heading. It has one to six bytes
+pub record GoesAsOpening (bytes : List ℕ) (a b : Spot) : Type 0 where
+  pub reaches : CanReach bytes (point a) b.offset 0
+  pub from_whole : a.virtual_spaces ≡ 0
+  pub whole : b.virtual_spaces ≡ 0
+  pub cut : IsCut bytes b.offset
+  pub depth : is_depth (Some (b.offset - a.offset)) ≡ true
+
+-- the prefix of a block quote goes over a byte, and maybe further
+pub record GoesAsPrefix (bytes : List ℕ) (a b : Spot) : Type 0 where
+  pub marker : CanReach bytes (point a) (a.offset + 1) 0
+  pub marker_cut : IsCut bytes (a.offset + 1)
+  pub reaches : CanReach bytes (point (record { offset = a.offset + 1; virtual_spaces = 0 })) b.offset b.virtual_spaces
+  pub cut : IsCut bytes b.offset
+
+-- a piece of this kind goes from one spot to another: the ends of spans have no length, and line endings go to the start of the next line
 abbrev pub Goes : List ℕ → PieceKind → Spot → Spot → Type 0
-Goes bytes (Enter name) a b = a ≡ b
+Goes bytes (Enter name) a b = (a ≡ b) × MayBegin bytes name a
 Goes bytes (Exit name) a b = a ≡ b
-Goes bytes (Token name) a b = CanReach bytes (point a) b.offset b.virtual_spaces
-Goes bytes Text a b = CanReach bytes (point a) b.offset b.virtual_spaces × (b.virtual_spaces ≡ 0)
+Goes bytes (Token name) a b = GoesAsToken bytes name a b
+Goes bytes OpeningSequence a b = GoesAsOpening bytes a b
+Goes bytes Text a b = GoesAsText bytes a b
 Goes bytes LineEnding a b = EndsLine bytes a.offset × (b ≡ record { offset = a.offset + line_ending_length bytes a.offset; virtual_spaces = 0 })
 Goes bytes BlankLineEnding a b = EndsLine bytes a.offset × (b ≡ record { offset = a.offset + line_ending_length bytes a.offset; virtual_spaces = 0 })
-Goes bytes BlockQuotePrefix a b = CanReach bytes (point a) (a.offset + 1) 0 × CanReach bytes (point (record { offset = a.offset + 1; virtual_spaces = 0 })) b.offset b.virtual_spaces
+Goes bytes BlockQuotePrefix a b = GoesAsPrefix bytes a b
 
 -- pieces go from one spot of a document to another
 abbrev pub Tiles : List ℕ → Spot → List Piece → Spot → Type 0
@@ -44,9 +91,15 @@ abbrev pub end_from : Spot → List Piece → Spot
 end_from a [] = a
 end_from a (p ∷ ps) = end_from (end_of p) ps
 
--- a piece of this kind is a token or a text
+-- tokens of this name are plain: one that has a byte and ends at a cut can be read
+abbrev pub IsPlain : Name → Type 0
+IsPlain ByteOrderMark = ⊥
+IsPlain ListItemValue = ⊥
+IsPlain _ = Unit {0}
+
+-- a piece of this kind is a plain token or a text
 abbrev pub IsToken : PieceKind → Type 0
-IsToken (Token name) = Unit {0}
+IsToken (Token name) = IsPlain name
 IsToken Text = Unit {0}
 IsToken _ = ⊥
 

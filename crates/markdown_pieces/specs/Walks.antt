@@ -1,12 +1,12 @@
 -- Pieces that the grammar takes: which spans are open after them, and what may stand next.
 use Rattle.std.specs.Prelude.{Bool, List, None, Option, Some, [], false, if◌then◌else◌, true, ◌∷◌, ◌≡◌}
-use Rattle.event_writer.specs.Stages.{Enclosing, Stage, entered, exited, flow, inlines, skips, takes_line_endings, written}
+use Rattle.event_writer.specs.Stages.{Enclosing, Stage, entered, exited, flow, heading_atx, inlines, skips, takes_line_endings, written}
 use Rattle.markdown_events.specs.Names.{role_of}
 use Rattle.markdown_events.specs.declared.event.Name.{Name}
-use Rattle.markdown_events.specs.declared.event.Name.TheVariants.{SpaceOrTab}
+use Rattle.markdown_events.specs.declared.event.Name.TheVariants.{HeadingAtxSequence, SpaceOrTab}
 use Rattle.markdown_pieces.specs.declared.piece.Piece.{Piece}
 use Rattle.markdown_pieces.specs.declared.piece.PieceKind.{PieceKind}
-use Rattle.markdown_pieces.specs.declared.piece.PieceKind.TheVariants.{BlankLineEnding, BlockQuotePrefix, Enter, Exit, LineEnding, Text, Token}
+use Rattle.markdown_pieces.specs.declared.piece.PieceKind.TheVariants.{BlankLineEnding, BlockQuotePrefix, Enter, Exit, LineEnding, OpeningSequence, Text, Token}
 
 -- the stage between two pieces, and the spans that are open there, the innermost first
 pub record State : Type 0 where
@@ -30,9 +30,25 @@ abbrev pub takes_text : Stage → Bool
 takes_text (inlines _) = true
 takes_text _ = false
 
--- the stage after a token or a text at a stage, where it may stand
+-- the stage after signs that close a heading
+abbrev pub after_closing : Stage → Option Stage
+after_closing heading_atx = None
+after_closing a = written a (role_of HeadingAtxSequence)
+
+-- the stage after a token of a name. The signs that open a heading are a piece of their own
+abbrev pub after_token : Stage → Name → Option Stage
+after_token a HeadingAtxSequence = after_closing a
+after_token a name = written a (role_of name)
+
+-- the stage after the signs that open a heading
+abbrev pub after_opening : Stage → Option Stage
+after_opening heading_atx = Some (inlines true)
+after_opening _ = None
+
+-- the stage after a token, a text or the signs that open a heading at a stage, where it may stand
 abbrev pub stage_after : Stage → PieceKind → Option Stage
-stage_after a (Token name) = written a (role_of name)
+stage_after a (Token name) = after_token a name
+stage_after a OpeningSequence = after_opening a
 stage_after a Text = if takes_text a then Some a else None
 stage_after a _ = None
 
@@ -49,7 +65,8 @@ stage_after_string a name = stage_after_text a name (entered a (role_of name))
 abbrev pub Steps : PieceKind → State → State → Type 0
 Steps (Enter name) s t = (entered s.stage (role_of name) ≡ Some t.stage) × (t.outer ≡ inside name s.stage s.outer)
 Steps (Exit name) s t = (a : Stage) × (exited s.stage a (role_of name) ≡ Some t.stage) × (s.outer ≡ inside name a t.outer)
-Steps (Token name) s t = (written s.stage (role_of name) ≡ Some t.stage) × (t.outer ≡ s.outer)
+Steps (Token name) s t = (after_token s.stage name ≡ Some t.stage) × (t.outer ≡ s.outer)
+Steps OpeningSequence s t = (s.stage ≡ heading_atx) × (t ≡ at (inlines true) s.outer)
 Steps Text s t = (takes_text s.stage ≡ true) × (t ≡ s)
 Steps LineEnding s t = (takes_line_endings s.stage ≡ true) × (t ≡ s)
 Steps BlankLineEnding s t = t ≡ s

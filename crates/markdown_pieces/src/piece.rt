@@ -13,6 +13,9 @@ pub enum PieceKind {
     Exit(Name),
     /// A span with no span in it.
     Token(Name),
+    /// The sequence that opens an ATX heading: one to six number signs. In the events it is a
+    /// `HeadingAtxSequence`.
+    OpeningSequence,
     /// The end of a line.
     LineEnding,
     /// The end of a blank line, or of a line that has only markers of containers.
@@ -26,8 +29,8 @@ pub enum PieceKind {
 /// A piece of a document. It begins where the piece before it ends, and the first one at the start of
 /// the document, so the pieces tile the document (ours).
 ///
-/// Of `# a` the pieces are `Enter(HeadingAtx)`, `Token(HeadingAtxSequence)` up to 1, `Token(SpaceOrTab)` up
-/// to 2, `Enter(HeadingAtxText)`, `Text` up to 3, `Exit(HeadingAtxText)` and `Exit(HeadingAtx)`.
+/// Of `# a` the pieces are `Enter(HeadingAtx)`, `OpeningSequence` up to 1, `Token(SpaceOrTab)` up to 2,
+/// `Enter(HeadingAtxText)`, `Text` up to 3, `Exit(HeadingAtxText)` and `Exit(HeadingAtx)`.
 #[derive(Clone, Copy, PartialEq, Eq, Debug)]
 pub struct Piece {
     /// What it is.

@@ -34,6 +34,7 @@ pub fn write_piece<R: References>(
         PieceKind::Enter(name) => writer.enter(name),
         PieceKind::Exit(_) => writer.exit(),
         PieceKind::Token(name) => writer.token(name, piece.end, piece.virtual_spaces),
+        PieceKind::OpeningSequence => writer.token(Name::HeadingAtxSequence, piece.end, 0),
         PieceKind::LineEnding => writer.line_ending(Name::LineEnding),
         PieceKind::BlankLineEnding => writer.line_ending(Name::BlankLineEnding),
         PieceKind::Text => writer.token(Name::Data, piece.end, 0),

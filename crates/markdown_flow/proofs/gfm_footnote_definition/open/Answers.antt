@@ -1,10 +1,13 @@
-use Rattle.std.proofs.Common.{◌≡◌, ◌≤◌, ◌<◌, ◌+◌, ◌-◌, ◌∙◌, ◌⊎◌, ap, arith, drop, inl, inr, length, min, subst, sym, ℕ, List}
+use Rattle.std.proofs.Common.{◌≡◌, ◌≤◌, ◌<◌, ◌+◌, ◌-◌, ◌∙◌, ◌⊎◌, ap, arith, inl, inr, length, min, subst, sym, ℕ, Bor, List}
 use Rattle.std.proofs.lemmas.Bool.{cases_lt}
 use Rattle.std.proofs.lemmas.Grind.{common_steps}
 use Rattle.markdown_flow.proofs.Lines.{after_spaces-length, end-within}
-use Rattle.markdown_flow.proofs.Outputs.{later_in}
-use Rattle.markdown_flow.specs.Lines.{after_spaces}
-use Rattle.markdown_flow.specs.Outputs.{spot}
+use Rattle.commonmark_syntax.specs.Cuts.{IsCut}
+use Rattle.markdown_flow.proofs.Cuts.{rest_is_text}
+use Rattle.markdown_flow.proofs.Items.{label_cut}
+use Rattle.markdown_flow.proofs.Moves.{moved_on}
+use Rattle.markdown_flow.proofs.Outputs.{later_in, rest_at, rest_same}
+use Rattle.markdown_flow.specs.Markers.{HasLabel}
 use Rattle.markdown_flow.specs.declared.line.Source.{Source}
 use Rattle.markdown_flow.specs.declared.output.Cursor.{Cursor}
 use Rattle.markdown_pieces.specs.Tilings.{Spot}
@@ -19,6 +22,32 @@ before_colon offset end rest text skipped left size s l t r e o m = by (cases_lt
     by (inl some) less = let strict : offset < end - left = grind arith in (inl strict, λ same. absurd (omega (arith, strict, same)))
     by (inr none) (inl less) = (inl (grind arith), λ same. grind arith)
     by (inr none) (inr last) = (inr (grind arith), λ same. grind arith)
+
+pub write_label-requires-clause-label : goal.write_label-requires-clause-label
+write_label-requires-clause-label c =
+    let after = c.columns.new.line in
+    let none : after.indent ≡ 0 = omega (arith, c.indent.ensures, c.columns.ensures.indent) in
+    let text = rest_same c.columns.new.self c.enter-2.new.self c.enter-2.ensures.cursor ∙ rest_at c.columns.new.self after c.in_ok-columns.ensures.at ∙ rest_is_text after none ∙ ap (λ (r : Bor (List ℕ)). r.now) c.columns.ensures.text in
+    subst (λ (xs : List ℕ). HasLabel xs c.args.size) (sym text) c.requires.label
+
+pub token_to-requires-clause-cut : goal.token_to-requires-clause-cut
+token_to-requires-clause-cut c = λ other.
+    let line = c.columns.new.line in
+    let after = c.skip.new.self in
+    let written = c.in_ok-write_label.ensures.written in
+    let label = subst (λ (r : Bor (List ℕ)). HasLabel r.now c.args.size) (sym c.columns.ensures.text) c.requires.label in
+    let document = written.document ∙ ap (λ (x : Cursor). x.extent.document.now) c.enter-2.ensures.cursor ∙ c.in_ok-columns.ensures.at.document ∙ sym (ap (λ (s : Source). s.document.now) c.skip.ensures.moved.source) in
+    subst (λ (bytes : List ℕ). IsCut bytes (after.end - length after.rest.now)) (sym document) (label_cut line after c.args.size c.saturating_add.result c.skip.ensures.moved label c.saturating_add.ensures c.skip.ensures.rest c.skip.ensures.cut)
+
+pub returns-in_err-columns-2-clause-moved : goal.returns-in_err-columns-2-clause-moved
+returns-in_err-columns-2-clause-moved c =
+    let line = c.args.line.now in
+    moved_on line c.skip.new.self c.columns-2.new.line (moved_on line c.columns.new.line c.skip.new.self c.columns.ensures.moved c.skip.ensures.moved) c.columns-2.ensures.moved
+
+pub returns-clause-moved : goal.returns-clause-moved
+returns-clause-moved c =
+    let line = c.args.line.now in
+    moved_on line c.skip.new.self c.columns-2.new.line (moved_on line c.columns.new.line c.skip.new.self c.columns.ensures.moved c.skip.ensures.moved) c.columns-2.ensures.moved
 
 pub token_to-requires-clause-same : goal.token_to-requires-clause-same
 token_to-requires-clause-same c =

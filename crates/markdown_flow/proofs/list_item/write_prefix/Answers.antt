@@ -1,4 +1,4 @@
-use Rattle.event_writer.specs.Stages.{Stage, entered, exited, item}
+use Rattle.event_writer.specs.Stages.{entered, exited, item}
 use Rattle.markdown_events.specs.Names.{role_of}
 use Rattle.markdown_events.specs.declared.event.Name.TheVariants.{ListItemPrefix}
 use Rattle.markdown_flow.proofs.Containers.{prefix_entered, prefix_exited}

@@ -1,4 +1,4 @@
-use Rattle.event_writer.specs.Stages.{Stage, entered}
+use Rattle.event_writer.specs.Stages.{entered}
 use Rattle.markdown_events.specs.Names.{role_of}
 use Rattle.markdown_events.specs.declared.event.Name.TheVariants.{ListItem}
 use Rattle.markdown_flow.proofs.Containers.{item_entered}

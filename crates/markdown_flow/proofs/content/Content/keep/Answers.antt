@@ -1,10 +1,10 @@
-use Rattle.std.proofs.Common.{◌≡◌, ◌++◌, ◌∷◌, ◌∙◌, List, [], ap, arith, length, subst, sym}
+use Rattle.std.proofs.Common.{◌≡◌, ◌++◌, ◌∙◌, List, ap, arith, length, subst, sym}
 use Rattle.markdown_flow.proofs.Contents.{after_one_more, are_kept_more, are_kept_on, kept_last}
 use Rattle.markdown_flow.specs.Contents.{AreKept, after_lines}
 use Rattle.markdown_flow.specs.Outputs.{next_of, spot_in}
 use Rattle.markdown_flow.specs.declared.content.KeptLine.{KeptLine}
 use Rattle.markdown_flow.specs.declared.line.Line.{Line}
-use Rattle.markdown_pieces.specs.Tilings.{Spot, Tiles}
+use Rattle.markdown_pieces.specs.Tilings.{Tiles}
 use Rattle.markdown_pieces.specs.declared.piece.Piece.{Piece}
 use Rattle.markdown_flow.proofs.content.Content.keep.Goals as goal
 

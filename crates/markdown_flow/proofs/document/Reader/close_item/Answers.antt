@@ -1,4 +1,4 @@
-use Rattle.std.proofs.Common.{Some, [], ap, false, sym, ◌∙◌}
+use Rattle.std.proofs.Common.{Some, [], ap, false, ◌∙◌}
 use Rattle.event_writer.specs.Stages.{flow}
 use Rattle.markdown_flow.proofs.Readers.{opens_next}
 use Rattle.markdown_flow.specs.Containers.{list_name, number_in, outer_in}

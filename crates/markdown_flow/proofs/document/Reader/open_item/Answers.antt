@@ -1,4 +1,4 @@
-use Rattle.std.proofs.Common.{[], ap, false, subst, sym, ℕ}
+use Rattle.std.proofs.Common.{[], false, subst, sym, ℕ}
 use Rattle.event_writer.specs.Stages.{flow}
 use Rattle.markdown_flow.proofs.Containers.{first_block}
 use Rattle.markdown_flow.specs.Containers.{in_list, list_name, number_in, outer_in}

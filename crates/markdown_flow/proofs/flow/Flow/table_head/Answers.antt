@@ -1,4 +1,4 @@
-use Rattle.std.proofs.Common.{List, ap, subst, sym, ℕ, ◌∙◌}
+use Rattle.std.proofs.Common.{List, subst, sym, ℕ, ◌∙◌}
 use Rattle.markdown_flow.proofs.Contents.{last_kept}
 use Rattle.markdown_flow.specs.Contents.{Kept}
 use Rattle.markdown_flow.specs.Outputs.{document_of, spot, spot_in}

@@ -1,6 +1,7 @@
 use Rattle.std.proofs.Common.{arith, ap, drop, length, subst, sym, ◌∙◌, ◌-◌, ℕ}
 use Rattle.std.proofs.lemmas.List.{drop_min}
 use Rattle.markdown_flow.specs.Lines.{HasColumns}
+use Rattle.markdown_flow.proofs.Cuts.{skipped_cut}
 use Rattle.markdown_flow.proofs.Cursors.{bytes-over, columns-below, order-on, stands}
 use Rattle.markdown_flow.proofs.line.Line.skip.Goals as goal
 
@@ -32,6 +33,7 @@ invariant_of-self c =
       text_rests = c.after_spaces-self.ensures.value;
       has_columns = subst (λ (n : ℕ). HasColumns line.source.document.now (line.end - length c.split_at.result.1.now) n c.columns_after-self.result) (sym c.skip_white_space.ensures.whole) place;
       has_indent = c.indent_of-self.ensures;
+      tail_ascii = line.tail_ascii;
     }
 
 pub returns-clause-moved : goal.returns-clause-moved
@@ -51,3 +53,6 @@ pub returns-clause-rest : goal.returns-clause-rest
 returns-clause-rest c =
     c.split_at.ensures.back ∙ ap (λ (n : ℕ). drop n c.skip_white_space.new.self.rest.now) c.min.ensures ∙ drop_min c.args.size c.skip_white_space.new.self.rest.now
     ∙ ap (drop c.args.size) c.skip_white_space.ensures.rest
+
+pub returns-clause-cut : goal.returns-clause-cut
+returns-clause-cut c = λ cut. skipped_cut c.args.self.now _ c.args.size (returns-clause-moved c) (returns-clause-rest c) cut

@@ -1,4 +1,4 @@
-use Rattle.std.proofs.Common.{◌∙◌, ap, sym}
+use Rattle.std.proofs.Common.{◌∙◌, ap}
 use Rattle.markdown_pieces.proofs.Tilings.{end_at_last}
 use Rattle.markdown_pieces.specs.Tilings.{end_from, origin}
 use Rattle.markdown_flow.proofs.output.Output.at_end.Goals as goal

@@ -1,7 +1,7 @@
 use Rattle.std.proofs.Common.{refl, subst, sym}
 use Rattle.markdown_flow.proofs.Outputs.{stands_with}
 use Rattle.markdown_flow.specs.Outputs.{document_of}
-use Rattle.markdown_pieces.specs.Tilings.{Goes}
+use Rattle.markdown_pieces.specs.Tilings.{Goes, end_from, origin}
 use Rattle.markdown_pieces.specs.declared.piece.PieceKind.{PieceKind}
 use Rattle.markdown_flow.proofs.Opens.{exited_on}
 use Rattle.markdown_flow.proofs.output.Output.exit_before_held.Goals as goal
@@ -10,7 +10,7 @@ pub returns-clause-stands : goal.returns-clause-stands
 returns-clause-stands c =
     record {
       within = c.requires.within;
-      tiles = stands_with c.args.self.now c.push.new.self.items c.at_end-piece.result c.requires c.in_ok-push.ensures.items c.at_end-piece.ensures.end (λ s. subst (λ (k : PieceKind). Goes (document_of c.args.self.now) k s s) (sym c.at_end-piece.ensures.kind) refl);
+      tiles = stands_with c.args.self.now c.push.new.self.items c.at_end-piece.result c.requires c.in_ok-push.ensures.items c.at_end-piece.ensures.end (subst (λ (k : PieceKind). Goes (document_of c.args.self.now) k (end_from origin c.args.self.now.pieces.items) (end_from origin c.args.self.now.pieces.items)) (sym c.at_end-piece.ensures.kind) refl);
       between = c.requires.between;
     }
 

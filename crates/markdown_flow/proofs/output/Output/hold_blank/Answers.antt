@@ -1,4 +1,4 @@
-use Rattle.std.proofs.Common.{◌≡◌, ap, subst, sym, ◌∙◌}
+use Rattle.std.proofs.Common.{ap, subst, sym, ◌∙◌}
 use Rattle.markdown_flow.proofs.Outputs.{all_between, held_prefix}
 use Rattle.markdown_flow.specs.Outputs.{document_of, spot, spot_in}
 use Rattle.markdown_flow.specs.declared.line.Line.{Line}

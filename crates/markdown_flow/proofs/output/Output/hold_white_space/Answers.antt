@@ -1,13 +1,11 @@
 use Rattle.std.proofs.Common.{◌≡◌, ◌≢◌, ◌∙◌, ap, arith, refl, subst, sym}
-use Rattle.markdown_events.specs.declared.event.Name.TheVariants as names
-use Rattle.markdown_flow.proofs.Outputs.{held_between, held_on, rest_reached}
+use Rattle.markdown_flow.proofs.Outputs.{held_between, held_on, rest_goes}
 use Rattle.markdown_flow.specs.Outputs.{document_of, spot}
 use Rattle.markdown_flow.specs.declared.output.Extent.{Extent}
 use Rattle.markdown_pieces.specs.Tilings.{Goes, Spot, Tiles, end_of, origin}
 use Rattle.markdown_pieces.specs.Walks.{IsBetween}
 use Rattle.markdown_pieces.specs.declared.piece.Piece.{Piece}
-use Rattle.markdown_pieces.specs.declared.piece.PieceKind.TheVariants.{Token}
-use Rattle.std.proofs.Common.{List, ℕ, ◌++◌, drop, min}
+use Rattle.std.proofs.Common.{◌++◌, drop}
 use Rattle.markdown_flow.proofs.output.Output.hold_white_space.Goals as goal
 
 pub returns-clause-stands : goal.returns-clause-stands
@@ -23,7 +21,7 @@ returns-clause-stands c =
     let last : end_of c.new-space.result ≡ record { offset = extent.end; virtual_spaces = 0 } = ap end_of c.new-space.ensures ∙ (λ t. record { offset = end t; virtual_spaces = 0 }) in
     let goes : Goes (document_of output) c.new-space.result.kind (spot output.cursor) (end_of c.new-space.result) =
     subst (λ (s : Spot). Goes (document_of output) c.new-space.result.kind (spot output.cursor) s) (sym last)
-    (subst (λ (p : Piece). Goes (document_of output) p.kind (spot output.cursor) (record { offset = extent.end; virtual_spaces = 0 })) (sym c.new-space.ensures) (rest_reached output.cursor place more)) in
+    (subst (λ (p : Piece). Goes (document_of output) p.kind (spot output.cursor) (record { offset = extent.end; virtual_spaces = 0 })) (sym c.new-space.ensures) (rest_goes output.cursor place more)) in
     let held = held_on output c.push.new.self.items c.new-space.result (spot c.after-end.result) c.requires.stands c.in_ok-push.ensures.items goes (last ∙ sym there) in
     record {
       within = held.0;
