@@ -1,10 +1,10 @@
 -- Cuts of a text, and of the texts in it.
-use Rattle.std.proofs.Common.{List, ap, arith, drop, inl, inr, length, length-drop, length-take, subst, suc, sym, take, true, zero, ℕ, ◌+◌, ◌-◌, ◌<◌, ◌≡◌, ◌≢◌, ◌≤◌, ◌∙◌, ◌⊎◌}
+use Rattle.std.proofs.Common.{List, ap, arith, drop, inl, inr, length, length-drop, length-take, subst, suc, sym, take, zero, ℕ, ◌+◌, ◌-◌, ◌<◌, ◌≡◌, ◌≢◌, ◌≤◌, ◌∙◌, ◌⊎◌}
 use Rattle.std.proofs.Math.Nat.{eq-or-lt_of_le, lt_of_not-le}
 use Rattle.std.proofs.lemmas.Bool.{cases_lt}
 use Rattle.std.specs.Prelude.{slice_index, slice_range}
-use Rattle.std.specs.Str.{IsCharBoundary, IsUtf8, is_utf8}
-use Rattle.std.proofs.lemmas.Str.{IsCharBoundary-start, IsUtf8-between, IsUtf8-from_is_utf8, is_utf8-from_IsUtf8, lead_after_ascii}
+use Rattle.std.specs.Str.{IsCharBoundary, IsUtf8}
+use Rattle.std.proofs.lemmas.Str.{IsCharBoundary-start, lead_after_ascii}
 use Rattle.std.proofs.Math.Seq.{get_or-drop, get_or-take}
 use Rattle.commonmark_syntax.specs.Cuts.{IsCut, IsInLine}
 
@@ -12,44 +12,45 @@ use Rattle.commonmark_syntax.specs.Cuts.{IsCut, IsInLine}
 at_same : (bytes : List ℕ) (i j : ℕ) → i ≡ j → slice_index bytes i ≡ slice_index bytes j
 at_same bytes i j same = ap (slice_index bytes) same
 
--- an offset past the start of what comes after another
-cut_drop_more : (bytes : List ℕ) (n i m : ℕ) → m ≡ n + suc i → IsCut (drop n bytes) (suc i) → IsCut bytes m
-cut_drop_more bytes n i m is later =
-    λ some within high.
+-- an offset past the start of what comes after another is a cut of both texts, or of neither
+cut_same : (bytes : List ℕ) (n i m : ℕ) → m ≡ n + suc i → (IsCut (drop n bytes) (suc i) → IsCut bytes m) × (IsCut bytes m → IsCut (drop n bytes) (suc i))
+cut_same bytes n i m is =
     let size = length-drop n bytes in
     let before = get_or-drop n bytes i 0 in
     let here = get_or-drop n bytes (suc i) 0 in
     let before_in = at_same (drop n bytes) (suc i - 1) i (omega arith) in
     let before_out = at_same bytes (m - 1) (n + i) (omega arith) in
-    let here_out = at_same bytes m (n + suc i) (omega arith) in
-    let ascii = later (omega arith) (omega arith) (omega arith) in
-    omega arith
+    let here_out = at_same bytes m (n + suc i) (omega arith) in (
+      λ cut some within high. let ascii = cut (omega arith) (omega arith) (omega arith) in omega arith,
+      λ cut some within high. let ascii = cut (omega arith) (omega arith) (omega arith) in omega arith,
+    )
 
 -- a cut of what comes after a cut is one of the text
 pub cut_drop : (bytes : List ℕ) (n i m : ℕ) → m ≡ n + i → IsCut bytes n → IsCut (drop n bytes) i → IsCut bytes m
 cut_drop bytes n zero m is first later =
     let same : n ≡ m = omega arith in
     subst (IsCut bytes) same first
-cut_drop bytes n (suc i) m is first later = cut_drop_more bytes n i m is later
+cut_drop bytes n (suc i) m is first later = (cut_same bytes n i m is).0 later
 
 -- a cut that is not at the start of what comes after an offset is one of the text
 pub cut_later : (bytes : List ℕ) (n i m : ℕ) → m ≡ n + i → 0 < i → IsCut (drop n bytes) i → IsCut bytes m
 cut_later bytes n zero m is some later = absurd (omega arith)
-cut_later bytes n (suc i) m is some later = cut_drop_more bytes n i m is later
+cut_later bytes n (suc i) m is some later = (cut_same bytes n i m is).0 later
 
 -- a cut of the text after an offset is one of what comes after the offset
 pub cut_rest : (bytes : List ℕ) (n i m : ℕ) → m ≡ n + i → IsCut bytes m → IsCut (drop n bytes) i
 cut_rest bytes n zero m is cut = λ some. absurd (omega arith)
-cut_rest bytes n (suc i) m is cut =
-    λ some within high.
-    let size = length-drop n bytes in
-    let before = get_or-drop n bytes i 0 in
-    let here = get_or-drop n bytes (suc i) 0 in
-    let before_in = at_same (drop n bytes) (suc i - 1) i (omega arith) in
-    let before_out = at_same bytes (m - 1) (n + i) (omega arith) in
-    let here_out = at_same bytes m (n + suc i) (omega arith) in
-    let ascii = cut (omega arith) (omega arith) (omega arith) in
-    omega arith
+cut_rest bytes n (suc i) m is cut = (cut_same bytes n i m is).1 cut
+
+-- an offset within what comes before another is a cut of both texts, or of neither
+cut_same_before : (bytes : List ℕ) (n i : ℕ) → i < n → (IsCut (take n bytes) i → IsCut bytes i) × (IsCut bytes i → IsCut (take n bytes) i)
+cut_same_before bytes n i less =
+    let size = length-take n bytes in
+    let before = get_or-take n bytes (i - 1) 0 (omega arith) in
+    let here = get_or-take n bytes i 0 less in (
+      λ cut some within high. let ascii = cut some (omega arith) (omega arith) in omega arith,
+      λ cut some within high. let ascii = cut some (omega arith) (omega arith) in omega arith,
+    )
 
 -- a cut of what comes before a cut is one of the text
 pub cut_take : (bytes : List ℕ) (n i : ℕ) → i ≤ n → IsCut bytes n → IsCut (take n bytes) i → IsCut bytes i
@@ -57,23 +58,14 @@ cut_take bytes n i order end cut = by (eq-or-lt_of_le order)
   where
     by : (i ≡ n) ⊎ (i < n) → IsCut bytes i
     by (inl same) = subst (IsCut bytes) (sym same) end
-    by (inr less) =
-        λ some within high.
-        let size = length-take n bytes in
-        let before = get_or-take n bytes (i - 1) 0 (omega arith) in
-        let here = get_or-take n bytes i 0 less in
-        let ascii = cut some (omega arith) (omega arith) in
-        omega arith
+    by (inr less) = (cut_same_before bytes n i less).0 cut
 
 -- a cut of the text before an offset is one of what comes before the offset
 pub cut_front : (bytes : List ℕ) (n i : ℕ) → IsCut bytes i → IsCut (take n bytes) i
 cut_front bytes n i cut =
     λ some within high.
     let size = length-take n bytes in
-    let before = get_or-take n bytes (i - 1) 0 (omega arith) in
-    let here = get_or-take n bytes i 0 (omega arith) in
-    let ascii = cut some (omega arith) (omega arith) in
-    omega arith
+    (cut_same_before bytes n i (omega arith)).1 cut some within high
 
 -- a cut of what lies between two cuts is one of the text
 pub cut_between : (bytes : List ℕ) (i j k m : ℕ) → m ≡ i + k → m ≤ j → IsCut bytes i → IsCut bytes j → IsCut (slice_range bytes i j) k → IsCut bytes m
@@ -88,12 +80,9 @@ line_drop bytes n i m is first later k within feed =
     let same : n + (k - n) ≡ k = omega arith in
     later (k - n) (omega arith) (get_or-drop n bytes (k - n) 0 ∙ (at_same bytes (n + (k - n)) k same ∙ feed))
 
--- no line feed is among the first bytes of what comes before an offset, where none is among those of the text, and the other way
+-- no line feed is among the first bytes of what comes before an offset, where none is among those of the text
 pub line_front : (bytes : List ℕ) (n i : ℕ) → i ≤ n → IsInLine bytes i → IsInLine (take n bytes) i
 line_front bytes n i order line k within feed = line k within (sym (get_or-take n bytes k 0 (omega arith)) ∙ feed)
-
-pub line_take : (bytes : List ℕ) (n i : ℕ) → i ≤ n → IsInLine (take n bytes) i → IsInLine bytes i
-line_take bytes n i order line k within feed = line k within (get_or-take n bytes k 0 (omega arith) ∙ feed)
 
 -- a byte after ASCII begins a character, and one before none goes on with one
 lead : (before here : ℕ) → (128 ≤ before → here < 128) → (before < 128 → 192 ≤ here) → 128 ≤ here → 192 ≤ here
@@ -112,12 +101,6 @@ cut_boundary bytes (suc i) valid within cut =
           (λ h. let k = lead_after_ascii bytes i valid h (omega arith) (omega arith) in omega arith)
           high,
     )
-
--- what lies between two cuts of a valid text is valid
-pub cut_slices : (bytes : List ℕ) (i j : ℕ) → is_utf8 bytes ≡ true → i ≤ j → j ≤ length bytes → IsCut bytes i → IsCut bytes j → is_utf8 (slice_range bytes i j) ≡ true
-cut_slices bytes i j valid order within first last =
-    let text = IsUtf8-from_is_utf8 bytes valid in
-    is_utf8-from_IsUtf8 (slice_range bytes i j) (IsUtf8-between bytes i j text order (cut_boundary bytes i text (omega arith) first) (cut_boundary bytes j text within last))
 
 -- where a byte parts two texts with no line feed, there is one line feed at most in all
 pub one_feed : (bytes rest : List ℕ) (n m : ℕ) → ((k : ℕ) → slice_index rest k ≡ slice_index bytes (n + 1 + k)) → IsInLine bytes n → IsInLine rest m → (j k : ℕ) → j < k → k < n + 1 + m → slice_index bytes j ≡ 10 → slice_index bytes k ≢ 10

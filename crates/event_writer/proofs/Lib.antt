@@ -3,3 +3,7 @@ mod Tilings
 mod Holding
 mod Misfits
 mod Consequences
+pub mod Models
+pub mod Stages
+pub mod Moves
+pub mod Standing

@@ -5,3 +5,4 @@ pub mod Written
 pub mod Invariants
 pub mod Calls
 pub mod Stages
+pub mod Standing

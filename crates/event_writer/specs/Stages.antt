@@ -72,6 +72,7 @@ skips resource resource_title = true
 skips resource endings = true
 skips resource_title endings = true
 skips reference endings = true
+skips footnote_call nothing = true
 skips _ _ = false
 
 -- what is true at a stage is true at another

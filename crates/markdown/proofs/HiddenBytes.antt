@@ -1,5 +1,5 @@
 -- How the hidden bytes of a document are found.
-use Rattle.std.proofs.Common.{◌≡◌, ◌≤◌, ◌+◌, ◌-◌, ℕ, arith}
+use Rattle.std.proofs.Common.{◌≤◌, ◌+◌, ◌-◌, ℕ, arith}
 use Rattle.markdown_events.specs.declared.event.Kind.{Kind}
 use Rattle.markdown_events.specs.declared.event.Kind.TheVariants.{Enter, Exit}
 use Rattle.markdown_events.specs.declared.event.Name.{Name}

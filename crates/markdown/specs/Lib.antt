@@ -1,1 +1,3 @@
 pub mod Hidden
+pub mod Roots
+pub mod Plain

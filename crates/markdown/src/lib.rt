@@ -6,6 +6,7 @@
 
 mod events;
 mod hidden;
+pub mod laws;
 mod tree;
 
 pub use events::to_events;

@@ -1,25 +1,28 @@
 //! The tree of a document.
 
-ghost use Rattle.std.specs.Prelude.{IfOk, List, ◌≡◌};
+ghost use Rattle.std.specs.Prelude.{IfOk, List, Some, ◌≡◌, ◌≢◌};
 ghost use Rattle.character_references.specs.Html.{html};
 ghost use Rattle.event_writer.specs.Finished.{IsFinished};
 ghost use Rattle.markdown_events.specs.declared.event.Event.{Event};
 ghost use Rattle.markdown_grammar.specs.Correct.{IsMeaning};
 ghost use Rattle.markdown.specs.Hidden.{hidden};
+ghost use Rattle.markdown.specs.Roots.{whole_document};
 ghost use Rattle.markdown_grammar.specs.Document.{source, source_hiding};
 ghost use Rattle.markdown_grammar.specs.Ordered.{IsOrdered};
 ghost use Rattle.markdown_nodes.specs.Tree.{only};
 ghost use Rattle.markdown_nodes.specs.View.{view};
+ghost use Rattle.positions.specs.declared.message.Fault.TheVariants as faults;
+ghost use Rattle.positions.specs.declared.message.Message.{Message};
 
 use crate::events::to_events;
 use crate::hidden::hidden_bytes;
 use character_references::html::HtmlReferences;
-use event_writer::laws::offsets_never_go_back;
+use event_writer::laws::{no_message_comes, offsets_never_go_back};
 use markdown_nodes::mdast::Node;
 use markdown_nodes::message::Fault;
 use markdown_options::ParseOptions;
 use markdown_tree::to_mdast::{Document, Steps, compile_document};
-use std::alloc::Global;
+use std::alloc::{AllocError, Global};
 
 /// The syntax tree of a document, as mdast has it.
 ///
@@ -28,21 +31,37 @@ use std::alloc::Global;
 /// of a block quote from a label over lines (CommonMark), and in a table the backslash before a pipe
 /// (GFM). In positions `line` and `column` count from 1, and `offset` counts bytes from 0.
 ///
-/// The errors are those of `to_events`.
+/// The only error is that memory ran out, as in `to_events`.
 ///
 /// `to_mdast(alloc, "# Hi", &ParseOptions::default())?` is a root with a heading of depth 1.
-pub fn to_mdast(alloc: Global, value: &str, options: &ParseOptions) -> Result<Node, Fault>
+pub fn to_mdast(alloc: Global, value: &str, options: &ParseOptions) -> Result<Node, AllocError>
     // The tree is the meaning of finished events, with whole values and without what is hidden.
     ensures tree { IfOk result (λ tree. (events : List Event) × IsFinished (source value.now html) events
         × IsMeaning tree events (source_hiding (hidden value.now events) value.now html)) }
+    // Its root reaches from the first byte of the document to the last.
+    ensures root { IfOk result (λ tree. (view tree).position ≡ Some (whole_document value.now)) }
     // Spans nest and siblings stand in order, but for the starts in the first paragraphs of task items.
     ensures ordered { IfOk result (λ tree. IsOrdered (only (view tree))) }
 {
-    // For the proof: so the tree is ordered.
+    // For the proof: so the tree is ordered, and no message comes.
     offsets_never_go_back();
+    no_message_comes();
     let events = to_events(alloc, value, options)?;
     let bytes = value.as_bytes();
     let hidden = hidden_bytes(alloc, bytes, &events)?;
     let document = Document::hiding(bytes, &hidden);
-    compile_document(alloc, &mut Steps::new(&events), &document, &HtmlReferences)
+    match compile_document(alloc, &mut Steps::new(&events), &document, &HtmlReferences) {
+        Ok(tree) => Ok(tree),
+        Err(fault) => Err(memory_error(fault)),
+    }
+}
+
+/// The error that memory ran out, where a fault is no message.
+fn memory_error(fault: Fault) -> AllocError
+    requires { (message : Message) → fault ≢ faults.Message message }
+{
+    match fault {
+        Fault::Memory(error) => error,
+        Fault::Message(_) => unreachable!(),
+    }
 }

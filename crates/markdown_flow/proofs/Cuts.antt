@@ -266,7 +266,7 @@ whole_at_text line none some = by (eq-zero-or-pos line.virtual_spaces)
 -- ---- A cursor that was where that of a line was
 
 -- what the cursor of the line came to is a cut of the document
-pub came_to_cut : (cursor : Cursor) (old new : Line) → IsAt cursor old → HasMoved old new → ComesToCut old new → spot_in new ≢ spot cursor → IsCut (cursor.extent).document.now (new.end - length new.rest.now)
+pub came_to_cut : (cursor : Cursor) (old new : Line) → IsAt cursor old → HasMoved old new → ComesToCut old new → spot_in new ≢ spot cursor → IsCut (cursor.extent).source.document.now (new.end - length new.rest.now)
 came_to_cut cursor old new at moved cut other =
-    let same : new.source.document.now ≡ (cursor.extent).document.now = ap (λ (s : Source). s.document.now) moved.source ∙ sym at.document in
+    let same : new.source.document.now ≡ (cursor.extent).source.document.now = ap (λ (s : Source). s.document.now) (moved.source ∙ sym at.source) in
     subst (λ (bs : List ℕ). IsCut bs (new.end - length new.rest.now)) same (cut (λ stays. other (stays ∙ sym at.spot)))

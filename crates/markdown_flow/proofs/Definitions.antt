@@ -7,8 +7,9 @@ use Rattle.commonmark_syntax.proofs.Cuts.{cut_front, cut_rest}
 use Rattle.commonmark_syntax.specs.Cuts.{IsCut}
 use Rattle.markdown_flow.specs.Contents.{AreKept}
 use Rattle.markdown_flow.specs.Definitions.{joined, left}
-use Rattle.markdown_flow.specs.Outputs.{document_of, line_after, rest_of, spot}
+use Rattle.markdown_flow.specs.Outputs.{line_after, rest_of, source_of, spot}
 use Rattle.markdown_flow.specs.declared.content.KeptLine.{KeptLine}
+use Rattle.markdown_flow.specs.declared.line.Source.{Source}
 use Rattle.markdown_flow.specs.declared.output.Extent.{Extent}
 use Rattle.markdown_flow.specs.declared.output.Output.{Output}
 use Rattle.markdown_pieces.specs.Tilings.{Spot}
@@ -46,12 +47,12 @@ pub rest_none : (output : Output) → left output.cursor ≡ 0 → length (rest_
 rest_none output none = grind (arith, common_steps)
 
 -- the lines after it are kept from there on
-pub kept_next : (old new : Output) (prefixes : List Piece) (lines later : List KeptLine) → document_of new ≡ document_of old → spot new.cursor ≡ line_after old.cursor → later ≡ drop 1 lines → AreKept (document_of old) prefixes (line_after old.cursor) (drop 1 lines)
-    → AreKept (document_of new) prefixes (spot new.cursor) later
-kept_next old new prefixes lines later document place same kept =
-    subst (λ (bytes : List ℕ). AreKept bytes prefixes (spot new.cursor) later) (sym document)
-    (subst (λ (from : Spot). AreKept (document_of old) prefixes from later) (sym place) (subst (λ (ls : List KeptLine). AreKept (document_of old) prefixes (line_after old.cursor) ls) (sym same) kept))
+pub kept_next : (old new : Output) (prefixes : List Piece) (lines later : List KeptLine) → source_of new ≡ source_of old → spot new.cursor ≡ line_after old.cursor → later ≡ drop 1 lines → AreKept (source_of old) prefixes (line_after old.cursor) (drop 1 lines)
+    → AreKept (source_of new) prefixes (spot new.cursor) later
+kept_next old new prefixes lines later source place same kept =
+    subst (λ (s : Source). AreKept s prefixes (spot new.cursor) later) (sym source)
+    (subst (λ (from : Spot). AreKept (source_of old) prefixes from later) (sym place) (subst (λ (ls : List KeptLine). AreKept (source_of old) prefixes (line_after old.cursor) ls) (sym same) kept))
 
 -- a writer that has gone on in a line
-pub gone_on : (old new : Output) (prefixes : List Piece) (lines : List KeptLine) → (new.cursor).extent ≡ (old.cursor).extent → AreKept (document_of old) prefixes (line_after old.cursor) lines → AreKept (document_of new) prefixes (line_after new.cursor) lines
-gone_on old new prefixes lines extent kept = subst (λ (e : Extent). AreKept e.document.now prefixes (record { offset = e.next; virtual_spaces = 0 }) lines) (sym extent) kept
+pub gone_on : (old new : Output) (prefixes : List Piece) (lines : List KeptLine) → (new.cursor).extent ≡ (old.cursor).extent → AreKept (source_of old) prefixes (line_after old.cursor) lines → AreKept (source_of new) prefixes (line_after new.cursor) lines
+gone_on old new prefixes lines extent kept = subst (λ (e : Extent). AreKept e.source prefixes (record { offset = e.next; virtual_spaces = 0 }) lines) (sym extent) kept

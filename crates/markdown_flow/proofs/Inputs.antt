@@ -21,13 +21,13 @@ use Rattle.markdown_pieces.specs.declared.piece.Piece.{Piece}
 use Rattle.markdown_pieces.specs.declared.piece.PieceKind.TheVariants.{BlockQuotePrefix, Token}
 
 -- a piece more
-pub read_on : (bytes : List ℕ) (from : Spot) (input : Input) (line : Line) (items : List Piece) (p : Piece) → Reads bytes from input → items ≡ input.prefix.items ++ p ∷ [] → Goes bytes p.kind (spot_in input.line) (end_of p) → end_of p ≡ spot_in line
-    → Tiles bytes from items (spot_in line)
-read_on bytes from input line items p reads is goes end =
-    subst (λ (ps : List Piece). Tiles bytes from ps (spot_in line)) (sym is) (joined bytes from (spot_in input.line) (spot_in line) input.prefix.items (p ∷ []) reads.prefix (goes, end))
+pub read_on : (source : Source) (from : Spot) (input : Input) (line : Line) (items : List Piece) (p : Piece) → Reads source from input → items ≡ input.prefix.items ++ p ∷ [] → Goes source.document.now p.kind (spot_in input.line) (end_of p) → end_of p ≡ spot_in line
+    → Tiles source.document.now from items (spot_in line)
+read_on source from input line items p reads is goes end =
+    subst (λ (ps : List Piece). Tiles source.document.now from ps (spot_in line)) (sym is) (joined source.document.now from (spot_in input.line) (spot_in line) input.prefix.items (p ∷ []) reads.prefix (goes, end))
 
-pub between_read : (bytes : List ℕ) (from : Spot) (input : Input) (items : List Piece) (p : Piece) → Reads bytes from input → items ≡ input.prefix.items ++ p ∷ [] → IsBetween p.kind → AreBetween items
-between_read bytes from input items p reads is between = subst AreBetween (sym is) (between_on input.prefix.items (p ∷ []) reads.between (between, tt))
+pub between_read : (source : Source) (from : Spot) (input : Input) (items : List Piece) (p : Piece) → Reads source from input → items ≡ input.prefix.items ++ p ∷ [] → IsBetween p.kind → AreBetween items
+between_read source from input items p reads is between = subst AreBetween (sym is) (between_on input.prefix.items (p ∷ []) reads.between (between, tt))
 
 tab_at : List ℕ → ℕ → ℕ → Type 0
 tab_at bytes offset virtual_spaces = 0 < virtual_spaces → (slice_get bytes offset ≡ Some 9) × (column_at bytes offset + virtual_spaces < after_tab (column_at bytes offset))

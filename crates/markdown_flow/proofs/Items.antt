@@ -19,7 +19,7 @@ use Rattle.markdown_pieces.specs.Tilings.{HasValue, Spot}
 
 -- the number of an item can be read
 pub item_value : (cursor : Cursor) (old new : Line) (digits : ℕ) → IsAt cursor old → HasMoved old new → HasMarker old.text.now digits → 0 < digits → old.indent ≡ 0 → new.rest.now ≡ drop digits old.text.now → new.virtual_spaces ≡ 0
-    → HasValue (cursor.extent).document.now ListItemValue (spot cursor) (spot_in new)
+    → HasValue (cursor.extent).source.document.now ListItemValue (spot cursor) (spot_in new)
 item_value cursor old new digits at moved marker some none rest whole = (ap (λ (s : Spot). s.virtual_spaces) at.spot ∙ whole_at_text old none filled, whole, subst (λ (xs : List ℕ). is_item_number (Some xs) ≡ true) (sym text) fits)
   where
     same : old.rest.now ≡ old.text.now
@@ -49,9 +49,9 @@ item_value cursor old new digits at moved marker some none rest whole = (ap (λ 
     front : (xs : List ℕ) (i j n : ℕ) → n ≤ j - i → slice_range xs i (i + n) ≡ take n (slice_range xs i j)
     front xs i j n less = grind (arith, common_steps)
 
-    text : slice_range (cursor.extent).document.now cursor.offset (new.end - length new.rest.now) ≡ take digits old.text.now
+    text : slice_range (cursor.extent).source.document.now cursor.offset (new.end - length new.rest.now) ≡ take digits old.text.now
     text =
-        (λ t. slice_range (at.document t) ((at.spot t).offset) (end t)) ∙ front bytes offset old.end digits (omega (arith, size, old.rest_fits, marker.within)) ∙ ap (take digits) (sym old.rest_stands ∙ same)
+        (λ t. slice_range ((at.source t).document.now) ((at.spot t).offset) (end t)) ∙ front bytes offset old.end digits (omega (arith, size, old.rest_fits, marker.within)) ∙ ap (take digits) (sym old.rest_stands ∙ same)
 
 -- the marker comes after the number
 marker_next : (text rest : List ℕ) (digits : ℕ) → HasMarker text digits → rest ≡ drop digits text → slice_index (after_spaces rest) 0 < 128

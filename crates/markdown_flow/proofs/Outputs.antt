@@ -1,5 +1,5 @@
 -- Pieces that stand, one operation after the other.
-use Rattle.std.proofs.Common.{◌≡◌, ◌≢◌, ◌≤◌, ◌+◌, ◌∷◌, ◌++◌, ◌∙◌, ◌⊎◌, List, [], ℕ, ap, arith, drop, eq-or-lt_of_le, false, get_or, inl, inr, length, min, refl, set, slice_range, subst, sym, ◌-◌, ◌<◌, Some, slice_get, slice_index, zero, suc}
+use Rattle.std.proofs.Common.{rules, ◌≡◌, ◌≢◌, ◌≤◌, ◌+◌, ◌∷◌, ◌++◌, ◌∙◌, ◌⊎◌, List, [], ℕ, ap, arith, drop, eq-or-lt_of_le, false, get_or, inl, inr, length, min, refl, set, slice_range, subst, sym, ◌-◌, ◌<◌, Some, slice_get, slice_index, true, zero, suc}
 use Rattle.std.proofs.lemmas.Option.{get_or_from_slice_get, same_Some, slice_get_within}
 use Rattle.event_writer.specs.Calls.{CanReach, EndsLine, line_ending_length}
 use Rattle.commonmark_syntax.specs.Cuts.{IsCut}
@@ -11,11 +11,15 @@ use Rattle.event_writer.specs.Places.{after_tab, column_at}
 use Rattle.markdown_flow.specs.Lines.{IsRest, after_spaces, is_space_or_tab}
 use Rattle.std.proofs.lemmas.Grind.{common_steps}
 use Rattle.std.proofs.lemmas.List.Folds.{drop_split}
-use Rattle.markdown_flow.specs.Outputs.{IsAt, IsLater, IsPlaceIn, Stands, Writes, document_of, line_after, rest_of, spot, spot_in}
+use Rattle.markdown_grammar.specs.Document.{is_depth}
+use Rattle.markdown_flow.specs.Outputs.{IsAt, IsLater, IsPlaceIn, Stands, Writes, constructs_of, document_of, line_after, rest_of, source_of, spot, spot_in}
 use Rattle.markdown_flow.specs.declared.line.Line.{Line}
+use Rattle.markdown_flow.specs.declared.line.Source.{Source}
 use Rattle.markdown_flow.specs.declared.output.Cursor.{Cursor}
 use Rattle.markdown_flow.specs.declared.output.Output.{Output}
 use Rattle.markdown_pieces.proofs.Tilings.{IsLike, inserted, joined, like_after, like_dropped, like_length, like_set, like_tiles, plain_cut, plain_value}
+use Rattle.markdown_pieces.proofs.Spans.{on_with_between}
+use Rattle.markdown_pieces.specs.Spans.{AreOn}
 use Rattle.markdown_pieces.specs.Tilings.{EndsCharacter, Goes, GoesAsToken, HasValue, IsEnding, IsToken, Spot, Tiles, end_from, end_of, origin, point}
 use Rattle.markdown_pieces.proofs.Walks.{between_on}
 use Rattle.markdown_pieces.specs.Walks.{AreBetween, IsBetween}
@@ -30,22 +34,23 @@ none_after xs k ys none = grind (arith, common_steps)
 pub written : (output : Output) → Writes output → Tiles (document_of output) origin output.pieces.items (spot output.cursor)
 written output w = subst (λ (ps : List Piece). Tiles (document_of output) origin ps (spot output.cursor)) (none_after output.pieces.items output.held_start output.held.items w.none_held) (w.stands).tiles
 
-pub stands_alone : (output : Output) → output.held.items ≡ [] → output.held_start ≡ 0 → Tiles (document_of output) origin output.pieces.items (spot output.cursor) → Stands output
-stands_alone output none start tiles = record {
+pub stands_alone : (output : Output) → output.held.items ≡ [] → output.held_start ≡ 0 → Tiles (document_of output) origin output.pieces.items (spot output.cursor) → AreOn (constructs_of output) output.pieces.items → Stands output
+stands_alone output none start tiles on = record {
   within = grind (arith, common_steps);
   tiles = subst (λ (ps : List Piece). Tiles (document_of output) origin ps (spot output.cursor)) (sym (none_after output.pieces.items output.held_start output.held.items none)) tiles;
   between = subst AreBetween (sym none) tt;
+  on = on;
 }
 
 -- a piece more
-pub written_on : (output : Output) (items : List Piece) (cursor : Cursor) (p : Piece) → Writes output → items ≡ output.pieces.items ++ p ∷ [] → (cursor.extent).document.now ≡ document_of output → end_of p ≡ spot cursor
-    → Goes (document_of output) p.kind (spot output.cursor) (spot cursor) → Tiles (cursor.extent).document.now origin (items ++ drop output.held_start output.held.items) (spot cursor)
+pub written_on : (output : Output) (items : List Piece) (cursor : Cursor) (p : Piece) → Writes output → items ≡ output.pieces.items ++ p ∷ [] → (cursor.extent).source ≡ source_of output → end_of p ≡ spot cursor
+    → Goes (document_of output) p.kind (spot output.cursor) (spot cursor) → Tiles (cursor.extent).source.document.now origin (items ++ drop output.held_start output.held.items) (spot cursor)
 written_on output items cursor p w is same end goes =
-    let bytes = same in
+    let bytes : (cursor.extent).source.document.now ≡ document_of output = ap (λ (s : Source). s.document.now) same in
     let more : Tiles (document_of output) origin (output.pieces.items ++ p ∷ []) (spot cursor) =
     joined (document_of output) origin (spot output.cursor) (spot cursor) output.pieces.items (p ∷ []) (written output w) (subst (λ (s : Spot). Goes (document_of output) p.kind (spot output.cursor) s) (sym end) goes, end) in
-    subst (λ (ps : List Piece). Tiles (cursor.extent).document.now origin ps (spot cursor)) (sym (none_after items output.held_start output.held.items w.none_held))
-    (subst (λ (ps : List Piece). Tiles (cursor.extent).document.now origin ps (spot cursor)) (sym is) (subst (λ (bs : List ℕ). Tiles bs origin (output.pieces.items ++ p ∷ []) (spot cursor)) (sym bytes) more))
+    subst (λ (ps : List Piece). Tiles (cursor.extent).source.document.now origin ps (spot cursor)) (sym (none_after items output.held_start output.held.items w.none_held))
+    (subst (λ (ps : List Piece). Tiles (cursor.extent).source.document.now origin ps (spot cursor)) (sym is) (subst (λ (bs : List ℕ). Tiles bs origin (output.pieces.items ++ p ∷ []) (spot cursor)) (sym bytes) more))
 
 -- a piece without length, after the settled pieces
 pub stands_with : (output : Output) (items : List Piece) (p : Piece) → Stands output → items ≡ output.pieces.items ++ p ∷ [] → end_of p ≡ end_from origin output.pieces.items → Goes (document_of output) p.kind (end_from origin output.pieces.items) (end_from origin output.pieces.items)
@@ -102,13 +107,13 @@ ending_between Text ends = absurd ends
 
 -- a line ends at a cursor, if it has an ending
 pub ends_here : (cursor : Cursor) → IsPlaceIn cursor → cursor.offset ≡ (cursor.extent).end → cursor.offset ≢ (cursor.extent).next
-    → Goes (cursor.extent).document.now LineEnding (spot cursor) (line_after cursor)
+    → Goes (cursor.extent).source.document.now LineEnding (spot cursor) (line_after cursor)
 ends_here cursor place ended more = by (place.rest).ending
   where
-    by : ((((cursor.extent).end ≡ (cursor.extent).next) × ((cursor.extent).next ≡ length (cursor.extent).document.now)) ⊎ (EndsLine (cursor.extent).document.now (cursor.extent).end × ((cursor.extent).next ≡ (cursor.extent).end + line_ending_length (cursor.extent).document.now (cursor.extent).end)))
-        → Goes (cursor.extent).document.now LineEnding (spot cursor) (line_after cursor)
+    by : ((((cursor.extent).end ≡ (cursor.extent).next) × ((cursor.extent).next ≡ length (cursor.extent).source.document.now)) ⊎ (EndsLine (cursor.extent).source.document.now (cursor.extent).end × ((cursor.extent).next ≡ (cursor.extent).end + line_ending_length (cursor.extent).source.document.now (cursor.extent).end)))
+        → Goes (cursor.extent).source.document.now LineEnding (spot cursor) (line_after cursor)
     by (inl last) = absurd (more (ended ∙ last.0))
-    by (inr ends) = (subst (λ (i : ℕ). EndsLine (cursor.extent).document.now i) (sym ended) ends.0, ap (λ (i : ℕ). record { offset = i; virtual_spaces = 0 }) (ends.1 ∙ ap (λ (i : ℕ). i + line_ending_length (cursor.extent).document.now i) (sym ended)))
+    by (inr ends) = (subst (λ (i : ℕ). EndsLine (cursor.extent).source.document.now i) (sym ended) ends.0, ap (λ (i : ℕ). record { offset = i; virtual_spaces = 0 }) (ends.1 ∙ ap (λ (i : ℕ). i + line_ending_length (cursor.extent).source.document.now i) (sym ended)))
 
 -- some of what is held is settled
 pub settled_to : (output : Output) (number : ℕ) (items held : List Piece) → Stands output → held ≡ output.held.items → output.held_start ≤ number → items ≡ output.pieces.items ++ slice_range held output.held_start number
@@ -141,6 +146,7 @@ pub line_place : (cursor : Cursor) (line : Line) → IsAt cursor line → IsPlac
 unfolding tab_in
 line_place cursor line at =
     let bytes = line.source.document.now in
+    let document : cursor.extent.source.document.now ≡ bytes = ap (λ (s : Source). s.document.now) at.source in
     let offset : cursor.offset ≡ line.end - length line.rest.now = ap (λ (s : Spot). s.offset) at.spot in
     let virtual_spaces : cursor.virtual_spaces ≡ line.virtual_spaces = ap (λ (s : Spot). s.virtual_spaces) at.spot in
     let fits = line.rest_fits in
@@ -152,36 +158,43 @@ line_place cursor line at =
     } in
     let tab : tab_in bytes (line.end - length line.rest.now) line.virtual_spaces = λ some. let t = line.has_columns.tab some in (t.0, subst (λ (n : ℕ). n < after_tab (column_at bytes (line.end - length line.rest.now))) line.has_columns.column t.1) in
     record {
-      rest = subst (λ (bs : List ℕ). IsRest bs cursor.offset cursor.extent.end cursor.extent.next) (sym at.document)
+      rest = subst (λ (bs : List ℕ). IsRest bs cursor.offset cursor.extent.end cursor.extent.next) (sym document)
           (subst (λ (n : ℕ). IsRest bytes cursor.offset n cursor.extent.next) (sym at.end) (subst (λ (n : ℕ). IsRest bytes cursor.offset line.end n) (sym at.next) (subst (λ (n : ℕ). IsRest bytes n line.end line.next) (sym offset) rest)));
-      tab = subst (λ (bs : List ℕ). tab_in bs cursor.offset cursor.virtual_spaces) (sym at.document) (subst (λ (n : ℕ). tab_in bytes n cursor.virtual_spaces) (sym offset) (subst (λ (n : ℕ). tab_in bytes (line.end - length line.rest.now) n) (sym virtual_spaces) tab));
+      tab = subst (λ (bs : List ℕ). tab_in bs cursor.offset cursor.virtual_spaces) (sym document) (subst (λ (n : ℕ). tab_in bytes n cursor.virtual_spaces) (sym offset) (subst (λ (n : ℕ). tab_in bytes (line.end - length line.rest.now) n) (sym virtual_spaces) tab));
     }
 
 -- all is settled, and the prefix of a line
-pub begun : (output : Output) (bytes : List ℕ) (settled prefix : List Piece) (from : Spot) (line : Line) → output.held.items ≡ [] → output.held_start ≡ 0 → output.pieces.items ≡ settled ++ prefix → IsAt output.cursor line
-    → line.source.document.now ≡ bytes → Tiles bytes origin settled from → Tiles bytes from prefix (spot_in line) → Writes output
-begun output bytes settled prefix from line none start is at document before tiles =
+pub begun : (output : Output) (source : Source) (settled prefix : List Piece) (from : Spot) (line : Line) → output.held.items ≡ [] → output.held_start ≡ 0 → output.pieces.items ≡ settled ++ prefix → IsAt output.cursor line
+    → line.source ≡ source → Tiles source.document.now origin settled from → AreOn source.constructs.now settled → Tiles source.document.now from prefix (spot_in line) → AreBetween prefix → Writes output
+begun output source settled prefix from line none start is at same before on tiles between =
+    let bytes = source.document.now in
+    let whole : source_of output ≡ source = at.source ∙ same in
     let all : Tiles bytes origin (settled ++ prefix) (spot_in line) = joined bytes origin from (spot_in line) settled prefix before tiles in
     let here : Tiles (document_of output) origin output.pieces.items (spot output.cursor) =
-    subst (λ (bs : List ℕ). Tiles bs origin output.pieces.items (spot output.cursor)) (sym (at.document ∙ document))
+    subst (λ (bs : List ℕ). Tiles bs origin output.pieces.items (spot output.cursor)) (sym (ap (λ (s : Source). s.document.now) whole))
     (subst (λ (s : Spot). Tiles bytes origin output.pieces.items s) (sym at.spot) (subst (λ (ps : List Piece). Tiles bytes origin ps (spot_in line)) (sym is) all)) in
-    record { stands = stands_alone output none start here; none_held = none; from_start = start; place = line_place output.cursor line at }
+    let here_on = subst (λ (s : Source). AreOn s.constructs.now output.pieces.items) (sym whole) (on_with_between source.constructs.now output.pieces.items settled prefix is on between) in
+    record { stands = stands_alone output none start here here_on; none_held = none; from_start = start; place = line_place output.cursor line at }
 
 -- so the prefix of a blank line is held
-pub held_prefix : (output : Output) (items prefix : List Piece) (cursor : Cursor) (line : Line) → Stands output → items ≡ output.held.items ++ prefix → IsAt cursor line → line.source.document.now ≡ document_of output
-    → Tiles (document_of output) (spot output.cursor) prefix (spot_in line) → (output.held_start ≤ length items) × Tiles (cursor.extent).document.now origin (output.pieces.items ++ drop output.held_start items) (spot cursor)
-held_prefix output items prefix cursor line w is at document tiles =
+pub held_prefix : (output : Output) (items prefix : List Piece) (cursor : Cursor) (line : Line) → Stands output → items ≡ output.held.items ++ prefix → IsAt cursor line → line.source ≡ source_of output
+    → Tiles (document_of output) (spot output.cursor) prefix (spot_in line) → (output.held_start ≤ length items) × Tiles (cursor.extent).source.document.now origin (output.pieces.items ++ drop output.held_start items) (spot cursor)
+held_prefix output items prefix cursor line w is at same tiles =
     let held = held_all output items prefix (spot_in line) w is tiles in (
       held.0,
-      subst (λ (bs : List ℕ). Tiles bs origin (output.pieces.items ++ drop output.held_start items) (spot cursor)) (sym (at.document ∙ document))
+      subst (λ (bs : List ℕ). Tiles bs origin (output.pieces.items ++ drop output.held_start items) (spot cursor)) (sym (ap (λ (s : Source). s.document.now) (at.source ∙ same)))
           (subst (λ (s : Spot). Tiles (document_of output) origin (output.pieces.items ++ drop output.held_start items) s) (sym at.spot) held.1),
     )
 
+-- and what is settled is still on
+pub still_on : (output : Output) (cursor : Cursor) (line : Line) → Stands output → IsAt cursor line → line.source ≡ source_of output → AreOn (cursor.extent).source.constructs.now output.pieces.items
+still_on output cursor line w at same = subst (λ (s : Source). AreOn s.constructs.now output.pieces.items) (sym (at.source ∙ same)) w.on
+
 -- a token can end at a later place of the line
-pub reached : (cursor : Cursor) (to : ℕ) → IsPlaceIn cursor → cursor.offset < to → to ≤ (cursor.extent).end → CanReach (cursor.extent).document.now (point (spot cursor)) to 0
+pub reached : (cursor : Cursor) (to : ℕ) → IsPlaceIn cursor → cursor.offset < to → to ≤ (cursor.extent).end → CanReach (cursor.extent).source.document.now (point (spot cursor)) to 0
 reached cursor to place less most =
     let within = place.rest.within in
-    let end = end-within (cursor.extent).document.now cursor.offset (cursor.extent).end (cursor.extent).next place.rest in
+    let end = end-within (cursor.extent).source.document.now cursor.offset (cursor.extent).end (cursor.extent).next place.rest in
     record {
       order = inl less;
       within = omega (arith, within, end, most);
@@ -190,15 +203,19 @@ reached cursor to place less most =
     }
 
 -- and white space where the line does
-pub rest_goes : (cursor : Cursor) → IsPlaceIn cursor → cursor.offset ≢ (cursor.extent).end → Goes (cursor.extent).document.now (Token SpaceOrTab) (spot cursor) (record { offset = (cursor.extent).end; virtual_spaces = 0 })
+pub rest_goes : (cursor : Cursor) → IsPlaceIn cursor → cursor.offset ≢ (cursor.extent).end → Goes (cursor.extent).source.document.now (Token SpaceOrTab) (spot cursor) (record { offset = (cursor.extent).end; virtual_spaces = 0 })
 rest_goes cursor place more = record {
   reaches = reached cursor (cursor.extent).end place (strictly cursor.offset (cursor.extent).end place.rest.order more) (omega arith);
-  cut = end_cut (cursor.extent).document.now cursor.offset (cursor.extent).end (cursor.extent).next place.rest;
+  cut = end_cut (cursor.extent).source.document.now cursor.offset (cursor.extent).end (cursor.extent).next place.rest;
   value = tt;
 }
   where
     strictly : (i j : ℕ) → i ≤ j → i ≢ j → i < j
     strictly i j h n = grind arith
+
+-- a number from one to six is the depth of a heading
+is_depth_to_six : (n : ℕ) → 0 < n → n ≤ 6 → is_depth (Some n) ≡ true
+is_depth_to_six n least most = search rules
 
 -- where so many bytes end
 after_some : (offset end size to : ℕ) → offset ≤ end → to ≡ offset + min size (end - offset) → to ≢ offset → (offset < to) × (to ≤ end)
@@ -206,11 +223,11 @@ after_some offset end size to order is more = (grind arith, grind arith)
 
 -- a token or a text of so many bytes goes there
 pub part_goes : (cursor after : Cursor) (kind : PieceKind) (size : ℕ) → IsPlaceIn cursor → IsToken kind → after.offset ≡ cursor.offset + min size ((cursor.extent).end - cursor.offset) → after.virtual_spaces ≡ 0 → after.offset ≢ cursor.offset
-    → IsCut (slice_range (cursor.extent).document.now cursor.offset (cursor.extent).end) size → Goes (cursor.extent).document.now kind (spot cursor) (spot after)
+    → IsCut (slice_range (cursor.extent).source.document.now cursor.offset (cursor.extent).end) size → Goes (cursor.extent).source.document.now kind (spot cursor) (spot after)
 part_goes cursor after kind size place token is whole more cut = by kind token
   where
     bytes : List ℕ
-    bytes = (cursor.extent).document.now
+    bytes = (cursor.extent).source.document.now
 
     within : (cursor.offset < after.offset) × (after.offset ≤ (cursor.extent).end)
     within = after_some cursor.offset (cursor.extent).end size after.offset place.rest.order is more
@@ -231,26 +248,43 @@ part_goes cursor after kind size place token is whole more cut = by kind token
     by BlankLineEnding t = absurd t
     by BlockQuotePrefix t = absurd t
 
+-- so does the sequence that opens a heading
+pub opening_goes : (cursor after : Cursor) (size : ℕ) → IsPlaceIn cursor → 0 < size → size ≤ 6 → size ≤ length (slice_range (cursor.extent).source.document.now cursor.offset (cursor.extent).end) → cursor.virtual_spaces ≡ 0
+    → after.offset ≡ cursor.offset + min size ((cursor.extent).end - cursor.offset) → after.virtual_spaces ≡ 0 → IsCut (slice_range (cursor.extent).source.document.now cursor.offset (cursor.extent).end) size
+    → Goes (cursor.extent).source.document.now OpeningSequence (spot cursor) (spot after)
+opening_goes cursor after size place least most fits from_whole is whole cut =
+    let bytes = (cursor.extent).source.document.now in
+    let left : length (slice_range bytes cursor.offset (cursor.extent).end) ≤ (cursor.extent).end - cursor.offset = grind (arith, common_steps) in
+    let far : after.offset - cursor.offset ≡ size = omega (arith, is, fits, left) in
+    let text = part_goes cursor after Text size place tt is whole (λ same. absurd (omega (arith, far, same, least))) cut in
+    record {
+      reaches = subst (λ (n : ℕ). CanReach bytes (point (spot cursor)) after.offset n) whole text.reaches;
+      from_whole = from_whole;
+      whole = whole;
+      cut = text.cut;
+      depth = subst (λ (n : ℕ). is_depth (Some n) ≡ true) (sym far) (is_depth_to_six size least most);
+    }
+
 -- a token can end at the cursor of a line
-line_reached : (cursor : Cursor) (line : Line) → IsPlaceIn cursor → IsLater cursor line → CanReach (cursor.extent).document.now (point (spot cursor)) (line.end - length line.rest.now) line.virtual_spaces
+line_reached : (cursor : Cursor) (line : Line) → IsPlaceIn cursor → IsLater cursor line → CanReach (cursor.extent).source.document.now (point (spot cursor)) (line.end - length line.rest.now) line.virtual_spaces
 unfolding tab_in
 line_reached cursor line place later =
     let bytes = line.source.document.now in
     let offset = line.end - length line.rest.now in
     let within = place.rest.within in
-    let end = end-within (cursor.extent).document.now cursor.offset (cursor.extent).end (cursor.extent).next place.rest in
+    let end = end-within (cursor.extent).source.document.now cursor.offset (cursor.extent).end (cursor.extent).next place.rest in
     let last = later.end in
     let tab : tab_in bytes offset line.virtual_spaces = λ some. let t = line.has_columns.tab some in (t.0, subst (λ (n : ℕ). n < after_tab (column_at bytes offset)) line.has_columns.column t.1) in
     record {
       order = later.order;
       within = omega (arith, within, end, last);
       line = λ k from before. place.rest.in_line k from (omega (arith, before, last));
-      tab = subst (λ (bs : List ℕ). tab_in bs offset line.virtual_spaces) (sym later.document) tab;
+      tab = subst (λ (bs : List ℕ). tab_in bs offset line.virtual_spaces) (sym (ap (λ (s : Source). s.document.now) later.source)) tab;
     }
 
 -- and a token goes there
-pub line_goes : (cursor : Cursor) (line : Line) (name : Name) → IsPlaceIn cursor → IsLater cursor line → EndsCharacter (cursor.extent).document.now name (line.end - length line.rest.now) → HasValue (cursor.extent).document.now name (spot cursor) (spot_in line)
-    → GoesAsToken (cursor.extent).document.now name (spot cursor) (spot_in line)
+pub line_goes : (cursor : Cursor) (line : Line) (name : Name) → IsPlaceIn cursor → IsLater cursor line → EndsCharacter (cursor.extent).source.document.now name (line.end - length line.rest.now) → HasValue (cursor.extent).source.document.now name (spot cursor) (spot_in line)
+    → GoesAsToken (cursor.extent).source.document.now name (spot cursor) (spot_in line)
 line_goes cursor line name place later cut value = record { reaches = line_reached cursor line place later; cut = cut; value = value }
 
 -- ---- A cursor and that of a line
@@ -263,17 +297,17 @@ positive (suc n) none = absurd (none (omega arith))
 pub whole_at_end : (cursor : Cursor) → IsPlaceIn cursor → cursor.offset ≡ (cursor.extent).end → cursor.virtual_spaces ≡ 0
 whole_at_end cursor place ended = positive cursor.virtual_spaces (λ some. by (place.tab some).0 place.rest.ending)
   where
-    by : slice_get (cursor.extent).document.now cursor.offset ≡ Some 9
-        → (((cursor.extent).end ≡ (cursor.extent).next) × ((cursor.extent).next ≡ length (cursor.extent).document.now)) ⊎ (EndsLine (cursor.extent).document.now (cursor.extent).end × ((cursor.extent).next ≡ (cursor.extent).end + line_ending_length (cursor.extent).document.now (cursor.extent).end)) → ⊥
-    by tab (inl last) = let within = slice_get_within (cursor.extent).document.now cursor.offset 9 tab in omega (arith, within, last.0, last.1, ended)
-    by tab (inr (inl feed, next)) = omega (arith, same_Some 9 10 (sym tab ∙ ap (slice_get (cursor.extent).document.now) ended ∙ feed))
-    by tab (inr (inr return, next)) = omega (arith, same_Some 9 13 (sym tab ∙ ap (slice_get (cursor.extent).document.now) ended ∙ return))
+    by : slice_get (cursor.extent).source.document.now cursor.offset ≡ Some 9
+        → (((cursor.extent).end ≡ (cursor.extent).next) × ((cursor.extent).next ≡ length (cursor.extent).source.document.now)) ⊎ (EndsLine (cursor.extent).source.document.now (cursor.extent).end × ((cursor.extent).next ≡ (cursor.extent).end + line_ending_length (cursor.extent).source.document.now (cursor.extent).end)) → ⊥
+    by tab (inl last) = let within = slice_get_within (cursor.extent).source.document.now cursor.offset 9 tab in omega (arith, within, last.0, last.1, ended)
+    by tab (inr (inl feed, next)) = omega (arith, same_Some 9 10 (sym tab ∙ ap (slice_get (cursor.extent).source.document.now) ended ∙ feed))
+    by tab (inr (inr return, next)) = omega (arith, same_Some 9 13 (sym tab ∙ ap (slice_get (cursor.extent).source.document.now) ended ∙ return))
 
 -- the cursor of a line comes after another, or the line is at its end
-pub later_in : (cursor : Cursor) (line : Line) → IsPlaceIn cursor → (cursor.extent).document.now ≡ (line.source).document.now → (cursor.extent).end ≡ line.end → (cursor.extent).next ≡ line.next
+pub later_in : (cursor : Cursor) (line : Line) → IsPlaceIn cursor → (cursor.extent).source ≡ line.source → (cursor.extent).end ≡ line.end → (cursor.extent).next ≡ line.next
     → (cursor.offset < line.end - length line.rest.now) ⊎ (cursor.offset ≡ line.end - length line.rest.now) → (cursor.offset ≡ line.end - length line.rest.now → line.end - length line.rest.now ≡ line.end) → IsLater cursor line
-later_in cursor line place document end next order ended = record {
-  document = document;
+later_in cursor line place source end next order ended = record {
+  source = source;
   end = end;
   next = next;
   order = by order;
@@ -288,13 +322,13 @@ later_in cursor line place document end next order ended = record {
 
 -- at the cursor of a line it is the rest of the line
 pub rest_at : (output : Output) (line : Line) → IsAt output.cursor line → rest_of output ≡ line.rest.now
-rest_at output line at = (λ t. slice_range (at.document t) ((at.spot t).offset) (at.end t)) ∙ sym line.rest_stands
+rest_at output line at = (λ t. slice_range ((at.source t).document.now) ((at.spot t).offset) (at.end t)) ∙ sym line.rest_stands
 
 -- after so many bytes it is the rest of what was left
-pub rest_after : (old new : Output) (size : ℕ) → document_of new ≡ document_of old → ((new.cursor).extent).end ≡ ((old.cursor).extent).end → (new.cursor).offset ≡ (old.cursor).offset + min size (((old.cursor).extent).end - (old.cursor).offset)
+pub rest_after : (old new : Output) (size : ℕ) → source_of new ≡ source_of old → ((new.cursor).extent).end ≡ ((old.cursor).extent).end → (new.cursor).offset ≡ (old.cursor).offset + min size (((old.cursor).extent).end - (old.cursor).offset)
     → rest_of new ≡ drop size (rest_of old)
-rest_after old new size document end offset =
-    (λ t. slice_range (document t) (offset t) (end t))
+rest_after old new size source end offset =
+    (λ t. slice_range ((source t).document.now) (offset t) (end t))
     ∙ slice_later (document_of old) (old.cursor).offset ((old.cursor).extent).end (min size (((old.cursor).extent).end - (old.cursor).offset))
     ∙ all (rest_of old) size (((old.cursor).extent).end - (old.cursor).offset) (grind (arith, common_steps))
   where
@@ -303,7 +337,7 @@ rest_after old new size document end offset =
 
 -- where the cursor is, that is left
 pub rest_same : (old new : Output) → new.cursor ≡ old.cursor → rest_of new ≡ rest_of old
-rest_same old new same = ap (λ (c : Cursor). slice_range (c.extent).document.now c.offset (c.extent).end) same
+rest_same old new same = ap (λ (c : Cursor). slice_range (c.extent).source.document.now c.offset (c.extent).end) same
 
 -- after white space the cursor is in no tab
 pub whole_at_black : (output : Output) (text : List ℕ) → IsPlaceIn output.cursor → rest_of output ≡ after_spaces text → (output.cursor).virtual_spaces ≡ 0

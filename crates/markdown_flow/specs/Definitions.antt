@@ -3,7 +3,7 @@ use Rattle.std.specs.Prelude.{List, [], drop, ℕ, ◌++◌, ◌-◌, ◌∷◌,
 use Rattle.markdown_flow.specs.Parts.{AreCuts}
 use Rattle.markdown_pieces.specs.Tilings.{Spot}
 use Rattle.markdown_flow.specs.Contents.{AreKept, after_lines}
-use Rattle.markdown_flow.specs.Outputs.{Stands, Writes, document_of, line_after, rest_of, spot, text_of}
+use Rattle.markdown_flow.specs.Outputs.{Stands, Writes, line_after, rest_of, source_of, spot, text_of}
 use Rattle.markdown_flow.specs.declared.content.KeptLine.{KeptLine}
 use Rattle.markdown_flow.specs.declared.definition.Part.{Part}
 use Rattle.markdown_flow.specs.declared.definition_pieces.PartWriter.{PartWriter}
@@ -26,19 +26,19 @@ left cursor = (cursor.extent).end - cursor.offset
 -- the writer is before a line
 pub record IsBeforeLine (w : PartWriter) (output : Output) : Type 0 where
   pub stands : Stands output
-  pub lines : AreKept (document_of output) w.content.now.prefixes.items (spot output.cursor) w.lines.now
+  pub lines : AreKept (source_of output) w.content.now.prefixes.items (spot output.cursor) w.lines.now
   pub text : drop w.at w.text.now ≡ joined w.lines.now
 
 -- the writer is in the text of the first of the lines that are left
 pub record IsInText (w : PartWriter) (output : Output) : Type 0 where
   pub writes : Writes output
-  pub later : AreKept (document_of output) w.content.now.prefixes.items (line_after output.cursor) (drop 1 w.lines.now)
+  pub later : AreKept (source_of output) w.content.now.prefixes.items (line_after output.cursor) (drop 1 w.lines.now)
   pub text : drop w.at w.text.now ≡ rest_of output ++ 10 ∷ joined (drop 1 w.lines.now)
 
 -- the writer is at the first of the lines that are left, before its text
 pub record HasBegun (w : PartWriter) (output : Output) : Type 0 where
   pub writes : Writes output
-  pub later : AreKept (document_of output) w.content.now.prefixes.items (line_after output.cursor) (drop 1 w.lines.now)
+  pub later : AreKept (source_of output) w.content.now.prefixes.items (line_after output.cursor) (drop 1 w.lines.now)
   pub text : drop w.at w.text.now ≡ text_of output ++ 10 ∷ joined (drop 1 w.lines.now)
 
 -- where the line after all lines begins, for a writer before a line
@@ -53,4 +53,4 @@ end_in w output = after_lines (line_after output.cursor) (drop 1 w.lines.now)
 pub record GoesOn (old new : PartWriter) (before after : Output) : Type 0 where
   pub content : new.content ≡ old.content
   pub text : new.text ≡ old.text
-  pub document : document_of after ≡ document_of before
+  pub source : source_of after ≡ source_of before

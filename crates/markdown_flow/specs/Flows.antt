@@ -4,7 +4,7 @@ use Rattle.event_writer.specs.Stages.{Enclosing}
 use Rattle.markdown_pieces.specs.Tilings.{Spot}
 use Rattle.markdown_flow.specs.Contents.{AreKept, after_lines}
 use Rattle.markdown_flow.specs.Leaves.{in_leaf}
-use Rattle.markdown_flow.specs.Outputs.{Opens, Stands, document_of, spot}
+use Rattle.markdown_flow.specs.Outputs.{Opens, Stands, source_of, spot}
 use Rattle.markdown_flow.specs.declared.flow.Flow.{Flow}
 use Rattle.markdown_flow.specs.declared.leaf.Leaf.{Leaf}
 use Rattle.markdown_flow.specs.declared.leaf.Leaf.TheVariants.{CodeIndented, Paragraph}
@@ -19,7 +19,7 @@ keeps_lines _ = false
 -- the pieces tile the document up to the lines that are kept of the open leaf
 pub record StandsWith (flow : Flow) (output : Output) : Type 0 where
   pub stands : Stands output
-  pub kept : AreKept (document_of output) flow.content.prefixes.items (spot output.cursor) flow.content.lines.items
+  pub kept : AreKept (source_of output) flow.content.prefixes.items (spot output.cursor) flow.content.lines.items
   pub none : keeps_lines flow.leaf ≡ false → flow.content.lines.items ≡ []
 
 -- where the line after these begins

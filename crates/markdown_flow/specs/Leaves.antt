@@ -1,6 +1,7 @@
 -- The spans that are open in a leaf, by those around it.
 use Rattle.std.specs.Prelude.{Bool, List, false, true}
 use Rattle.event_writer.specs.Stages.{Enclosing, code_lines, flow, inlines, math_lines}
+use Rattle.markdown_events.specs.declared.event.Name.{Name}
 use Rattle.markdown_events.specs.declared.event.Name.TheVariants as names
 use Rattle.markdown_pieces.specs.Walks.{State, at, inside}
 use Rattle.markdown_flow.specs.declared.leaf.Leaf.{Leaf}
@@ -13,6 +14,11 @@ use Rattle.markdown_flow.specs.declared.raw_flow.RawFlow.TheVariants.{Code, Math
 -- among blocks
 abbrev pub in_flow : Bool → List Enclosing → State
 in_flow n outer = at (flow n) outer
+
+-- the name of a span with fences
+abbrev pub raw_name : RawFlow → Name
+raw_name Code = names.CodeFenced
+raw_name Math = names.MathFlow
 
 -- between fences
 abbrev pub in_raw : RawFlow → Bool → List Enclosing → State

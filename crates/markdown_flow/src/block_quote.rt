@@ -1,10 +1,11 @@
 //! Block quotes (CommonMark).
 
-ghost use Rattle.std.specs.Prelude.{Bool, List, [], ℕ, OnOk, false, length, slice_index, true, ◌≡◌, ◌<◌};
+ghost use Rattle.std.specs.Prelude.{Bool, List, [], OnOk, false, length, slice_index, true, ◌≡◌, ◌<◌};
 ghost use Rattle.event_writer.specs.Stages.{Enclosing, flow};
 ghost use Rattle.markdown_events.specs.declared.event.Name.TheVariants.{BlockQuote};
-ghost use Rattle.markdown_flow.specs.Outputs.{IsAt, Opens, Writes, Reads};
+ghost use Rattle.markdown_flow.specs.Outputs.{IsAt, Opens, Writes, Reads, constructs_in, constructs_of};
 ghost use Rattle.markdown_flow.specs.Moves.{HasMoved};
+ghost use Rattle.markdown_flow.specs.declared.line.Source.{Source};
 ghost use Rattle.markdown_pieces.specs.Tilings.{Spot};
 ghost use Rattle.markdown_pieces.specs.Walks.{at, inside};
 
@@ -15,7 +16,9 @@ use markdown_events::event::Name;
 use std::alloc::AllocError;
 
 /// Whether a block quote begins at the cursor of a line (CommonMark). Never, with `block_quote` off.
-pub fn begins(line: &Line<'_>) -> bool {
+pub fn begins(line: &Line<'_>) -> bool
+    ensures { result ≡ true → (constructs_in line.now).block_quote ≡ true }
+{
     line.constructs().block_quote && has_marker(line)
 }
 
@@ -29,7 +32,7 @@ fn has_marker(line: &Line<'_>) -> bool
 
 /// Whether a block quote goes on in a line (CommonMark). If it does, its prefix is read.
 pub fn continues(input: &mut Input<'_>) -> Result<bool, AllocError>
-    ensures reads { (bytes : List ℕ) → (from : Spot) → Reads bytes from input.old → OnOk result (Reads bytes from input.new) }
+    ensures reads { (source : Source) → (from : Spot) → Reads source from input.old → OnOk result (Reads source from input.new) }
     ensures moved { OnOk result (HasMoved input.old.line input.new.line) }
 {
     if !has_marker(&input.line) {
@@ -46,6 +49,7 @@ pub fn open<'d>(input: &mut Input<'d>, output: &mut Output<'d>) -> Result<(), Al
     requires writes { Writes output.old }
     requires at { IsAt output.old.cursor input.old.line }
     requires taken { input.old.prefix.items ≡ [] }
+    requires on { (constructs_of output.old).block_quote ≡ true }
     ensures writes { OnOk result (Writes output.new) }
     ensures at { OnOk result (IsAt output.new.cursor input.new.line) }
     ensures taken { OnOk result (input.new.prefix.items ≡ []) }

@@ -1,7 +1,7 @@
 //! The byte order mark at the start of a document (micromark).
 
 ghost use Rattle.std.specs.Prelude.{OnOk, IfOk, ◌≡◌};
-ghost use Rattle.markdown_flow.specs.Outputs.{KeepsFlow, Stands, document_of, spot, spot_in};
+ghost use Rattle.markdown_flow.specs.Outputs.{KeepsFlow, Stands, source_of, spot, spot_in};
 ghost use Rattle.markdown_pieces.specs.Tilings.{origin};
 
 use crate::line::Line;
@@ -15,11 +15,11 @@ const BYTE_ORDER_MARK: &[u8] = b"\xef\xbb\xbf";
 /// Writes the mark that a document begins with, if it does, and gives what comes after it in the first line.
 pub fn write<'d>(first: Line<'d>, output: &mut Output<'d>) -> Result<Line<'d>, AllocError>
     requires stands { Stands output.old }
-    requires document { first.source.document.now ≡ document_of output.old }
+    requires source { first.source ≡ source_of output.old }
     requires start { spot output.old.cursor ≡ spot_in first }
     requires origin { spot output.old.cursor ≡ origin }
     ensures stands { OnOk result (Stands output.new) }
-    ensures document { OnOk result (document_of output.new ≡ document_of output.old) }
+    ensures source { OnOk result (source_of output.new ≡ source_of output.old) }
     ensures line { IfOk result (λ line. (line.source ≡ first.entry.source) × (spot output.new.cursor ≡ spot_in line)) }
     ensures opens { KeepsFlow result output.old output.new }
 {

@@ -3,8 +3,9 @@
 ghost use Rattle.std.specs.Prelude.{Bool, IfSome, List, OnOk, true, ◌≡◌, ◌<◌};
 ghost use Rattle.commonmark_syntax.specs.Cuts.{IsCut};
 ghost use Rattle.event_writer.specs.Stages.{Enclosing, code_fence, nothing};
-ghost use Rattle.markdown_flow.specs.Leaves.{in_flow, in_raw};
-ghost use Rattle.markdown_flow.specs.Outputs.{Opens, Writes, WritesOut, rest_of, text_of};
+ghost use Rattle.markdown_flow.specs.Leaves.{in_flow, in_raw, raw_name};
+ghost use Rattle.markdown_flow.specs.Outputs.{Opens, Writes, WritesOut, constructs_in, constructs_of, rest_of, text_of};
+ghost use Rattle.markdown_options.specs.Spans.{is_on};
 ghost use Rattle.markdown_flow.specs.declared.raw_flow.RawFlow.TheVariants.{Code};
 ghost use Rattle.markdown_pieces.specs.Walks.{at};
 
@@ -23,7 +24,8 @@ const SIGNS_LEAST: usize = 3;
 ///
 /// In `~~~ a` it has three tildes.
 pub fn begins(line: &Line<'_>) -> Option<Fence>
-    ensures { IfSome result (λ fence. IsCut line.now.text.now fence.size) }
+    ensures cut { IfSome result (λ fence. IsCut line.now.text.now fence.size) }
+    ensures on { IfSome result (λ fence. is_on (constructs_in line.now) (raw_name fence.content) ≡ true) }
 {
     let sign = *line.text().first()?;
     if !line.constructs().code_fenced || !is_sign(sign) {
@@ -53,6 +55,7 @@ fn is_sign(byte: u8) -> bool
 pub fn open(size: usize, output: &mut Output<'_>) -> Result<(), AllocError>
     requires writes { Writes output.old }
     requires cut { IsCut (rest_of output.old) size }
+    requires on { (constructs_of output.old).code_fenced ≡ true }
     ensures written { OnOk result (WritesOut output.old output.new) }
     ensures opens { (n : Bool) → (outer : List Enclosing) → Opens output.old (in_flow n outer) → OnOk result (Opens output.new (in_raw Code n outer)) }
 {

@@ -1,9 +1,9 @@
 //! Indented code (CommonMark).
 
-ghost use Rattle.std.specs.Prelude.{Bool, List, OnOk, false, ◌≡◌};
+ghost use Rattle.std.specs.Prelude.{Bool, List, OnOk, false, true, ◌≡◌};
 ghost use Rattle.event_writer.specs.Stages.{Enclosing, flow, inlines};
 ghost use Rattle.markdown_events.specs.declared.event.Name.TheVariants.{CodeIndented};
-ghost use Rattle.markdown_flow.specs.Outputs.{IsAt, Keeps, Opens, Stands, Writes, WritesOut, document_of, next_of, spot};
+ghost use Rattle.markdown_flow.specs.Outputs.{IsAt, Keeps, Opens, Stands, Writes, WritesOut, constructs_of, next_of, source_of, spot};
 ghost use Rattle.markdown_flow.specs.Contents.{AreKept, Kept, after_lines};
 ghost use Rattle.markdown_flow.specs.Moves.{HasMoved};
 ghost use Rattle.markdown_pieces.specs.Walks.{at, inside};
@@ -18,6 +18,7 @@ use std::alloc::AllocError;
 pub fn open<'d>(line: &mut Line<'d>, output: &mut Output<'d>) -> Result<(), AllocError>
     requires writes { Writes output.old }
     requires at { IsAt output.old.cursor line.old }
+    requires on { (constructs_of output.old).code_indented ≡ true }
     ensures written { OnOk result (WritesOut output.old output.new) }
     ensures moved { HasMoved line.old line.new }
     ensures opens { (n : Bool) → (outer : List Enclosing) → Opens output.old (at (flow n) outer) → OnOk result (Opens output.new (at (inlines false) (inside CodeIndented (flow n) outer))) }
@@ -44,9 +45,9 @@ pub fn write_blank_lines<'d>(
     output: &mut Output<'d>,
 ) -> Result<(), AllocError>
     requires stands { Stands output.old }
-    requires lines { AreKept (document_of output.old) content.now.prefixes.items (spot output.old.cursor) content.now.lines.items }
+    requires lines { AreKept (source_of output.old) content.now.prefixes.items (spot output.old.cursor) content.now.lines.items }
     ensures stands { OnOk result (Stands output.new) }
-    ensures document { OnOk result (document_of output.new ≡ document_of output.old) }
+    ensures source { OnOk result (source_of output.new ≡ source_of output.old) }
     ensures spot { OnOk result (spot output.new.cursor ≡ after_lines (spot output.old.cursor) content.now.lines.items) }
     ensures opens { Keeps result (inlines false) output.old output.new }
 {
@@ -63,9 +64,9 @@ fn write_blank_line<'d>(
     output: &mut Output<'d>,
 ) -> Result<(), AllocError>
     requires stands { Stands output.old }
-    requires kept { Kept (document_of output.old) content.now.prefixes.items (spot output.old.cursor) kept.now }
+    requires kept { Kept (source_of output.old) content.now.prefixes.items (spot output.old.cursor) kept.now }
     ensures stands { OnOk result (Stands output.new) }
-    ensures document { OnOk result (document_of output.new ≡ document_of output.old) }
+    ensures source { OnOk result (source_of output.new ≡ source_of output.old) }
     ensures spot { OnOk result (spot output.new.cursor ≡ next_of kept.now.line) }
     ensures opens { Keeps result (inlines false) output.old output.new }
 {

@@ -1,8 +1,9 @@
 //! Containers: block quotes, items of lists and footnote definitions (CommonMark, GFM).
 
-ghost use Rattle.std.specs.Prelude.{Bool, List, ℕ, OnOk, IfSome, ◌≡◌};
+ghost use Rattle.std.specs.Prelude.{Bool, List, OnOk, IfSome, ◌≡◌};
 ghost use Rattle.markdown_flow.specs.Outputs.{Reads};
 ghost use Rattle.markdown_flow.specs.Moves.{HasMoved};
+ghost use Rattle.markdown_flow.specs.declared.line.Source.{Source};
 ghost use Rattle.markdown_pieces.specs.Tilings.{Spot};
 
 use crate::input::Input;
@@ -39,7 +40,7 @@ impl Container {
 
     /// Whether it goes on in a line. If it does, its prefix is read.
     pub fn continues(&mut self, input: &mut Input<'_>) -> Result<bool, AllocError>
-        ensures reads { (bytes : List ℕ) → (from : Spot) → Reads bytes from input.old → OnOk result (Reads bytes from input.new) }
+        ensures reads { (source : Source) → (from : Spot) → Reads source from input.old → OnOk result (Reads source from input.new) }
         ensures moved { OnOk result (HasMoved input.old.line input.new.line) }
         ensures number { has_number self.new ≡ has_number self.old }
         ensures spans { (n : Bool) → (outer : List Enclosing) → in_container self.new n outer ≡ in_container self.old n outer }

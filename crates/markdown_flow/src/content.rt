@@ -1,10 +1,13 @@
 //! Content: lines that are kept until it is known what they are (micromark). They are those of a paragraph,
 //! which may turn out to be definitions, a heading or a table, and blank lines after indented code.
 
-ghost use Rattle.std.specs.Prelude.{Bool, List, [], ℕ, OnOk, IfSome, length, true, ◌≡◌, ◌≤◌};
+ghost use Rattle.std.specs.Prelude.{Bool, List, [], OnOk, IfSome, length, true, ◌≡◌, ◌≤◌};
 ghost use Rattle.event_writer.specs.Stages.{Enclosing, Stage, inlines, takes_line_endings};
-ghost use Rattle.markdown_flow.specs.Outputs.{IsAt, Keeps, Opens, Stands, Writes, Reads, document_of, line_after, next_of, spot};
+ghost use Rattle.markdown_flow.specs.Outputs.{IsAt, Keeps, Opens, Stands, Writes, Reads, document_of, line_after, next_of, source_of, spot};
 ghost use Rattle.markdown_flow.specs.Contents.{Kept, AreKept, after_lines, prefix_of};
+ghost use Rattle.markdown_flow.specs.declared.line.Source.{Source};
+ghost use Rattle.markdown_pieces.specs.Spans.{IsAlwaysOn};
+ghost use Rattle.markdown_pieces.specs.declared.piece.PieceKind.TheVariants.{Enter};
 ghost use Rattle.markdown_pieces.specs.Tilings.{MayBegin, Spot};
 ghost use Rattle.markdown_pieces.specs.Walks.{at, stage_after_string};
 
@@ -75,10 +78,10 @@ impl<'d> Content<'d> {
 
     /// Keeps the line that is read, with its prefix.
     pub fn keep(&mut self, input: &mut Input<'d>) -> Result<(), AllocError>
-        ensures kept { (bytes : List ℕ) → (from : Spot)
-            → AreKept bytes self.old.prefixes.items from self.old.lines.items
-            → Reads bytes (after_lines from self.old.lines.items) input.old
-            → OnOk result (AreKept bytes self.new.prefixes.items from self.new.lines.items × (after_lines from self.new.lines.items ≡ next_of input.old.line)) }
+        ensures kept { (source : Source) → (from : Spot)
+            → AreKept source self.old.prefixes.items from self.old.lines.items
+            → Reads source (after_lines from self.old.lines.items) input.old
+            → OnOk result (AreKept source self.new.prefixes.items from self.new.lines.items × (after_lines from self.new.lines.items ≡ next_of input.old.line)) }
         ensures line { input.new.line ≡ input.old.line }
         ensures taken { OnOk result (input.new.prefix.items ≡ []) }
     {
@@ -101,10 +104,11 @@ impl<'d> Content<'d> {
         output: &mut Output<'d>,
     ) -> Result<(), AllocError>
         requires writes { Writes output.old }
+        requires on { IsAlwaysOn (Enter name) }
         requires begins { MayBegin (document_of output.old) name (spot output.old.cursor) }
-        requires later { AreKept (document_of output.old) self.now.prefixes.items (line_after output.old.cursor) later.now }
+        requires later { AreKept (source_of output.old) self.now.prefixes.items (line_after output.old.cursor) later.now }
         ensures stands { OnOk result (Stands output.new) }
-        ensures document { OnOk result (document_of output.new ≡ document_of output.old) }
+        ensures source { OnOk result (source_of output.new ≡ source_of output.old) }
         ensures spot { OnOk result (spot output.new.cursor ≡ after_lines (line_after output.old.cursor) later.now) }
         ensures opens { (a : Stage) → (outer : List Enclosing) → Opens output.old (at a outer) → OnOk result (IfSome (stage_after_string a name) (λ b. Opens output.new (at b outer))) }
     {
@@ -120,9 +124,9 @@ impl<'d> Content<'d> {
     /// Writes the text of a line, with what comes before it.
     fn write_text_of(&self, kept: &KeptLine<'d>, output: &mut Output<'d>) -> Result<(), AllocError>
         requires stands { Stands output.old }
-        requires kept { Kept (document_of output.old) self.now.prefixes.items (spot output.old.cursor) kept.now }
+        requires kept { Kept (source_of output.old) self.now.prefixes.items (spot output.old.cursor) kept.now }
         ensures stands { OnOk result (Stands output.new) }
-        ensures document { OnOk result (document_of output.new ≡ document_of output.old) }
+        ensures source { OnOk result (source_of output.new ≡ source_of output.old) }
         ensures spot { OnOk result (spot output.new.cursor ≡ next_of kept.now.line) }
         ensures opens { (h : Bool) → Keeps result (inlines h) output.old output.new }
     {
@@ -133,7 +137,7 @@ impl<'d> Content<'d> {
     /// Begins a line: writes what comes before it, and its prefix.
     pub fn begin(&self, kept: &KeptLine<'d>, output: &mut Output<'d>) -> Result<(), AllocError>
         requires stands { Stands output.old }
-        requires kept { Kept (document_of output.old) self.now.prefixes.items (spot output.old.cursor) kept.now }
+        requires kept { Kept (source_of output.old) self.now.prefixes.items (spot output.old.cursor) kept.now }
         ensures writes { OnOk result (Writes output.new) }
         ensures at { OnOk result (IsAt output.new.cursor kept.now.line) }
         ensures opens { (a : Stage) → takes_line_endings a ≡ true → Keeps result a output.old output.new }
@@ -146,7 +150,7 @@ impl<'d> Content<'d> {
 fn write_text_of_line(output: &mut Output<'_>) -> Result<(), AllocError>
     requires { Writes output.old }
     ensures stands { OnOk result (Stands output.new) }
-    ensures document { OnOk result (document_of output.new ≡ document_of output.old) }
+    ensures source { OnOk result (source_of output.new ≡ source_of output.old) }
     ensures spot { OnOk result (spot output.new.cursor ≡ line_after output.old.cursor) }
     ensures opens { (h : Bool) → Keeps result (inlines h) output.old output.new }
 {

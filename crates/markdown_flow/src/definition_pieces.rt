@@ -6,9 +6,13 @@ ghost use Rattle.event_writer.specs.Stages.{Enclosing, Stage, definition, defini
 ghost use Rattle.markdown_events.specs.Names.{role_of};
 ghost use Rattle.markdown_events.specs.declared.role.Role.TheVariants.{Transparent};
 ghost use Rattle.markdown_events.specs.declared.role.TransparentKind.TheVariants.{Other};
-ghost use Rattle.markdown_flow.specs.Outputs.{Keeps, KeepsFlow, Opens, Stands, document_of, rest_of, spot};
+ghost use Rattle.markdown_flow.specs.Outputs.{Keeps, KeepsFlow, Opens, Stands, constructs_of, document_of, rest_of, source_of, spot};
 ghost use Rattle.markdown_flow.specs.Contents.{AreKept, after_lines};
-ghost use Rattle.markdown_pieces.specs.Tilings.{IsToken, MayBegin};
+ghost use Rattle.markdown_flow.specs.declared.line.Source.{Source};
+ghost use Rattle.markdown_pieces.specs.Spans.{IsAlwaysOn};
+ghost use Rattle.markdown_pieces.specs.declared.piece.Piece.{Piece};
+ghost use Rattle.markdown_pieces.specs.declared.piece.PieceKind.TheVariants.{Enter};
+ghost use Rattle.markdown_pieces.specs.Tilings.{IsToken, MayBegin, Spot};
 ghost use Rattle.markdown_pieces.specs.Walks.{at, stage_after, stage_after_string};
 ghost use Rattle.markdown_flow.specs.Definitions.{HasCuts, joined, left, IsBeforeLine, IsInText, HasBegun, end_before, end_in, GoesOn};
 
@@ -55,10 +59,10 @@ pub fn write<'c, 'd>(
     output: &mut Output<'d>,
 ) -> Result<&'c [KeptLine<'d>], AllocError>
     requires stands { Stands output.old }
-    requires lines { AreKept (document_of output.old) content.now.prefixes.items (spot output.old.cursor) lines.now }
+    requires lines { AreKept (source_of output.old) content.now.prefixes.items (spot output.old.cursor) lines.now }
     ensures stands { OnOk result (Stands output.new) }
-    ensures document { OnOk result (document_of output.new ≡ document_of output.old) }
-    ensures rest { IfOk result (λ rest. AreKept (document_of output.new) content.now.prefixes.items (spot output.new.cursor) rest.now) }
+    ensures source { OnOk result (source_of output.new ≡ source_of output.old) }
+    ensures rest { IfOk result (λ rest. AreKept (source_of output.new) content.now.prefixes.items (spot output.new.cursor) rest.now) }
     ensures end { IfOk result (λ rest. after_lines (spot output.new.cursor) rest.now ≡ after_lines (spot output.old.cursor) lines.now) }
     ensures opens { KeepsFlow result output.old output.new }
 {
@@ -81,7 +85,10 @@ pub fn write<'c, 'd>(
 }
 
 /// Whether a definition may begin in the first of these lines.
-fn may_begin(lines: &[KeptLine<'_>]) -> bool {
+fn may_begin(lines: &[KeptLine<'_>]) -> bool
+    // The construct is on in the source of which the lines are kept.
+    ensures { result ≡ true → (source : Source) → (prefixes : List Piece) → (from : Spot) → AreKept source prefixes from lines.now → source.constructs.now.definition ≡ true }
+{
     match lines.first() {
         Some(kept) => {
             kept.line.constructs().definition && kept.line.text().first() == Some(&b'[')
@@ -94,6 +101,7 @@ impl<'d> PartWriter<'_, '_, 'd> {
     /// Writes a definition, with what comes before its first line.
     fn write(&mut self, found: &Definition, output: &mut Output<'d>) -> Result<(), AllocError>
         requires before { IsBeforeLine self.old output.old }
+        requires on { (constructs_of output.old).definition ≡ true }
         requires fits { found.now.end < length self.old.text.now }
         requires starts { self.old.at ≤ found.now.end }
         requires title { IfSome found.now.title (λ title. title.end ≤ found.now.end) }
@@ -184,6 +192,7 @@ impl<'d> PartWriter<'_, '_, 'd> {
     ) -> Result<(), AllocError>
         requires text { IsInText self.old output.old }
         requires kind { IsToken kind }
+        requires on { IsAlwaysOn kind }
         requires fits { to < length self.old.text.now }
         requires cut { IsCut self.old.text.now to }
         ensures text { OnOk result (IsInText self.new output.new) }
@@ -208,6 +217,7 @@ impl<'d> PartWriter<'_, '_, 'd> {
     fn write_rest(&mut self, kind: PieceKind, output: &mut Output<'d>) -> Result<(), AllocError>
         requires text { IsInText self.old output.old }
         requires kind { IsToken kind }
+        requires on { IsAlwaysOn kind }
         ensures text { OnOk result (IsInText self.new output.new) }
         ensures on { OnOk result (GoesOn self.old self.new output.old output.new) }
         ensures order { OnOk result (self.old.at ≤ self.new.at) }
@@ -229,6 +239,7 @@ impl<'d> PartWriter<'_, '_, 'd> {
     ) -> Result<(), AllocError>
         requires text { IsInText self.old output.old }
         requires kind { IsToken kind }
+        requires on { IsAlwaysOn kind }
         requires cut { IsCut (rest_of output.old) size }
         ensures text { OnOk result (IsInText self.new output.new) }
         ensures on { OnOk result (GoesOn self.old self.new output.old output.new) }
@@ -254,6 +265,7 @@ impl<'d> PartWriter<'_, '_, 'd> {
         requires text { IsInText self.old output.old }
         requires fits { part.now.end < length self.old.text.now }
         requires cuts { HasCuts self.old.text.now part.now }
+        requires on { IsAlwaysOn (Enter name) }
         requires begins { MayBegin (document_of output.old) name (spot output.old.cursor) }
         ensures text { OnOk result (IsInText self.new output.new) }
         ensures on { OnOk result (GoesOn self.old self.new output.old output.new) }
@@ -324,6 +336,7 @@ impl<'d> PartWriter<'_, '_, 'd> {
         requires fits { destination.now.end < length self.old.text.now }
         requires cuts { HasCuts self.old.text.now destination.now }
         requires name { role_of name ≡ Transparent Other }
+        requires on { IsAlwaysOn (Enter name) }
         requires begins { MayBegin (document_of output.old) name (spot output.old.cursor) }
         ensures text { OnOk result (IsInText self.new output.new) }
         ensures on { OnOk result (GoesOn self.old self.new output.old output.new) }

@@ -1,14 +1,16 @@
 //! Documents: the containers that are open, and what a line does to them (micromark).
 
-ghost use Rattle.std.specs.Prelude.{List, [], ℕ, None, OnOk, IfOk, IfSome, IfNone, Some, length, ◌≡◌, ◌≤◌, ◌<◌, ◌-◌, false, true};
+ghost use Rattle.std.specs.Prelude.{[], None, OnOk, IfOk, IfSome, IfNone, Some, length, ◌≡◌, ◌≤◌, ◌<◌, ◌-◌, false, true};
 ghost use Rattle.event_writer.specs.Stages.{flow};
 ghost use Rattle.markdown_flow.specs.Markers.{HasMarker, is_ordered};
 ghost use Rattle.markdown_flow.specs.Flows.{StandsWith, end_with};
 ghost use Rattle.markdown_flow.specs.Moves.{HasMoved};
-ghost use Rattle.markdown_flow.specs.Outputs.{IsAt, Opens, Stands, Writes, Reads, document_of, next_of, spot, spot_in};
+ghost use Rattle.markdown_flow.specs.Outputs.{IsAt, Opens, Stands, Writes, Reads, constructs_in, constructs_of, document_of, next_of, source_of, spot, spot_in};
 ghost use Rattle.markdown_flow.specs.Readers.{OpensAll, goes_on, in_containers, in_last, in_last_item, in_list_of};
-ghost use Rattle.markdown_flow.specs.Starts.{IsContainerStart, marker_of};
+ghost use Rattle.markdown_flow.specs.Starts.{IsContainerStart};
 ghost use Rattle.markdown_flow.specs.declared.leaf.Leaf.TheVariants as leaves;
+ghost use Rattle.markdown_flow.specs.declared.line.Source.{Source};
+ghost use Rattle.markdown_pieces.specs.Spans.{AreOn};
 ghost use Rattle.markdown_pieces.specs.Tilings.{Spot, Tiles, origin};
 ghost use Rattle.markdown_pieces.specs.Walks.{Walks, at, start};
 
@@ -48,15 +50,27 @@ pub fn read(alloc: Global, document: &[u8], options: &ParseOptions) -> Result<Bl
     ensures tiles { IfOk result (λ blocks. Tiles document.now origin blocks.pieces.items (record { offset = length document.now; virtual_spaces = 0 })) }
     // The spans nest, each stands where the grammar takes it, and none is left open.
     ensures nest { IfOk result (λ blocks. Walks start blocks.pieces.items start) }
+    // A construct that is off has no span.
+    ensures on { IfOk result (λ blocks. AreOn options.now.constructs blocks.pieces.items) }
 {
     if document.len() >= 1 << 61 {
         return Err(AllocError);
     }
-    let mut reader = Reader::new(alloc, document);
-    let first = reader.start(Source {
+    let source = Source {
         document,
         constructs: &options.constructs,
-    })?;
+    };
+    read_source(alloc, source)
+}
+
+/// Reads the block structure of a document that is not too long.
+fn read_source(alloc: Global, source: Source<'_>) -> Result<Blocks, AllocError>
+    ensures tiles { IfOk result (λ blocks. Tiles source.entry.document.now origin blocks.pieces.items (record { offset = length source.entry.document.now; virtual_spaces = 0 })) }
+    ensures nest { IfOk result (λ blocks. Walks start blocks.pieces.items start) }
+    ensures on { IfOk result (λ blocks. AreOn source.entry.constructs.now blocks.pieces.items) }
+{
+    let mut reader = Reader::new(alloc, source);
+    let first = reader.start(source)?;
     if let Some(first) = first {
         reader.lines(Input::new(alloc, first))?;
     }
@@ -76,17 +90,17 @@ struct Reader<'d> {
 
 impl<'d> Reader<'d> {
     /// Nothing of a document is read.
-    fn new(alloc: Global, document: &'d [u8]) -> Reader<'d>
+    fn new(alloc: Global, source: Source<'d>) -> Reader<'d>
         ensures stands { StandsWith result.flow result.output }
         ensures none { result.flow.content.lines.items ≡ [] }
-        ensures document { document_of result.output ≡ document.now }
+        ensures source { source_of result.output ≡ source.entry }
         ensures spot { spot result.output.cursor ≡ origin }
         ensures opens { OpensAll result }
         ensures leaf { result.flow.leaf ≡ leaves.None }
         ensures containers { result.containers.items ≡ [] }
     {
         Reader {
-            output: Output::new(alloc, document),
+            output: Output::new(alloc, source),
             containers: Vec::new(alloc),
             flow: Flow::new(alloc),
         }
@@ -95,15 +109,15 @@ impl<'d> Reader<'d> {
     /// Reads what may stand at the start of a document alone, and gives the line that comes after it.
     fn start(&mut self, source: Source<'d>) -> Result<Option<Line<'d>>, AllocError>
         requires stands { StandsWith self.old.flow self.old.output }
-        requires document { document_of self.old.output ≡ source.document.now }
+        requires source { source_of self.old.output ≡ source }
         requires none { self.old.flow.content.lines.items ≡ [] }
         requires end { spot self.old.output.cursor ≡ origin }
         requires containers { self.old.containers.items ≡ [] }
         requires leaf { self.old.flow.leaf ≡ leaves.None }
         requires opens { OpensAll self.old }
         ensures stands { OnOk result (StandsWith self.new.flow self.new.output) }
-        ensures document { OnOk result (document_of self.new.output ≡ document_of self.old.output) }
-        ensures first { IfOk result (λ found. IfSome found (λ line. (line.source.document.now ≡ source.entry.document.now) × (end_with self.new.flow self.new.output ≡ spot_in line))) }
+        ensures source { OnOk result (source_of self.new.output ≡ source_of self.old.output) }
+        ensures first { IfOk result (λ found. IfSome found (λ line. (line.source ≡ source.entry) × (end_with self.new.flow self.new.output ≡ spot_in line))) }
         ensures none { IfOk result (λ found. IfNone found (end_with self.new.flow self.new.output ≡ record { offset = length source.entry.document.now; virtual_spaces = 0 })) }
         ensures opens { OnOk result (OpensAll self.new) }
     {
@@ -123,10 +137,10 @@ impl<'d> Reader<'d> {
     /// Reads the lines from one on.
     fn lines(&mut self, first: Input<'d>) -> Result<(), AllocError>
         requires stands { StandsWith self.old.flow self.old.output }
-        requires reads { Reads (document_of self.old.output) (end_with self.old.flow self.old.output) first }
+        requires reads { Reads (source_of self.old.output) (end_with self.old.flow self.old.output) first }
         requires opens { OpensAll self.old }
         ensures stands { OnOk result (StandsWith self.new.flow self.new.output) }
-        ensures document { OnOk result (document_of self.new.output ≡ document_of self.old.output) }
+        ensures source { OnOk result (source_of self.new.output ≡ source_of self.old.output) }
         ensures end { OnOk result (end_with self.new.flow self.new.output ≡ record { offset = length (document_of self.old.output); virtual_spaces = 0 }) }
         ensures opens { OnOk result (OpensAll self.new) }
     {
@@ -144,10 +158,10 @@ impl<'d> Reader<'d> {
     /// Reads a line.
     fn line(&mut self, input: &mut Input<'d>) -> Result<(), AllocError>
         requires stands { StandsWith self.old.flow self.old.output }
-        requires reads { Reads (document_of self.old.output) (end_with self.old.flow self.old.output) input.old }
+        requires reads { Reads (source_of self.old.output) (end_with self.old.flow self.old.output) input.old }
         requires opens { OpensAll self.old }
         ensures stands { OnOk result (StandsWith self.new.flow self.new.output) }
-        ensures document { OnOk result (document_of self.new.output ≡ document_of self.old.output) }
+        ensures source { OnOk result (source_of self.new.output ≡ source_of self.old.output) }
         ensures end { OnOk result (end_with self.new.flow self.new.output ≡ next_of input.old.line) }
         ensures taken { OnOk result (input.new.prefix.items ≡ []) }
         ensures opens { OnOk result (OpensAll self.new) }
@@ -173,7 +187,7 @@ impl<'d> Reader<'d> {
     #[tactic(auto, using(crate::proofs::Moves::moved_on, crate::proofs::Moves::stays))]
     fn continue_containers(&mut self, input: &mut Input<'d>) -> Result<usize, AllocError>
         requires { OpensAll self.old }
-        ensures reads { (bytes : List ℕ) → (from : Spot) → Reads bytes from input.old → OnOk result (Reads bytes from input.new) }
+        ensures reads { (source : Source) → (from : Spot) → Reads source from input.old → OnOk result (Reads source from input.new) }
         ensures moved { OnOk result (HasMoved input.old.line input.new.line) }
         ensures output { self.new.output ≡ self.old.output }
         ensures flow { self.new.flow ≡ self.old.flow }
@@ -195,7 +209,7 @@ impl<'d> Reader<'d> {
     ) -> Result<bool, AllocError>
         requires within { number < length self.old.containers.items }
         requires opens { OpensAll self.old }
-        ensures reads { (bytes : List ℕ) → (from : Spot) → Reads bytes from input.old → OnOk result (Reads bytes from input.new) }
+        ensures reads { (source : Source) → (from : Spot) → Reads source from input.old → OnOk result (Reads source from input.new) }
         ensures moved { OnOk result (HasMoved input.old.line input.new.line) }
         ensures output { self.new.output ≡ self.old.output }
         ensures flow { self.new.flow ≡ self.old.flow }
@@ -226,11 +240,11 @@ impl<'d> Reader<'d> {
     /// Reads the containers that begin in a line, after so many that go on, and says whether there are any.
     fn open_containers(&mut self, matched: usize, input: &mut Input<'d>) -> Result<bool, AllocError>
         requires stands { StandsWith self.old.flow self.old.output }
-        requires reads { Reads (document_of self.old.output) (end_with self.old.flow self.old.output) input.old }
+        requires reads { Reads (source_of self.old.output) (end_with self.old.flow self.old.output) input.old }
         requires opens { OpensAll self.old }
         ensures stands { OnOk result (StandsWith self.new.flow self.new.output) }
-        ensures reads { OnOk result (Reads (document_of self.new.output) (end_with self.new.flow self.new.output) input.new) }
-        ensures document { OnOk result (document_of self.new.output ≡ document_of self.old.output) }
+        ensures reads { OnOk result (Reads (source_of self.new.output) (end_with self.new.flow self.new.output) input.new) }
+        ensures source { OnOk result (source_of self.new.output ≡ source_of self.old.output) }
         ensures moved { OnOk result (HasMoved input.old.line input.new.line) }
         ensures opens { OnOk result (OpensAll self.new) }
     {
@@ -258,7 +272,7 @@ impl<'d> Reader<'d> {
     ) -> Result<(), AllocError>
         requires stands { StandsWith self.old.flow self.old.output }
         requires opens { OpensAll self.old }
-        requires reads { Reads (document_of self.old.output) (end_with self.old.flow self.old.output) input.old }
+        requires reads { Reads (source_of self.old.output) (end_with self.old.flow self.old.output) input.old }
         requires start { IsContainerStart first input.old.line }
         ensures writes { OnOk result (Writes self.new.output) }
         ensures at { OnOk result (IsAt self.new.output.cursor input.new.line) }
@@ -287,8 +301,9 @@ impl<'d> Reader<'d> {
     ) -> Result<(), AllocError>
         requires stands { StandsWith self.old.flow self.old.output }
         requires opens { OpensAll self.old }
-        requires reads { Reads (document_of self.old.output) (end_with self.old.flow self.old.output) input.old }
+        requires reads { Reads (source_of self.old.output) (end_with self.old.flow self.old.output) input.old }
         requires marker { HasMarker input.old.line.text.now item.digits }
+        requires on { (constructs_in input.old.line).list_item ≡ true }
         ensures writes { OnOk result (Writes self.new.output) }
         ensures at { OnOk result (IsAt self.new.output.cursor input.new.line) }
         ensures taken { OnOk result (input.new.prefix.items ≡ []) }
@@ -313,7 +328,7 @@ impl<'d> Reader<'d> {
         ensures stands { OnOk result (Stands self.new.output) }
         ensures none { OnOk result (self.new.flow.content.lines.items ≡ []) }
         ensures leaf { OnOk result (self.new.flow.leaf ≡ leaves.None) }
-        ensures document { OnOk result (document_of self.new.output ≡ document_of self.old.output) }
+        ensures source { OnOk result (source_of self.new.output ≡ source_of self.old.output) }
         ensures spot { OnOk result (spot self.new.output.cursor ≡ end_with self.old.flow self.old.output) }
         ensures opens { OnOk result (Opens self.new.output (in_containers self.new.containers.items)) }
     {
@@ -459,6 +474,7 @@ impl<'d> Reader<'d> {
         requires at { IsAt self.old.output.cursor input.old.line }
         requires taken { input.old.prefix.items ≡ [] }
         requires marker { HasMarker input.old.line.text.now start.digits }
+        requires on { (constructs_in input.old.line).list_item ≡ true }
         requires opens { Opens self.old.output (in_list_of (is_ordered start.marker) self.old.containers.items) }
         ensures writes { OnOk result (Writes self.new.output) }
         ensures at { OnOk result (IsAt self.new.output.cursor input.new.line) }
@@ -490,7 +506,7 @@ impl<'d> Reader<'d> {
         requires stands { StandsWith self.old.flow self.old.output }
         requires opens { OpensAll self.old }
         ensures stands { OnOk result (Stands self.new.output) }
-        ensures document { OnOk result (document_of self.new.output ≡ document_of self.old.output) }
+        ensures source { OnOk result (source_of self.new.output ≡ source_of self.old.output) }
         ensures spot { OnOk result (spot self.new.output.cursor ≡ end_with self.old.flow self.old.output) }
         ensures opens { OnOk result (Opens self.new.output start) }
     {
@@ -505,6 +521,7 @@ impl<'d> Reader<'d> {
         requires opens { OpensAll self }
         ensures tiles { IfOk result (λ blocks. Tiles (document_of self.entry.output) origin blocks.pieces.items (end_with self.entry.flow self.entry.output)) }
         ensures nest { IfOk result (λ blocks. Walks start blocks.pieces.items start) }
+        ensures on { IfOk result (λ blocks. AreOn (constructs_of self.entry.output) blocks.pieces.items) }
     {
         let mut reader = self;
         reader.end()?;

@@ -4,7 +4,7 @@ ghost use Rattle.std.specs.Prelude.{Bool, List, [], OnOk, IfOk, length, ◌≡�
 ghost use Rattle.std.specs.Str.{IsAscii};
 ghost use Rattle.commonmark_syntax.specs.Cuts.{IsCut};
 ghost use Rattle.event_writer.specs.Stages.{Enclosing};
-ghost use Rattle.markdown_flow.specs.Outputs.{IsAt, Opens, Stands, Writes, WritesOut, Reads, document_of, line_after, next_of, spot};
+ghost use Rattle.markdown_flow.specs.Outputs.{IsAt, Opens, Stands, Writes, WritesOut, Reads, constructs_in, line_after, next_of, source_of, spot};
 ghost use Rattle.markdown_flow.specs.Flows.{LeadsOn, OpensIn, StandsWith, end_with};
 ghost use Rattle.markdown_flow.specs.Leaves.{after_fenced, in_flow, in_leaf, in_raw};
 ghost use Rattle.markdown_flow.specs.Starts.{IsStart};
@@ -65,7 +65,7 @@ impl<'d> Flow<'d> {
         requires { StandsWith self.old output.old }
         ensures stands { OnOk result (Stands output.new) }
         ensures none { OnOk result (self.new.content.lines.items ≡ []) }
-        ensures document { OnOk result (document_of output.new ≡ document_of output.old) }
+        ensures source { OnOk result (source_of output.new ≡ source_of output.old) }
         ensures spot { OnOk result (spot output.new.cursor ≡ end_with self.old output.old) }
         ensures leaf { OnOk result (self.new.leaf ≡ leaves.None) }
         ensures opens { (n : Bool) → (outer : List Enclosing) → OpensIn self.old output.old n outer → OnOk result (Opens output.new (in_flow n outer)) }
@@ -80,7 +80,7 @@ impl<'d> Flow<'d> {
     fn end_leaf(&self, output: &mut Output<'d>) -> Result<(), AllocError>
         requires { StandsWith self.now output.old }
         ensures stands { OnOk result (Stands output.new) }
-        ensures document { OnOk result (document_of output.new ≡ document_of output.old) }
+        ensures source { OnOk result (source_of output.new ≡ source_of output.old) }
         ensures spot { OnOk result (spot output.new.cursor ≡ end_with self.now output.old) }
         ensures opens { (n : Bool) → (outer : List Enclosing) → OpensIn self.now output.old n outer → OnOk result (Opens output.new (in_flow n outer)) }
     {
@@ -111,7 +111,7 @@ impl<'d> Flow<'d> {
         requires { StandsWith self.old output.old }
         ensures stands { OnOk result (Stands output.new) }
         ensures none { OnOk result (self.new.content.lines.items ≡ []) }
-        ensures document { OnOk result (document_of output.new ≡ document_of output.old) }
+        ensures source { OnOk result (source_of output.new ≡ source_of output.old) }
         ensures spot { OnOk result (spot output.new.cursor ≡ end_with self.old output.old) }
         ensures leaf { OnOk result (self.new.leaf ≡ leaves.None) }
         ensures opens { (n : Bool) → (outer : List Enclosing) → OpensIn self.old output.old n outer → OnOk result (Opens output.new (in_flow n outer)) }
@@ -140,7 +140,7 @@ impl<'d> Flow<'d> {
         output: &Output<'d>,
     ) -> Result<bool, AllocError>
         requires stands { StandsWith self.old output.now }
-        requires reads { Reads (document_of output.now) (end_with self.old output.now) input.old }
+        requires reads { Reads (source_of output.now) (end_with self.old output.now) input.old }
         ensures stands { OnOk result (StandsWith self.new output.now) }
         ensures yes { IfOk result (λ r. r ≡ true → (end_with self.new output.now ≡ next_of input.old.line) × (input.new.prefix.items ≡ [])) }
         ensures no { IfOk result (λ r. r ≡ false → (self.new ≡ self.old) × (input.new ≡ input.old)) }
@@ -158,9 +158,9 @@ impl<'d> Flow<'d> {
     /// Reads a line that is in all open containers.
     pub fn line(&mut self, input: &mut Input<'d>, output: &mut Output<'d>) -> Result<(), AllocError>
         requires stands { StandsWith self.old output.old }
-        requires reads { Reads (document_of output.old) (end_with self.old output.old) input.old }
+        requires reads { Reads (source_of output.old) (end_with self.old output.old) input.old }
         ensures stands { OnOk result (StandsWith self.new output.new) }
-        ensures document { OnOk result (document_of output.new ≡ document_of output.old) }
+        ensures source { OnOk result (source_of output.new ≡ source_of output.old) }
         ensures end { OnOk result (end_with self.new output.new ≡ next_of input.old.line) }
         ensures taken { OnOk result (input.new.prefix.items ≡ []) }
         ensures opens { LeadsOn result self.old self.new output.old output.new }
@@ -184,7 +184,7 @@ impl<'d> Flow<'d> {
         requires ended { output.old.cursor.offset ≡ output.old.cursor.extent.end }
         requires none { self.old.content.lines.items ≡ [] }
         ensures stands { OnOk result (StandsWith self.new output.new) }
-        ensures document { OnOk result (document_of output.new ≡ document_of output.old) }
+        ensures source { OnOk result (source_of output.new ≡ source_of output.old) }
         ensures end { OnOk result (end_with self.new output.new ≡ line_after output.old.cursor) }
         ensures opens { (n : Bool) → (outer : List Enclosing) → Opens output.old (in_leaf leaf n outer) → OnOk result (OpensIn self.new output.new n outer) }
     {
@@ -195,9 +195,9 @@ impl<'d> Flow<'d> {
     /// Ends the leaf, and reads the line anew.
     fn restart(&mut self, input: &mut Input<'d>, output: &mut Output<'d>) -> Result<(), AllocError>
         requires stands { StandsWith self.old output.old }
-        requires reads { Reads (document_of output.old) (end_with self.old output.old) input.old }
+        requires reads { Reads (source_of output.old) (end_with self.old output.old) input.old }
         ensures stands { OnOk result (StandsWith self.new output.new) }
-        ensures document { OnOk result (document_of output.new ≡ document_of output.old) }
+        ensures source { OnOk result (source_of output.new ≡ source_of output.old) }
         ensures end { OnOk result (end_with self.new output.new ≡ next_of input.old.line) }
         ensures taken { OnOk result (input.new.prefix.items ≡ []) }
         ensures opens { LeadsOn result self.old self.new output.old output.new }
@@ -211,9 +211,9 @@ impl<'d> Flow<'d> {
         requires stands { Stands output.old }
         requires leaf { self.old.leaf ≡ leaves.None }
         requires none { self.old.content.lines.items ≡ [] }
-        requires reads { Reads (document_of output.old) (spot output.old.cursor) input.old }
+        requires reads { Reads (source_of output.old) (spot output.old.cursor) input.old }
         ensures stands { OnOk result (StandsWith self.new output.new) }
-        ensures document { OnOk result (document_of output.new ≡ document_of output.old) }
+        ensures source { OnOk result (source_of output.new ≡ source_of output.old) }
         ensures end { OnOk result (end_with self.new output.new ≡ next_of input.old.line) }
         ensures taken { OnOk result (input.new.prefix.items ≡ []) }
         ensures opens { (n : Bool) → (outer : List Enclosing) → Opens output.old (in_flow n outer) → OnOk result (OpensIn self.new output.new n outer) }
@@ -242,9 +242,9 @@ impl<'d> Flow<'d> {
         requires stands { Stands output.old }
         requires start { IsStart start input.old.line }
         requires none { self.old.content.lines.items ≡ [] }
-        requires reads { Reads (document_of output.old) (spot output.old.cursor) input.old }
+        requires reads { Reads (source_of output.old) (spot output.old.cursor) input.old }
         ensures stands { OnOk result (StandsWith self.new output.new) }
-        ensures document { OnOk result (document_of output.new ≡ document_of output.old) }
+        ensures source { OnOk result (source_of output.new ≡ source_of output.old) }
         ensures end { OnOk result (end_with self.new output.new ≡ next_of input.old.line) }
         ensures taken { OnOk result (input.new.prefix.items ≡ []) }
         ensures opens { (n : Bool) → (outer : List Enclosing) → Opens output.old (in_flow n outer) → OnOk result (OpensIn self.new output.new n outer) }
@@ -262,9 +262,9 @@ impl<'d> Flow<'d> {
     ) -> Result<(), AllocError>
         requires stands { StandsWith self.old output.old }
         requires leaf { self.old.leaf ≡ leaves.Paragraph }
-        requires reads { Reads (document_of output.old) (end_with self.old output.old) input.old }
+        requires reads { Reads (source_of output.old) (end_with self.old output.old) input.old }
         ensures stands { OnOk result (StandsWith self.new output.new) }
-        ensures document { OnOk result (document_of output.new ≡ document_of output.old) }
+        ensures source { OnOk result (source_of output.new ≡ source_of output.old) }
         ensures end { OnOk result (end_with self.new output.new ≡ next_of input.old.line) }
         ensures taken { OnOk result (input.new.prefix.items ≡ []) }
         ensures opens { LeadsOn result self.old self.new output.old output.new }
@@ -296,12 +296,13 @@ impl<'d> Flow<'d> {
     ) -> Result<(), AllocError>
         requires stands { StandsWith self.old output.old }
         requires leaf { self.old.leaf ≡ leaves.Paragraph }
+        requires on { (constructs_in input.old.line).heading_setext ≡ true }
         requires filled { 0 < size }
         requires text { 0 < length input.old.line.text.now }
         requires cut { IsCut input.old.line.text.now size }
-        requires reads { Reads (document_of output.old) (end_with self.old output.old) input.old }
+        requires reads { Reads (source_of output.old) (end_with self.old output.old) input.old }
         ensures stands { OnOk result (StandsWith self.new output.new) }
-        ensures document { OnOk result (document_of output.new ≡ document_of output.old) }
+        ensures source { OnOk result (source_of output.new ≡ source_of output.old) }
         ensures end { OnOk result (end_with self.new output.new ≡ next_of input.old.line) }
         ensures taken { OnOk result (input.new.prefix.items ≡ []) }
         ensures opens { LeadsOn result self.old self.new output.old output.new }
@@ -323,6 +324,7 @@ impl<'d> Flow<'d> {
     fn is_table_head(&self, line: &Line<'d>) -> bool
         ensures some { result ≡ true → 0 < length self.now.content.lines.items }
         ensures ascii { result ≡ true → IsAscii line.now.text.now }
+        ensures on { result ≡ true → (constructs_in line.now).gfm_table ≡ true }
     {
         match self.content.lines().last() {
             Some(header) => gfm_table::begins(&header.line, line),
@@ -340,9 +342,10 @@ impl<'d> Flow<'d> {
         requires leaf { self.old.leaf ≡ leaves.Paragraph }
         requires some { 0 < length self.old.content.lines.items }
         requires ascii { IsAscii input.old.line.text.now }
-        requires reads { Reads (document_of output.old) (end_with self.old output.old) input.old }
+        requires on { (constructs_in input.old.line).gfm_table ≡ true }
+        requires reads { Reads (source_of output.old) (end_with self.old output.old) input.old }
         ensures stands { OnOk result (StandsWith self.new output.new) }
-        ensures document { OnOk result (document_of output.new ≡ document_of output.old) }
+        ensures source { OnOk result (source_of output.new ≡ source_of output.old) }
         ensures end { OnOk result (end_with self.new output.new ≡ next_of input.old.line) }
         ensures taken { OnOk result (input.new.prefix.items ≡ []) }
         ensures opens { LeadsOn result self.old self.new output.old output.new }
@@ -365,9 +368,9 @@ impl<'d> Flow<'d> {
     ) -> Result<(), AllocError>
         requires stands { StandsWith self.old output.old }
         requires leaf { self.old.leaf ≡ leaves.Table has_body }
-        requires reads { Reads (document_of output.old) (end_with self.old output.old) input.old }
+        requires reads { Reads (source_of output.old) (end_with self.old output.old) input.old }
         ensures stands { OnOk result (StandsWith self.new output.new) }
-        ensures document { OnOk result (document_of output.new ≡ document_of output.old) }
+        ensures source { OnOk result (source_of output.new ≡ source_of output.old) }
         ensures end { OnOk result (end_with self.new output.new ≡ next_of input.old.line) }
         ensures taken { OnOk result (input.new.prefix.items ≡ []) }
         ensures opens { LeadsOn result self.old self.new output.old output.new }
@@ -388,9 +391,9 @@ impl<'d> Flow<'d> {
     ) -> Result<(), AllocError>
         requires stands { StandsWith self.old output.old }
         requires leaf { self.old.leaf ≡ leaves.CodeIndented }
-        requires reads { Reads (document_of output.old) (end_with self.old output.old) input.old }
+        requires reads { Reads (source_of output.old) (end_with self.old output.old) input.old }
         ensures stands { OnOk result (StandsWith self.new output.new) }
-        ensures document { OnOk result (document_of output.new ≡ document_of output.old) }
+        ensures source { OnOk result (source_of output.new ≡ source_of output.old) }
         ensures end { OnOk result (end_with self.new output.new ≡ next_of input.old.line) }
         ensures taken { OnOk result (input.new.prefix.items ≡ []) }
         ensures opens { LeadsOn result self.old self.new output.old output.new }
@@ -418,9 +421,9 @@ impl<'d> Flow<'d> {
     ) -> Result<(), AllocError>
         requires stands { StandsWith self.old output.old }
         requires leaf { self.old.leaf ≡ leaves.Html html }
-        requires reads { Reads (document_of output.old) (end_with self.old output.old) input.old }
+        requires reads { Reads (source_of output.old) (end_with self.old output.old) input.old }
         ensures stands { OnOk result (StandsWith self.new output.new) }
-        ensures document { OnOk result (document_of output.new ≡ document_of output.old) }
+        ensures source { OnOk result (source_of output.new ≡ source_of output.old) }
         ensures end { OnOk result (end_with self.new output.new ≡ next_of input.old.line) }
         ensures taken { OnOk result (input.new.prefix.items ≡ []) }
         ensures opens { LeadsOn result self.old self.new output.old output.new }
@@ -442,9 +445,9 @@ impl<'d> Flow<'d> {
         requires stands { StandsWith self.old output.old }
         requires none { self.old.content.lines.items ≡ [] }
         requires leaf { (n : Bool) → (outer : List Enclosing) → in_leaf self.old.leaf n outer ≡ in_raw fence.content n outer }
-        requires reads { Reads (document_of output.old) (end_with self.old output.old) input.old }
+        requires reads { Reads (source_of output.old) (end_with self.old output.old) input.old }
         ensures stands { OnOk result (StandsWith self.new output.new) }
-        ensures document { OnOk result (document_of output.new ≡ document_of output.old) }
+        ensures source { OnOk result (source_of output.new ≡ source_of output.old) }
         ensures end { OnOk result (end_with self.new output.new ≡ next_of input.old.line) }
         ensures taken { OnOk result (input.new.prefix.items ≡ []) }
         ensures opens { LeadsOn result self.old self.new output.old output.new }

@@ -4,7 +4,7 @@ ghost use Rattle.std.specs.Prelude.{Bool, List, OnOk, IfOk, IfSome, false, lengt
 ghost use Rattle.commonmark_syntax.specs.Cuts.{IsCut};
 ghost use Rattle.event_writer.specs.Stages.{Enclosing, flow, inlines};
 ghost use Rattle.markdown_events.specs.declared.event.Name.TheVariants.{Frontmatter};
-ghost use Rattle.markdown_flow.specs.Outputs.{Keeps, KeepsFlow, Opens, Stands, Writes, WritesOut, document_of, line_after, next_of, rest_of, spot, spot_in};
+ghost use Rattle.markdown_flow.specs.Outputs.{Keeps, KeepsFlow, Opens, Stands, Writes, WritesOut, constructs_in, constructs_of, line_after, next_of, rest_of, source_of, spot, spot_in};
 ghost use Rattle.markdown_pieces.specs.Walks.{at, inside};
 
 use crate::line::Line;
@@ -20,6 +20,7 @@ const SIGNS: usize = 3;
 /// The sign of the fences of frontmatter that begins in the first line of a document, if there is any
 /// (micromark). Always `None` with `frontmatter` off.
 pub fn begins(first: &Line<'_>) -> Option<u8>
+    ensures on { IfSome result (λ _. (constructs_in first.now).frontmatter ≡ true) }
     ensures sign { IfSome result (λ sign. sign < 128) }
     ensures some { IfSome result (λ _. 0 < length first.now.rest.now) }
     ensures cut { IfSome result (λ _. IsCut first.now.rest.now 3) }
@@ -53,13 +54,14 @@ fn is_closed(first: &Line<'_>, sign: u8) -> bool {
 /// Writes the frontmatter that begins in a line, and gives the line of the fence that closes it.
 pub fn write<'d>(first: Line<'d>, sign: u8, output: &mut Output<'d>) -> Result<Line<'d>, AllocError>
     requires stands { Stands output.old }
-    requires document { first.source.document.now ≡ document_of output.old }
+    requires source { first.source ≡ source_of output.old }
+    requires on { (constructs_of output.old).frontmatter ≡ true }
     requires start { spot output.old.cursor ≡ spot_in first }
     requires sign { sign < 128 }
     requires some { 0 < length first.rest.now }
     requires cut { IsCut first.rest.now 3 }
     ensures stands { OnOk result (Stands output.new) }
-    ensures document { OnOk result (document_of output.new ≡ document_of output.old) }
+    ensures source { OnOk result (source_of output.new ≡ source_of output.old) }
     ensures line { IfOk result (λ line. (line.source ≡ first.entry.source) × (spot output.new.cursor ≡ next_of line)) }
     ensures opens { KeepsFlow result output.old output.new }
 {
@@ -87,7 +89,7 @@ fn end(output: &mut Output<'_>) -> Result<(), AllocError>
     requires writes { Writes output.old }
     requires ended { output.old.cursor.offset ≡ output.old.cursor.extent.end }
     ensures stands { OnOk result (Stands output.new) }
-    ensures document { OnOk result (document_of output.new ≡ document_of output.old) }
+    ensures source { OnOk result (source_of output.new ≡ source_of output.old) }
     ensures spot { OnOk result (spot output.new.cursor ≡ line_after output.old.cursor) }
     ensures opens { (n : Bool) → (outer : List Enclosing) → Opens output.old (at (inlines false) (inside Frontmatter (flow n) outer)) → OnOk result (Opens output.new (at (flow n) outer)) }
 {

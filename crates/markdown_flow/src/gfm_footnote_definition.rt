@@ -1,11 +1,12 @@
 //! Footnote definitions (GFM).
 
-ghost use Rattle.std.specs.Prelude.{Bool, List, ℕ, OnOk, IfSome, false, length, ◌≤◌, ◌+◌};
+ghost use Rattle.std.specs.Prelude.{Bool, List, OnOk, IfSome, false, length, true, ◌≡◌, ◌≤◌, ◌+◌};
 ghost use Rattle.event_writer.specs.Stages.{Enclosing, flow, footnote_definition};
 ghost use Rattle.markdown_events.specs.declared.event.Name.TheVariants.{GfmFootnoteDefinition};
-ghost use Rattle.markdown_flow.specs.Outputs.{IsAt, Opens, Writes, WritesOn, Reads, rest_of};
+ghost use Rattle.markdown_flow.specs.Outputs.{IsAt, Opens, Writes, WritesOn, Reads, constructs_in, constructs_of, rest_of};
 ghost use Rattle.markdown_flow.specs.Moves.{HasMoved};
 ghost use Rattle.markdown_flow.specs.Markers.{HasLabel};
+ghost use Rattle.markdown_flow.specs.declared.line.Source.{Source};
 ghost use Rattle.markdown_pieces.specs.Tilings.{Spot};
 ghost use Rattle.markdown_pieces.specs.Walks.{at, inside};
 
@@ -22,7 +23,8 @@ use std::alloc::AllocError;
 ///
 /// It is 1 in `[^a]: b`.
 pub fn begins(line: &Line<'_>) -> Option<usize>
-    ensures { IfSome result (λ size. HasLabel line.now.text.now size) }
+    ensures label { IfSome result (λ size. HasLabel line.now.text.now size) }
+    ensures on { IfSome result (λ _. (constructs_in line.now).gfm_footnote_definition ≡ true) }
 {
     let inside = line.text().strip_prefix(b"[^")?;
     let size = label_size(inside)?;
@@ -54,7 +56,7 @@ fn label_size(inside: &[u8]) -> Option<usize>
 /// Whether a footnote definition goes on in a line: one that is blank, or indented by four columns (GFM). If
 /// it does, its indentation is read.
 pub fn continues(input: &mut Input<'_>) -> Result<bool, AllocError>
-    ensures reads { (bytes : List ℕ) → (from : Spot) → Reads bytes from input.old → OnOk result (Reads bytes from input.new) }
+    ensures reads { (source : Source) → (from : Spot) → Reads source from input.old → OnOk result (Reads source from input.new) }
     ensures moved { OnOk result (HasMoved input.old.line input.new.line) }
 {
     if !input.line.is_blank() && input.line.indent() < TAB_SIZE {
@@ -69,6 +71,7 @@ pub fn open<'d>(size: usize, line: &mut Line<'d>, output: &mut Output<'d>) -> Re
     requires writes { Writes output.old }
     requires at { IsAt output.old.cursor line.old }
     requires label { HasLabel line.old.text.now size }
+    requires on { (constructs_of output.old).gfm_footnote_definition ≡ true }
     ensures writes { OnOk result (Writes output.new) }
     ensures at { OnOk result (IsAt output.new.cursor line.new) }
     ensures moved { HasMoved line.old line.new }

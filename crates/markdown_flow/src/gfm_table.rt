@@ -4,8 +4,10 @@ ghost use Rattle.std.specs.Prelude.{Bool, List, [], OnOk, Some, false, length, t
 ghost use Rattle.std.specs.Str.{IsAscii};
 ghost use Rattle.event_writer.specs.Stages.{Enclosing, Stage, delimiter_row, inlines};
 ghost use Rattle.markdown_flow.specs.Leaves.{in_flow, in_table};
-ghost use Rattle.markdown_flow.specs.Outputs.{HasLine, Keeps, Opens, Stands, Writes, WritesOn, WritesOut, Reads, document_of, next_of, rest_of, spot, text_of};
+ghost use Rattle.markdown_flow.specs.Outputs.{HasLine, Keeps, Opens, Stands, Writes, WritesOn, WritesOut, Reads, constructs_in, constructs_of, next_of, rest_of, source_of, spot, text_of};
 ghost use Rattle.markdown_flow.specs.Contents.{Kept};
+ghost use Rattle.markdown_pieces.specs.Spans.{IsAlwaysOn};
+ghost use Rattle.markdown_pieces.specs.declared.piece.PieceKind.TheVariants.{Token};
 ghost use Rattle.markdown_pieces.specs.Tilings.{IsPlain};
 ghost use Rattle.markdown_pieces.specs.Walks.{after_token};
 
@@ -22,7 +24,8 @@ use std::alloc::AllocError;
 /// Whether the last line of a paragraph and the line after it are the head of a table (GFM). Never, with
 /// `gfm_table` off.
 pub fn begins(header: &Line<'_>, line: &Line<'_>) -> bool
-    ensures { result ≡ true → IsAscii line.now.text.now }
+    ensures ascii { result ≡ true → IsAscii line.now.text.now }
+    ensures on { result ≡ true → (constructs_in line.now).gfm_table ≡ true }
 {
     if !line.constructs().gfm_table || line.is_indented() || header.is_indented() {
         return false;
@@ -83,9 +86,10 @@ pub fn open<'d>(
     output: &mut Output<'d>,
 ) -> Result<(), AllocError>
     requires stands { Stands output.old }
-    requires header { Kept (document_of output.old) content.now.prefixes.items (spot output.old.cursor) header.now }
-    requires input { Reads (document_of output.old) (next_of header.now.line) input.old }
+    requires header { Kept (source_of output.old) content.now.prefixes.items (spot output.old.cursor) header.now }
+    requires input { Reads (source_of output.old) (next_of header.now.line) input.old }
     requires ascii { IsAscii input.old.line.text.now }
+    requires on { (constructs_of output.old).gfm_table ≡ true }
     ensures writes { OnOk result (Writes output.new) }
     ensures at { OnOk result (HasLine output.new.cursor input.old.line) }
     ensures ended { OnOk result (output.new.cursor.offset ≡ output.new.cursor.extent.end) }
@@ -145,6 +149,7 @@ fn write_delimiter(cell: &Cell<'_>, output: &mut Output<'_>) -> Result<(), Alloc
 fn write_run(name: Name, of: u8, output: &mut Output<'_>) -> Result<(), AllocError>
     requires writes { Writes output.old }
     requires plain { IsPlain name }
+    requires on { IsAlwaysOn (Token name) }
     requires ascii { of < 128 }
     ensures written { OnOk result (WritesOn output.old output.new) }
     ensures rest { IsAscii (rest_of output.old) → OnOk result (IsAscii (rest_of output.new)) }

@@ -1,8 +1,8 @@
 //! Headings with number signs (CommonMark).
 
-ghost use Rattle.std.specs.Prelude.{OnOk, IfSome, length, ◌≤◌};
+ghost use Rattle.std.specs.Prelude.{OnOk, IfSome, length, true, ◌≡◌, ◌≤◌};
 ghost use Rattle.commonmark_syntax.specs.Cuts.{IsCut};
-ghost use Rattle.markdown_flow.specs.Outputs.{KeepsFlow, Writes, WritesOut, text_of};
+ghost use Rattle.markdown_flow.specs.Outputs.{KeepsFlow, Writes, WritesOut, constructs_in, constructs_of, text_of};
 ghost use Rattle.markdown_flow.specs.Markers.{HasSigns};
 
 use crate::line::Line;
@@ -20,7 +20,8 @@ const SIGNS_MOST: usize = 6;
 ///
 /// It is 2 in `## a`.
 pub fn begins(line: &Line<'_>) -> Option<usize>
-    ensures { IfSome result (λ size. HasSigns line.now.text.now size) }
+    ensures signs { IfSome result (λ size. HasSigns line.now.text.now size) }
+    ensures on { IfSome result (λ _. (constructs_in line.now).heading_atx ≡ true) }
 {
     let size = run_length(line.text(), b'#');
     let fits = 0 < size && size <= SIGNS_MOST;
@@ -32,6 +33,7 @@ pub fn begins(line: &Line<'_>) -> Option<usize>
 pub fn write(size: usize, output: &mut Output<'_>) -> Result<(), AllocError>
     requires writes { Writes output.old }
     requires signs { HasSigns (text_of output.old) size }
+    requires on { (constructs_of output.old).heading_atx ≡ true }
     ensures written { OnOk result (WritesOut output.old output.new) }
     ensures opens { KeepsFlow result output.old output.new }
 {

@@ -1,9 +1,9 @@
 //! Headings with an underline (CommonMark).
 
-ghost use Rattle.std.specs.Prelude.{List, [], OnOk, IfSome, length, ◌≡◌, ◌<◌};
+ghost use Rattle.std.specs.Prelude.{List, [], OnOk, IfSome, length, true, ◌≡◌, ◌<◌};
 ghost use Rattle.commonmark_syntax.specs.Cuts.{IsCut};
 ghost use Rattle.event_writer.specs.Stages.{Enclosing, heading_setext_underline, nothing};
-ghost use Rattle.markdown_flow.specs.Outputs.{HasLine, KeepsFlow, Opens, Stands, Writes, WritesOut, Reads, document_of, next_of, spot, text_of};
+ghost use Rattle.markdown_flow.specs.Outputs.{HasLine, KeepsFlow, Opens, Stands, Writes, WritesOut, Reads, constructs_in, constructs_of, next_of, source_of, spot, text_of};
 ghost use Rattle.markdown_flow.specs.Contents.{Kept, AreKept, after_lines};
 ghost use Rattle.markdown_pieces.specs.Walks.{at};
 
@@ -21,6 +21,7 @@ use std::alloc::AllocError;
 ///
 /// It is 3 in `===`.
 pub fn underline(line: &Line<'_>) -> Option<usize>
+    ensures on { IfSome result (λ _. (constructs_in line.now).heading_setext ≡ true) }
     ensures least { IfSome result (λ size. 0 < size) }
     ensures text { IfSome result (λ _. 0 < length line.now.text.now) }
     ensures cut { IfSome result (λ size. IsCut line.now.text.now size) }
@@ -46,9 +47,10 @@ pub fn write<'d>(
     output: &mut Output<'d>,
 ) -> Result<(), AllocError>
     requires stands { Stands output.old }
-    requires first { Kept (document_of output.old) content.now.prefixes.items (spot output.old.cursor) first.now }
-    requires later { AreKept (document_of output.old) content.now.prefixes.items (next_of first.now.line) later.now }
-    requires input { Reads (document_of output.old) (after_lines (next_of first.now.line) later.now) input.old }
+    requires first { Kept (source_of output.old) content.now.prefixes.items (spot output.old.cursor) first.now }
+    requires later { AreKept (source_of output.old) content.now.prefixes.items (next_of first.now.line) later.now }
+    requires input { Reads (source_of output.old) (after_lines (next_of first.now.line) later.now) input.old }
+    requires on { (constructs_of output.old).heading_setext ≡ true }
     requires filled { 0 < size }
     requires text { 0 < length input.old.line.text.now }
     requires cut { IsCut input.old.line.text.now size }

@@ -1,9 +1,9 @@
 //! Blocks of HTML (CommonMark).
 
-ghost use Rattle.std.specs.Prelude.{Bool, List, OnOk, IfOk, false};
+ghost use Rattle.std.specs.Prelude.{Bool, List, OnOk, IfOk, IfSome, false, true, ◌≡◌};
 ghost use Rattle.event_writer.specs.Stages.{Enclosing};
 ghost use Rattle.markdown_flow.specs.Leaves.{in_flow, in_html};
-ghost use Rattle.markdown_flow.specs.Outputs.{Opens, Writes, WritesOut};
+ghost use Rattle.markdown_flow.specs.Outputs.{Opens, Writes, WritesOut, constructs_in, constructs_of};
 
 use crate::html_names::{is_basic, is_raw};
 use crate::line::Line;
@@ -37,7 +37,9 @@ pub enum Html {
 impl Html {
     /// The kind of the block of HTML that begins in a line, if one does (CommonMark). The last kind cannot
     /// interrupt a paragraph. Always `None` with `html_flow` off.
-    pub fn find(line: &Line<'_>, interrupts: bool) -> Option<Html> {
+    pub fn find(line: &Line<'_>, interrupts: bool) -> Option<Html>
+        ensures { IfSome result (λ _. (constructs_in line.now).html_flow ≡ true) }
+    {
         if !line.constructs().html_flow {
             return None;
         }
@@ -72,7 +74,8 @@ impl Html {
 
     /// Writes its first line, and says whether it ends there.
     pub fn open(self, output: &mut Output<'_>) -> Result<bool, AllocError>
-        requires { Writes output.old }
+        requires writes { Writes output.old }
+        requires on { (constructs_of output.old).html_flow ≡ true }
         ensures written { OnOk result (WritesOut output.old output.new) }
         ensures opens { (n : Bool) → (outer : List Enclosing) → Opens output.old (in_flow n outer) → IfOk result (λ ends. Opens output.new (in_html ends n outer)) }
     {

@@ -1,6 +1,6 @@
 //! The line that is read, and what the open containers took of it.
 
-ghost use Rattle.std.specs.Prelude.{List, [], ℕ, OnOk, length, slice_index, ◌≡◌, ◌<◌, ◌++◌};
+ghost use Rattle.std.specs.Prelude.{[], OnOk, length, slice_index, ◌≡◌, ◌<◌, ◌++◌};
 
 use crate::line::Line;
 use crate::output::piece_to;
@@ -22,6 +22,7 @@ pub struct Input<'d> {
 impl<'d> Input<'d> {
     ghost use Rattle.markdown_flow.specs.Moves.{HasMoved};
     ghost use Rattle.markdown_flow.specs.Outputs.{Reads, spot_in};
+    ghost use Rattle.markdown_flow.specs.declared.line.Source.{Source};
     ghost use Rattle.markdown_pieces.specs.Tilings.{Goes, Spot};
     ghost use Rattle.markdown_pieces.specs.Walks.{IsBetween};
 
@@ -51,7 +52,7 @@ impl<'d> Input<'d> {
     pub fn block_quote_prefix(&mut self) -> Result<(), AllocError>
         requires some { 0 < length self.old.line.text.now }
         requires ascii { slice_index self.old.line.text.now 0 < 128 }
-        ensures reads { (bytes : List ℕ) → (from : Spot) → Reads bytes from self.old → OnOk result (Reads bytes from self.new) }
+        ensures reads { (source : Source) → (from : Spot) → Reads source from self.old → OnOk result (Reads source from self.new) }
         ensures moved { OnOk result (HasMoved self.old.line self.new.line) }
     {
         let mut line = self.line;
@@ -62,7 +63,7 @@ impl<'d> Input<'d> {
 
     /// Moves the cursor over up to so many columns of white space, which go to the prefix.
     pub fn columns(&mut self, columns: usize) -> Result<(), AllocError>
-        ensures reads { (bytes : List ℕ) → (from : Spot) → Reads bytes from self.old → OnOk result (Reads bytes from self.new) }
+        ensures reads { (source : Source) → (from : Spot) → Reads source from self.old → OnOk result (Reads source from self.new) }
         ensures moved { OnOk result (HasMoved self.old.line self.new.line) }
         ensures text { OnOk result (self.new.line.text ≡ self.old.line.text) }
     {
@@ -79,7 +80,7 @@ impl<'d> Input<'d> {
         requires source { line.source ≡ self.old.line.source }
         requires goes { Goes self.old.line.source.document.now kind (spot_in self.old.line) (spot_in line) }
         requires between { IsBetween kind }
-        ensures reads { (bytes : List ℕ) → (from : Spot) → Reads bytes from self.old → OnOk result (Reads bytes from self.new) }
+        ensures reads { (source : Source) → (from : Spot) → Reads source from self.old → OnOk result (Reads source from self.new) }
         ensures line { OnOk result (self.new.line ≡ line.entry) }
     {
         let piece = piece_to(kind, &line);

@@ -87,7 +87,7 @@ pub struct Line<'d> {
 impl<'d> Line<'d> {
     ghost use Rattle.commonmark_syntax.specs.Cuts.{IsCut};
     ghost use Rattle.markdown_flow.specs.Moves.{HasMoved};
-    ghost use Rattle.markdown_flow.specs.Outputs.{ComesToCut};
+    ghost use Rattle.markdown_flow.specs.Outputs.{ComesToCut, constructs_in};
 
     /// The line that begins at an offset, or `None` at the end of the document.
     pub fn new(source: Source<'d>, start: usize) -> Option<Line<'d>>
@@ -132,16 +132,18 @@ impl<'d> Line<'d> {
         Line::new(self.source, self.next)
     }
 
-    /// Which constructs there are.
-    pub fn constructs(&self) -> &'d Constructs {
-        self.source.constructs
+    /// The document, and the constructs that it is read with.
+    pub fn source(&self) -> Source<'d>
+        ensures { result ≡ self.now.source }
+    {
+        self.source
     }
 
-    /// The document.
-    pub fn document(&self) -> &'d [u8]
-        ensures { result.now ≡ self.now.source.document.now }
+    /// Which constructs there are.
+    pub fn constructs(&self) -> &'d Constructs
+        ensures { result.now ≡ self.now.source.constructs.now }
     {
-        self.source.document
+        self.source.constructs
     }
 
     /// The bytes after the cursor.
@@ -214,7 +216,9 @@ impl<'d> Line<'d> {
 
     /// Whether the text is indented like code, so that it is no other block (CommonMark). Never, with
     /// `code_indented` off (micromark).
-    pub fn is_indented(&self) -> bool {
+    pub fn is_indented(&self) -> bool
+        ensures { result ≡ true → (constructs_in self.now).code_indented ≡ true }
+    {
         self.source.constructs.code_indented && self.indent >= TAB_SIZE
     }
 

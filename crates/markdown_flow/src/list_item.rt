@@ -1,14 +1,15 @@
 //! Items, and the lists that they make (CommonMark).
 
-ghost use Rattle.std.specs.Prelude.{List, ℕ, OnOk, IfOk, IfSome, false, length, nat_lt, slice_index, true, ◌≡◌, ◌<◌, ◌≤◌};
+ghost use Rattle.std.specs.Prelude.{List, OnOk, IfOk, IfSome, false, nat_lt, slice_index, true, ◌≡◌, ◌<◌, ◌≤◌};
 ghost use Rattle.std.specs.Char.{is_ascii_digit};
 ghost use Rattle.event_writer.specs.Stages.{Enclosing, flow, item};
 ghost use Rattle.markdown_events.specs.declared.event.Name.TheVariants.{ListItem};
 ghost use Rattle.markdown_flow.specs.Containers.{after_item, before_number, in_list, list_name};
 ghost use Rattle.markdown_flow.specs.Lines.{is_space_or_tab};
 ghost use Rattle.markdown_flow.specs.Markers.{HasMarker, is_ordered};
-ghost use Rattle.markdown_flow.specs.Outputs.{IsAt, Opens, Stands, Writes, Reads};
+ghost use Rattle.markdown_flow.specs.Outputs.{IsAt, Opens, Stands, Writes, Reads, constructs_in, constructs_of};
 ghost use Rattle.markdown_flow.specs.Moves.{HasMoved};
+ghost use Rattle.markdown_flow.specs.declared.line.Source.{Source};
 ghost use Rattle.markdown_pieces.specs.Tilings.{Spot};
 ghost use Rattle.markdown_pieces.specs.Walks.{at, inside};
 
@@ -71,7 +72,8 @@ pub fn list_name(marker: u8) -> Name
 /// An item can interrupt a paragraph only if it is not blank, and only if its number is 1, where it has one
 /// (CommonMark).
 pub fn begins(line: &Line<'_>, interrupts: bool) -> Option<ItemStart>
-    ensures { IfSome result (λ start. HasMarker line.now.text.now start.digits) }
+    ensures marker { IfSome result (λ start. HasMarker line.now.text.now start.digits) }
+    ensures on { IfSome result (λ _. (constructs_in line.now).list_item ≡ true) }
 {
     if !line.constructs().list_item || thematic_break::begins(line) {
         return None;
@@ -119,7 +121,7 @@ fn is_one(digits: &[u8]) -> bool {
 impl Item {
     /// Whether it goes on in a line. If it does, its indentation is read.
     pub fn continues(&mut self, input: &mut Input<'_>) -> Result<bool, AllocError>
-        ensures reads { (bytes : List ℕ) → (from : Spot) → Reads bytes from input.old → OnOk result (Reads bytes from input.new) }
+        ensures reads { (source : Source) → (from : Spot) → Reads source from input.old → OnOk result (Reads source from input.new) }
         ensures moved { OnOk result (HasMoved input.old.line input.new.line) }
         ensures marker { self.new.marker ≡ self.old.marker }
     {
@@ -163,6 +165,7 @@ pub fn open<'d>(
     requires writes { Writes output.old }
     requires at { IsAt output.old.cursor line.old }
     requires marker { HasMarker line.old.text.now start.digits }
+    requires on { (constructs_of output.old).list_item ≡ true }
     ensures writes { OnOk result (Writes output.new) }
     ensures at { OnOk result (IsAt output.new.cursor line.new) }
     ensures moved { HasMoved line.old line.new }
@@ -197,6 +200,7 @@ fn write_start<'d>(
     requires writes { Writes output.old }
     requires at { IsAt output.old.cursor line.old }
     requires marker { HasMarker line.old.text.now start.digits }
+    requires on { (constructs_of output.old).list_item ≡ true }
     ensures writes { OnOk result (Writes output.new) }
     ensures at { OnOk result (IsAt output.new.cursor line.new) }
     ensures moved { HasMoved line.old line.new }

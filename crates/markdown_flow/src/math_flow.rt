@@ -1,10 +1,11 @@
 //! Math between fences (micromark).
 
-ghost use Rattle.std.specs.Prelude.{Bool, IfSome, List, OnOk};
+ghost use Rattle.std.specs.Prelude.{Bool, IfSome, List, OnOk, true, ◌≡◌};
 ghost use Rattle.commonmark_syntax.specs.Cuts.{IsCut};
 ghost use Rattle.event_writer.specs.Stages.{Enclosing};
-ghost use Rattle.markdown_flow.specs.Leaves.{in_flow, in_raw};
-ghost use Rattle.markdown_flow.specs.Outputs.{Opens, Writes, WritesOut, rest_of, text_of};
+ghost use Rattle.markdown_flow.specs.Leaves.{in_flow, in_raw, raw_name};
+ghost use Rattle.markdown_flow.specs.Outputs.{Opens, Writes, WritesOut, constructs_in, constructs_of, rest_of, text_of};
+ghost use Rattle.markdown_options.specs.Spans.{is_on};
 ghost use Rattle.markdown_flow.specs.declared.raw_flow.RawFlow.TheVariants.{Math};
 
 use crate::line::Line;
@@ -25,7 +26,8 @@ const SIGNS_LEAST: usize = 2;
 ///
 /// In `$$ a` it has two dollars.
 pub fn begins(line: &Line<'_>) -> Option<Fence>
-    ensures { IfSome result (λ fence. IsCut line.now.text.now fence.size) }
+    ensures cut { IfSome result (λ fence. IsCut line.now.text.now fence.size) }
+    ensures on { IfSome result (λ fence. is_on (constructs_in line.now) (raw_name fence.content) ≡ true) }
 {
     let size = run_length(line.text(), SIGN);
     let is_fence = size >= SIGNS_LEAST && !after(line.text(), size).contains(&SIGN);
@@ -41,6 +43,7 @@ pub fn begins(line: &Line<'_>) -> Option<Fence>
 pub fn open(size: usize, output: &mut Output<'_>) -> Result<(), AllocError>
     requires writes { Writes output.old }
     requires cut { IsCut (rest_of output.old) size }
+    requires on { (constructs_of output.old).math_flow ≡ true }
     ensures written { OnOk result (WritesOut output.old output.new) }
     ensures opens { (n : Bool) → (outer : List Enclosing) → Opens output.old (in_flow n outer) → OnOk result (Opens output.new (in_raw Math n outer)) }
 {

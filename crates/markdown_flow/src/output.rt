@@ -5,14 +5,17 @@ ghost use Rattle.commonmark_syntax.specs.Cuts.{IsCut};
 ghost use Rattle.event_writer.specs.Stages.{Enclosing, Stage, entered, exited, heading_atx, inlines, skips, takes_line_endings};
 ghost use Rattle.markdown_events.specs.Names.{role_of};
 ghost use Rattle.markdown_events.specs.declared.event.Name.TheVariants.{ListItem};
-ghost use Rattle.markdown_flow.specs.Outputs.{IsAt, IsLater, IsPlaceIn, Keeps, Opens, Stands, Writes, Reads, document_of, line_after, next_of, rest_of, spot, spot_in, text_of};
+ghost use Rattle.markdown_flow.specs.Outputs.{IsAt, IsLater, IsPlaceIn, Keeps, Opens, Stands, Writes, Reads, constructs_of, document_of, line_after, next_of, rest_of, source_of, spot, spot_in, text_of};
 ghost use Rattle.markdown_flow.specs.Moves.{HasMoved};
 ghost use Rattle.markdown_flow.specs.Lines.{after_spaces};
+ghost use Rattle.markdown_options.specs.Spans.{is_on};
+ghost use Rattle.markdown_pieces.specs.Spans.{AreOn, IsAlwaysOn, IsOn};
 ghost use Rattle.markdown_pieces.specs.Tilings.{EndsCharacter, Goes, HasValue, IsEnding, IsPlain, IsToken, MayBegin, Tiles, end_from, end_of, origin};
+ghost use Rattle.markdown_pieces.specs.declared.piece.PieceKind.TheVariants.{Enter, Token};
 ghost use Rattle.markdown_pieces.specs.Walks.{AreBetween, State, Walks, after_token, at, inside, stage_after, stage_after_string, start};
 
 use crate::input::Input;
-use crate::line::Line;
+use crate::line::{Line, Source};
 use crate::space_or_tab::after_spaces;
 use markdown_events::event::Name;
 use markdown_pieces::identifiers::Identifiers;
@@ -31,8 +34,8 @@ struct HeldBlank {
 /// Where a line that is written ends.
 #[derive(Clone, Copy)]
 struct Extent<'d> {
-    /// The document.
-    document: &'d [u8],
+    /// The document, and the constructs that it is read with.
+    source: Source<'d>,
     /// The offset at which the line ends, without its line ending.
     end: usize,
     /// The offset at which the next line begins.
@@ -52,13 +55,13 @@ struct Cursor<'d> {
 
 impl<'d> Cursor<'d> {
     /// The start of a document, before any line is written.
-    fn start_of(document: &'d [u8]) -> Cursor<'d>
-        ensures document { result.extent.document.now ≡ document.now }
+    fn start_of(source: Source<'d>) -> Cursor<'d>
+        ensures source { result.extent.source ≡ source.entry }
         ensures spot { spot result ≡ origin }
     {
         Cursor {
             extent: Extent {
-                document,
+                source,
                 end: 0,
                 next: 0,
             },
@@ -73,7 +76,7 @@ impl<'d> Cursor<'d> {
     {
         Cursor {
             extent: Extent {
-                document: line.document(),
+                source: line.source(),
                 end: line.end(),
                 next: line.next(),
             },
@@ -86,9 +89,9 @@ impl<'d> Cursor<'d> {
     fn rest(self) -> &'d [u8]
         requires { IsPlaceIn self }
         ensures length { length result.now ≡ self.entry.extent.end - self.entry.offset }
-        ensures bytes { result.now ≡ slice_range self.entry.extent.document.now self.entry.offset self.entry.extent.end }
+        ensures bytes { result.now ≡ slice_range self.entry.extent.source.document.now self.entry.offset self.entry.extent.end }
     {
-        &self.extent.document[self.offset..self.extent.end]
+        &self.extent.source.document[self.offset..self.extent.end]
     }
 
     /// The place so many bytes later, or the end of the line if there are not so many.
@@ -107,12 +110,12 @@ impl<'d> Cursor<'d> {
 
     /// The start of the next line.
     fn next_line(self) -> Cursor<'d>
-        ensures document { result.extent.document.now ≡ self.entry.extent.document.now }
+        ensures source { result.extent.source ≡ self.entry.extent.source }
         ensures spot { spot result ≡ line_after self.entry }
     {
         Cursor {
             extent: Extent {
-                document: self.extent.document,
+                source: self.extent.source,
                 end: self.extent.next,
                 next: self.extent.next,
             },
@@ -163,9 +166,9 @@ pub fn piece_to(kind: PieceKind, line: &Line<'_>) -> Piece
 
 impl<'d> Output<'d> {
     /// No pieces of a document.
-    pub fn new(alloc: Global, document: &'d [u8]) -> Output<'d>
+    pub fn new(alloc: Global, source: Source<'d>) -> Output<'d>
         ensures stands { Stands result }
-        ensures document { document_of result ≡ document.now }
+        ensures source { source_of result ≡ source.entry }
         ensures spot { spot result.cursor ≡ origin }
         ensures opens { Opens result start }
     {
@@ -176,7 +179,7 @@ impl<'d> Output<'d> {
             held: Vec::new(alloc),
             held_start: 0,
             blanks: Vec::new(alloc),
-            cursor: Cursor::start_of(document),
+            cursor: Cursor::start_of(source),
         }
     }
 
@@ -204,6 +207,7 @@ impl<'d> Output<'d> {
     pub fn settle(&mut self) -> Result<(), AllocError>
         requires { Stands self.old }
         ensures tiles { OnOk result (Tiles (document_of self.old) origin self.new.pieces.items (spot self.old.cursor)) }
+        ensures on { OnOk result (AreOn (constructs_of self.old) self.new.pieces.items) }
         ensures none_held { OnOk result (self.new.held.items ≡ []) }
         ensures from_start { OnOk result (self.new.held_start ≡ 0) }
         ensures cursor { OnOk result (self.new.cursor ≡ self.old.cursor) }
@@ -236,7 +240,7 @@ impl<'d> Output<'d> {
     /// Settles what is held, and the prefix of the line that is read. What comes after that is written next.
     pub fn begin(&mut self, input: &mut Input<'d>) -> Result<(), AllocError>
         requires stands { Stands self.old }
-        requires reads { Reads (document_of self.old) (spot self.old.cursor) input.old }
+        requires reads { Reads (source_of self.old) (spot self.old.cursor) input.old }
         ensures writes { OnOk result (Writes self.new) }
         ensures at { OnOk result (IsAt self.new.cursor input.old.line) }
         ensures line { OnOk result (input.new.line ≡ input.old.line) }
@@ -252,7 +256,7 @@ impl<'d> Output<'d> {
     /// Settles what is held, and the prefix of a line that was kept. What comes after that is written next.
     pub fn begin_kept(&mut self, prefix: &[Piece], line: &Line<'d>) -> Result<(), AllocError>
         requires stands { Stands self.old }
-        requires document { line.now.source.document.now ≡ document_of self.old }
+        requires source { line.now.source ≡ source_of self.old }
         requires prefix { Tiles (document_of self.old) (spot self.old.cursor) prefix.now (spot_in line.now) }
         requires between { AreBetween prefix.now }
         ensures writes { OnOk result (Writes self.new) }
@@ -270,7 +274,7 @@ impl<'d> Output<'d> {
         requires writes { Writes self.old }
         requires ended { self.old.cursor.offset ≡ self.old.cursor.extent.end }
         ensures stands { OnOk result (Stands self.new) }
-        ensures document { OnOk result (document_of self.new ≡ document_of self.old) }
+        ensures source { OnOk result (source_of self.new ≡ source_of self.old) }
         ensures spot { OnOk result (spot self.new.cursor ≡ line_after self.old.cursor) }
         ensures opens { (a : Stage) → Keeps result a self.old self.new }
     {
@@ -284,7 +288,7 @@ impl<'d> Output<'d> {
         requires ended { self.old.cursor.offset ≡ self.old.cursor.extent.end }
         requires kind { IsEnding kind }
         ensures stands { OnOk result (Stands self.new) }
-        ensures document { OnOk result (document_of self.new ≡ document_of self.old) }
+        ensures source { OnOk result (source_of self.new ≡ source_of self.old) }
         ensures spot { OnOk result (spot self.new.cursor ≡ line_after self.old.cursor) }
         ensures opens { (a : Stage) → Keeps result a self.old self.new }
     {
@@ -300,9 +304,9 @@ impl<'d> Output<'d> {
     /// Holds the blank line that is read.
     pub fn hold_blank(&mut self, input: &mut Input<'d>) -> Result<(), AllocError>
         requires stands { Stands self.old }
-        requires reads { Reads (document_of self.old) (spot self.old.cursor) input.old }
+        requires reads { Reads (source_of self.old) (spot self.old.cursor) input.old }
         ensures stands { OnOk result (Stands self.new) }
-        ensures document { OnOk result (document_of self.new ≡ document_of self.old) }
+        ensures source { OnOk result (source_of self.new ≡ source_of self.old) }
         ensures spot { OnOk result (spot self.new.cursor ≡ next_of input.old.line) }
         ensures line { input.new.line ≡ input.old.line }
         ensures taken { OnOk result (input.new.prefix.items ≡ []) }
@@ -321,11 +325,11 @@ impl<'d> Output<'d> {
         depth: usize,
     ) -> Result<(), AllocError>
         requires stands { Stands self.old }
-        requires document { line.now.source.document.now ≡ document_of self.old }
+        requires source { line.now.source ≡ source_of self.old }
         requires prefix { Tiles (document_of self.old) (spot self.old.cursor) prefix.now (spot_in line.now) }
         requires between { AreBetween prefix.now }
         ensures stands { OnOk result (Stands self.new) }
-        ensures document { OnOk result (document_of self.new ≡ document_of self.old) }
+        ensures source { OnOk result (source_of self.new ≡ source_of self.old) }
         ensures spot { OnOk result (spot self.new.cursor ≡ next_of line.now) }
         ensures opens { (a : Stage) → Keeps result a self.old self.new }
     {
@@ -339,7 +343,7 @@ impl<'d> Output<'d> {
         requires stands { Stands self.old }
         requires place { IsPlaceIn self.old.cursor }
         ensures stands { OnOk result (Stands self.new) }
-        ensures document { OnOk result (document_of self.new ≡ document_of self.old) }
+        ensures source { OnOk result (source_of self.new ≡ source_of self.old) }
         ensures spot { OnOk result (spot self.new.cursor ≡ line_after self.old.cursor) }
         ensures opens { (a : Stage) → Keeps result a self.old self.new }
     {
@@ -437,8 +441,9 @@ impl<'d> Output<'d> {
     /// Adds a piece of the line that is written, which ends at a place.
     fn push(&mut self, piece: Piece, cursor: Cursor<'d>) -> Result<(), AllocError>
         requires writes { Writes self.old }
-        requires document { cursor.extent.document.now ≡ document_of self.old }
+        requires source { cursor.extent.source ≡ source_of self.old }
         requires end { end_of piece ≡ spot cursor }
+        requires on { IsOn (constructs_of self.old) piece.kind }
         requires goes { Goes (document_of self.old) piece.kind (spot self.old.cursor) (spot cursor) }
         requires place { IsPlaceIn cursor }
         ensures writes { OnOk result (Writes self.new) }
@@ -453,6 +458,7 @@ impl<'d> Output<'d> {
     /// Begins a span after the settled pieces.
     pub fn enter(&mut self, name: Name) -> Result<(), AllocError>
         requires writes { Writes self.old }
+        requires on { is_on (constructs_of self.old) name ≡ true }
         requires begins { MayBegin (document_of self.old) name (spot self.old.cursor) }
         ensures writes { OnOk result (Writes self.new) }
         ensures cursor { self.new.cursor ≡ self.old.cursor }
@@ -510,6 +516,7 @@ impl<'d> Output<'d> {
     pub fn part(&mut self, kind: PieceKind, size: usize) -> Result<(), AllocError>
         requires writes { Writes self.old }
         requires kind { IsToken kind }
+        requires on { IsAlwaysOn kind }
         requires cut { IsCut (rest_of self.old) size }
         ensures writes { OnOk result (Writes self.new) }
         ensures extent { OnOk result (self.new.cursor.extent ≡ self.old.cursor.extent) }
@@ -530,6 +537,7 @@ impl<'d> Output<'d> {
     pub fn token(&mut self, name: Name, size: usize) -> Result<(), AllocError>
         requires writes { Writes self.old }
         requires plain { IsPlain name }
+        requires on { IsAlwaysOn (Token name) }
         requires cut { IsCut (rest_of self.old) size }
         ensures writes { OnOk result (Writes self.new) }
         ensures extent { OnOk result (self.new.cursor.extent ≡ self.old.cursor.extent) }
@@ -564,6 +572,7 @@ impl<'d> Output<'d> {
     pub fn token_of_rest(&mut self, name: Name) -> Result<(), AllocError>
         requires writes { Writes self.old }
         requires plain { IsPlain name }
+        requires on { IsAlwaysOn (Token name) }
         ensures writes { OnOk result (Writes self.new) }
         ensures extent { OnOk result (self.new.cursor.extent ≡ self.old.cursor.extent) }
         ensures ended { OnOk result (self.new.cursor.offset ≡ self.new.cursor.extent.end) }
@@ -591,6 +600,7 @@ impl<'d> Output<'d> {
     /// Adds a span with a part of a content in it, of so many bytes of the line, unless it would be empty.
     pub fn string(&mut self, name: Name, size: usize) -> Result<(), AllocError>
         requires writes { Writes self.old }
+        requires on { IsAlwaysOn (Enter name) }
         requires begins { MayBegin (document_of self.old) name (spot self.old.cursor) }
         requires cut { IsCut (rest_of self.old) size }
         ensures writes { OnOk result (Writes self.new) }
@@ -616,6 +626,7 @@ impl<'d> Output<'d> {
     pub fn token_to(&mut self, name: Name, line: &Line<'d>) -> Result<(), AllocError>
         requires writes { Writes self.old }
         requires same { IsLater self.old.cursor line.now }
+        requires on { IsAlwaysOn (Token name) }
         requires cut { spot_in line.now ≢ spot self.old.cursor → EndsCharacter (document_of self.old) name (line.now.end - length line.now.rest.now) }
         requires value { HasValue (document_of self.old) name (spot self.old.cursor) (spot_in line.now) }
         ensures writes { OnOk result (Writes self.new) }
@@ -652,6 +663,7 @@ impl<'d> Output<'d> {
     pub fn finish(self) -> Result<(Vec<Piece>, Identifiers), AllocError>
         requires { Stands self }
         ensures tiles { IfOk result (λ found. Tiles (document_of self.entry) origin found.0.items (spot self.entry.cursor)) }
+        ensures on { IfOk result (λ found. AreOn (constructs_of self.entry) found.0.items) }
         ensures opens { (a : Stage) → (outer : List Enclosing) → takes_line_endings a ≡ true → Opens self.entry (at a outer) → IfOk result (λ found. Walks start found.0.items (at a outer)) }
     {
         let mut output = self;

@@ -1,7 +1,7 @@
 //! Paragraphs, and the definitions that they may begin with (CommonMark).
 
 ghost use Rattle.std.specs.Prelude.{OnOk, ◌≡◌};
-ghost use Rattle.markdown_flow.specs.Outputs.{KeepsFlow, Stands, document_of, spot};
+ghost use Rattle.markdown_flow.specs.Outputs.{KeepsFlow, Stands, source_of, spot};
 ghost use Rattle.markdown_flow.specs.Contents.{AreKept, after_lines};
 
 use crate::content::{Content, KeptLine};
@@ -18,9 +18,9 @@ pub fn write<'d>(
     output: &mut Output<'d>,
 ) -> Result<(), AllocError>
     requires stands { Stands output.old }
-    requires lines { AreKept (document_of output.old) content.now.prefixes.items (spot output.old.cursor) lines.now }
+    requires lines { AreKept (source_of output.old) content.now.prefixes.items (spot output.old.cursor) lines.now }
     ensures stands { OnOk result (Stands output.new) }
-    ensures document { OnOk result (document_of output.new ≡ document_of output.old) }
+    ensures source { OnOk result (source_of output.new ≡ source_of output.old) }
     ensures spot { OnOk result (spot output.new.cursor ≡ after_lines (spot output.old.cursor) lines.now) }
     ensures opens { KeepsFlow result output.old output.new }
 {

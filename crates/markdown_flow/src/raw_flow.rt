@@ -3,7 +3,9 @@
 ghost use Rattle.std.specs.Prelude.{Bool, List, OnOk, IfOk, IfSome, Some, true, ◌≡◌, ◌<◌};
 ghost use Rattle.commonmark_syntax.specs.Cuts.{IsCut};
 ghost use Rattle.event_writer.specs.Stages.{Enclosing, Stage, skips};
-ghost use Rattle.markdown_flow.specs.Outputs.{IsAt, Keeps, Opens, Stands, Writes, WritesOut, document_of, spot, text_of};
+ghost use Rattle.markdown_flow.specs.Outputs.{IsAt, Keeps, Opens, Stands, Writes, WritesOut, constructs_in, constructs_of, document_of, spot, text_of};
+ghost use Rattle.markdown_pieces.specs.Spans.{IsAlwaysOn};
+ghost use Rattle.markdown_pieces.specs.declared.piece.PieceKind.TheVariants.{Enter, Token};
 ghost use Rattle.markdown_pieces.specs.Tilings.{IsPlain, MayBegin};
 ghost use Rattle.markdown_pieces.specs.Walks.{after_token, at, stage_after_string};
 
@@ -50,11 +52,13 @@ pub enum FencedLine {
 }
 
 impl Fence {
-    ghost use Rattle.markdown_flow.specs.Leaves.{after_fenced, in_flow, in_raw};
+    ghost use Rattle.markdown_options.specs.Spans.{is_on};
+    ghost use Rattle.markdown_flow.specs.Leaves.{after_fenced, in_flow, in_raw, raw_name};
 
     /// The fence that a line opens, if it opens one.
     pub fn find(line: &Line<'_>) -> Option<Fence>
-        ensures { IfSome result (λ fence. IsCut line.now.text.now fence.size) }
+        ensures cut { IfSome result (λ fence. IsCut line.now.text.now fence.size) }
+        ensures on { IfSome result (λ fence. is_on (constructs_in line.now) (raw_name fence.content) ≡ true) }
     {
         match line.text().first()? {
             b'`' | b'~' => code_fenced::begins(line),
@@ -67,6 +71,7 @@ impl Fence {
     pub fn open(self, output: &mut Output<'_>) -> Result<(), AllocError>
         requires writes { Writes output.old }
         requires cut { IsCut (text_of output.old) self.size }
+        requires on { is_on (constructs_of output.old) (raw_name self.content) ≡ true }
         ensures written { OnOk result (WritesOut output.old output.new) }
         ensures opens { (n : Bool) → (outer : List Enclosing) → Opens output.old (in_flow n outer) → OnOk result (Opens output.new (in_raw self.content n outer)) }
     {
@@ -153,6 +158,7 @@ impl Fence {
 pub fn write_closing(name: Name, size: usize, output: &mut Output<'_>) -> Result<(), AllocError>
     requires writes { Writes output.old }
     requires plain { IsPlain name }
+    requires on { IsAlwaysOn (Token name) }
     requires cut { IsCut (text_of output.old) size }
     ensures written { OnOk result (WritesOut output.old output.new) }
     ensures opens { (a : Stage) → after_token a name ≡ Some a → Keeps result a output.old output.new }
@@ -166,6 +172,7 @@ pub fn write_closing(name: Name, size: usize, output: &mut Output<'_>) -> Result
 /// (CommonMark).
 pub fn write_meta(name: Name, output: &mut Output<'_>) -> Result<(), AllocError>
     requires writes { Writes output.old }
+    requires on { IsAlwaysOn (Enter name) }
     requires begins { MayBegin (document_of output.old) name (spot output.old.cursor) }
     ensures written { OnOk result (WritesOut output.old output.new) }
     ensures opens { (a : Stage) → (outer : List Enclosing) → Opens output.old (at a outer) → OnOk result (IfSome (stage_after_string a name) (λ b. skips a b ≡ true → Opens output.new (at b outer))) }

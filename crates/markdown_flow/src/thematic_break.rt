@@ -3,7 +3,7 @@
 ghost use Rattle.std.specs.Prelude.{OnOk, length, true, ◌≡◌, ◌≤◌, ◌<◌, ◌-◌};
 ghost use Rattle.std.specs.Str.{IsAscii};
 ghost use Rattle.markdown_flow.specs.Lines.{IsAsciiBetween};
-ghost use Rattle.markdown_flow.specs.Outputs.{KeepsFlow, Writes, WritesOut, text_of};
+ghost use Rattle.markdown_flow.specs.Outputs.{KeepsFlow, Writes, WritesOut, constructs_in, constructs_of, text_of};
 
 use crate::line::Line;
 use crate::output::Output;
@@ -44,7 +44,8 @@ fn is_sign(byte: u8) -> bool
 
 /// Whether the text of a line is a thematic break (CommonMark). Never, with `thematic_break` off.
 pub fn begins(line: &Line<'_>) -> bool
-    ensures { result ≡ true → IsAscii line.now.text.now }
+    ensures ascii { result ≡ true → IsAscii line.now.text.now }
+    ensures on { result ≡ true → (constructs_in line.now).thematic_break ≡ true }
 {
     line.constructs().thematic_break && line.is_in_tail() && has_enough(line.text())
 }
@@ -60,6 +61,7 @@ fn has_enough(text: &[u8]) -> bool {
 pub fn write(output: &mut Output<'_>) -> Result<(), AllocError>
     requires writes { Writes output.old }
     requires ascii { IsAscii (text_of output.old) }
+    requires on { (constructs_of output.old).thematic_break ≡ true }
     ensures written { OnOk result (WritesOut output.old output.new) }
     ensures opens { KeepsFlow result output.old output.new }
 {

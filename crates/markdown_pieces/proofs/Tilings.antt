@@ -3,7 +3,7 @@ use Rattle.std.proofs.Common.{◌≡◌, ◌∷◌, ◌++◌, ◌∙◌, ◌⊎�
 use mathlib.Core.Path.{transport}
 use Rattle.commonmark_syntax.specs.Cuts.{IsCut}
 use Rattle.markdown_events.specs.declared.event.Name.{Name}
-use Rattle.markdown_events.specs.declared.event.Name.TheVariants.{ByteOrderMark, HeadingSetextUnderlineSequence, ListItemValue}
+use Rattle.markdown_events.specs.declared.event.Name.TheVariants.{ByteOrderMark, CharacterReferenceValue, HeadingSetextUnderlineSequence, ListItemValue}
 use Rattle.markdown_pieces.specs.Tilings.{EndsCharacter, Goes, HasValue, IsEnding, IsPlain, Spot, Tiles, end_from, end_of}
 use Rattle.markdown_pieces.specs.declared.piece.Piece.{Piece}
 use Rattle.markdown_pieces.specs.declared.piece.PieceKind.{PieceKind}
@@ -115,5 +115,6 @@ plain_cut bytes _ i plain cut = cut
 -- and can be read
 pub plain_value : (bytes : List ℕ) (name : Name) (a b : Spot) → IsPlain name → a.offset < b.offset → HasValue bytes name a b
 plain_value bytes ListItemValue a b plain some = absurd plain
+plain_value bytes CharacterReferenceValue a b plain some = absurd plain
 plain_value bytes HeadingSetextUnderlineSequence a b plain some = some
 plain_value bytes _ a b plain some = tt

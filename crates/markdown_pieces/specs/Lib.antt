@@ -1,2 +1,3 @@
 pub mod Tilings
 pub mod Walks
+pub mod Spans

@@ -3,7 +3,7 @@ use Rattle.std.specs.Prelude.{List, Some, [], length, slice_range, take, true, �
 use Rattle.commonmark_syntax.specs.Cuts.{IsCut}
 use Rattle.event_writer.specs.Calls.{CanReach, EndsLine, line_ending_length}
 use Rattle.markdown_events.specs.declared.event.Name.{Name}
-use Rattle.markdown_events.specs.declared.event.Name.TheVariants.{ByteOrderMark, Frontmatter, HeadingSetextUnderlineSequence, ListItemValue}
+use Rattle.markdown_events.specs.declared.event.Name.TheVariants.{ByteOrderMark, CharacterReferenceValue, Frontmatter, HeadingSetextUnderlineSequence, ListItemValue}
 use Rattle.markdown_grammar.specs.Document.{is_depth, is_item_number}
 use Rattle.markdown_events.specs.declared.event.Point.{Point}
 use Rattle.markdown_pieces.specs.declared.piece.Piece.{Piece}
@@ -41,6 +41,7 @@ EndsCharacter bytes _ i = IsCut bytes i
 abbrev pub HasValue : List ℕ → Name → Spot → Spot → Type 0
 HasValue bytes ListItemValue a b = (a.virtual_spaces ≡ 0) × (b.virtual_spaces ≡ 0) × (is_item_number (Some (slice_range bytes a.offset b.offset)) ≡ true)
 HasValue bytes HeadingSetextUnderlineSequence a b = a.offset < b.offset
+HasValue bytes CharacterReferenceValue a b = ⊥
 HasValue bytes _ a b = Unit {0}
 
 -- a token of this name goes from one spot to another: it stands in a line
@@ -95,6 +96,7 @@ end_from a (p ∷ ps) = end_from (end_of p) ps
 abbrev pub IsPlain : Name → Type 0
 IsPlain ByteOrderMark = ⊥
 IsPlain ListItemValue = ⊥
+IsPlain CharacterReferenceValue = ⊥
 IsPlain _ = Unit {0}
 
 -- a piece of this kind is a plain token or a text

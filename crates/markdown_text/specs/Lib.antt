@@ -1,1 +1,10 @@
+pub mod Contents
 pub mod Cursors
+pub mod Outputs
+pub mod Reached
+pub mod Texts
+pub mod Tokens
+pub mod Standings
+pub mod Opens
+pub mod Tasks
+pub mod Addresses

@@ -24,9 +24,11 @@ pub enum AttentionKind {
 }
 
 impl AttentionKind {
+    ghost use Rattle.markdown_text.specs.Opens.{attention_size, group_name, sequence_name, text_name};
+
     /// How many markers each of its sequences has.
     pub fn size(self) -> usize
-        ensures { 1 ≤ result }
+        ensures { result ≡ attention_size self }
     {
         match self {
             AttentionKind::Emphasis | AttentionKind::Strikethrough => 1,
@@ -35,7 +37,9 @@ impl AttentionKind {
     }
 
     /// The name of its span.
-    pub fn group(self) -> Name {
+    pub fn group(self) -> Name
+        ensures { result ≡ group_name self }
+    {
         match self {
             AttentionKind::Emphasis => Name::Emphasis,
             AttentionKind::Strong => Name::Strong,
@@ -46,7 +50,9 @@ impl AttentionKind {
     }
 
     /// The name of the span of a sequence at either end.
-    pub fn sequence(self) -> Name {
+    pub fn sequence(self) -> Name
+        ensures { result ≡ sequence_name self }
+    {
         match self {
             AttentionKind::Emphasis => Name::EmphasisSequence,
             AttentionKind::Strong => Name::StrongSequence,
@@ -57,7 +63,9 @@ impl AttentionKind {
     }
 
     /// The name of the span of what stands between its sequences.
-    pub fn text(self) -> Name {
+    pub fn text(self) -> Name
+        ensures { result ≡ text_name self }
+    {
         match self {
             AttentionKind::Emphasis => Name::EmphasisText,
             AttentionKind::Strong => Name::StrongText,

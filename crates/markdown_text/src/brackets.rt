@@ -1,5 +1,10 @@
 //! The brackets of a text that are open.
 
+ghost use Rattle.std.specs.Prelude.{[], ◌≡◌, IfSome, List, OnOk};
+ghost use Rattle.markdown_text.specs.Reached.{AreOpen, IsOpen};
+ghost use Rattle.markdown_text.specs.declared.token.Token.{Token};
+
+use crate::token::Labelled;
 use std::alloc::{AllocError, Global};
 
 /// What an opening bracket may begin.
@@ -51,7 +56,9 @@ pub struct Brackets {
 
 impl Brackets {
     /// None.
-    pub fn new(alloc: Global) -> Brackets {
+    pub fn new(alloc: Global) -> Brackets
+        ensures { result.stack.items ≡ [] }
+    {
         Brackets {
             stack: Vec::new(alloc),
             around_link: 0,
@@ -64,25 +71,44 @@ impl Brackets {
     }
 
     /// Opens a bracket. The only error is that memory ran out.
-    pub fn push(&mut self, bracket: Bracket) -> Result<(), AllocError> {
-        if let Some(outer) = self.stack.last_mut() {
-            outer.has_bracket = true;
-        }
+    pub fn push(&mut self, bracket: Bracket) -> Result<(), AllocError>
+        ensures { OnOk result ((tokens : List Token) → AreOpen tokens self.old.stack.items → IsOpen tokens bracket → AreOpen tokens self.new.stack.items) }
+    {
+        self.mark_outer();
         self.stack.push(bracket)?;
         Ok(())
     }
 
+    /// Keeps that another bracket is opened in the innermost one.
+    fn mark_outer(&mut self)
+        ensures { (tokens : List Token) → AreOpen tokens self.old.stack.items → AreOpen tokens self.new.stack.items }
+    {
+        if let Some(outer) = self.stack.last_mut() {
+            outer.has_bracket = true;
+        }
+    }
+
     /// Closes the innermost bracket, and gives it where it may begin something.
-    pub fn pop(&mut self) -> Option<Bracket> {
+    pub fn pop(&mut self) -> Option<Bracket>
+        ensures left { (tokens : List Token) → AreOpen tokens self.old.stack.items → AreOpen tokens self.new.stack.items }
+        ensures closed { (tokens : List Token) → AreOpen tokens self.old.stack.items → IfSome result (IsOpen tokens) }
+    {
         let bracket = self.stack.pop()?;
         let left = self.stack.len();
         let is_around_link = left < self.around_link;
         self.around_link = self.around_link.min(left);
-        (bracket.form == LabelForm::Image || !is_around_link).then_some(bracket)
+        if bracket.form == LabelForm::Image || !is_around_link {
+            return Some(bracket);
+        }
+        None
     }
 
-    /// Keeps that all open brackets stand around a link.
-    pub fn found_link(&mut self) {
-        self.around_link = self.stack.len();
+    /// Keeps what a label was found to belong to: all open brackets may now stand around a link.
+    pub fn found(&mut self, labelled: Labelled)
+        ensures { self.new.stack ≡ self.old.stack }
+    {
+        if labelled == Labelled::Link {
+            self.around_link = self.stack.len();
+        }
     }
 }

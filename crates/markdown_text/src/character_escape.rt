@@ -1,17 +1,19 @@
 //! Character escapes (CommonMark).
 
-ghost use Rattle.std.specs.Prelude.{◌≡◌, ◌≤◌, ◌<◌, length, IfSome};
+ghost use Rattle.std.specs.Prelude.{◌≡◌, ◌+◌, IfSome, OnOk, ◌<◌, length};
+ghost use Rattle.markdown_text.specs.Contents.{IsAsciiPart};
+ghost use Rattle.markdown_text.specs.Outputs.{Stands, WritesTo, bytes_of, AtInlines, KeepsInlines};
 
-use crate::error::TextError;
-use crate::output::Output;
+use crate::output::{Next, Output};
 use character_references::references::References;
 use markdown_events::event::Name;
+use std::alloc::AllocError;
 
 /// The length of the character escape that a text begins with: a backslash and a mark of punctuation of
 /// ASCII.
 pub fn scan(text: &[u8]) -> Option<usize>
-    ensures most { IfSome result (λ size. size ≤ length text.now) }
-    ensures least { IfSome result (λ size. 0 < size) }
+    ensures size { IfSome result (λ size. size ≡ 2) }
+    ensures ascii { IfSome result (λ size. IsAsciiPart text.now 0 size) }
 {
     match text {
         [b'\\', escaped, ..] if escaped.is_ascii_punctuation() => Some(2),
@@ -20,9 +22,15 @@ pub fn scan(text: &[u8]) -> Option<usize>
 }
 
 /// Writes a character escape.
-pub fn write<R: References>(output: &mut Output<'_, '_, R>) -> Result<(), TextError>
+pub fn write<R: References>(output: &mut Output<'_, '_, R>) -> Result<(), AllocError>
+    requires stands { Stands output.old }
+    requires ascii { IsAsciiPart (bytes_of output.old) output.old.data (output.old.data + 2) }
+    requires inlines { AtInlines output.old }
     ensures given { output.new.writer.given ≡ output.old.writer.given }
+    ensures writes { OnOk result (WritesTo output.old output.new (output.old.data + 2)) }
+    ensures at { KeepsInlines result output.old output.new }
 {
+    output.flush(Next::Span)?;
     output.enter(Name::CharacterEscape)?;
     output.token(Name::CharacterEscapeMarker, 1)?;
     output.token(Name::CharacterEscapeValue, 1)?;

@@ -1,9 +1,15 @@
 //! Character references (CommonMark): a character by its name or its number.
 
-ghost use Rattle.std.specs.Prelude.{◌≡◌, ◌≤◌, ◌<◌, length, IfOk, IfSome};
+ghost use Rattle.std.specs.Prelude.{◌≡◌, ◌≢◌, ◌≤◌, ◌<◌, ◌+◌, ◌-◌, ℕ, false, length, slice_index, slice_range, true, IfOk, IfSome, IsTrue, OnOk, List};
+ghost use Rattle.commonmark_syntax.specs.Cuts.{IsOfAscii, IsOfLine};
+ghost use Rattle.markdown_text.specs.Contents.{IsAsciiPart};
+ghost use Rattle.markdown_text.specs.Outputs.{Stands, WritesTo, bytes_of, AtInlines, AtStage, KeepsInlines, as_text, references_of};
+ghost use Rattle.markdown_text.specs.Texts.{text_of};
+ghost use Rattle.markdown_text.specs.Tokens.{IsFound, IsOfString, marker, markers, IsReference};
+ghost use Rattle.event_writer.specs.Stages.{Enclosing, character_reference, character_reference_value};
+ghost use Rattle.markdown_text.specs.Standings.{IsAt};
 
-use crate::error::TextError;
-use crate::output::Output;
+use crate::output::{Next, Output};
 use crate::token::{Found, TokenKind};
 use character_references::references::References;
 use commonmark_syntax::bytes::{after, count_while};
@@ -33,11 +39,24 @@ pub enum ReferenceKind {
 
 impl ReferenceKind {
     /// The byte by which a decoder knows this kind.
-    fn marker(self) -> u8 {
+    fn marker(self) -> u8
+        ensures { result ≡ marker self }
+    {
         match self {
             ReferenceKind::Named => b'&',
             ReferenceKind::Decimal => b'#',
             ReferenceKind::Hexadecimal => b'x',
+        }
+    }
+
+    /// How many bytes stand before the value.
+    fn markers(self) -> usize
+        ensures { result ≡ markers self }
+    {
+        match self {
+            ReferenceKind::Named => 1,
+            ReferenceKind::Decimal => 2,
+            ReferenceKind::Hexadecimal => 3,
         }
     }
 }
@@ -53,63 +72,90 @@ struct Form<'c> {
     size: usize,
 }
 
+impl<'c> Form<'c> {
+    /// The form of a reference of this kind that a text begins with, whose value has so many bytes.
+    fn new(text: &'c [u8], kind: ReferenceKind, size: usize) -> Form<'c>
+        requires { markers kind + size < length text.now }
+        ensures kind { result.kind ≡ kind }
+        ensures size { result.size ≡ markers kind + size + 1 }
+        ensures value { result.value.now ≡ slice_range text.now (markers kind) (markers kind + size) }
+    {
+        let start = kind.markers();
+        let end = start + size;
+        Form {
+            kind,
+            value: &text[start..end],
+            size: end + 1,
+        }
+    }
+}
+
 /// The form of the character reference that a text may begin with.
 fn form_of(text: &[u8]) -> Option<Form<'_>>
-    ensures most { IfSome result (λ form. form.size ≤ length text.now) }
-    ensures least { IfSome result (λ form. 0 < form.size) }
+    ensures ascii { IfSome result (λ form. IsAsciiPart text.now 0 form.size) }
+    ensures filled { IfSome result (λ form. markers form.kind + 1 < form.size) }
+    ensures value { IfSome result (λ form. form.value.now ≡ slice_range text.now (markers form.kind) (form.size - 1)) }
 {
-    let (kind, rest, size) = match text {
+    match text {
         [b'&', b'#', b'x' | b'X', rest @ ..] => {
-            (
-                ReferenceKind::Hexadecimal,
-                rest,
-                value_length(rest, HEXADECIMAL_MOST, is_hexadecimal)?,
-            )
+            let size = value_length(rest, HEXADECIMAL_MOST, is_hexadecimal)?;
+            Some(Form::new(text, ReferenceKind::Hexadecimal, size))
         }
         [b'&', b'#', rest @ ..] => {
-            (
-                ReferenceKind::Decimal,
-                rest,
-                value_length(rest, DECIMAL_MOST, is_decimal)?,
-            )
+            let size = value_length(rest, DECIMAL_MOST, is_decimal)?;
+            Some(Form::new(text, ReferenceKind::Decimal, size))
         }
-        [b'&', rest @ ..] => (
-            ReferenceKind::Named,
-            rest,
-            value_length(rest, NAME_MOST, is_of_name)?,
-        ),
-        _ => return None,
-    };
-    Some(Form {
-        kind,
-        value: rest.get(..size)?,
-        size: text.len() - after(rest, size + 1).len(),
-    })
+        [b'&', rest @ ..] => {
+            let size = value_length(rest, NAME_MOST, is_of_name)?;
+            Some(Form::new(text, ReferenceKind::Named, size))
+        }
+        _ => None,
+    }
 }
 
 /// The length of the value that a text begins with: at least one such byte and at most so many, before a
 /// semicolon.
 fn value_length<F: Fn(u8) -> bool + Drop>(text: &[u8], most: usize, is_such: F) -> Option<usize>
     requires { F.IsAlwaysCallable is_such }
-    ensures { IfSome result (λ size. size < length text.now) }
+    ensures least { IfSome result (λ size. 0 < size) }
+    ensures ascii { IsOfAscii (F.post is_such) true → IsOfLine (F.post is_such) true → IfSome result (λ size. IsAsciiPart text.now 0 (size + 1)) }
 {
-    let size = count_while(text.get(..NAME_MOST + 1).unwrap_or(text), is_such);
-    let is_value = 0 < size && size <= most && text.get(size) == Some(&b';');
-    is_value.then_some(size)
+    let size = count_while(longest(text), is_such);
+    if size == 0 || size > most || text.get(size) != Some(&b';') {
+        return None;
+    }
+    Some(size)
+}
+
+/// The bytes of a text that may be a value, with the byte after the longest one.
+fn longest(text: &[u8]) -> &[u8]
+    ensures most { length result.now ≤ length text.now }
+    ensures byte { (k : ℕ) → k < length result.now → slice_index result.now k ≡ slice_index text.now k }
+{
+    &text[..text.len().min(NAME_MOST + 1)]
 }
 
 /// Whether a byte is a decimal digit.
-fn is_decimal(byte: u8) -> bool {
+fn is_decimal(byte: u8) -> bool
+    ensures ascii { IsTrue result → byte < 128 }
+    ensures line { IsTrue result → byte ≢ 10 }
+{
     byte.is_ascii_digit()
 }
 
 /// Whether a byte is a hexadecimal digit.
-fn is_hexadecimal(byte: u8) -> bool {
+fn is_hexadecimal(byte: u8) -> bool
+    ensures ascii { IsTrue result → byte < 128 }
+    ensures line { IsTrue result → byte ≢ 10 }
+{
     byte.is_ascii_hexdigit()
 }
 
 /// Whether a byte may stand in a name.
-fn is_of_name(byte: u8) -> bool {
+fn is_of_name(byte: u8) -> bool
+    ensures ascii { IsTrue result → byte < 128 }
+    ensures line { IsTrue result → byte ≢ 10 }
+{
     byte.is_ascii_alphanumeric()
 }
 
@@ -120,7 +166,8 @@ pub fn scan<R: References>(
     text: &[u8],
     references: &R,
 ) -> Result<Option<Found>, AllocError>
-    ensures { IfOk result (λ found. IfSome found (λ found. found.size ≤ length text.now)) }
+    ensures kind { IfOk result (λ found. IfSome found (λ found. IsOfString found.kind)) }
+    ensures found { IfOk result (λ found. IfSome found (λ found. IsFound (text_of text.now (R.text references.now) false) found.kind 0 found.size)) }
 {
     let Some(form) = form_of(text) else {
         return Ok(None);
@@ -140,18 +187,42 @@ pub fn write<R: References>(
     output: &mut Output<'_, '_, R>,
     kind: ReferenceKind,
     end: usize,
-) -> Result<(), TextError>
+) -> Result<(), AllocError>
+    requires stands { Stands output.old }
+    requires reference { IsReference (as_text output.old (R.text (references_of output.old)) false) kind output.old.data end }
+    requires inlines { AtInlines output.old }
     ensures given { output.new.writer.given ≡ output.old.writer.given }
+    ensures writes { OnOk result (WritesTo output.old output.new end) }
+    ensures at { KeepsInlines result output.old output.new }
 {
+    output.flush(Next::Span)?;
     output.enter(Name::CharacterReference)?;
-    output.token(Name::CharacterReferenceMarker, 1)?;
-    if kind != ReferenceKind::Named {
-        output.token(Name::CharacterReferenceMarkerNumeric, 1)?;
-    }
-    if kind == ReferenceKind::Hexadecimal {
-        output.token(Name::CharacterReferenceMarkerHexadecimal, 1)?;
-    }
-    output.token_to(Name::CharacterReferenceValue, end.saturating_sub(1))?;
+    write_markers(output, kind)?;
+    output.value_to(end - 1)?;
     output.token(Name::CharacterReferenceMarkerSemi, 1)?;
     output.exit()
+}
+
+/// Writes what stands before the value of a character reference.
+fn write_markers<R: References>(
+    output: &mut Output<'_, '_, R>,
+    kind: ReferenceKind,
+) -> Result<(), AllocError>
+    requires stands { Stands output.old }
+    requires ascii { IsAsciiPart (bytes_of output.old) output.old.at (output.old.at + markers kind) }
+    requires at { AtStage output.old character_reference }
+    ensures given { output.new.writer.given ≡ output.old.writer.given }
+    ensures writes { OnOk result (WritesTo output.old output.new (output.old.at + markers kind)) }
+    ensures whole { OnOk result (output.new.writer.cursor.vs ≡ 0) }
+    ensures at { (outer : List Enclosing) → IsAt output.old.writer character_reference outer → OnOk result (IsAt output.new.writer (character_reference_value (marker kind)) outer) }
+{
+    output.token(Name::CharacterReferenceMarker, 1)?;
+    match kind {
+        ReferenceKind::Named => Ok(()),
+        ReferenceKind::Decimal => output.token(Name::CharacterReferenceMarkerNumeric, 1),
+        ReferenceKind::Hexadecimal => {
+            output.token(Name::CharacterReferenceMarkerNumeric, 1)?;
+            output.token(Name::CharacterReferenceMarkerHexadecimal, 1)
+        }
+    }
 }

@@ -1,20 +1,30 @@
 //! Data (micromark): text that stands for itself, with the white space and the addresses of mail in it.
 
-ghost use Rattle.std.specs.Prelude.{◌≡◌};
+ghost use Rattle.std.specs.Prelude.{Bool, List, OnOk, ◌<◌, ◌≡◌};
+ghost use Rattle.event_writer.specs.Stages.{Enclosing, inlines};
+ghost use Rattle.markdown_text.specs.Contents.{IsPart};
+ghost use Rattle.markdown_text.specs.Outputs.{AtInlines, IsFlushed, KeepsInlines, Stands, WritesTo, bytes_of};
+ghost use Rattle.markdown_text.specs.Standings.{IsAt};
+ghost use Rattle.markdown_text.specs.declared.output.Next.TheVariants.{LineEnding};
 
-use crate::error::TextError;
 use crate::output::{Next, Output};
 use crate::{gfm_autolink_literal_email, whitespace};
 use character_references::references::References;
 use markdown_events::event::Name;
+use std::alloc::AllocError;
 
 /// Writes data of one line up to an offset. White space that begins or ends a line, or the text, is apart.
 pub fn write<R: References>(
     output: &mut Output<'_, '_, R>,
     end: usize,
     next: Next,
-) -> Result<(), TextError>
+) -> Result<(), AllocError>
+    requires stands { Stands output.old }
+    requires data_end { end ≡ output.old.data }
+    requires inlines { AtInlines output.old }
     ensures given { output.new.writer.given ≡ output.old.writer.given }
+    ensures writes { OnOk result (WritesTo output.old output.new end) }
+    ensures at { (h : Bool) → (outer : List Enclosing) → IsAt output.old.writer (inlines h) outer → OnOk result (IsFlushed next output.new (inlines h) outer) }
 {
     let constructs = output.source().reading.options.constructs;
     let space = whitespace::scan(
@@ -24,12 +34,45 @@ pub fn write<R: References>(
         next,
         constructs.hard_break_trailing,
     );
-    output.put(Name::SpaceOrTab, output.offset_after(space.leading))?;
-    let text_end = end.saturating_sub(space.trailing);
-    if constructs.gfm_autolink_literal && output.may_link() {
-        gfm_autolink_literal_email::write(output, text_end)?;
+    output.fill_to(Name::SpaceOrTab, output.offset_after(space.leading))?;
+    write_text(output, end - space.trailing)?;
+    output.fill_to(Name::SpaceOrTab, end - space.hard_break)?;
+    write_break(output, end, next)
+}
+
+/// Writes a hard break up to an offset, if it has any bytes: before a line ending alone it has.
+fn write_break<R: References>(
+    output: &mut Output<'_, '_, R>,
+    end: usize,
+    next: Next,
+) -> Result<(), AllocError>
+    requires stands { Stands output.old }
+    requires none_waits { output.old.data ≡ output.old.at }
+    requires part { IsPart (bytes_of output.old) output.old.at end }
+    requires next { output.old.at < end → next ≡ LineEnding }
+    requires inlines { AtInlines output.old }
+    ensures given { output.new.writer.given ≡ output.old.writer.given }
+    ensures writes { OnOk result (WritesTo output.old output.new end) }
+    ensures at { (h : Bool) → (outer : List Enclosing) → IsAt output.old.writer (inlines h) outer → OnOk result (IsFlushed next output.new (inlines h) outer) }
+{
+    match next {
+        Next::LineEnding => output.hard_break_to(Name::HardBreakTrailing, end),
+        Next::Span | Next::End => Ok(()),
     }
-    output.put(Name::Data, text_end)?;
-    output.put(Name::SpaceOrTab, end.saturating_sub(space.hard_break))?;
-    output.put(Name::HardBreakTrailing, end)
+}
+
+/// Writes data up to an offset, with the addresses of mail in it where they are links.
+fn write_text<R: References>(output: &mut Output<'_, '_, R>, end: usize) -> Result<(), AllocError>
+    requires stands { Stands output.old }
+    requires part { IsPart (bytes_of output.old) output.old.at end }
+    requires inlines { AtInlines output.old }
+    ensures given { output.new.writer.given ≡ output.old.writer.given }
+    ensures writes { OnOk result (WritesTo output.old output.new end) }
+    ensures at { KeepsInlines result output.old output.new }
+{
+    let constructs = output.source().reading.options.constructs;
+    if constructs.gfm_autolink_literal && output.may_link() {
+        return gfm_autolink_literal_email::write(output, end);
+    }
+    output.fill_to(Name::Data, end)
 }

@@ -1,25 +1,48 @@
 //! The destination of a resource (CommonMark).
 
-ghost use Rattle.std.specs.Prelude.{◌≡◌};
+ghost use Rattle.std.specs.Prelude.{◌≡◌, ◌<◌, ◌+◌, OnOk};
+ghost use Rattle.event_writer.specs.Stages.{resource, resource_title};
+ghost use Rattle.markdown_text.specs.Outputs.{AtStage, Leads, Stands, WritesTo, bytes_of};
+ghost use Rattle.markdown_text.specs.Tokens.{IsDestination, IsEnclosed};
 
-use crate::error::TextError;
 use crate::output::Output;
 use character_references::references::References;
 use markdown_events::event::Name;
+use std::alloc::AllocError;
 
 /// Writes a destination of this length.
-pub fn write<R: References>(output: &mut Output<'_, '_, R>, size: usize) -> Result<(), TextError>
+pub fn write<R: References>(output: &mut Output<'_, '_, R>, size: usize) -> Result<(), AllocError>
+    requires stands { Stands output.old }
+    requires none_waits { output.old.data ≡ output.old.at }
+    requires filled { 0 < size }
+    requires destination { IsDestination (bytes_of output.old) output.old.at (output.old.at + size) }
+    requires at { AtStage output.old resource }
     ensures given { output.new.writer.given ≡ output.old.writer.given }
+    ensures writes { OnOk result (WritesTo output.old output.new (output.old.at + size)) }
+    ensures at { Leads result resource resource_title output.old output.new }
 {
     let end = output.offset_after(size);
     output.enter(Name::ResourceDestination)?;
-    if output.rest().first() == Some(&b'<') {
-        write_enclosed(output, end)?;
-    } else {
-        output.enter(Name::ResourceDestinationRaw)?;
-        output.string(Name::ResourceDestinationString, end)?;
-        output.exit()?;
+    write_inside(output, end)?;
+    output.exit()
+}
+
+/// Writes what stands in the span of a destination, up to an offset.
+fn write_inside<R: References>(output: &mut Output<'_, '_, R>, end: usize) -> Result<(), AllocError>
+    requires stands { Stands output.old }
+    requires none_waits { output.old.data ≡ output.old.at }
+    requires filled { output.old.at < end }
+    requires destination { IsDestination (bytes_of output.old) output.old.at end }
+    requires at { AtStage output.old resource }
+    ensures given { output.new.writer.given ≡ output.old.writer.given }
+    ensures writes { OnOk result (WritesTo output.old output.new end) }
+    ensures at { Leads result resource resource_title output.old output.new }
+{
+    if output.rest()[0] == b'<' {
+        return write_enclosed(output, end);
     }
+    output.enter(Name::ResourceDestinationRaw)?;
+    output.string(Name::ResourceDestinationString, end)?;
     output.exit()
 }
 
@@ -27,12 +50,18 @@ pub fn write<R: References>(output: &mut Output<'_, '_, R>, size: usize) -> Resu
 fn write_enclosed<R: References>(
     output: &mut Output<'_, '_, R>,
     end: usize,
-) -> Result<(), TextError>
+) -> Result<(), AllocError>
+    requires stands { Stands output.old }
+    requires none_waits { output.old.data ≡ output.old.at }
+    requires enclosed { IsEnclosed (bytes_of output.old) 1 output.old.at end }
+    requires at { AtStage output.old resource }
     ensures given { output.new.writer.given ≡ output.old.writer.given }
+    ensures writes { OnOk result (WritesTo output.old output.new end) }
+    ensures at { Leads result resource resource_title output.old output.new }
 {
     output.enter(Name::ResourceDestinationLiteral)?;
     output.token(Name::ResourceDestinationLiteralMarker, 1)?;
-    output.string(Name::ResourceDestinationString, end.saturating_sub(1))?;
+    output.string(Name::ResourceDestinationString, end - 1)?;
     output.token(Name::ResourceDestinationLiteralMarker, 1)?;
     output.exit()
 }

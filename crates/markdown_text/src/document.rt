@@ -1,11 +1,17 @@
 //! The events of a document, from its pieces.
 
-ghost use Rattle.std.specs.Prelude.{◌≡◌, ◌≤◌, ◌<◌, IfOk, length};
+ghost use Rattle.std.specs.Prelude.{Bool, IfOk, List, [], false, true, ◌≡◌};
+ghost use Rattle.event_writer.specs.Stages.{Enclosing, flow, inlines};
+ghost use Rattle.markdown_pieces.specs.Tilings.{Tiles, end_from};
+ghost use Rattle.markdown_pieces.specs.Walks.{Walks, start};
+ghost use Rattle.markdown_text.specs.Contents.{IsContent, joined, spot};
+ghost use Rattle.markdown_text.specs.Standings.{IsAt};
+ghost use Rattle.markdown_text.specs.Tasks.{BeginsContent, IsAtContent, next_task_place};
+ghost use Rattle.markdown_text.specs.declared.document.TaskPlace.TheVariants.{InParagraph};
 
-use crate::content::{join, range};
-use crate::error::TextError;
+use crate::content::{between, content_size, join, range_end};
 use crate::output::ContentKind;
-use crate::pieces::write_piece;
+use crate::pieces::{is_text, write_piece};
 use crate::source::Source;
 use crate::{string, text};
 use character_references::references::References;
@@ -14,7 +20,7 @@ use markdown_events::event::Name;
 use markdown_options::ParseOptions;
 use markdown_pieces::identifiers::Identifiers;
 use markdown_pieces::piece::{Piece, PieceKind};
-use std::alloc::Global;
+use std::alloc::{AllocError, Global};
 
 /// What a document is read with (ours).
 ///
@@ -33,75 +39,88 @@ pub struct Reading<'r, R> {
     pub references: &'r R,
 }
 
-/// Writes the pieces of a document, with the inlines in its texts and strings (micromark).
+/// Writes the pieces of a document, with the inlines in its texts and strings (micromark). The only error is that
+/// memory ran out.
 ///
-/// The texts from one on, up to the last before the exit of the span that it stands in, are one content. It
-/// is a text in a paragraph, a heading or the cell of a table, and elsewhere a string, with escapes and
-/// character references alone.
+/// A text, and the texts of the next lines where a line ending comes after it, are one content. It is a text
+/// in a paragraph, a heading or the cell of a table, and elsewhere a string, with escapes and character
+/// references alone.
 ///
 /// Of `a` the pieces are `Enter(Paragraph)`, `Text` up to 1, and `Exit(Paragraph)`. The writer gets the enter of
 /// a `Name::Paragraph`, a `Name::Data` up to offset 1, and the exit.
-///
-/// It is a `TextError::Memory` where memory runs out, and a `TextError::Misfit` where the pieces are not
-/// those of the document. The writer stays one over its document.
 pub fn write<'c, 'd, R: References>(
     reading: &'c Reading<'c, R>,
     pieces: &'c [Piece],
     writer: Writer<'d, R>,
-) -> Result<Writer<'d, R>, TextError>
+) -> Result<Writer<'d, R>, AllocError>
+    requires document { writer.given.bytes ≡ reading.now.document.now }
+    requires references { writer.given.references ≡ reading.now.references.now }
+    requires tiles { Tiles reading.now.document.now (spot writer.cursor) pieces.now (end_from (spot writer.cursor) pieces.now) }
+    requires nest { Walks start pieces.now start }
+    requires root { IsAt writer (flow false) [] }
     ensures given { IfOk result (λ written. written.given ≡ writer.entry.given) }
+    ensures end { IfOk result (λ written. spot written.cursor ≡ end_from (spot writer.entry.cursor) pieces.now) }
+    ensures root { IfOk result (λ written. IsAt written (flow false) []) }
 {
     let mut writer = writer;
     let mut rest = pieces;
-    let mut start = 0;
     let mut name = None;
-    let mut is_task = false;
+    let mut place = TaskPlace::Nowhere;
     'pieces: while let Some((piece, later)) = rest.split_first() {
-        if piece.kind == PieceKind::Text {
-            let (content, later) = rest.split_at(content_size(rest, name));
-            writer = inlines(reading, writer, content, start, name, is_task)?;
-            start = content.last().map_or(start, |piece| piece.end);
+        if is_text(piece.kind) {
+            let (content, later) = rest.split_at(content_size(rest));
+            writer = inlines(reading, writer, content, name, place)?;
+            place = TaskPlace::Nowhere;
             rest = later;
             continue;
         }
-        if let PieceKind::Enter(entered) = piece.kind {
-            name = Some(entered);
-        }
-        is_task = may_be_task(piece.kind, is_task);
+        name = name_after(piece.kind, name);
+        place = place.after(piece.kind);
         write_piece(&mut writer, piece)?;
-        start = piece.end;
         rest = later;
     }
     Ok(writer)
 }
 
-/// Whether the mark of a task may come after a piece: in the first block of an item, if it is a paragraph, at
-/// its start (GFM). The item may begin with a line ending.
-fn may_be_task(kind: PieceKind, was: bool) -> bool {
-    match kind {
-        PieceKind::Exit(Name::ListItemPrefix) => true,
-        PieceKind::Enter(Name::Paragraph)
-        | PieceKind::Token(Name::SpaceOrTab)
-        | PieceKind::BlankLineEnding => was,
-        _ => false,
+/// Where the mark of a task may come: in the first block of an item, if it is a paragraph, at its start (GFM). The
+/// item may begin with a line ending.
+#[derive(Clone, Copy, PartialEq, Eq, Debug)]
+enum TaskPlace {
+    /// Not before the next item.
+    Nowhere,
+    /// At the start of the next block, if it is a paragraph.
+    InItem,
+    /// Here.
+    InParagraph,
+}
+
+impl TaskPlace {
+    /// The place after a piece of this kind.
+    fn after(self, kind: PieceKind) -> TaskPlace
+        ensures { result ≡ next_task_place self kind }
+    {
+        match (self, kind) {
+            (_, PieceKind::Exit(Name::ListItemPrefix)) => TaskPlace::InItem,
+            (TaskPlace::InItem, PieceKind::Enter(Name::Paragraph)) => TaskPlace::InParagraph,
+            (_, PieceKind::Token(Name::SpaceOrTab) | PieceKind::BlankLineEnding) => self,
+            _ => TaskPlace::Nowhere,
+        }
     }
 }
 
-/// How many of these pieces, of which the first is a text in a span of this name, belong to its content.
-fn content_size(pieces: &[Piece], name: Option<Name>) -> usize
-    requires { 0 < length pieces.now }
-    ensures most { result ≤ length pieces.now }
-    ensures least { 0 < result }
+/// Whether a content at a place may begin with the mark of a task.
+fn may_be_task(options: &ParseOptions, place: TaskPlace) -> bool
+    ensures { result ≡ true → place ≡ InParagraph }
 {
-    let mut last = 0;
-    for (place, piece) in pieces.iter().enumerate() {
-        match piece.kind {
-            PieceKind::Text => last = place + 1,
-            PieceKind::Exit(exited) if Some(exited) == name => break,
-            _ => {}
-        }
+    options.constructs.gfm_task_list_item && place == TaskPlace::InParagraph
+}
+
+/// The name of the last span that has begun, after a piece.
+fn name_after(kind: PieceKind, before: Option<Name>) -> Option<Name> {
+    match kind {
+        PieceKind::Enter(name) => Some(name),
+        _ => before,
     }
-    last.max(1)
 }
 
 /// What a content in a span of this name is.
@@ -117,33 +136,33 @@ fn content_kind(name: Option<Name>) -> ContentKind {
     }
 }
 
-/// Writes a content in a span of this name, with the spans in it. It begins at an offset of the document.
+/// Writes a content in a span of this name, with the spans in it.
 fn inlines<'c, 'd, R: References>(
     reading: &'c Reading<'c, R>,
     writer: Writer<'d, R>,
     pieces: &'c [Piece],
-    start: usize,
     name: Option<Name>,
-    is_task: bool,
-) -> Result<Writer<'d, R>, TextError>
+    place: TaskPlace,
+) -> Result<Writer<'d, R>, AllocError>
+    requires document { writer.given.bytes ≡ reading.now.document.now }
+    requires references { writer.given.references ≡ reading.now.references.now }
+    requires content { IsContent pieces.now }
+    requires tiles { Tiles writer.given.bytes (spot writer.cursor) pieces.now (end_from (spot writer.cursor) pieces.now) }
+    requires begins { BeginsContent place writer }
     ensures given { IfOk result (λ written. written.given ≡ writer.entry.given) }
+    ensures end { IfOk result (λ written. spot written.cursor ≡ end_from (spot writer.entry.cursor) pieces.now) }
+    ensures at { (h : Bool) → (outer : List Enclosing) → IsAtContent place writer.entry h outer → IfOk result (λ written. IsAt written (inlines h) outer) }
 {
-    match range(reading.document, start, pieces) {
-        Some((start, end)) => {
-            let bytes = reading.document.get(start..end).unwrap_or(&[]);
-            inlines_of(reading, writer, bytes, pieces, start, name, is_task)
+    let document = reading.document;
+    let start = writer.cursor().index;
+    match range_end(document, start, pieces) {
+        Some(end) => {
+            let bytes = between(document, start, end);
+            inlines_of(reading, writer, bytes, pieces, name, place)
         }
         None => {
-            let bytes = join(reading.alloc, reading.document, start, pieces)?;
-            inlines_of(
-                reading,
-                writer,
-                bytes.as_slice(),
-                pieces,
-                start,
-                name,
-                is_task,
-            )
+            let bytes = join(reading.alloc, document, start, pieces)?;
+            inlines_of(reading, writer, bytes.as_slice(), pieces, name, place)
         }
     }
 }
@@ -154,11 +173,18 @@ fn inlines_of<'c, 'd, R: References>(
     writer: Writer<'d, R>,
     bytes: &'c [u8],
     pieces: &'c [Piece],
-    start: usize,
     name: Option<Name>,
-    is_task: bool,
-) -> Result<Writer<'d, R>, TextError>
+    place: TaskPlace,
+) -> Result<Writer<'d, R>, AllocError>
+    requires document { writer.given.bytes ≡ reading.now.document.now }
+    requires references { writer.given.references ≡ reading.now.references.now }
+    requires content { IsContent pieces.now }
+    requires tiles { Tiles writer.given.bytes (spot writer.cursor) pieces.now (end_from (spot writer.cursor) pieces.now) }
+    requires bytes { bytes.now ≡ joined writer.given.bytes writer.cursor.index pieces.now }
+    requires begins { BeginsContent place writer }
     ensures given { IfOk result (λ written. written.given ≡ writer.entry.given) }
+    ensures end { IfOk result (λ written. spot written.cursor ≡ end_from (spot writer.entry.cursor) pieces.now) }
+    ensures at { (h : Bool) → (outer : List Enclosing) → IsAtContent place writer.entry h outer → IfOk result (λ written. IsAt written (inlines h) outer) }
 {
     let source = Source {
         reading,
@@ -167,9 +193,9 @@ fn inlines_of<'c, 'd, R: References>(
     };
     match content_kind(name) {
         ContentKind::Text => {
-            let is_task = is_task && reading.options.constructs.gfm_task_list_item;
-            text::inlines(&source, writer, pieces, start, is_task)
+            let is_task = may_be_task(&reading.options, place);
+            text::inlines(&source, writer, pieces, is_task)
         }
-        ContentKind::String => string::inlines(&source, writer, pieces, start),
+        ContentKind::String => string::inlines(&source, writer, pieces),
     }
 }

@@ -1,7 +1,10 @@
 //! Autolink literals that begin with `www.`, `http://`, `https://` or `ftp://` (GFM).
 
-ghost use Rattle.std.specs.Prelude.{◌≤◌, ◌<◌, ◌-◌, length, IfSome, IsTrue};
-ghost use Rattle.markdown_text.specs.Cursors.{bytes_from};
+ghost use Rattle.std.specs.Prelude.{◌≡◌, ◌≤◌, ◌<◌, ◌+◌, ◌⊎◌, IfSome, IsTrue, length};
+ghost use Rattle.commonmark_syntax.specs.Cuts.{IsInLine};
+ghost use Rattle.markdown_events.specs.declared.event.Name.TheVariants.{GfmAutolinkLiteralProtocol, GfmAutolinkLiteralWww};
+ghost use Rattle.markdown_text.specs.Texts.{bare};
+ghost use Rattle.markdown_text.specs.Tokens.{IsFound};
 
 use crate::cursor::Cursor;
 use crate::gfm_autolink_literal_address::address_length;
@@ -15,25 +18,33 @@ use markdown_events::event::Name;
 /// Where a domain is refused for an underscore, `barred` becomes the offset of that. A domain that begins
 /// before it is refused, too, and is not read again, so that all searches together are linear.
 pub fn scan(cursor: Cursor<'_>, in_bracket: bool, barred: &mut usize) -> Option<Found>
-    ensures { IfSome result (λ found. found.size ≤ bytes_from cursor.entry) }
+    ensures { IfSome result (λ found. IsFound (bare cursor.entry.content.now) found.kind cursor.entry.at (cursor.entry.at + found.size)) }
 {
     let start = start_length(cursor.rest())?;
     if !may_stand_before(cursor.before().last().copied()) {
         return None;
     }
     let size = address_length(cursor.content, cursor.at + start, in_bracket, barred)?;
-    let name = match cursor.byte() {
+    let name = name_of(cursor.byte());
+    Some(Found::token(TokenKind::AutolinkLiteral(name), start + size))
+}
+
+/// The name of a literal that begins with this byte.
+fn name_of(first: u8) -> Name
+    ensures { (result ≡ GfmAutolinkLiteralProtocol) ⊎ (result ≡ GfmAutolinkLiteralWww) }
+{
+    match first {
         b'w' | b'W' => Name::GfmAutolinkLiteralWww,
         _ => Name::GfmAutolinkLiteralProtocol,
-    };
-    Some(Found::token(TokenKind::AutolinkLiteral(name), start + size))
+    }
 }
 
 /// The length of what a literal has before its address, where a text begins with that: `www.`, or a protocol
 /// with its slashes.
 fn start_length(text: &[u8]) -> Option<usize>
-    ensures most { IfSome result (λ size. size ≤ length text.now) }
     ensures least { IfSome result (λ size. 0 < size) }
+    ensures most { IfSome result (λ size. size ≤ length text.now) }
+    ensures in_line { IfSome result (λ size. IsInLine text.now size) }
 {
     if begins_with(text, b"www.") {
         Some(4)
@@ -50,10 +61,14 @@ fn start_length(text: &[u8]) -> Option<usize>
 
 /// Whether a text begins with another, but for the case of letters.
 fn begins_with(text: &[u8], start: &[u8]) -> bool
-    ensures { IsTrue result → length start.now ≤ length text.now }
+    requires { IsInLine start.now (length start.now) }
+    ensures most { IsTrue result → length start.now ≤ length text.now }
+    ensures in_line { IsTrue result → IsInLine text.now (length start.now) }
 {
-    text.get(..start.len())
-        .is_some_and(|first| first.eq_ignore_ascii_case(start))
+    match text.get(..start.len()) {
+        Some(first) => first.eq_ignore_ascii_case(start),
+        None => false,
+    }
 }
 
 /// Whether a byte, or the start of the text, may come before a literal.

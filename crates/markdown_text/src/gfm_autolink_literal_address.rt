@@ -1,6 +1,7 @@
 //! The address of an autolink literal (GFM): a domain, a path, and no punctuation at its end.
 
-ghost use Rattle.std.specs.Prelude.{◌≤◌, ◌<◌, ◌-◌, length, IfSome};
+ghost use Rattle.std.specs.Prelude.{◌≡◌, ◌≢◌, ◌≤◌, ◌<◌, ◌+◌, ◌-◌, IfSome, IsTrue, drop, length, slice_index, take};
+ghost use Rattle.commonmark_syntax.specs.Cuts.{IsInLine};
 
 use crate::character_kind::{CharacterKind, kind_after};
 use crate::whitespace::is_white_space;
@@ -18,7 +19,9 @@ pub fn address_length(
     barred: &mut usize,
 ) -> Option<usize>
     requires { at ≤ length content.now }
-    ensures { IfSome result (λ size. size ≤ length content.now - at) }
+    ensures most { IfSome result (λ size. size ≤ length content.now - at) }
+    ensures in_line { IfSome result (λ size. IsInLine (drop at content.now) size) }
+    ensures next { IfSome result (λ size. at + size < length content.now → slice_index content.now (at + size) < 128) }
 {
     if at < *barred {
         return None;
@@ -41,7 +44,8 @@ pub fn address_length(
 /// The length of the domain that a text begins with. Underscores at its end are no part of it where the
 /// address would end with them (micromark), nor are the dots between them.
 fn domain_length(text: &[u8], in_bracket: bool) -> usize
-    ensures { result ≤ length text.now }
+    ensures most { result ≤ length text.now }
+    ensures in_line { IsInLine text.now result }
 {
     let whole = segments_length(text);
     let stem = stem_length(&text[..whole]);
@@ -54,7 +58,8 @@ fn domain_length(text: &[u8], in_bracket: bool) -> usize
 
 /// The length of the segments that a text begins with, and of the single dots between them.
 fn segments_length(text: &[u8]) -> usize
-    ensures { result ≤ length text.now }
+    ensures most { result ≤ length text.now }
+    ensures in_line { IsInLine text.now result }
 {
     for (size, byte) in text.iter().enumerate() {
         let is_dot = *byte == b'.' && size > 0 && begins_segment(after(text, size + 1));
@@ -67,7 +72,9 @@ fn segments_length(text: &[u8]) -> usize
 
 /// Whether a text begins with what a segment is made of: a letter or a digit, a hyphen or an underscore
 /// (GFM). Any character that is neither white space nor punctuation counts as a letter (micromark).
-fn begins_segment(text: &[u8]) -> bool {
+fn begins_segment(text: &[u8]) -> bool
+    ensures { IsTrue result → slice_index text.now 0 ≢ 10 }
+{
     match text.first() {
         Some(b'-' | b'_') => true,
         Some(byte) if is_white_space(*byte) => false,
@@ -134,7 +141,9 @@ fn after_name(text: &[u8]) -> Option<&[u8]>
 /// The length of the path that a text begins with, with the punctuation at its end. With `in_bracket` a
 /// closing bracket ends it, unless an opening one in it goes with that.
 fn path_length(text: &[u8], in_bracket: bool) -> usize
-    ensures { result ≤ length text.now }
+    ensures most { result ≤ length text.now }
+    ensures in_line { IsInLine text.now result }
+    ensures next { result < length text.now → slice_index text.now result < 128 }
 {
     let mut open: usize = 0;
     for (size, byte) in text.iter().enumerate() {
@@ -153,7 +162,8 @@ fn path_length(text: &[u8], in_bracket: bool) -> usize
 /// The length of a path without the punctuation at its end. A closing parenthesis stays where an opening
 /// one in the path goes with it.
 fn trimmed_length(path: &[u8]) -> usize
-    ensures { result ≤ length path.now }
+    ensures most { result ≤ length path.now }
+    ensures next { result < length path.now → slice_index path.now result < 128 }
 {
     let count = |sign: u8| path.iter().filter(|byte| **byte == sign).count();
     let mut unmatched = count(b')').saturating_sub(count(b'('));
@@ -178,7 +188,9 @@ fn trimmed_length(path: &[u8]) -> usize
 /// What comes before the ampersand and the letters and digits that a text ends with: with a semicolon they
 /// are like a character reference.
 fn before_name(text: &[u8]) -> Option<&[u8]>
-    ensures { IfSome result (λ front. length front.now ≤ length text.now) }
+    ensures shorter { IfSome result (λ front. length front.now < length text.now) }
+    ensures front { IfSome result (λ front. front.now ≡ take (length front.now) text.now) }
+    ensures next { IfSome result (λ front. slice_index text.now (length front.now) < 128) }
 {
     let size = count_back(text, is_of_name);
     let front = &text[..text.len() - size];
@@ -194,6 +206,8 @@ fn is_of_name(byte: u8) -> bool {
 }
 
 /// Whether a byte is punctuation that may not end an address. A closing parenthesis may.
-fn is_trailing(byte: u8) -> bool {
+fn is_trailing(byte: u8) -> bool
+    ensures { IsTrue result → byte < 128 }
+{
     b"!*,.:?_~".contains(&byte)
 }

@@ -1,12 +1,16 @@
 //! Autolink literals that are addresses of mail (GFM), which are found in data.
 
-ghost use Rattle.std.specs.Prelude.{◌≡◌, ◌≤◌, ◌<◌, length, IfSome};
+ghost use Rattle.std.specs.Prelude.{IfSome, IsTrue, OnOk, length, slice_index, slice_range, ℕ, ◌≡◌, ◌≤◌, ◌<◌};
+ghost use Rattle.commonmark_syntax.specs.Cuts.{IsCut};
+ghost use Rattle.markdown_text.specs.Addresses.{IsAddress, IsAddressName};
+ghost use Rattle.markdown_text.specs.Contents.{IsPart};
+ghost use Rattle.markdown_text.specs.Outputs.{AtInlines, GoesOn, KeepsInlines, Stands, WritesTo, bytes_of};
 
-use crate::error::TextError;
 use crate::output::Output;
 use character_references::references::References;
 use commonmark_syntax::bytes::{after, count_back};
 use markdown_events::event::Name;
+use std::alloc::AllocError;
 
 /// An address in a text.
 #[derive(Clone, Copy, PartialEq, Eq, Debug)]
@@ -19,23 +23,47 @@ struct Address {
     end: usize,
 }
 
-/// Writes the addresses in data that ends at an offset, and the data before each of them.
-pub fn write<R: References>(output: &mut Output<'_, '_, R>, end: usize) -> Result<(), TextError>
+/// Writes data up to an offset, with the addresses in it.
+pub fn write<R: References>(output: &mut Output<'_, '_, R>, end: usize) -> Result<(), AllocError>
+    requires stands { Stands output.old }
+    requires part { IsPart (bytes_of output.old) output.old.at end }
+    requires inlines { AtInlines output.old }
     ensures given { output.new.writer.given ≡ output.old.writer.given }
+    ensures writes { OnOk result (WritesTo output.old output.new end) }
+    ensures at { KeepsInlines result output.old output.new }
 {
     for _ in output.at()..end {
         let Some(address) = find(output.rest_to(end)) else {
             break;
         };
-        let address_end = output.offset_after(address.end);
-        output.put(Name::Data, output.offset_after(address.start))?;
-        output.put(address.name, address_end)?;
+        write_address(output, &address)?;
     }
+    output.fill_to(Name::Data, end)
+}
+
+/// Writes the data before an address, and the address, which are parts of the data.
+fn write_address<R: References>(
+    output: &mut Output<'_, '_, R>,
+    address: &Address,
+) -> Result<(), AllocError>
+    requires stands { Stands output.old }
+    requires address { (end : ℕ) × IsPart (bytes_of output.old) output.old.at end × IsAddress (slice_range (bytes_of output.old) output.old.at end) address.now }
+    requires inlines { AtInlines output.old }
+    ensures given { output.new.writer.given ≡ output.old.writer.given }
+    ensures goes_on { OnOk result (GoesOn output.old output.new) }
+    ensures left { (end : ℕ) → IsPart (bytes_of output.old) output.old.at end → IsAddress (slice_range (bytes_of output.old) output.old.at end) address.now → OnOk result (IsPart (bytes_of output.new) output.new.at end) }
+    ensures at { KeepsInlines result output.old output.new }
+{
+    let address_end = output.offset_after(address.end);
+    output.fill_to(Name::Data, output.offset_after(address.start))?;
+    output.token_to(address.name, address_end)?;
     Ok(())
 }
 
 /// The first address in a text.
-fn find(text: &[u8]) -> Option<Address> {
+fn find(text: &[u8]) -> Option<Address>
+    ensures { IfSome result (λ address. IsAddress text.now address) }
+{
     for (at, byte) in text.iter().enumerate() {
         if *byte == b'@'
             && let Some(address) = address_around(text, at)
@@ -48,44 +76,77 @@ fn find(text: &[u8]) -> Option<Address> {
 
 /// The address around the at sign at an offset.
 fn address_around(text: &[u8], at: usize) -> Option<Address>
-    requires { at < length text.now }
+    requires within { at < length text.now }
+    requires sign { slice_index text.now at ≡ 64 }
+    ensures { IfSome result (λ address. IsAddress text.now address) }
 {
     let before = &text[..at];
-    let start = at - count_back(before, is_of_local);
-    let is_after_slash = start > 0 && text.get(start - 1) == Some(&b'/');
-    if start == at || is_after_slash {
+    let local = count_back(before, is_of_local);
+    if local == 0 || before[..at - local].last() == Some(&b'/') {
         return None;
     }
-    let (start, name) = with_protocol(before.get(..start)?);
-    let domain = domain_length(after(text, at + 1), name == Name::GfmAutolinkLiteralXmpp)?;
+    let beginning = with_protocol(&before[..at - local]);
+    let is_xmpp = beginning.name == Name::GfmAutolinkLiteralXmpp;
+    let domain = domain_length(after(text, at + 1), is_xmpp)?;
     Some(Address {
-        name,
-        start,
+        name: beginning.name,
+        start: beginning.start,
         end: at + 1 + domain,
     })
 }
 
-/// Where an address begins before which these bytes stand, and the name of its span.
-fn with_protocol(before: &[u8]) -> (usize, Name) {
-    let whole = (before.len(), Name::GfmAutolinkLiteralEmail);
+/// The start of an address in a text.
+#[derive(Clone, Copy, PartialEq, Eq, Debug)]
+struct Beginning {
+    /// The name of its span.
+    name: Name,
+    /// The offset in the text at which it begins.
+    start: usize,
+}
+
+/// Where an address begins whose local part comes after these bytes.
+fn with_protocol(before: &[u8]) -> Beginning
+    ensures within { result.start ≤ length before.now }
+    ensures cut { IsCut before.now result.start }
+    ensures name { IsAddressName result.name }
+{
     let Some(scheme) = before.strip_suffix(b":") else {
-        return whole;
+        return without_protocol(before);
     };
     let start = scheme.len() - count_back(scheme, is_of_scheme);
-    let scheme = after(scheme, start);
+    let scheme = &scheme[start..];
     if scheme.eq_ignore_ascii_case(b"mailto") {
-        (start, Name::GfmAutolinkLiteralMailto)
-    } else if scheme.eq_ignore_ascii_case(b"xmpp") {
-        (start, Name::GfmAutolinkLiteralXmpp)
-    } else {
-        whole
+        return Beginning {
+            name: Name::GfmAutolinkLiteralMailto,
+            start,
+        };
+    }
+    if scheme.eq_ignore_ascii_case(b"xmpp") {
+        return Beginning {
+            name: Name::GfmAutolinkLiteralXmpp,
+            start,
+        };
+    }
+    without_protocol(before)
+}
+
+/// The start of an address with no protocol, after these bytes.
+fn without_protocol(before: &[u8]) -> Beginning
+    ensures within { result.start ≤ length before.now }
+    ensures cut { IsCut before.now result.start }
+    ensures name { IsAddressName result.name }
+{
+    Beginning {
+        name: Name::GfmAutolinkLiteralEmail,
+        start: before.len(),
     }
 }
 
 /// The length of the domain that a text begins with: it has a dot, and ends with a letter or a digit. That of
 /// `xmpp:` may have slashes.
 fn domain_length(text: &[u8], is_xmpp: bool) -> Option<usize>
-    ensures { IfSome result (λ size. size ≤ length text.now) }
+    ensures most { IfSome result (λ size. size ≤ length text.now) }
+    ensures cut { IfSome result (λ size. IsCut text.now size) }
 {
     let mut has_dot = false;
     for (size, byte) in text.iter().enumerate() {
@@ -101,7 +162,8 @@ fn domain_length(text: &[u8], is_xmpp: bool) -> Option<usize>
 
 /// The length of a domain of so many bytes, if it is one.
 fn whole_domain(text: &[u8], size: usize, has_dot: bool) -> Option<usize>
-    ensures { IfSome result (λ size. size ≤ length text.now) }
+    ensures most { IfSome result (λ size. size ≤ length text.now) }
+    ensures cut { IfSome result (λ size. IsCut text.now size) }
 {
     let last = text.get(..size)?.last()?;
     (has_dot && last.is_ascii_alphanumeric()).then_some(size)
@@ -118,11 +180,15 @@ fn is_of_segment(byte: u8) -> bool {
 }
 
 /// Whether a byte may stand before the at sign.
-fn is_of_local(byte: u8) -> bool {
+fn is_of_local(byte: u8) -> bool
+    ensures { IsTrue result → byte < 128 }
+{
     byte.is_ascii_alphanumeric() || matches!(byte, b'+' | b'-' | b'.' | b'_')
 }
 
 /// Whether a byte may stand in a scheme.
-fn is_of_scheme(byte: u8) -> bool {
+fn is_of_scheme(byte: u8) -> bool
+    ensures { IsTrue result → byte < 128 }
+{
     byte.is_ascii_alphanumeric()
 }

@@ -1,18 +1,24 @@
 //! The mark of a task (GFM), at the start of the first paragraph of an item.
 
-ghost use Rattle.std.specs.Prelude.{◌≡◌, ◌≤◌, length, IfSome};
+ghost use Rattle.std.specs.Prelude.{◌≡◌, ◌+◌, IfSome, OnOk, true, ◌⊎◌, false};
+ghost use Rattle.markdown_text.specs.Outputs.{Stands, WritesTo, bytes_of, AtStage, Leads};
+ghost use Rattle.markdown_text.specs.Texts.{no_values, text_of};
+ghost use Rattle.event_writer.specs.Stages.{inlines, task};
+ghost use Rattle.markdown_events.specs.declared.event.Name.TheVariants.{GfmTaskListItemValueChecked, GfmTaskListItemValueUnchecked};
+ghost use Rattle.markdown_text.specs.Contents.{IsRange};
+ghost use Rattle.markdown_text.specs.Tokens.{IsEnclosed, IsFound};
 
-use crate::error::TextError;
 use crate::output::Output;
 use crate::token::{Found, TokenKind};
 use crate::whitespace::is_white_space;
 use character_references::references::References;
 use commonmark_syntax::bytes::count_while;
 use markdown_events::event::Name;
+use std::alloc::AllocError;
 
 /// The mark of a task that a text begins with. White space comes after it, and then more of the text.
 pub fn scan(text: &[u8]) -> Option<Found>
-    ensures { IfSome result (λ found. found.size ≤ length text.now) }
+    ensures { IfSome result (λ found. IsFound (text_of text.now no_values true) found.kind 0 found.size) }
 {
     let [b'[', value, b']', rest @ ..] = text else {
         return None;
@@ -24,25 +30,51 @@ pub fn scan(text: &[u8]) -> Option<Found>
     is_mark.then_some(Found::token(TokenKind::TaskListItemCheck(is_checked), 3))
 }
 
-/// Writes the mark of a task, which may be checked. A line ending may stand in one that is not.
+/// Writes the mark of a task, which may be checked.
 pub fn write<R: References>(
     output: &mut Output<'_, '_, R>,
     is_checked: bool,
-) -> Result<(), TextError>
+) -> Result<(), AllocError>
+    requires stands { Stands output.old }
+    requires start { output.old.at ≡ 0 }
+    requires none_waits { output.old.data ≡ 0 }
+    requires enclosed { IsEnclosed (bytes_of output.old) 1 0 3 }
+    requires at { AtStage output.old task }
     ensures given { output.new.writer.given ≡ output.old.writer.given }
+    ensures writes { OnOk result (WritesTo output.old output.new 3) }
+    ensures at { Leads result task (inlines false) output.old output.new }
 {
-    let value = if is_checked {
+    output.enter(Name::GfmTaskListItemCheck)?;
+    output.token(Name::GfmTaskListItemMarker, 1)?;
+    write_value(output, value_name(is_checked))?;
+    output.token(Name::GfmTaskListItemMarker, 1)?;
+    output.exit()
+}
+
+/// The name of the value of a mark, which may be checked.
+fn value_name(is_checked: bool) -> Name
+    ensures { (result ≡ GfmTaskListItemValueChecked) ⊎ (result ≡ GfmTaskListItemValueUnchecked) }
+{
+    if is_checked {
         Name::GfmTaskListItemValueChecked
     } else {
         Name::GfmTaskListItemValueUnchecked
-    };
-    output.enter(Name::GfmTaskListItemCheck)?;
-    output.token(Name::GfmTaskListItemMarker, 1)?;
-    if output.rest().starts_with(b"\n") {
-        output.line_ending_as(value)?;
-    } else {
-        output.token(value, 1)?;
     }
-    output.token(Name::GfmTaskListItemMarker, 1)?;
-    output.exit()
+}
+
+/// Writes the value of a mark: a byte, or a line ending.
+fn write_value<R: References>(output: &mut Output<'_, '_, R>, value: Name) -> Result<(), AllocError>
+    requires stands { Stands output.old }
+    requires none_waits { output.old.data ≡ output.old.at }
+    requires range { IsRange (bytes_of output.old) output.old.at (output.old.at + 1) }
+    requires value { (value ≡ GfmTaskListItemValueChecked) ⊎ (value ≡ GfmTaskListItemValueUnchecked) }
+    requires at { AtStage output.old task }
+    ensures given { output.new.writer.given ≡ output.old.writer.given }
+    ensures writes { OnOk result (WritesTo output.old output.new (output.old.at + 1)) }
+    ensures at { Leads result task (inlines false) output.old output.new }
+{
+    if output.rest()[0] == b'\n' {
+        return output.line_ending_as(value);
+    }
+    output.token(value, 1)
 }

@@ -1,14 +1,37 @@
 //! Hard breaks by a backslash (CommonMark).
 
-ghost use Rattle.std.specs.Prelude.{◌≤◌, ◌<◌, length, IfSome};
+ghost use Rattle.std.specs.Prelude.{Some, slice_get, ◌≡◌, ◌≤◌, ◌<◌, ◌+◌, length, IfSome, OnOk};
+ghost use Rattle.markdown_text.specs.Contents.{IsAsciiPart};
+ghost use Rattle.markdown_text.specs.Outputs.{AtInlines, KeepsInlines, Stands, WritesTo, bytes_of};
 
-/// The length of the hard break that a text begins with: a backslash before a line ending.
+use crate::output::{Next, Output};
+use character_references::references::References;
+use markdown_events::event::Name;
+use std::alloc::AllocError;
+
+/// The length of the hard break that a text begins with: a backslash and a line ending.
 pub fn scan(text: &[u8]) -> Option<usize>
-    ensures most { IfSome result (λ size. size ≤ length text.now) }
-    ensures least { IfSome result (λ size. 0 < size) }
+    ensures size { IfSome result (λ size. size ≡ 2) }
+    ensures backslash { IfSome result (λ size. IsAsciiPart text.now 0 1) }
+    ensures feed { IfSome result (λ size. slice_get text.now 1 ≡ Some 10) }
 {
     match text {
-        [b'\\', b'\n', ..] => Some(1),
+        [b'\\', b'\n', ..] => Some(2),
         _ => None,
     }
+}
+
+/// Writes a hard break, with its line ending.
+pub fn write<R: References>(output: &mut Output<'_, '_, R>) -> Result<(), AllocError>
+    requires stands { Stands output.old }
+    requires backslash { IsAsciiPart (bytes_of output.old) output.old.data (output.old.data + 1) }
+    requires feed { slice_get (bytes_of output.old) (output.old.data + 1) ≡ Some 10 }
+    requires inlines { AtInlines output.old }
+    ensures given { output.new.writer.given ≡ output.old.writer.given }
+    ensures writes { OnOk result (WritesTo output.old output.new (output.old.data + 2)) }
+    ensures at { KeepsInlines result output.old output.new }
+{
+    output.flush(Next::Span)?;
+    output.hard_break_to(Name::HardBreakEscape, output.offset_after(1))?;
+    output.line_ending_as(Name::LineEnding)
 }

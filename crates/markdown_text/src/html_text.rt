@@ -1,12 +1,14 @@
 //! HTML in a text (CommonMark): tags, comments, instructions, declarations and CDATA sections.
 
-ghost use Rattle.std.specs.Prelude.{◌≡◌, ◌≤◌, ◌<◌, length, IfSome};
+ghost use Rattle.std.specs.Prelude.{◌≡◌, ◌<◌, IfSome, OnOk, length};
+ghost use Rattle.markdown_text.specs.Contents.{IsRange};
+ghost use Rattle.markdown_text.specs.Outputs.{Stands, WritesTo, bytes_of, AtInlines, KeepsInlines};
 
-use crate::error::TextError;
-use crate::output::Output;
+use crate::output::{Next, Output};
 use character_references::references::References;
 use commonmark_syntax::{cdata, closing_tag, comment, declaration, instruction, opening_tag};
 use markdown_events::event::Name;
+use std::alloc::AllocError;
 
 /// Which kinds of HTML are known to have no end in the rest of a content.
 ///
@@ -37,8 +39,8 @@ impl MissingEnds {
 
 /// The length of the HTML that a text begins with.
 pub fn scan(text: &[u8], missing: &mut MissingEnds) -> Option<usize>
-    ensures most { IfSome result (λ size. size ≤ length text.now) }
     ensures least { IfSome result (λ size. 0 < size) }
+    ensures range { IfSome result (λ size. IsRange text.now 0 size) }
 {
     match text {
         [b'<', b'/', ..] => closing_tag::scan(text),
@@ -64,8 +66,8 @@ pub fn scan(text: &[u8], missing: &mut MissingEnds) -> Option<usize>
 
 /// The length of the CDATA section that a text begins with.
 fn scan_cdata(text: &[u8], missing: &mut MissingEnds) -> Option<usize>
-    ensures most { IfSome result (λ size. size ≤ length text.now) }
     ensures least { IfSome result (λ size. 0 < size) }
+    ensures range { IfSome result (λ size. IsRange text.now 0 size) }
 {
     if missing.cdata || !text.starts_with(b"<![CDATA[") {
         return None;
@@ -76,9 +78,15 @@ fn scan_cdata(text: &[u8], missing: &mut MissingEnds) -> Option<usize>
 }
 
 /// Writes HTML that ends at an offset.
-pub fn write<R: References>(output: &mut Output<'_, '_, R>, end: usize) -> Result<(), TextError>
+pub fn write<R: References>(output: &mut Output<'_, '_, R>, end: usize) -> Result<(), AllocError>
+    requires stands { Stands output.old }
+    requires range { IsRange (bytes_of output.old) output.old.data end }
+    requires inlines { AtInlines output.old }
     ensures given { output.new.writer.given ≡ output.old.writer.given }
+    ensures writes { OnOk result (WritesTo output.old output.new end) }
+    ensures at { KeepsInlines result output.old output.new }
 {
+    output.flush(Next::Span)?;
     output.enter(Name::HtmlText)?;
     output.lines(Name::HtmlTextData, end)?;
     output.exit()

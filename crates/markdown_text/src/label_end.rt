@@ -1,11 +1,20 @@
 //! The end of a label (micromark), and what comes after it: a resource or a reference.
 
-ghost use Rattle.std.specs.Prelude.{◌≡◌, ◌≤◌, ◌<◌, ◌+◌, ◌-◌, length, IfOk, IfSome};
-ghost use Rattle.markdown_text.specs.Cursors.{bytes_from};
+ghost use Rattle.std.specs.Prelude.{◌≡◌, ◌≢◌, ◌≤◌, ◌<◌, ◌+◌, ◌-◌, IfOk, IfSome, OnOk, length};
+ghost use Rattle.markdown_text.specs.Contents.{IsPart, IsRange};
+ghost use Rattle.markdown_text.specs.Cursors.{byte_at};
+ghost use Rattle.markdown_text.specs.Outputs.{Stands, WritesTo, bytes_of, AtStage, Leads};
+ghost use Rattle.markdown_text.specs.Reached.{form_size};
+ghost use Rattle.markdown_text.specs.Texts.{bare};
+ghost use Rattle.markdown_text.specs.Tokens.{IsTarget, IsToken, label_start, IsAfterLabel};
+ghost use Rattle.markdown_text.specs.declared.token.Labelled.{Labelled};
+ghost use Rattle.markdown_text.specs.declared.token.Labelled.TheVariants.{FootnoteCall};
+ghost use Rattle.markdown_text.specs.declared.token.TokenKind.TheVariants.{LabelEnd};
+ghost use Rattle.event_writer.specs.Stages.{endings, media_target};
+ghost use Rattle.markdown_text.specs.Opens.{AtLabelEnd, EndsLabel, LeavesLabel};
 
 use crate::brackets::{Bracket, LabelForm};
 use crate::cursor::Cursor;
-use crate::error::TextError;
 use crate::output::Output;
 use crate::source::Source;
 use crate::token::{Labelled, Target};
@@ -14,6 +23,7 @@ use character_references::references::References;
 use commonmark_syntax::bytes::{after, is_space_or_line_ending};
 use commonmark_syntax::label;
 use markdown_events::event::Name;
+use markdown_options::Constructs;
 use std::alloc::AllocError;
 
 /// What an opening bracket and the end of its label make.
@@ -35,7 +45,9 @@ pub fn scan<R: References>(
     cursor: Cursor<'_>,
     bracket: &Bracket,
 ) -> Result<Option<Match>, AllocError>
-    ensures { IfOk result (λ found. IfSome found (λ found. found.size ≤ bytes_from cursor.entry)) }
+    requires { byte_at cursor ≡ 93 }
+    ensures labelled { IfOk result (λ found. IfSome found (λ found. label_start found.labelled ≤ form_size bracket.now.form)) }
+    ensures found { IfOk result (λ found. IfSome found (λ found. IsToken (bare cursor.entry.content.now) (LabelEnd found.labelled found.target) cursor.entry.at (cursor.entry.at + found.size))) }
 {
     let label = after(after(cursor.before(), bracket.start), bracket.form.prefix());
     let is_footnote = bracket.form == LabelForm::Footnote
@@ -48,11 +60,8 @@ pub fn scan<R: References>(
             size: 1,
         }));
     }
-    let labelled = match bracket.form {
-        LabelForm::Image => Labelled::Image,
-        LabelForm::Link => Labelled::Link,
-        LabelForm::Footnote if source.reading.options.constructs.label_start_link => Labelled::Link,
-        LabelForm::Footnote => return Ok(None),
+    let Some(labelled) = labelled(bracket.form, &source.reading.options.constructs) else {
+        return Ok(None);
     };
     let own = if bracket.has_bracket {
         None
@@ -60,6 +69,18 @@ pub fn scan<R: References>(
         Some(label)
     };
     with_target(source, labelled, own, after(cursor.content, cursor.at + 1))
+}
+
+/// What a bracket of this form begins, where it is no call of a footnote.
+fn labelled(form: LabelForm, constructs: &Constructs) -> Option<Labelled>
+    ensures other { IfSome result (λ labelled. labelled ≢ FootnoteCall) }
+    ensures size { IfSome result (λ labelled. label_start labelled ≤ form_size form) }
+{
+    match form {
+        LabelForm::Image => Some(Labelled::Image),
+        LabelForm::Link => Some(Labelled::Link),
+        LabelForm::Footnote => constructs.label_start_link.then_some(Labelled::Link),
+    }
 }
 
 /// Whether there is white space in a label. No label of a footnote has any (micromark).
@@ -75,7 +96,9 @@ fn with_target<R: References>(
     own: Option<&[u8]>,
     rest: &[u8],
 ) -> Result<Option<Match>, AllocError>
-    ensures { IfOk result (λ found. IfSome found (λ found. found.size ≤ length rest.now + 1)) }
+    requires { labelled ≢ FootnoteCall }
+    ensures labelled { IfOk result (λ found. IfSome found (λ found. found.labelled ≡ labelled)) }
+    ensures found { IfOk result (λ found. IfSome found (λ found. (found.labelled ≡ labelled) × IsTarget rest.now found.target 0 (found.size - 1) × IsRange rest.now 0 (found.size - 1))) }
 {
     if let Some(resource) = resource::scan(rest) {
         return Ok(Some(Match {
@@ -101,7 +124,9 @@ fn with_target<R: References>(
 
 /// What a label that is defined makes with what comes after it: a collapsed or a shortcut reference.
 fn with_own_label(labelled: Labelled, rest: &[u8]) -> Match
-    ensures { result.size ≤ length rest.now + 1 }
+    ensures labelled { result.labelled ≡ labelled }
+    ensures target { IsTarget rest.now result.target 0 (result.size - 1) }
+    ensures range { IsRange rest.now 0 (result.size - 1) }
 {
     match rest {
         [b'[', b']', ..] => Match {
@@ -123,17 +148,58 @@ pub fn write<R: References>(
     labelled: Labelled,
     target: &Target,
     end: usize,
-) -> Result<(), TextError>
+) -> Result<(), AllocError>
+    requires stands { Stands output.old }
+    requires none_waits { output.old.data ≡ output.old.at }
+    requires part { IsPart (bytes_of output.old) output.old.at (output.old.at + 1) }
+    requires target { IsAfterLabel (bytes_of output.old) labelled target.now (output.old.at + 1) end }
+    requires at { AtLabelEnd output.old labelled }
     ensures given { output.new.writer.given ≡ output.old.writer.given }
+    ensures writes { OnOk result (WritesTo output.old output.new end) }
+    ensures at { EndsLabel result labelled output.old output.new }
+{
+    write_mark(output)?;
+    if !labelled.has_target() {
+        return output.exit();
+    }
+    write_target(output, target, end)?;
+    output.exit()
+}
+
+/// Writes the bracket that ends a label.
+fn write_mark<R: References>(output: &mut Output<'_, '_, R>) -> Result<(), AllocError>
+    requires stands { Stands output.old }
+    requires none_waits { output.old.data ≡ output.old.at }
+    requires part { IsPart (bytes_of output.old) output.old.at (output.old.at + 1) }
+    requires at { (labelled : Labelled) × AtLabelEnd output.old labelled }
+    ensures given { output.new.writer.given ≡ output.old.writer.given }
+    ensures writes { OnOk result (WritesTo output.old output.new (output.old.at + 1)) }
+    ensures at { (labelled : Labelled) → LeavesLabel result labelled output.old output.new }
 {
     output.enter(Name::LabelEnd)?;
     output.token(Name::LabelMarker, 1)?;
     output.exit()?;
-    output.exit()?;
-    match target {
-        Target::Shortcut => {}
-        Target::Resource(resource) => resource::write(output, resource)?,
-        Target::Collapsed | Target::Full => reference::write(output, end)?,
-    }
     output.exit()
+}
+
+/// Writes what comes after the label of a link or an image, up to an offset.
+fn write_target<R: References>(
+    output: &mut Output<'_, '_, R>,
+    target: &Target,
+    end: usize,
+) -> Result<(), AllocError>
+    requires stands { Stands output.old }
+    requires none_waits { output.old.data ≡ output.old.at }
+    requires target { IsTarget (bytes_of output.old) target.now output.old.at end }
+    requires at { AtStage output.old media_target }
+    ensures given { output.new.writer.given ≡ output.old.writer.given }
+    ensures writes { OnOk result (WritesTo output.old output.new end) }
+    ensures at { Leads result media_target endings output.old output.new }
+{
+    match target {
+        Target::Shortcut => Ok(()),
+        Target::Resource(resource) => resource::write(output, resource),
+        Target::Collapsed => reference::write(output, end),
+        Target::Full => reference::write(output, end),
+    }
 }

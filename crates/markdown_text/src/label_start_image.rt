@@ -1,18 +1,22 @@
 //! The start of the label of an image (CommonMark).
 
-ghost use Rattle.std.specs.Prelude.{◌≡◌, ◌≤◌, ◌<◌, length, IfSome};
+ghost use Rattle.std.specs.Prelude.{◌≡◌, ◌≤◌, ◌<◌, length, IfSome, ◌+◌, OnOk};
+ghost use Rattle.markdown_text.specs.Contents.{IsAsciiPart};
+ghost use Rattle.markdown_text.specs.Opens.{BeginsLabel};
+ghost use Rattle.markdown_text.specs.Outputs.{AtInlines, Stands, WritesTo, bytes_of};
+ghost use Rattle.markdown_text.specs.declared.token.Labelled.TheVariants.{Image};
 
-use crate::error::TextError;
-use crate::output::Output;
+use crate::output::{Next, Output};
 use character_references::references::References;
 use markdown_events::event::Name;
 use markdown_options::Constructs;
+use std::alloc::AllocError;
 
 /// The length of the start of the label of an image that a text begins with. Where calls of footnotes
 /// are a construct, no image begins before a caret (micromark).
 pub fn scan(text: &[u8], constructs: &Constructs) -> Option<usize>
-    ensures most { IfSome result (λ size. size ≤ length text.now) }
-    ensures least { IfSome result (λ size. 0 < size) }
+    ensures size { IfSome result (λ size. size ≡ 2) }
+    ensures ascii { IfSome result (λ size. IsAsciiPart text.now 0 size) }
 {
     match text {
         [b'!', b'[', b'^', ..] if constructs.gfm_label_start_footnote => None,
@@ -22,9 +26,15 @@ pub fn scan(text: &[u8], constructs: &Constructs) -> Option<usize>
 }
 
 /// Writes the start of the label of an image.
-pub fn write<R: References>(output: &mut Output<'_, '_, R>) -> Result<(), TextError>
+pub fn write<R: References>(output: &mut Output<'_, '_, R>) -> Result<(), AllocError>
+    requires stands { Stands output.old }
+    requires ascii { IsAsciiPart (bytes_of output.old) output.old.data (output.old.data + 2) }
+    requires inlines { AtInlines output.old }
     ensures given { output.new.writer.given ≡ output.old.writer.given }
+    ensures writes { OnOk result (WritesTo output.old output.new (output.old.data + 2)) }
+    ensures at { BeginsLabel result Image output.old output.new }
 {
+    output.flush(Next::Span)?;
     output.enter(Name::Image)?;
     output.enter(Name::Label)?;
     output.enter(Name::LabelImage)?;

@@ -9,6 +9,7 @@
 mod attention;
 mod autolink;
 mod brackets;
+mod calls;
 mod character_escape;
 mod character_kind;
 mod character_reference;
@@ -17,7 +18,6 @@ mod cursor;
 mod data;
 mod destination;
 pub mod document;
-pub mod error;
 mod gfm_autolink_literal;
 mod gfm_autolink_literal_address;
 mod gfm_autolink_literal_email;

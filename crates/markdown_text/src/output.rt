@@ -1,17 +1,26 @@
 //! The spans of a content, as they are written.
 
-ghost use Rattle.std.specs.Prelude.{◌≡◌, IfOk};
+ghost use Rattle.std.specs.Prelude.{Bool, IfOk, IfSome, List, OnOk, Some, drop, length, slice_get, slice_range, true, ℕ, ◌-◌, ◌≡◌, ◌≤◌, ◌<◌, ◌+◌};
+ghost use Rattle.event_writer.specs.Stages.{Enclosing, Stage, character_reference_value, entered, exited, inlines, nothing, takes_line_endings};
+ghost use Rattle.markdown_events.specs.Names.{role_of};
+ghost use Rattle.markdown_events.specs.declared.event.Name.{Name};
+ghost use Rattle.markdown_events.specs.declared.event.Name.TheVariants.{SpaceOrTab};
+ghost use Rattle.markdown_pieces.specs.Walks.{inside};
+ghost use Rattle.markdown_text.specs.Contents.{IsPart, IsRange};
+ghost use Rattle.markdown_text.specs.Outputs.{AtInlines, IsFlushed, KeepsInlines, MayDecode, MayFill, MayFillLines, MayPut, MayWriteString, after_plain, after_string, references_of};
+ghost use Rattle.markdown_text.specs.Standings.{IsAt, IsSomewhere, MayEndLine, MayEnter, MayExit, StandsIn, after_line, is_hard_break};
+ghost use Rattle.markdown_text.specs.declared.output.Next.TheVariants.{LineEnding};
 
-use crate::content::line_size;
-use crate::error::TextError;
-use crate::pieces::write_pieces;
+use crate::content::{between, line_feed_in};
+use crate::pieces::{Lines, write_to_text};
 use crate::source::Source;
-use crate::{data, string};
+use crate::{calls, data, string};
 use character_references::references::References;
 use commonmark_syntax::bytes::{after, count_while, is_space_or_tab};
 use event_writer::writer::Writer;
 use markdown_events::event::Name;
 use markdown_pieces::piece::Piece;
+use std::alloc::AllocError;
 use std::mem;
 
 /// What may stand in a content (micromark).
@@ -41,10 +50,8 @@ pub struct Output<'c, 'd, R: References> {
     source: &'c Source<'c, R>,
     /// What writes the spans.
     writer: Writer<'d, R>,
-    /// The pieces of the block structure, from the text of this line on.
-    lines: &'c [Piece],
-    /// By how much an offset in the document exceeds that in the content, on this line.
-    ahead: usize,
+    /// What is left of the pieces of the block structure.
+    lines: Lines<'c>,
     /// The offset up to which all is written.
     at: usize,
     /// The offset up to which data comes after that.
@@ -58,31 +65,51 @@ pub struct Output<'c, 'd, R: References> {
 }
 
 impl<'c, 'd, R: References> Output<'c, 'd, R> {
-    /// The start of a content, which is at an offset of the document. `lines` are its pieces.
+    ghost use Rattle.markdown_pieces.specs.Tilings.{Tiles, end_from};
+    ghost use Rattle.markdown_text.specs.Contents.{IsContent, joined, spot};
+    ghost use Rattle.markdown_text.specs.Outputs.{GoesOn, Stands, WritesTo, bytes_of, content_end, document_of};
+
+    /// The start of a content, which is at the cursor of the writer. `pieces` are those of the block structure.
     pub fn new(
         source: &'c Source<'c, R>,
         writer: Writer<'d, R>,
-        lines: &'c [Piece],
-        start: usize,
+        pieces: &'c [Piece],
         kind: ContentKind,
-    ) -> Self
-        ensures given { result.writer.given ≡ writer.entry.given }
+    ) -> Result<Self, AllocError>
+        requires document { writer.given.bytes ≡ source.now.reading.now.document.now }
+        requires references { writer.given.references ≡ source.now.reading.now.references.now }
+        requires content { IsContent pieces.now }
+        requires tiles { Tiles writer.given.bytes (spot writer.cursor) pieces.now (end_from (spot writer.cursor) pieces.now) }
+        requires bytes { source.now.bytes.now ≡ joined writer.given.bytes writer.cursor.index pieces.now }
+        requires stage { IsSomewhere writer }
+        ensures given { IfOk result (λ output. output.writer.given ≡ writer.entry.given) }
+        ensures stands { IfOk result (λ output. Stands output) }
+        ensures document { IfOk result (λ output. document_of output ≡ source.now.reading.now.document.now) }
+        ensures references { IfOk result (λ output. references_of output ≡ source.now.reading.now.references.now) }
+        ensures bytes { IfOk result (λ output. bytes_of output ≡ source.now.bytes.now) }
+        ensures end { IfOk result (λ output. content_end output ≡ end_from (spot writer.entry.cursor) pieces.now) }
+        ensures at { IfOk result (λ output. output.at ≡ 0) }
+        ensures data_end { IfOk result (λ output. output.data ≡ 0) }
+        ensures stage { (a : Stage) → (outer : List Enclosing) → IsAt writer.entry a outer → IfOk result (λ output. IsAt output.writer a outer) }
     {
-        Output {
+        let mut writer = writer;
+        let lines = write_to_text(&mut writer, pieces)?;
+        Ok(Output {
             source,
             writer,
             lines,
-            ahead: start,
             at: 0,
             data: 0,
             is_line_start: kind == ContentKind::Text,
             kind,
             links: 0,
-        }
+        })
     }
 
     /// The content.
-    pub fn source(&self) -> &'c Source<'c, R> {
+    pub fn source(&self) -> &'c Source<'c, R>
+        ensures { result.now ≡ self.now.source.now }
+    {
         self.source
     }
 
@@ -92,23 +119,32 @@ impl<'c, 'd, R: References> Output<'c, 'd, R> {
     }
 
     /// The offset up to which all is written.
-    pub fn at(&self) -> usize {
+    pub fn at(&self) -> usize
+        ensures { result ≡ self.now.at }
+    {
         self.at
     }
 
     /// The offset so many bytes after that.
-    pub fn offset_after(&self, size: usize) -> usize {
-        self.at.saturating_add(size)
+    pub fn offset_after(&self, size: usize) -> usize
+        requires { self.now.at + size ≤ length (bytes_of self.now) }
+        ensures { result ≡ self.now.at + size }
+    {
+        later(self.at, size, self.source.bytes.len())
     }
 
     /// The bytes that are not written yet.
-    pub fn rest(&self) -> &'c [u8] {
+    pub fn rest(&self) -> &'c [u8]
+        ensures { result.now ≡ drop self.now.at (bytes_of self.now) }
+    {
         after(self.source.bytes, self.at)
     }
 
     /// Of these, the ones up to an offset.
-    pub fn rest_to(&self, end: usize) -> &'c [u8] {
-        self.source.bytes.get(self.at..end).unwrap_or(&[])
+    pub fn rest_to(&self, end: usize) -> &'c [u8]
+        ensures { result.now ≡ slice_range (bytes_of self.now) self.now.at end }
+    {
+        between(self.source.bytes, self.at, end)
     }
 
     /// Whether nothing of this line is written yet. In a string it is true after a line ending alone.
@@ -123,136 +159,280 @@ impl<'c, 'd, R: References> Output<'c, 'd, R> {
 
     /// Keeps that a link begins.
     pub fn enter_link(&mut self)
-        ensures given { self.new.writer.given ≡ self.old.writer.given }
+        requires { Stands self.old }
+        ensures writer { self.new.writer ≡ self.old.writer }
+        ensures goes_on { GoesOn self.old self.new }
+        ensures at { self.new.at ≡ self.old.at }
+        ensures data_end { self.new.data ≡ self.old.data }
     {
         self.links = self.links.saturating_add(1);
     }
 
     /// Keeps that a link ends.
     pub fn exit_link(&mut self)
-        ensures given { self.new.writer.given ≡ self.old.writer.given }
+        requires { Stands self.old }
+        ensures writer { self.new.writer ≡ self.old.writer }
+        ensures goes_on { GoesOn self.old self.new }
+        ensures at { self.new.at ≡ self.old.at }
+        ensures data_end { self.new.data ≡ self.old.data }
     {
         self.links = self.links.saturating_sub(1);
     }
 
     /// Adds data up to an offset. It is written with the data beside it.
     pub fn data(&mut self, end: usize)
-        ensures given { self.new.writer.given ≡ self.old.writer.given }
+        requires stands { Stands self.old }
+        requires part { IsPart (bytes_of self.old) self.old.data end }
+        ensures writer { self.new.writer ≡ self.old.writer }
+        ensures goes_on { GoesOn self.old self.new }
+        ensures at { self.new.at ≡ self.old.at }
+        ensures data_end { self.new.data ≡ end }
     {
         self.data = end;
     }
 
-    /// Opens a span.
-    pub fn enter(&mut self, name: Name) -> Result<(), TextError>
+    /// Opens a span. No data waits.
+    pub fn enter(&mut self, name: Name) -> Result<(), AllocError>
+        requires stands { Stands self.old }
+        requires none_waits { self.old.data ≡ self.old.at }
+        requires may { MayEnter self.old.writer name }
         ensures given { self.new.writer.given ≡ self.old.writer.given }
+        ensures writes { OnOk result (WritesTo self.old self.new self.old.at) }
+        ensures stage { (a : Stage) → (outer : List Enclosing) → IsAt self.old.writer a outer → OnOk result (IfSome (entered a (role_of name)) (λ b. IsAt self.new.writer b (inside name a outer))) }
     {
-        self.flush(Next::Span)?;
         self.is_line_start = false;
-        TextError::at(self.writer.cursor(), self.writer.enter(name))
+        calls::enter(&mut self.writer, name)
     }
 
-    /// Closes the innermost span.
-    pub fn exit(&mut self) -> Result<(), TextError>
+    /// Closes the innermost span. No data waits.
+    pub fn exit(&mut self) -> Result<(), AllocError>
+        requires stands { Stands self.old }
+        requires none_waits { self.old.data ≡ self.old.at }
+        requires may { MayExit self.old.writer }
         ensures given { self.new.writer.given ≡ self.old.writer.given }
+        ensures writes { OnOk result (WritesTo self.old self.new self.old.at) }
+        ensures stage { (own a : Stage) → (name : Name) → (outer : List Enclosing) → IsAt self.old.writer own (inside name a outer) → OnOk result (IfSome (exited own a (role_of name)) (λ b. IsAt self.new.writer b outer)) }
     {
-        self.flush(Next::Span)?;
         self.is_line_start = false;
-        TextError::at(self.writer.cursor(), self.writer.exit())
+        calls::exit(&mut self.writer)
     }
 
     /// Writes a token of so many bytes.
-    pub fn token(&mut self, name: Name, size: usize) -> Result<(), TextError>
+    pub fn token(&mut self, name: Name, size: usize) -> Result<(), AllocError>
+        requires stands { Stands self.old }
+        requires filled { 0 < size }
+        requires part { IsPart (bytes_of self.old) self.old.at (self.old.at + size) }
+        requires may { MayPut self.old name }
         ensures given { self.new.writer.given ≡ self.old.writer.given }
+        ensures writes { OnOk result (WritesTo self.old self.new (self.old.at + size)) }
+        ensures whole { OnOk result (self.new.writer.cursor.vs ≡ 0) }
+        ensures stage { (a : Stage) → (outer : List Enclosing) → IsAt self.old.writer a outer → OnOk result (IfSome (after_plain a name) (λ b. IsAt self.new.writer b outer)) }
     {
-        self.flush(Next::Span)?;
-        self.put(name, self.offset_after(size))
+        self.token_to(name, later(self.at, size, self.source.bytes.len()))
     }
 
-    /// Writes a token up to an offset.
-    pub fn token_to(&mut self, name: Name, end: usize) -> Result<(), TextError>
+    /// Writes a token up to an offset. It may take bytes of the data that waits.
+    pub fn token_to(&mut self, name: Name, end: usize) -> Result<(), AllocError>
+        requires stands { Stands self.old }
+        requires filled { self.old.at < end }
+        requires part { IsPart (bytes_of self.old) self.old.at end }
+        requires may { MayPut self.old name }
         ensures given { self.new.writer.given ≡ self.old.writer.given }
+        ensures writes { OnOk result (WritesTo self.old self.new end) }
+        ensures whole { OnOk result (self.new.writer.cursor.vs ≡ 0) }
+        ensures stage { (a : Stage) → (outer : List Enclosing) → IsAt self.old.writer a outer → OnOk result (IfSome (after_plain a name) (λ b. IsAt self.new.writer b outer)) }
     {
-        self.flush(Next::Span)?;
-        self.put(name, end)
+        let to = self.move_to(end);
+        calls::token(&mut self.writer, name, to, 0)?;
+        Ok(())
     }
 
-    /// Writes a token up to an offset, if it has any bytes. No data waits.
-    pub fn put(&mut self, name: Name, end: usize) -> Result<(), TextError>
+    /// Writes the value of a character reference up to an offset.
+    pub fn value_to(&mut self, end: usize) -> Result<(), AllocError>
+        requires stands { Stands self.old }
+        requires filled { self.old.at < end }
+        requires part { IsPart (bytes_of self.old) self.old.at end }
+        requires whole { self.old.writer.cursor.vs ≡ 0 }
+        requires may { MayDecode (R.text (references_of self.old)) self.old end }
         ensures given { self.new.writer.given ≡ self.old.writer.given }
+        ensures writes { OnOk result (WritesTo self.old self.new end) }
+        ensures stage { (m : ℕ) → (outer : List Enclosing) → IsAt self.old.writer (character_reference_value m) outer → OnOk result (IsAt self.new.writer nothing outer) }
+    {
+        let to = self.move_to(end);
+        calls::token(&mut self.writer, Name::CharacterReferenceValue, to, 0)?;
+        Ok(())
+    }
+
+    /// Writes a token up to an offset, if it has any bytes. It may take bytes of the data that waits.
+    pub fn fill_to(&mut self, name: Name, end: usize) -> Result<(), AllocError>
+        requires stands { Stands self.old }
+        requires part { IsPart (bytes_of self.old) self.old.at end }
+        requires may { MayFill self.old name }
+        ensures given { self.new.writer.given ≡ self.old.writer.given }
+        ensures writes { OnOk result (WritesTo self.old self.new end) }
+        ensures stage { (a : Stage) → (outer : List Enclosing) → after_plain a name ≡ Some a → IsAt self.old.writer a outer → OnOk result (IsAt self.new.writer a outer) }
     {
         if end <= self.at {
+            self.data = end;
             return Ok(());
         }
+        self.token_to(name, end)?;
+        Ok(())
+    }
+
+    /// Writes trailing white space up to an offset as a hard break, if it has any bytes. Its line ending comes next.
+    pub fn hard_break_to(&mut self, name: Name, end: usize) -> Result<(), AllocError>
+        requires stands { Stands self.old }
+        requires part { IsPart (bytes_of self.old) self.old.at end }
+        requires name { is_hard_break (role_of name) ≡ true }
+        requires inlines { AtInlines self.old }
+        ensures given { self.new.writer.given ≡ self.old.writer.given }
+        ensures writes { OnOk result (WritesTo self.old self.new end) }
+        ensures stage { (h : Bool) → (outer : List Enclosing) → IsAt self.old.writer (inlines h) outer → OnOk result (IsFlushed LineEnding self.new (inlines h) outer) }
+    {
+        if end <= self.at {
+            self.data = end;
+            return Ok(());
+        }
+        let to = self.move_to(end);
+        calls::hard_break(&mut self.writer, name, to)?;
+        Ok(())
+    }
+
+    /// Goes to an offset, and gives where it is in the document.
+    fn move_to(&mut self, end: usize) -> usize
+        requires stands { Stands self.old }
+        requires part { IsPart (bytes_of self.old) self.old.at end }
+        ensures to { result ≡ self.old.writer.cursor.index + (end - self.old.at) }
+        ensures writer { self.new.writer ≡ self.old.writer }
+        ensures source { self.new.source ≡ self.old.source }
+        ensures lines { self.new.lines ≡ self.old.lines }
+        ensures at { self.new.at ≡ end }
+        ensures data_end { self.new.data ≡ end }
+    {
+        let to = later(self.writer.cursor().index, end - self.at, self.lines.end);
         self.at = end;
         self.data = end;
         self.is_line_start = false;
-        let to = end.saturating_add(self.ahead);
-        TextError::at(self.writer.cursor(), self.writer.token(name, to, 0))
+        to
     }
 
     /// Writes a line ending, and what stands before the text of the next line.
-    pub fn line_ending(&mut self) -> Result<(), TextError>
+    pub fn line_ending(&mut self) -> Result<(), AllocError>
+        requires stands { Stands self.old }
+        requires feed { slice_get (bytes_of self.old) self.old.data ≡ Some 10 }
+        requires inlines { AtInlines self.old }
         ensures given { self.new.writer.given ≡ self.old.writer.given }
-    {
-        self.line_ending_as(Name::LineEnding)
-    }
-
-    /// Writes a line ending as a token of this name, and what stands before the text of the next line.
-    pub fn line_ending_as(&mut self, name: Name) -> Result<(), TextError>
-        ensures given { self.new.writer.given ≡ self.old.writer.given }
+        ensures writes { OnOk result (WritesTo self.old self.new (self.old.data + 1)) }
+        ensures stage { KeepsInlines result self.old self.new }
     {
         self.flush(Next::LineEnding)?;
-        let (line, rest) = self.lines.split_at(line_size(self.lines));
-        self.lines = rest;
-        self.at = self.at.saturating_add(1);
+        self.line_ending_as(Name::LineEnding)?;
+        Ok(())
+    }
+
+    /// Writes a line ending as a token of this name, and what stands before the text of the next line. No data waits.
+    pub fn line_ending_as(&mut self, name: Name) -> Result<(), AllocError>
+        requires stands { Stands self.old }
+        requires none_waits { self.old.data ≡ self.old.at }
+        requires feed { slice_get (bytes_of self.old) self.old.at ≡ Some 10 }
+        requires may { MayEndLine (R.text self.old.writer.given.references) self.old.writer name }
+        ensures given { self.new.writer.given ≡ self.old.writer.given }
+        ensures writes { OnOk result (WritesTo self.old self.new (self.old.at + 1)) }
+        ensures stage { (waits : Bool) → (a : Stage) → (outer : List Enclosing) → StandsIn waits self.old.writer a outer → OnOk result (IfSome (after_line waits a (role_of name)) (λ b. IsAt self.new.writer b outer)) }
+    {
+        let Some((_, next)) = self.lines.later.split_first() else {
+            unreachable!()
+        };
+        calls::line_ending(&mut self.writer, name)?;
+        self.lines = write_to_text(&mut self.writer, next)?;
+        self.at = later(self.at, 1, self.source.bytes.len());
         self.data = self.at;
         self.is_line_start = true;
-        if let [_, ending, between @ ..] = line {
-            let last = between.last().unwrap_or(ending);
-            self.ahead = last.end.saturating_sub(self.at);
-            TextError::at(self.writer.cursor(), self.writer.line_ending(name))?;
-            write_pieces(&mut self.writer, between)?;
+        Ok(())
+    }
+
+    /// Writes a token for what each line has up to an offset, and white space that begins a line apart. No data waits.
+    pub fn lines(&mut self, name: Name, end: usize) -> Result<(), AllocError>
+        requires stands { Stands self.old }
+        requires none_waits { self.old.data ≡ self.old.at }
+        requires range { IsRange (bytes_of self.old) self.old.at end }
+        requires may { MayFillLines self.old name }
+        ensures given { self.new.writer.given ≡ self.old.writer.given }
+        ensures writes { OnOk result (WritesTo self.old self.new end) }
+        ensures stage { (a : Stage) → (outer : List Enclosing) → after_plain a name ≡ Some a → takes_line_endings a ≡ true → IsAt self.old.writer a outer → OnOk result (IsAt self.new.writer a outer) }
+    {
+        'lines: while self.at < end {
+            self.line(name, end)?;
         }
         Ok(())
     }
 
-    /// Writes a token for what each line has up to an offset, and white space that begins a line apart.
-    pub fn lines(&mut self, name: Name, end: usize) -> Result<(), TextError>
+    /// Writes what the line has up to an offset, or its ending where nothing of it is left.
+    fn line(&mut self, name: Name, end: usize) -> Result<(), AllocError>
+        requires stands { Stands self.old }
+        requires none_waits { self.old.data ≡ self.old.at }
+        requires range { IsRange (bytes_of self.old) self.old.at end }
+        requires filled { self.old.at < end }
+        requires may { MayFillLines self.old name }
         ensures given { self.new.writer.given ≡ self.old.writer.given }
+        ensures stage { (a : Stage) → (outer : List Enclosing) → after_plain a name ≡ Some a → takes_line_endings a ≡ true → IsAt self.old.writer a outer → OnOk result (IsAt self.new.writer a outer) }
+        ensures goes_on { OnOk result (GoesOn self.old self.new) }
+        ensures none_waits { OnOk result (self.new.data ≡ self.new.at) }
+        ensures least { OnOk result (self.old.at < self.new.at) }
+        ensures range { OnOk result (IsRange (bytes_of self.new) self.new.at end) }
     {
-        for _ in self.at..end {
-            if self.at >= end {
-                break;
-            }
-            let line = self.rest_to(end);
-            match line.iter().position(|byte| *byte == b'\n') {
-                Some(0) => self.line_start(end)?,
-                Some(size) => self.token(name, size)?,
-                None => self.token_to(name, end)?,
-            }
+        match line_feed_in(self.rest_to(end)) {
+            Some(0) => self.line_start(end),
+            Some(size) => self.token(name, size),
+            None => self.token_to(name, end),
         }
-        Ok(())
     }
 
     /// Writes a line ending, and the white space after it up to an offset at most.
-    fn line_start(&mut self, end: usize) -> Result<(), TextError>
+    fn line_start(&mut self, end: usize) -> Result<(), AllocError>
+        requires stands { Stands self.old }
+        requires none_waits { self.old.data ≡ self.old.at }
+        requires feed { slice_get (bytes_of self.old) self.old.at ≡ Some 10 }
+        requires range { IsRange (bytes_of self.old) self.old.at end }
+        requires filled { self.old.at < end }
+        requires may { MayFillLines self.old SpaceOrTab }
         ensures given { self.new.writer.given ≡ self.old.writer.given }
+        ensures stage { (a : Stage) → (outer : List Enclosing) → after_plain a SpaceOrTab ≡ Some a → takes_line_endings a ≡ true → IsAt self.old.writer a outer → OnOk result (IsAt self.new.writer a outer) }
+        ensures goes_on { OnOk result (GoesOn self.old self.new) }
+        ensures none_waits { OnOk result (self.new.data ≡ self.new.at) }
+        ensures least { OnOk result (self.old.at < self.new.at) }
+        ensures range { OnOk result (IsRange (bytes_of self.new) self.new.at end) }
     {
-        self.line_ending()?;
+        self.line_ending_as(Name::LineEnding)?;
         let space = count_while(self.rest_to(end), is_space_or_tab);
-        self.put(Name::SpaceOrTab, self.offset_after(space))
+        self.fill_to(Name::SpaceOrTab, self.offset_after(space))?;
+        Ok(())
     }
 
-    /// Writes so many bytes of white space.
-    pub fn space(&mut self, size: usize) -> Result<(), TextError>
+    /// Writes so many bytes of white space. No data waits.
+    pub fn space(&mut self, size: usize) -> Result<(), AllocError>
+        requires stands { Stands self.old }
+        requires none_waits { self.old.data ≡ self.old.at }
+        requires range { IsRange (bytes_of self.old) self.old.at (self.old.at + size) }
+        requires may { MayFillLines self.old SpaceOrTab }
         ensures given { self.new.writer.given ≡ self.old.writer.given }
+        ensures writes { OnOk result (WritesTo self.old self.new (self.old.at + size)) }
+        ensures stage { (a : Stage) → (outer : List Enclosing) → after_plain a SpaceOrTab ≡ Some a → takes_line_endings a ≡ true → IsAt self.old.writer a outer → OnOk result (IsAt self.new.writer a outer) }
     {
-        self.lines(Name::SpaceOrTab, self.offset_after(size))
+        let end = later(self.at, size, self.source.bytes.len());
+        self.lines(Name::SpaceOrTab, end)
     }
 
-    /// Writes a span with a string up to an offset, if it has any bytes.
-    pub fn string(&mut self, name: Name, end: usize) -> Result<(), TextError>
+    /// Writes a span with a string up to an offset, if it has any bytes. No data waits.
+    pub fn string(&mut self, name: Name, end: usize) -> Result<(), AllocError>
+        requires stands { Stands self.old }
+        requires none_waits { self.old.data ≡ self.old.at }
+        requires range { IsRange (bytes_of self.old) self.old.at end }
+        requires may { MayWriteString self.old name }
         ensures given { self.new.writer.given ≡ self.old.writer.given }
+        ensures writes { OnOk result (WritesTo self.old self.new end) }
+        ensures stage { (a : Stage) → (outer : List Enclosing) → IsAt self.old.writer a outer → OnOk result (IfSome (after_string a name) (λ b. IsAt self.new.writer b outer)) }
     {
         if self.at >= end {
             return Ok(());
@@ -260,28 +440,46 @@ impl<'c, 'd, R: References> Output<'c, 'd, R> {
         self.enter(name)?;
         let kind = mem::replace(&mut self.kind, ContentKind::String);
         string::write(self, end)?;
-        self.exit()?;
+        self.flush(Next::Span)?;
         self.kind = kind;
+        self.exit()?;
         Ok(())
     }
 
     /// Writes the data that waits.
-    pub fn flush(&mut self, next: Next) -> Result<(), TextError>
+    pub fn flush(&mut self, next: Next) -> Result<(), AllocError>
+        requires stands { Stands self.old }
+        requires inlines { AtInlines self.old }
         ensures given { self.new.writer.given ≡ self.old.writer.given }
+        ensures writes { OnOk result (WritesTo self.old self.new self.old.data) }
+        ensures stage { (h : Bool) → (outer : List Enclosing) → IsAt self.old.writer (inlines h) outer → OnOk result (IsFlushed next self.new (inlines h) outer) }
     {
-        if self.data > self.at {
-            let end = self.data;
-            data::write(self, end, next)?;
+        let end = self.data;
+        if end <= self.at {
+            return Ok(());
         }
-        Ok(())
+        data::write(self, end, next)
     }
 
     /// Writes the data that waits at the end of the content, and gives the writer.
-    pub fn finish(mut self) -> Result<Writer<'d, R>, TextError>
+    pub fn finish(mut self) -> Result<Writer<'d, R>, AllocError>
+        requires stands { Stands self }
+        requires ended { self.data ≡ length (bytes_of self) }
+        requires inlines { AtInlines self }
         ensures given { IfOk result (λ writer. writer.given ≡ self.entry.writer.given) }
+        ensures end { IfOk result (λ writer. spot writer.cursor ≡ content_end self.entry) }
+        ensures stage { (h : Bool) → (outer : List Enclosing) → IsAt self.entry.writer (inlines h) outer → IfOk result (λ writer. IsAt writer (inlines h) outer) }
     {
         self.flush(Next::End)?;
         let Output { writer, .. } = self;
         Ok(writer)
     }
+}
+
+/// The offset so many bytes after another. It comes no later than an end.
+fn later(from: usize, size: usize, _end: usize) -> usize
+    requires { from + size ≤ _end }
+    ensures { result ≡ from + size }
+{
+    from + size
 }

@@ -1,62 +1,132 @@
 //! Pieces, as the writer gets them.
 
-ghost use Rattle.std.specs.Prelude.{◌≡◌};
+ghost use Rattle.std.specs.Prelude.{IfOk, IsTrue, List, OnOk, ◌≡◌, ◌≢◌};
+ghost use Rattle.std.specs.Str.{IsCharBoundary};
+ghost use Rattle.commonmark_syntax.specs.Cuts.{IsCut};
+ghost use Rattle.event_writer.specs.Calls.{CanReach};
+ghost use Rattle.event_writer.specs.Stages.{Enclosing, Stage};
+ghost use Rattle.markdown_pieces.specs.Tilings.{Goes, Tiles, end_from, end_of, point};
+ghost use Rattle.markdown_pieces.specs.Walks.{State, Steps};
+ghost use Rattle.markdown_pieces.specs.declared.piece.PieceKind.TheVariants.{BlockQuotePrefix, Text};
+ghost use Rattle.markdown_text.specs.Contents.{IsContent, IsLeft, joined, left, spot, whole};
+ghost use Rattle.markdown_text.specs.Standings.{IsAt, IsSomewhere, MayStep};
 
-use crate::error::TextError;
+use crate::calls;
 use character_references::references::References;
 use event_writer::writer::Writer;
 use markdown_events::event::Name;
 use markdown_pieces::piece::{Piece, PieceKind};
+use std::alloc::AllocError;
 
-/// Writes pieces.
-pub fn write_pieces<R: References>(
-    writer: &mut Writer<'_, R>,
-    pieces: &[Piece],
-) -> Result<(), TextError>
-    ensures given { writer.new.given ≡ writer.old.given }
-{
-    for piece in pieces {
-        write_piece(writer, piece)?;
-    }
-    Ok(())
+/// What is left of a content from the cursor on.
+#[derive(Clone, Copy)]
+pub struct Lines<'c> {
+    /// The offset in the document at which the text of this line ends.
+    pub end: usize,
+    /// The pieces after it.
+    pub later: &'c [Piece],
 }
 
-/// Writes a piece.
+/// Whether a piece of this kind is a text.
+pub fn is_text(kind: PieceKind) -> bool
+    ensures yes { IsTrue result → kind ≡ Text }
+    ensures no { kind ≡ Text → IsTrue result }
+{
+    matches!(kind, PieceKind::Text)
+}
+
+/// Writes what stands before the next text of a content, and gives what is left of the content from there on.
+pub fn write_to_text<'c, R: References>(
+    writer: &mut Writer<'_, R>,
+    pieces: &'c [Piece],
+) -> Result<Lines<'c>, AllocError>
+    requires content { IsContent pieces.now }
+    requires tiles { Tiles writer.old.given.bytes (spot writer.old.cursor) pieces.now (end_from (spot writer.old.cursor) pieces.now) }
+    requires at { IsSomewhere writer.old }
+    ensures given { writer.new.given ≡ writer.old.given }
+    ensures left { IfOk result (λ lines. IsLeft writer.old.given.bytes (spot writer.new.cursor) lines.end lines.later.now) }
+    ensures bytes { IfOk result (λ lines. left writer.old.given.bytes writer.new.cursor.index lines.end lines.later.now ≡ joined writer.old.given.bytes writer.old.cursor.index pieces.now) }
+    ensures end { IfOk result (λ lines. end_from (whole lines.end) lines.later.now ≡ end_from (spot writer.old.cursor) pieces.now) }
+    ensures cut { IfOk result (λ lines. IsCut writer.old.given.bytes lines.end) }
+    ensures at { (a : Stage) → (outer : List Enclosing) → IsAt writer.old a outer → OnOk result (IsAt writer.new a outer) }
+{
+    let mut rest = pieces;
+    'pieces: while let Some((piece, later)) = rest.split_first() {
+        if is_text(piece.kind) {
+            return Ok(Lines {
+                end: piece.end,
+                later,
+            });
+        }
+        write_piece(writer, piece)?;
+        rest = later;
+    }
+    unreachable!()
+}
+
+/// Writes a piece that is no text.
 pub fn write_piece<R: References>(
     writer: &mut Writer<'_, R>,
     piece: &Piece,
-) -> Result<(), TextError>
+) -> Result<(), AllocError>
+    requires goes { Goes writer.old.given.bytes piece.now.kind (spot writer.old.cursor) (end_of piece.now) }
+    requires kind { piece.now.kind ≢ Text }
+    requires step { MayStep writer.old piece.now.kind }
     ensures given { writer.new.given ≡ writer.old.given }
+    ensures spot { OnOk result (spot writer.new.cursor ≡ end_of piece.now) }
+    ensures at { (s t : State) → Steps piece.now.kind s t → IsAt writer.old s.stage s.outer → OnOk result (IsAt writer.new t.stage t.outer) }
 {
-    let cursor = writer.cursor();
-    let written = match piece.kind {
-        PieceKind::BlockQuotePrefix => return write_block_quote_prefix(writer, piece),
-        PieceKind::Enter(name) => writer.enter(name),
-        PieceKind::Exit(_) => writer.exit(),
-        PieceKind::Token(name) => writer.token(name, piece.end, piece.virtual_spaces),
-        PieceKind::OpeningSequence => writer.token(Name::HeadingAtxSequence, piece.end, 0),
-        PieceKind::LineEnding => writer.line_ending(Name::LineEnding),
-        PieceKind::BlankLineEnding => writer.line_ending(Name::BlankLineEnding),
-        PieceKind::Text => writer.token(Name::Data, piece.end, 0),
-    };
-    TextError::at(cursor, written)
+    let end = piece.end;
+    match piece.kind {
+        PieceKind::Enter(name) => calls::enter(writer, name),
+        PieceKind::Exit(_) => calls::exit(writer),
+        PieceKind::Token(name) => calls::token(writer, name, end, piece.virtual_spaces),
+        PieceKind::OpeningSequence => calls::token(writer, Name::HeadingAtxSequence, end, 0),
+        PieceKind::LineEnding => calls::line_ending(writer, Name::LineEnding),
+        PieceKind::BlankLineEnding => calls::line_ending(writer, Name::BlankLineEnding),
+        PieceKind::BlockQuotePrefix => {
+            write_block_quote_prefix(writer, end, piece.virtual_spaces)
+        }
+        PieceKind::Text => unreachable!(),
+    }
 }
 
-/// Writes the prefix of a block quote: its marker, and the white space after that, if there is any.
+/// Writes the prefix of a block quote up to a place: its marker, and the white space after that, if there is any.
 fn write_block_quote_prefix<R: References>(
     writer: &mut Writer<'_, R>,
-    piece: &Piece,
-) -> Result<(), TextError>
+    end: usize,
+    virtual_spaces: usize,
+) -> Result<(), AllocError>
+    requires goes { Goes writer.old.given.bytes BlockQuotePrefix (spot writer.old.cursor) (record { offset = end; virtual_spaces = virtual_spaces }) }
+    requires at { IsSomewhere writer.old }
     ensures given { writer.new.given ≡ writer.old.given }
+    ensures spot { OnOk result (spot writer.new.cursor ≡ record { offset = end; virtual_spaces = virtual_spaces }) }
+    ensures at { (a : Stage) → (outer : List Enclosing) → IsAt writer.old a outer → OnOk result (IsAt writer.new a outer) }
 {
-    let start = writer.cursor();
-    let marker_end = start.index.saturating_add(1);
-    TextError::at(start, writer.enter(Name::BlockQuotePrefix))?;
-    TextError::at(start, writer.token(Name::BlockQuoteMarker, marker_end, 0))?;
+    calls::enter(writer, Name::BlockQuotePrefix)?;
+    let marker_end = writer.cursor().index + 1;
+    calls::token(writer, Name::BlockQuoteMarker, marker_end, 0)?;
+    write_space(writer, end, virtual_spaces)?;
+    calls::exit(writer)?;
+    Ok(())
+}
+
+/// Writes white space up to an offset, and so many columns into the tab there, if it comes to anything.
+fn write_space<R: References>(
+    writer: &mut Writer<'_, R>,
+    to: usize,
+    virtual_spaces: usize,
+) -> Result<(), AllocError>
+    requires reach { CanReach writer.old.given.bytes (point (spot writer.old.cursor)) to virtual_spaces }
+    requires cut { IsCharBoundary writer.old.given.bytes to }
+    requires at { IsSomewhere writer.old }
+    ensures given { writer.new.given ≡ writer.old.given }
+    ensures spot { OnOk result (spot writer.new.cursor ≡ record { offset = to; virtual_spaces = virtual_spaces }) }
+    ensures at { (a : Stage) → (outer : List Enclosing) → IsAt writer.old a outer → OnOk result (IsAt writer.new a outer) }
+{
     let cursor = writer.cursor();
-    if cursor.index != piece.end || cursor.vs != piece.virtual_spaces {
-        let space = writer.token(Name::SpaceOrTab, piece.end, piece.virtual_spaces);
-        TextError::at(cursor, space)?;
+    if cursor.index == to && cursor.vs == virtual_spaces {
+        return Ok(());
     }
-    TextError::at(writer.cursor(), writer.exit())
+    calls::token(writer, Name::SpaceOrTab, to, virtual_spaces)
 }

@@ -1,11 +1,12 @@
 //! Raw text (micromark): code between backticks (CommonMark), and math between dollars.
 
-ghost use Rattle.std.specs.Prelude.{◌≡◌, ◌≤◌, ◌<◌, ◌-◌, length, IfOk, IfSome};
-ghost use Rattle.markdown_text.specs.Cursors.{bytes_from};
+ghost use Rattle.std.specs.Prelude.{◌≡◌, ◌≢◌, ◌<◌, ◌+◌, IfOk, IfSome, OnOk, ◌-◌, length};
+ghost use Rattle.markdown_text.specs.Contents.{IsAsciiPart};
+ghost use Rattle.markdown_text.specs.Outputs.{Stands, WritesTo, bytes_of, AtInlines, KeepsInlines};
+ghost use Rattle.markdown_text.specs.Tokens.{IsEnclosed};
 
 use crate::cursor::Cursor;
-use crate::error::TextError;
-use crate::output::Output;
+use crate::output::{Next, Output};
 use character_references::references::References;
 use commonmark_syntax::bytes::after;
 use markdown_events::event::Name;
@@ -71,9 +72,9 @@ pub fn scan(
     last: &mut Option<LastRuns>,
 ) -> Result<Option<usize>, AllocError>
     requires least { 0 < sequence }
-    requires most { sequence ≤ bytes_from cursor }
-    ensures most { IfOk result (λ found. IfSome found (λ size. size ≤ bytes_from cursor.entry)) }
+    requires opening { IsAsciiPart cursor.content.now cursor.at (cursor.at + sequence) }
     ensures least { IfOk result (λ found. IfSome found (λ size. 0 < size)) }
+    ensures enclosed { IfOk result (λ found. IfSome found (λ size. IsEnclosed cursor.entry.content.now sequence cursor.entry.at (cursor.entry.at + size))) }
 {
     if last.is_none() {
         *last = Some(LastRuns::new(alloc, cursor.content, cursor.byte())?);
@@ -90,10 +91,12 @@ pub fn scan(
 
 /// The length of a raw text with the first run of the length of its opening sequence after that.
 fn length_through_closing(text: &[u8], marker: u8, sequence: usize) -> Option<usize>
+    requires ascii { marker < 128 }
+    requires line { marker ≢ 10 }
     requires least { 0 < sequence }
-    requires most { sequence ≤ length text.now }
-    ensures most { IfSome result (λ size. size ≤ length text.now) }
+    requires opening { IsAsciiPart text.now 0 sequence }
     ensures least { IfSome result (λ size. 0 < size) }
+    ensures enclosed { IfSome result (λ size. IsEnclosed text.now sequence 0 size) }
 {
     let mut run: usize = 0;
     for (size, byte) in after(text, sequence).iter().enumerate() {
@@ -108,43 +111,46 @@ fn length_through_closing(text: &[u8], marker: u8, sequence: usize) -> Option<us
     (run == sequence).then_some(text.len())
 }
 
-/// The names of the spans of a raw text.
-#[derive(Clone, Copy, PartialEq, Eq, Debug)]
-pub struct RawNames {
-    /// All of it.
-    pub group: Name,
-    /// The sequence at either end.
-    pub sequence: Name,
-    /// What stands in a line.
-    pub data: Name,
-}
-
-/// The names of the spans of code.
-pub const CODE_TEXT: RawNames = RawNames {
-    group: Name::CodeText,
-    sequence: Name::CodeTextSequence,
-    data: Name::CodeTextData,
-};
-
-/// The names of the spans of math.
-pub const MATH_TEXT: RawNames = RawNames {
-    group: Name::MathText,
-    sequence: Name::MathTextSequence,
-    data: Name::MathTextData,
-};
-
-/// Writes a raw text that ends at an offset, between sequences of this length.
-pub fn write<R: References>(
+/// Writes code that ends at an offset, between sequences of this length.
+pub fn write_code<R: References>(
     output: &mut Output<'_, '_, R>,
-    names: RawNames,
     sequence: usize,
     end: usize,
-) -> Result<(), TextError>
+) -> Result<(), AllocError>
+    requires stands { Stands output.old }
+    requires filled { 0 < sequence }
+    requires enclosed { IsEnclosed (bytes_of output.old) sequence output.old.data end }
+    requires inlines { AtInlines output.old }
     ensures given { output.new.writer.given ≡ output.old.writer.given }
+    ensures writes { OnOk result (WritesTo output.old output.new end) }
+    ensures at { KeepsInlines result output.old output.new }
 {
-    output.enter(names.group)?;
-    output.token(names.sequence, sequence)?;
-    output.lines(names.data, end.saturating_sub(sequence))?;
-    output.token(names.sequence, sequence)?;
+    output.flush(Next::Span)?;
+    output.enter(Name::CodeText)?;
+    output.token(Name::CodeTextSequence, sequence)?;
+    output.lines(Name::CodeTextData, end - sequence)?;
+    output.token(Name::CodeTextSequence, sequence)?;
+    output.exit()
+}
+
+/// Writes math that ends at an offset, between sequences of this length.
+pub fn write_math<R: References>(
+    output: &mut Output<'_, '_, R>,
+    sequence: usize,
+    end: usize,
+) -> Result<(), AllocError>
+    requires stands { Stands output.old }
+    requires filled { 0 < sequence }
+    requires enclosed { IsEnclosed (bytes_of output.old) sequence output.old.data end }
+    requires inlines { AtInlines output.old }
+    ensures given { output.new.writer.given ≡ output.old.writer.given }
+    ensures writes { OnOk result (WritesTo output.old output.new end) }
+    ensures at { KeepsInlines result output.old output.new }
+{
+    output.flush(Next::Span)?;
+    output.enter(Name::MathText)?;
+    output.token(Name::MathTextSequence, sequence)?;
+    output.lines(Name::MathTextData, end - sequence)?;
+    output.token(Name::MathTextSequence, sequence)?;
     output.exit()
 }

@@ -1,14 +1,18 @@
 //! The resource of a link or an image (CommonMark): a destination and a title in parentheses.
 
-ghost use Rattle.std.specs.Prelude.{◌≡◌, ◌≤◌, ◌<◌, ◌+◌, length, IfSome};
+ghost use Rattle.std.specs.Prelude.{◌≡◌, ◌<◌, ◌+◌, IfSome, OnOk, length};
+ghost use Rattle.markdown_text.specs.Contents.{IsRange};
+ghost use Rattle.markdown_text.specs.Outputs.{Stands, WritesTo, bytes_of, AtStage, Leads};
+ghost use Rattle.markdown_text.specs.Tokens.{IsDestination, IsEnclosed, IsResource};
+ghost use Rattle.event_writer.specs.Stages.{endings, media_target, resource, resource_title};
 
-use crate::error::TextError;
 use crate::output::Output;
 use crate::{destination as destination_span, title as title_span};
 use character_references::references::References;
 use commonmark_syntax::bytes::{after, white_space_length};
 use commonmark_syntax::{destination, title};
 use markdown_events::event::Name;
+use std::alloc::AllocError;
 
 /// The length of each part of a resource.
 #[derive(Clone, Copy, PartialEq, Eq, Debug)]
@@ -29,8 +33,7 @@ pub struct Resource {
 
 /// The resource that a text begins with.
 pub fn scan(text: &[u8]) -> Option<Resource>
-    ensures most { IfSome result (λ resource. resource.size ≤ length text.now) }
-    ensures least { IfSome result (λ resource. 0 < resource.size) }
+    ensures { IfSome result (λ resource. IsResource text.now resource 0 resource.size) }
 {
     let inside = text.strip_prefix(b"(")?;
     let before = white_space_length(inside);
@@ -39,11 +42,7 @@ pub fn scan(text: &[u8]) -> Option<Resource>
     let rest = after(rest, destination);
     let between = white_space_length(rest);
     let rest = after(rest, between);
-    let title = if destination > 0 && between > 0 {
-        title_length(rest)?
-    } else {
-        0
-    };
+    let title = title_length(rest, destination > 0 && between > 0)?;
     let rest = after(rest, title);
     let space = white_space_length(rest);
     let [b')', rest @ ..] = after(rest, space) else {
@@ -61,7 +60,7 @@ pub fn scan(text: &[u8]) -> Option<Resource>
 
 /// The length of the destination that a text begins with, or 0 where the resource ends.
 fn destination_length(text: &[u8]) -> Option<usize>
-    ensures { IfSome result (λ size. size ≤ length text.now) }
+    ensures { IfSome result (λ size. IsDestination text.now 0 size) }
 {
     match text.first()? {
         b')' => Some(0),
@@ -69,10 +68,15 @@ fn destination_length(text: &[u8]) -> Option<usize>
     }
 }
 
-/// The length of the title that a text begins with, or 0 where it begins with no marker of one.
-fn title_length(text: &[u8]) -> Option<usize>
-    ensures { IfSome result (λ size. size ≤ length text.now) }
+/// The length of the title that a text begins with, or 0 where none may stand there or it begins with no
+/// marker of one.
+fn title_length(text: &[u8], may_stand: bool) -> Option<usize>
+    ensures range { IfSome result (λ size. IsRange text.now 0 size) }
+    ensures enclosed { IfSome result (λ size. 0 < size → IsEnclosed text.now 1 0 size) }
 {
+    if !may_stand {
+        return Some(0);
+    }
     match text.first()? {
         b'"' | b'\'' | b'(' => title::scan(text),
         _ => Some(0),
@@ -83,20 +87,57 @@ fn title_length(text: &[u8]) -> Option<usize>
 pub fn write<R: References>(
     output: &mut Output<'_, '_, R>,
     resource: &Resource,
-) -> Result<(), TextError>
+) -> Result<(), AllocError>
+    requires stands { Stands output.old }
+    requires none_waits { output.old.data ≡ output.old.at }
+    requires resource { IsResource (bytes_of output.old) resource.now output.old.at (output.old.at + resource.now.size) }
+    requires at { AtStage output.old media_target }
     ensures given { output.new.writer.given ≡ output.old.writer.given }
+    ensures writes { OnOk result (WritesTo output.old output.new (output.old.at + resource.now.size)) }
+    ensures at { Leads result media_target endings output.old output.new }
 {
     output.enter(Name::Resource)?;
     output.token(Name::ResourceMarker, 1)?;
     output.space(resource.before)?;
-    if resource.destination > 0 {
-        destination_span::write(output, resource.destination)?;
-    }
+    write_destination(output, resource.destination)?;
     output.space(resource.between)?;
-    if resource.title > 0 {
-        title_span::write(output, resource.title)?;
-    }
+    write_title(output, resource.title)?;
     output.space(resource.after)?;
     output.token(Name::ResourceMarker, 1)?;
     output.exit()
+}
+
+/// Writes a destination of this length, if there is one.
+fn write_destination<R: References>(
+    output: &mut Output<'_, '_, R>,
+    size: usize,
+) -> Result<(), AllocError>
+    requires stands { Stands output.old }
+    requires none_waits { output.old.data ≡ output.old.at }
+    requires destination { IsDestination (bytes_of output.old) output.old.at (output.old.at + size) }
+    requires at { AtStage output.old resource }
+    ensures given { output.new.writer.given ≡ output.old.writer.given }
+    ensures writes { OnOk result (WritesTo output.old output.new (output.old.at + size)) }
+    ensures at { Leads result resource resource_title output.old output.new }
+{
+    if size == 0 {
+        return Ok(());
+    }
+    destination_span::write(output, size)
+}
+
+/// Writes a title of this length, if there is one.
+fn write_title<R: References>(output: &mut Output<'_, '_, R>, size: usize) -> Result<(), AllocError>
+    requires stands { Stands output.old }
+    requires none_waits { output.old.data ≡ output.old.at }
+    requires enclosed { 0 < size → IsEnclosed (bytes_of output.old) 1 output.old.at (output.old.at + size) }
+    requires at { AtStage output.old resource_title }
+    ensures given { output.new.writer.given ≡ output.old.writer.given }
+    ensures writes { OnOk result (WritesTo output.old output.new (output.old.at + size)) }
+    ensures at { Leads result resource_title endings output.old output.new }
+{
+    if size == 0 {
+        return Ok(());
+    }
+    title_span::write(output, size)
 }

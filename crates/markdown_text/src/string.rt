@@ -1,8 +1,14 @@
 //! String content (micromark): escapes and character references, as in a label, a destination or a title.
 
-ghost use Rattle.std.specs.Prelude.{◌≡◌, ◌≤◌, ◌<◌, length, IfOk};
+ghost use Rattle.std.specs.Prelude.{Bool, IfOk, IsFalse, IsTrue, List, OnOk, false, length, slice_index, ◌≡◌, ◌≤◌, ◌<◌, ◌≢◌};
+ghost use Rattle.event_writer.specs.Stages.{Enclosing, inlines};
+ghost use Rattle.markdown_pieces.specs.Tilings.{Tiles, end_from};
+ghost use Rattle.markdown_text.specs.Contents.{IsContent, IsPart, IsRange, joined, spot};
+ghost use Rattle.markdown_text.specs.Outputs.{AtInlines, BeginsText, GoesOn, KeepsInlines, Stands, as_text, bytes_of, references_of};
+ghost use Rattle.markdown_text.specs.Standings.{IsAt};
+ghost use Rattle.markdown_text.specs.Texts.{bare, text_of};
+ghost use Rattle.markdown_text.specs.Tokens.{IsFound, IsOfString};
 
-use crate::error::TextError;
 use crate::output::{ContentKind, Output};
 use crate::source::Source;
 use crate::token::{Found, TokenKind};
@@ -10,34 +16,48 @@ use crate::{character_escape, character_reference};
 use character_references::references::References;
 use commonmark_syntax::bytes::{after, count_while};
 use event_writer::writer::Writer;
+use markdown_events::event::Name;
 use markdown_pieces::piece::Piece;
 use std::alloc::AllocError;
 
-/// Writes the spans of a string. It begins at an offset of the document, and `lines` are its pieces as the
-/// block structure gives them.
+/// Writes the spans of a string. `pieces` are those of the block structure.
 pub fn inlines<'c, 'd, R: References>(
     source: &'c Source<'c, R>,
     writer: Writer<'d, R>,
-    lines: &'c [Piece],
-    start: usize,
-) -> Result<Writer<'d, R>, TextError>
+    pieces: &'c [Piece],
+) -> Result<Writer<'d, R>, AllocError>
+    requires document { writer.given.bytes ≡ source.now.reading.now.document.now }
+    requires content { IsContent pieces.now }
+    requires tiles { Tiles writer.given.bytes (spot writer.cursor) pieces.now (end_from (spot writer.cursor) pieces.now) }
+    requires bytes { source.now.bytes.now ≡ joined writer.given.bytes writer.cursor.index pieces.now }
+    requires references { writer.given.references ≡ source.now.reading.now.references.now }
+    requires begins { BeginsText false writer }
     ensures given { IfOk result (λ written. written.given ≡ writer.entry.given) }
+    ensures end { IfOk result (λ written. spot written.cursor ≡ end_from (spot writer.entry.cursor) pieces.now) }
+    ensures at { (h : Bool) → (outer : List Enclosing) → IsAt writer.entry (inlines h) outer → IfOk result (λ written. IsAt written (inlines h) outer) }
 {
-    let mut output = Output::new(source, writer, lines, start, ContentKind::String);
+    let mut output = Output::new(source, writer, pieces, ContentKind::String)?;
     write(&mut output, source.bytes.len())?;
     output.finish()
 }
 
 /// Writes a string up to an offset.
-pub fn write<R: References>(output: &mut Output<'_, '_, R>, end: usize) -> Result<(), TextError>
+pub fn write<R: References>(output: &mut Output<'_, '_, R>, end: usize) -> Result<(), AllocError>
+    requires stands { Stands output.old }
+    requires none_waits { output.old.data ≡ output.old.at }
+    requires range { IsRange (bytes_of output.old) output.old.at end }
+    requires inlines { AtInlines output.old }
     ensures given { output.new.writer.given ≡ output.old.writer.given }
+    ensures goes_on { OnOk result (GoesOn output.old output.new) }
+    ensures data_end { OnOk result (output.new.data ≡ end) }
+    ensures at { KeepsInlines result output.old output.new }
 {
     let source = output.source();
     let mut rest = output.rest_to(end);
     'tokens: while !rest.is_empty() {
         let found = scan(source, rest)?;
         rest = after(rest, found.size);
-        write_found(output, found, end.saturating_sub(rest.len()))?;
+        write_found(output, found, end - rest.len())?;
     }
     Ok(())
 }
@@ -45,11 +65,15 @@ pub fn write<R: References>(output: &mut Output<'_, '_, R>, end: usize) -> Resul
 /// What a string begins with that is not empty. The only error is that memory ran out.
 fn scan<R: References>(source: &Source<'_, R>, text: &[u8]) -> Result<Found, AllocError>
     requires { 0 < length text.now }
-    ensures { IfOk result (λ found. found.size ≤ length text.now) }
+    ensures most { IfOk result (λ found. found.size ≤ length text.now) }
+    ensures kind { IfOk result (λ found. IsOfString found.kind) }
+    ensures found { IfOk result (λ found. IsFound (text_of text.now (R.text source.now.reading.now.references.now) false) found.kind 0 found.size) }
 {
     let constructs = &source.reading.options.constructs;
+    if text[0] == b'\n' {
+        return Ok(Found::token(TokenKind::LineEnding, 1));
+    }
     match text {
-        [b'\n', ..] => Ok(Found::token(TokenKind::LineEnding, 1)),
         [b'\\', ..] if constructs.character_escape => Ok(escape_or_data(text)),
         [b'&', ..] if constructs.character_reference => {
             let found = character_reference::scan(
@@ -59,14 +83,28 @@ fn scan<R: References>(source: &Source<'_, R>, text: &[u8]) -> Result<Found, All
             )?;
             Ok(found.unwrap_or(Found::data(1)))
         }
-        _ => Ok(Found::data(1 + count_while(after(text, 1), is_plain))),
+        _ => Ok(Found::data(data_length(text))),
     }
+}
+
+/// How many bytes of data a text begins with, of which the first is data.
+fn data_length(text: &[u8]) -> usize
+    requires some { 0 < length text.now }
+    requires first { slice_index text.now 0 ≢ 10 }
+    ensures least { 0 < result }
+    ensures most { result ≤ length text.now }
+    ensures part { IsPart text.now 0 result }
+{
+    1 + count_while(after(text, 1), is_plain)
 }
 
 /// The character escape that a text begins with, or the backslash as data.
 fn escape_or_data(text: &[u8]) -> Found
-    requires { 0 < length text.now }
-    ensures { result.size ≤ length text.now }
+    requires some { 0 < length text.now }
+    requires first { slice_index text.now 0 ≡ 92 }
+    ensures most { result.size ≤ length text.now }
+    ensures kind { IsOfString result.kind }
+    ensures found { IsFound (bare text.now) result.kind 0 result.size }
 {
     match character_escape::scan(text) {
         Some(size) => Found::token(TokenKind::CharacterEscape, size),
@@ -75,7 +113,10 @@ fn escape_or_data(text: &[u8]) -> Found
 }
 
 /// Whether a byte begins nothing.
-fn is_plain(byte: u8) -> bool {
+fn is_plain(byte: u8) -> bool
+    ensures line { IsTrue result → byte ≢ 10 }
+    ensures ascii { IsFalse result → byte < 128 }
+{
     !matches!(byte, b'\n' | b'\\' | b'&')
 }
 
@@ -84,16 +125,24 @@ fn write_found<R: References>(
     output: &mut Output<'_, '_, R>,
     found: Found,
     end: usize,
-) -> Result<(), TextError>
+) -> Result<(), AllocError>
+    requires stands { Stands output.old }
+    requires found { IsFound (as_text output.old (R.text (references_of output.old)) false) found.kind output.old.data end }
+    requires kind { IsOfString found.kind }
+    requires inlines { AtInlines output.old }
     ensures given { output.new.writer.given ≡ output.old.writer.given }
+    ensures goes_on { OnOk result (GoesOn output.old output.new) }
+    ensures data_end { OnOk result (output.new.data ≡ end) }
+    ensures at { KeepsInlines result output.old output.new }
 {
     match found.kind {
         Some(TokenKind::LineEnding) => output.line_ending(),
         Some(TokenKind::CharacterEscape) => character_escape::write(output),
         Some(TokenKind::CharacterReference(kind)) => character_reference::write(output, kind, end),
-        _ => {
+        None => {
             output.data(end);
             Ok(())
         }
+        Some(_) => unreachable!(),
     }
 }

@@ -1,47 +1,67 @@
 //! Text content (micromark): all inlines. The second pass writes their spans.
 
-ghost use Rattle.std.specs.Prelude.{◌≡◌, ◌≤◌, IfOk};
+ghost use Rattle.std.specs.Prelude.{Bool, false, [], ◌∷◌, ◌++◌, ◌≡◌, ◌↔◌, ◌⊎◌, ◌≤◌, ◌<◌, ◌+◌, IfOk, IfSome, List, OnOk, Some, length, slice_get, true, ◌-◌};
+ghost use Rattle.event_writer.specs.Stages.{Enclosing, inlines};
+ghost use Rattle.markdown_pieces.specs.Tilings.{Tiles, end_from};
+ghost use Rattle.markdown_text.specs.Contents.{IsAsciiPart, IsContent, IsPart, joined, spot};
+ghost use Rattle.markdown_text.specs.Opens.{AtOpen, AtOpened, BeginsLabel, KeepsOpen, attention_size, opened};
+ghost use Rattle.markdown_text.specs.Outputs.{AtInlines, BeginsText, GoesOn, IsAtText, KeepsInlines, Stands, WritesTo, bytes_of, as_text, references_of};
+ghost use Rattle.markdown_text.specs.Standings.{IsAt};
+ghost use Rattle.markdown_text.specs.Tokens.{AreTokens, IsToken, label_start};
+ghost use Rattle.markdown_events.specs.declared.event.Name.TheVariants.{GfmAutolinkLiteralProtocol, GfmAutolinkLiteralWww};
+ghost use Rattle.markdown_text.specs.declared.attention.AttentionKind.{AttentionKind};
+ghost use Rattle.markdown_text.specs.declared.text.Open.{Open};
+ghost use Rattle.markdown_text.specs.declared.text.Open.TheVariants.{Attention, Label};
+ghost use Rattle.markdown_text.specs.declared.token.Labelled.{Labelled};
+ghost use Rattle.markdown_text.specs.declared.token.TokenKind.TheVariants.{LabelEnd, LabelStart};
 
 use crate::attention::{AttentionKind, Delimiter};
-use crate::error::TextError;
 use crate::output::{ContentKind, Next, Output};
-use crate::raw_text::{CODE_TEXT, MATH_TEXT};
 use crate::source::Source;
 use crate::token::{Labelled, Target, Token, TokenKind};
 use crate::tokenizer::{Tokens, tokenize};
 use crate::{
     autolink, character_escape, character_reference, gfm_label_start_footnote,
-    gfm_task_list_item_check, html_text, label_end, label_start_image, label_start_link, raw_text,
+    gfm_task_list_item_check, hard_break_escape, html_text, label_end, label_start_image,
+    label_start_link, raw_text,
 };
 use character_references::references::References;
 use event_writer::writer::Writer;
 use markdown_events::event::Name;
 use markdown_pieces::piece::Piece;
+use std::alloc::AllocError;
 
 /// A construct that is open.
-#[derive(Clone, Copy, PartialEq, Eq, Debug)]
+#[derive(Clone, Copy, Debug)]
 enum Open {
     /// Emphasis, strong emphasis or struck text.
     Attention(AttentionKind),
-    /// A label, and whether there is a text in it.
-    Label(Labelled, bool),
+    /// A label with a text.
+    Label(Labelled),
 }
 
-/// Writes the spans of a text. It begins at an offset of the document, and `lines` are its pieces as the
-/// block structure gives them. With `is_task` it may begin with the mark of a task.
+/// Writes the spans of a text. `pieces` are those of the block structure. With `is_task` it may begin with the mark of a task.
 pub fn inlines<'c, 'd, R: References>(
     source: &'c Source<'c, R>,
     writer: Writer<'d, R>,
-    lines: &'c [Piece],
-    start: usize,
+    pieces: &'c [Piece],
     is_task: bool,
-) -> Result<Writer<'d, R>, TextError>
+) -> Result<Writer<'d, R>, AllocError>
+    requires document { writer.given.bytes ≡ source.now.reading.now.document.now }
+    requires references { writer.given.references ≡ source.now.reading.now.references.now }
+    requires content { IsContent pieces.now }
+    requires tiles { Tiles writer.given.bytes (spot writer.cursor) pieces.now (end_from (spot writer.cursor) pieces.now) }
+    requires bytes { source.now.bytes.now ≡ joined writer.given.bytes writer.cursor.index pieces.now }
+    requires begins { BeginsText is_task writer }
     ensures given { IfOk result (λ written. written.given ≡ writer.entry.given) }
+    ensures end { IfOk result (λ written. spot written.cursor ≡ end_from (spot writer.entry.cursor) pieces.now) }
+    ensures at { (h : Bool) → (outer : List Enclosing) → IsAtText is_task writer.entry h outer → IfOk result (λ written. IsAt written (inlines h) outer) }
 {
     let found = tokenize(source, is_task)?;
-    let mut output = Output::new(source, writer, lines, start, ContentKind::Text);
+    let mut output = Output::new(source, writer, pieces, ContentKind::Text)?;
     let mut open = Vec::new(source.reading.alloc);
-    write_tokens(&mut output, &found, &mut open)?;
+    let tokens = write_task(&mut output, found.tokens.as_slice(), is_task)?;
+    write_tokens(&mut output, tokens, &found.delimiters, &mut open)?;
     output.data(source.bytes.len());
     'open: while let Some(last) = open.pop() {
         close(&mut output, last)?;
@@ -49,174 +69,431 @@ pub fn inlines<'c, 'd, R: References>(
     output.finish()
 }
 
+/// Writes the mark of a task, if the first token is one, and gives the tokens that are left.
+fn write_task<'t, R: References>(
+    output: &mut Output<'_, '_, R>,
+    tokens: &'t [Token],
+    is_task: bool,
+) -> Result<&'t [Token], AllocError>
+    requires stands { Stands output.old }
+    requires start { output.old.data ≡ 0 }
+    requires none_waits { output.old.at ≡ 0 }
+    requires tokens { AreTokens (as_text output.old (R.text (references_of output.old)) is_task) 0 tokens.now }
+    requires begins { BeginsText is_task output.old.writer }
+    ensures given { output.new.writer.given ≡ output.old.writer.given }
+    ensures goes_on { OnOk result (GoesOn output.old output.new) }
+    ensures left { IfOk result (λ rest. AreTokens (as_text output.new (R.text (references_of output.new)) false) output.new.data rest.now) }
+    ensures at { (h : Bool) → (outer : List Enclosing) → IsAtText is_task output.old.writer h outer → OnOk result (IsAt output.new.writer (inlines h) outer) }
+{
+    if !is_task {
+        return Ok(tokens);
+    }
+    let Some((token, later)) = tokens.split_first() else {
+        return Ok(tokens);
+    };
+    let TokenKind::TaskListItemCheck(is_checked) = token.kind else {
+        return Ok(tokens);
+    };
+    gfm_task_list_item_check::write(output, is_checked)?;
+    Ok(later)
+}
+
 /// Writes the tokens of a text.
 fn write_tokens<R: References>(
     output: &mut Output<'_, '_, R>,
-    found: &Tokens,
+    tokens: &[Token],
+    delimiters: &[Delimiter],
     open: &mut Vec<Open>,
-) -> Result<(), TextError>
+) -> Result<(), AllocError>
+    requires stands { Stands output.old }
+    requires tokens { AreTokens (as_text output.old (R.text (references_of output.old)) false) output.old.data tokens.now }
+    requires at { AtOpen output.old open.old.items }
     ensures given { output.new.writer.given ≡ output.old.writer.given }
+    ensures goes_on { OnOk result (GoesOn output.old output.new) }
+    ensures rest { OnOk result (IsPart (bytes_of output.new) output.new.data (length (bytes_of output.new))) }
+    ensures at { KeepsOpen result output.old output.new open.old.items open.new.items }
 {
-    for token in found.tokens.iter() {
-        output.data(token.start);
-        match token.kind {
-            TokenKind::Attention => write_run(output, &found.delimiters, token, open)?,
-            TokenKind::LabelStart(Some(labelled)) => {
-                write_label_start(output, token, labelled, open)?;
-            }
-            TokenKind::LabelEnd(labelled, target) => {
-                write_label_end(output, token, labelled, &target, open)?;
-            }
-            _ => write_token(output, token)?,
-        }
+    let mut rest = tokens;
+    'tokens: while let Some((token, later)) = rest.split_first() {
+        rest = write_next(output, token, later, delimiters, open)?;
     }
     Ok(())
 }
 
-/// Writes a token that neither opens nor closes a span around others.
+/// Writes the data before a token, and the token. Gives the tokens that are left of those after it: an empty label
+/// is written to its end.
+fn write_next<'t, R: References>(
+    output: &mut Output<'_, '_, R>,
+    token: &'t Token,
+    later: &'t [Token],
+    delimiters: &[Delimiter],
+    open: &mut Vec<Open>,
+) -> Result<&'t [Token], AllocError>
+    requires stands { Stands output.old }
+    requires before { IsPart (bytes_of output.old) output.old.data token.now.start }
+    requires token { IsToken (as_text output.old (R.text (references_of output.old)) false) token.now.kind token.now.start token.now.end }
+    requires later { AreTokens (as_text output.old (R.text (references_of output.old)) false) token.now.end later.now }
+    requires at { AtOpen output.old open.old.items }
+    ensures given { output.new.writer.given ≡ output.old.writer.given }
+    ensures goes_on { OnOk result (GoesOn output.old output.new) }
+    ensures left { IfOk result (λ rest. AreTokens (as_text output.new (R.text (references_of output.new)) false) output.new.data rest.now) }
+    ensures shorter { IfOk result (λ rest. length rest.now ≤ length later.now) }
+    ensures at { KeepsOpen result output.old output.new open.old.items open.new.items }
+{
+    output.data(token.start);
+    if let Some((end, last)) = later.split_first()
+        && let Some(label) = empty_label(token, end)
+    {
+        write_empty_label(output, &label, end.end)?;
+        return Ok(last);
+    }
+    write_token(output, token, delimiters, open)?;
+    Ok(later)
+}
+
+/// A label with nothing in it.
+#[derive(Clone, Copy, PartialEq, Eq, Debug)]
+struct EmptyLabel {
+    /// What it belongs to.
+    labelled: Labelled,
+    /// What comes after it.
+    target: Target,
+}
+
+/// The label that a token begins and the next one ends, if nothing stands between them.
+fn empty_label(start: &Token, end: &Token) -> Option<EmptyLabel>
+    ensures start { IfSome result (λ label. start.now.kind ≡ LabelStart (Some label.labelled)) }
+    ensures end { IfSome result (λ label. end.now.kind ≡ LabelEnd label.labelled label.target) }
+    ensures size { IfSome result (λ label. start.now.end ≡ start.now.start + label_start label.labelled) }
+    ensures beside { IfSome result (λ _. end.now.start ≡ start.now.end) }
+{
+    let TokenKind::LabelStart(Some(labelled)) = start.kind else {
+        return None;
+    };
+    let TokenKind::LabelEnd(ended, target) = end.kind else {
+        return None;
+    };
+    let has_signs_alone = start.end - start.start == labelled.start_size();
+    let is_empty = has_signs_alone && end.start == start.end && ended == labelled;
+    is_empty.then_some(EmptyLabel { labelled, target })
+}
+
+/// Writes a label with nothing in it, and what comes after it up to an offset.
+fn write_empty_label<R: References>(
+    output: &mut Output<'_, '_, R>,
+    label: &EmptyLabel,
+    end: usize,
+) -> Result<(), AllocError>
+    requires stands { Stands output.old }
+    requires start { IsAsciiPart (bytes_of output.old) output.old.data (output.old.data + label_start label.now.labelled) }
+    requires token { IsToken (as_text output.old (R.text (references_of output.old)) false) (LabelEnd label.now.labelled label.now.target) (output.old.data + label_start label.now.labelled) end }
+    requires inlines { AtInlines output.old }
+    ensures given { output.new.writer.given ≡ output.old.writer.given }
+    ensures goes_on { OnOk result (GoesOn output.old output.new) }
+    ensures data_end { OnOk result (output.new.data ≡ end) }
+    ensures at { KeepsInlines result output.old output.new }
+{
+    write_label_marks(output, label.labelled)?;
+    label_end::write(output, label.labelled, &label.target, end)
+}
+
+/// Writes a token.
 fn write_token<R: References>(
     output: &mut Output<'_, '_, R>,
     token: &Token,
-) -> Result<(), TextError>
+    delimiters: &[Delimiter],
+    open: &mut Vec<Open>,
+) -> Result<(), AllocError>
+    requires stands { Stands output.old }
+    requires start { output.old.data ≡ token.now.start }
+    requires token { IsToken (as_text output.old (R.text (references_of output.old)) false) token.now.kind output.old.data token.now.end }
+    requires at { AtOpen output.old open.old.items }
     ensures given { output.new.writer.given ≡ output.old.writer.given }
+    ensures goes_on { OnOk result (GoesOn output.old output.new) }
+    ensures data_end { OnOk result (output.new.data ≡ token.now.end) }
+    ensures at { KeepsOpen result output.old output.new open.old.items open.new.items }
 {
+    let end = token.end;
     match token.kind {
         TokenKind::LineEnding => output.line_ending(),
-        TokenKind::HardBreakEscape => output.token_to(Name::HardBreakEscape, token.end),
+        TokenKind::HardBreakEscape => hard_break_escape::write(output),
         TokenKind::CharacterEscape => character_escape::write(output),
-        TokenKind::CharacterReference(kind) => character_reference::write(output, kind, token.end),
-        TokenKind::CodeText(size) => raw_text::write(output, CODE_TEXT, size, token.end),
-        TokenKind::MathText(size) => raw_text::write(output, MATH_TEXT, size, token.end),
-        TokenKind::Autolink(address) => autolink::write(output, address, token.end),
-        TokenKind::HtmlText => html_text::write(output, token.end),
-        TokenKind::TaskListItemCheck(is_checked) => {
-            gfm_task_list_item_check::write(output, is_checked)
+        TokenKind::CharacterReference(kind) => character_reference::write(output, kind, end),
+        TokenKind::CodeText(size) => raw_text::write_code(output, size, end),
+        TokenKind::MathText(size) => raw_text::write_math(output, size, end),
+        TokenKind::Autolink(address) => autolink::write(output, address, end),
+        TokenKind::HtmlText => html_text::write(output, end),
+        TokenKind::AutolinkLiteral(name) => write_autolink_literal(output, name, end),
+        TokenKind::Attention => write_run(output, token, delimiters, open),
+        TokenKind::LabelStart(labelled) => write_label_start(output, labelled, end, open),
+        TokenKind::LabelEnd(labelled, target) => {
+            write_label_end(output, labelled, &target, end, open)
         }
-        TokenKind::AutolinkLiteral(name) if output.may_link() => output.token_to(name, token.end),
-        TokenKind::AutolinkLiteral(_)
-        | TokenKind::Attention
-        | TokenKind::LabelStart(_)
-        | TokenKind::LabelEnd(..) => {
-            output.data(token.end);
-            Ok(())
-        }
+        TokenKind::TaskListItemCheck(_) => unreachable!(),
     }
+}
+
+/// Writes an autolink literal up to an offset, if links may stand here.
+fn write_autolink_literal<R: References>(
+    output: &mut Output<'_, '_, R>,
+    name: Name,
+    end: usize,
+) -> Result<(), AllocError>
+    requires stands { Stands output.old }
+    requires part { IsPart (bytes_of output.old) output.old.data end }
+    requires filled { output.old.data < end }
+    requires name { (name ≡ GfmAutolinkLiteralProtocol) ⊎ (name ≡ GfmAutolinkLiteralWww) }
+    requires inlines { AtInlines output.old }
+    ensures given { output.new.writer.given ≡ output.old.writer.given }
+    ensures goes_on { OnOk result (GoesOn output.old output.new) }
+    ensures data_end { OnOk result (output.new.data ≡ end) }
+    ensures at { KeepsInlines result output.old output.new }
+{
+    if !output.may_link() {
+        output.data(end);
+        return Ok(());
+    }
+    output.flush(Next::Span)?;
+    output.token_to(name, end)
 }
 
 /// Writes a run of delimiters.
 fn write_run<R: References>(
     output: &mut Output<'_, '_, R>,
-    delimiters: &[Delimiter],
     token: &Token,
+    delimiters: &[Delimiter],
     open: &mut Vec<Open>,
-) -> Result<(), TextError>
+) -> Result<(), AllocError>
+    requires stands { Stands output.old }
+    requires ascii { IsAsciiPart (bytes_of output.old) output.old.data token.now.end }
+    requires start { output.old.data ≡ token.now.start }
+    requires at { AtOpen output.old open.old.items }
     ensures given { output.new.writer.given ≡ output.old.writer.given }
+    ensures goes_on { OnOk result (GoesOn output.old output.new) }
+    ensures data_end { OnOk result (output.new.data ≡ token.now.end) }
+    ensures at { KeepsOpen result output.old output.new open.old.items open.new.items }
 {
     let mut at = token.start;
     'markers: while at < token.end {
         let delimiter = delimiters.get(at).copied().unwrap_or(Delimiter::Data);
-        let size = write_delimiter(output, delimiter, open)?;
-        at = at.saturating_add(size).min(token.end);
+        let size = write_delimiter(output, delimiter, token.end - at, open)?;
+        at += size;
         output.data(at);
     }
     Ok(())
 }
 
-/// Writes the sequence that begins at a marker, and gives its length. Where none does, it writes nothing
-/// and gives 1.
+/// Writes the sequence that begins at a marker, and gives its length, which is so many at most. Where none
+/// does, it writes nothing and gives 1.
 fn write_delimiter<R: References>(
     output: &mut Output<'_, '_, R>,
     delimiter: Delimiter,
+    most: usize,
     open: &mut Vec<Open>,
-) -> Result<usize, TextError>
+) -> Result<usize, AllocError>
+    requires stands { Stands output.old }
+    requires some { 1 ≤ most }
+    requires ascii { IsAsciiPart (bytes_of output.old) output.old.data (output.old.data + most) }
+    requires at { AtOpen output.old open.old.items }
     ensures least { IfOk result (λ size. 1 ≤ size) }
+    ensures most { IfOk result (λ size. size ≤ most) }
     ensures given { output.new.writer.given ≡ output.old.writer.given }
+    ensures goes_on { OnOk result (GoesOn output.old output.new) }
+    ensures rest { IfOk result (λ size. IsPart (bytes_of output.new) output.new.data (output.old.data + size)) }
+    ensures at { KeepsOpen result output.old output.new open.old.items open.new.items }
 {
-    match (delimiter, open.last().copied()) {
-        (Delimiter::Opening(kind), _) => {
-            output.enter(kind.group())?;
-            output.token(kind.sequence(), kind.size())?;
-            output.enter(kind.text())?;
-            open.push(Open::Attention(kind))?;
-            Ok(kind.size())
-        }
-        (Delimiter::Closing(kind), Some(Open::Attention(last))) if last == kind => {
-            open.pop();
-            output.exit()?;
-            output.token(kind.sequence(), kind.size())?;
-            output.exit()?;
-            Ok(kind.size())
+    match delimiter {
+        Delimiter::Opening(kind) if kind.size() <= most => open_attention(output, kind, open),
+        Delimiter::Closing(kind) if kind.size() <= most && is_in_attention(open, kind) => {
+            close_attention(output, kind, open)
         }
         _ => Ok(1),
     }
 }
 
-/// Writes the start of a label.
+/// Whether attention of a kind is the innermost construct that is open.
+fn is_in_attention(constructs: &[Open], kind: AttentionKind) -> bool
+    ensures { (result ≡ true) ↔ (slice_get constructs.now (length constructs.now - 1) ≡ Some (Attention kind)) }
+{
+    match constructs.last().copied() {
+        Some(Open::Attention(last)) => last == kind,
+        _ => false,
+    }
+}
+
+/// Writes a sequence that opens a span.
+fn open_attention<R: References>(
+    output: &mut Output<'_, '_, R>,
+    kind: AttentionKind,
+    open: &mut Vec<Open>,
+) -> Result<usize, AllocError>
+    requires stands { Stands output.old }
+    requires ascii { IsAsciiPart (bytes_of output.old) output.old.data (output.old.data + attention_size kind) }
+    requires at { AtOpen output.old open.old.items }
+    ensures size { IfOk result (λ size. size ≡ attention_size kind) }
+    ensures given { output.new.writer.given ≡ output.old.writer.given }
+    ensures goes_on { OnOk result (GoesOn output.old output.new) }
+    ensures data_end { OnOk result (output.new.data ≡ output.old.data + attention_size kind) }
+    ensures at { KeepsOpen result output.old output.new open.old.items open.new.items }
+{
+    open.push(Open::Attention(kind))?;
+    output.flush(Next::Span)?;
+    output.enter(kind.group())?;
+    output.token(kind.sequence(), kind.size())?;
+    output.enter(kind.text())?;
+    Ok(kind.size())
+}
+
+/// Writes a sequence that closes the innermost span.
+fn close_attention<R: References>(
+    output: &mut Output<'_, '_, R>,
+    kind: AttentionKind,
+    open: &mut Vec<Open>,
+) -> Result<usize, AllocError>
+    requires stands { Stands output.old }
+    requires ascii { IsAsciiPart (bytes_of output.old) output.old.data (output.old.data + attention_size kind) }
+    requires at { AtOpen output.old open.old.items }
+    requires last { (os : List Open) × (open.old.items ≡ os ++ Attention kind ∷ []) }
+    ensures size { IfOk result (λ size. size ≡ attention_size kind) }
+    ensures given { output.new.writer.given ≡ output.old.writer.given }
+    ensures goes_on { OnOk result (GoesOn output.old output.new) }
+    ensures data_end { OnOk result (output.new.data ≡ output.old.data + attention_size kind) }
+    ensures at { KeepsOpen result output.old output.new open.old.items open.new.items }
+{
+    open.pop();
+    output.flush(Next::Span)?;
+    output.exit()?;
+    output.token(kind.sequence(), kind.size())?;
+    output.exit()?;
+    Ok(kind.size())
+}
+
+/// Writes the start of a label, and the data after its marks up to an offset.
 fn write_label_start<R: References>(
     output: &mut Output<'_, '_, R>,
-    token: &Token,
-    labelled: Labelled,
+    labelled: Option<Labelled>,
+    end: usize,
     open: &mut Vec<Open>,
-) -> Result<(), TextError>
+) -> Result<(), AllocError>
+    requires stands { Stands output.old }
+    requires token { IsToken (as_text output.old (R.text (references_of output.old)) false) (LabelStart labelled) output.old.data end }
+    requires at { AtOpen output.old open.old.items }
     ensures given { output.new.writer.given ≡ output.old.writer.given }
+    ensures goes_on { OnOk result (GoesOn output.old output.new) }
+    ensures data_end { OnOk result (output.new.data ≡ end) }
+    ensures at { KeepsOpen result output.old output.new open.old.items open.new.items }
 {
-    match labelled {
-        Labelled::Link => {
-            label_start_link::write(output)?;
-            output.enter_link();
-        }
-        Labelled::Image => label_start_image::write(output)?,
-        Labelled::FootnoteCall => gfm_label_start_footnote::write(output)?,
+    let Some(labelled) = labelled else {
+        output.data(end);
+        return Ok(());
+    };
+    open.push(Open::Label(labelled))?;
+    write_label_marks(output, labelled)?;
+    output.enter(Name::LabelText)?;
+    output.data(end);
+    if labelled == Labelled::Link {
+        output.enter_link();
     }
-    let has_text = !output.rest().starts_with(b"]");
-    if has_text {
-        output.enter(Name::LabelText)?;
-        output.data(token.end);
-    }
-    open.push(Open::Label(labelled, has_text))?;
     Ok(())
 }
 
-/// Writes the end of a label, and what comes after it.
+/// Writes the marks at the start of a label.
+fn write_label_marks<R: References>(
+    output: &mut Output<'_, '_, R>,
+    labelled: Labelled,
+) -> Result<(), AllocError>
+    requires stands { Stands output.old }
+    requires ascii { IsAsciiPart (bytes_of output.old) output.old.data (output.old.data + label_start labelled) }
+    requires inlines { AtInlines output.old }
+    ensures given { output.new.writer.given ≡ output.old.writer.given }
+    ensures writes { OnOk result (WritesTo output.old output.new (output.old.data + label_start labelled)) }
+    ensures at { BeginsLabel result labelled output.old output.new }
+{
+    match labelled {
+        Labelled::Link => label_start_link::write(output),
+        Labelled::Image => label_start_image::write(output),
+        Labelled::FootnoteCall => gfm_label_start_footnote::write(output),
+    }
+}
+
+/// Writes the end of a label, and what comes after it up to an offset.
 fn write_label_end<R: References>(
     output: &mut Output<'_, '_, R>,
-    token: &Token,
     labelled: Labelled,
     target: &Target,
+    end: usize,
     open: &mut Vec<Open>,
-) -> Result<(), TextError>
+) -> Result<(), AllocError>
+    requires stands { Stands output.old }
+    requires token { IsToken (as_text output.old (R.text (references_of output.old)) false) (LabelEnd labelled target.now) output.old.data end }
+    requires at { AtOpen output.old open.old.items }
     ensures given { output.new.writer.given ≡ output.old.writer.given }
+    ensures goes_on { OnOk result (GoesOn output.old output.new) }
+    ensures data_end { OnOk result (output.new.data ≡ end) }
+    ensures at { KeepsOpen result output.old output.new open.old.items open.new.items }
 {
-    let Some(Open::Label(_, has_text)) = open.last().copied() else {
-        output.data(token.end);
-        return Ok(());
-    };
-    open.pop();
-    if has_text {
-        output.exit()?;
+    output.flush(Next::Span)?;
+    if !is_in_label(open, labelled) {
+        return output.lines(Name::Data, end);
     }
-    label_end::write(output, labelled, target, token.end)?;
+    open.pop();
+    output.exit()?;
+    label_end::write(output, labelled, target, end)?;
     if labelled == Labelled::Link {
         output.exit_link();
     }
     Ok(())
 }
 
-/// Closes a construct that nothing in the text closes.
-fn close<R: References>(output: &mut Output<'_, '_, R>, open: Open) -> Result<(), TextError>
-    ensures given { output.new.writer.given ≡ output.old.writer.given }
+/// Whether a label is the innermost construct that is open.
+fn is_in_label(constructs: &[Open], labelled: Labelled) -> bool
+    ensures { (result ≡ true) ↔ (slice_get constructs.now (length constructs.now - 1) ≡ Some (Label labelled)) }
 {
-    match open {
-        Open::Attention(kind) => {
-            output.exit()?;
-            output.exit()
-        }
-        Open::Label(labelled, has_text) => {
-            if has_text {
-                output.exit()?;
-            }
-            output.exit()?;
-            output.exit()
-        }
+    match constructs.last().copied() {
+        Some(Open::Label(last)) => last == labelled,
+        _ => false,
     }
+}
+
+/// Closes a construct that nothing in the text closes.
+fn close<R: References>(output: &mut Output<'_, '_, R>, last: Open) -> Result<(), AllocError>
+    requires stands { Stands output.old }
+    requires at { AtOpened output.old last }
+    ensures given { output.new.writer.given ≡ output.old.writer.given }
+    ensures goes_on { OnOk result (GoesOn output.old output.new) }
+    ensures data_end { OnOk result (output.new.data ≡ output.old.data) }
+    ensures at { (h : Bool) → (outer : List Enclosing) → IsAt output.old.writer (inlines false) (opened last h outer) → OnOk result (IsAt output.new.writer (inlines h) outer) }
+{
+    output.flush(Next::Span)?;
+    match last {
+        Open::Attention(_) => close_text(output),
+        Open::Label(_) => close_label(output),
+    }
+}
+
+/// Closes the spans of attention.
+fn close_text<R: References>(output: &mut Output<'_, '_, R>) -> Result<(), AllocError>
+    requires stands { Stands output.old }
+    requires none_waits { output.old.data ≡ output.old.at }
+    requires at { (kind : AttentionKind) × AtOpened output.old (Attention kind) }
+    ensures given { output.new.writer.given ≡ output.old.writer.given }
+    ensures writes { OnOk result (WritesTo output.old output.new output.old.data) }
+    ensures at { (kind : AttentionKind) → (h : Bool) → (outer : List Enclosing) → IsAt output.old.writer (inlines false) (opened (Attention kind) h outer) → OnOk result (IsAt output.new.writer (inlines h) outer) }
+{
+    output.exit()?;
+    output.exit()
+}
+
+/// Closes the spans of a label.
+fn close_label<R: References>(output: &mut Output<'_, '_, R>) -> Result<(), AllocError>
+    requires stands { Stands output.old }
+    requires none_waits { output.old.data ≡ output.old.at }
+    requires at { (labelled : Labelled) × AtOpened output.old (Label labelled) }
+    ensures given { output.new.writer.given ≡ output.old.writer.given }
+    ensures writes { OnOk result (WritesTo output.old output.new output.old.data) }
+    ensures at { (labelled : Labelled) → (h : Bool) → (outer : List Enclosing) → IsAt output.old.writer (inlines false) (opened (Label labelled) h outer) → OnOk result (IsAt output.new.writer (inlines h) outer) }
+{
+    output.exit()?;
+    output.exit()?;
+    output.exit()
 }

@@ -1,6 +1,6 @@
 //! Tokens: what the first pass over a text finds, in order.
 
-ghost use Rattle.std.specs.Prelude.{◌≡◌, ◌<◌};
+ghost use Rattle.std.specs.Prelude.{None, Some, ◌≡◌, ◌<◌};
 
 use crate::character_reference::ReferenceKind;
 use crate::resource::Resource;
@@ -18,12 +18,26 @@ pub enum Labelled {
 }
 
 impl Labelled {
-    /// The name of its span.
-    pub fn group(self) -> Name {
+    ghost use Rattle.markdown_text.specs.Tokens.{has_target, label_start};
+
+    /// How many bytes are written at the start of its label.
+    pub fn start_size(self) -> usize
+        ensures { result ≡ label_start self }
+    {
         match self {
-            Labelled::Link => Name::Link,
-            Labelled::Image => Name::Image,
-            Labelled::FootnoteCall => Name::GfmFootnoteCall,
+            Labelled::Link => 1,
+            Labelled::Image => 2,
+            Labelled::FootnoteCall => 2,
+        }
+    }
+
+    /// Whether a target comes after its label.
+    pub fn has_target(self) -> bool
+        ensures { result ≡ has_target self }
+    {
+        match self {
+            Labelled::Link | Labelled::Image => true,
+            Labelled::FootnoteCall => false,
         }
     }
 }
@@ -46,7 +60,7 @@ pub enum Target {
 pub enum TokenKind {
     /// A line ending.
     LineEnding,
-    /// A backslash before a line ending.
+    /// A backslash and the line ending after it.
     HardBreakEscape,
     /// A backslash and the character after it.
     CharacterEscape,
@@ -86,7 +100,8 @@ impl Found {
     /// A construct of so many bytes.
     pub fn token(kind: TokenKind, size: usize) -> Found
         requires { 0 < size }
-        ensures { result.size ≡ size }
+        ensures size { result.size ≡ size }
+        ensures kind { result.kind ≡ Some kind }
     {
         Found {
             kind: Some(kind),
@@ -97,7 +112,8 @@ impl Found {
     /// So many bytes of data.
     pub fn data(size: usize) -> Found
         requires { 0 < size }
-        ensures { result.size ≡ size }
+        ensures size { result.size ≡ size }
+        ensures kind { result.kind ≡ None }
     {
         Found { kind: None, size }
     }

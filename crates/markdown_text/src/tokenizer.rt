@@ -1,7 +1,12 @@
 //! The first pass over a text: the constructs in it, in order.
 
-ghost use Rattle.std.specs.Prelude.{◌≡◌, ◌<◌, ◌≤◌, ◌-◌, length, IfOk};
-ghost use Rattle.markdown_text.specs.Cursors.{bytes_from};
+ghost use Rattle.std.specs.Prelude.{List, None, Some, [], false, true, ◌≡◌, ◌≢◌, ◌<◌, ◌≤◌, ◌+◌, ◌-◌, length, IfOk, IsFalse, IsTrue, OnOk};
+ghost use Rattle.markdown_text.specs.Cursors.{byte_at, bytes_from};
+ghost use Rattle.markdown_text.specs.Reached.{AreOpen, AreOpenWith, IsOpen, IsWith, ReachAsFar, form_size};
+ghost use Rattle.markdown_text.specs.Texts.{bare, text_of};
+ghost use Rattle.markdown_text.specs.Tokens.{AreTokens, IsFound, label_start};
+ghost use Rattle.markdown_text.specs.declared.brackets.Bracket.{Bracket};
+ghost use Rattle.markdown_text.specs.declared.token.TokenKind.TheVariants.{LabelEnd, LabelStart};
 
 use crate::attention::{Attention, Delimiter, Run, is_delimiter_run};
 use crate::brackets::{Bracket, Brackets, LabelForm};
@@ -32,20 +37,15 @@ pub struct Tokens {
 
 /// The constructs in a text. With `is_task` it may begin with the mark of a task. The only error is that
 /// memory ran out.
-pub fn tokenize<R: References>(
-    source: &Source<'_, R>,
-    is_task: bool,
-) -> Result<Tokens, AllocError> {
+pub fn tokenize<R: References>(source: &Source<'_, R>, is_task: bool) -> Result<Tokens, AllocError>
+    ensures { IfOk result (λ found. AreTokens (text_of source.now.bytes.now (R.text source.now.reading.now.references.now) is_task) 0 found.tokens.items) }
+{
     let content = source.bytes;
     let mut tokenizer = Tokenizer::new(source);
     let mut at = 0;
     'tokens: while at < content.len() {
         let cursor = Cursor { content, at };
-        let found = if is_task && at == 0 {
-            tokenizer.task(cursor)?
-        } else {
-            tokenizer.scan(cursor)?
-        };
+        let found = tokenizer.find(cursor, is_task)?;
         tokenizer.push(cursor, found)?;
         at += found.size;
     }
@@ -81,7 +81,11 @@ struct Tokenizer<'c, R> {
 
 impl<'c, R: References> Tokenizer<'c, R> {
     /// At the start of a content.
-    fn new(source: &'c Source<'c, R>) -> Self {
+    fn new(source: &'c Source<'c, R>) -> Self
+        ensures source { result.source.now ≡ source.now }
+        ensures tokens { result.tokens.items ≡ [] }
+        ensures brackets { result.brackets.stack.items ≡ [] }
+    {
         let alloc = source.reading.alloc;
         Tokenizer {
             source,
@@ -103,6 +107,9 @@ impl<'c, R: References> Tokenizer<'c, R> {
     /// Adds what was found at the cursor. Data is not kept. The only error is that memory ran out.
     fn push(&mut self, cursor: Cursor<'_>, found: Found) -> Result<(), AllocError>
         requires { found.size ≤ bytes_from cursor }
+        ensures tokens { OnOk result (IsWith self.old.tokens.items cursor.entry.at found.kind (cursor.entry.at + found.size) self.new.tokens.items) }
+        ensures source { self.new.source.now ≡ self.old.source.now }
+        ensures brackets { self.new.brackets ≡ self.old.brackets }
     {
         if let Some(kind) = found.kind {
             self.tokens.push(Token {
@@ -114,10 +121,30 @@ impl<'c, R: References> Tokenizer<'c, R> {
         Ok(())
     }
 
-    /// The mark of a task, or what else stands at the start of a text. The only error is that memory ran
-    /// out.
+    /// What begins at the cursor. With `is_task` the text may begin with the mark of a task. The only error is
+    /// that memory ran out.
+    fn find(&mut self, cursor: Cursor<'_>, is_task: bool) -> Result<Found, AllocError>
+        requires opened { AreOpen self.old.tokens.items self.old.brackets.stack.items }
+        ensures found { IfOk result (λ found. IsFound (text_of cursor.entry.content.now (R.text self.old.source.now.reading.now.references.now) is_task) found.kind cursor.entry.at (cursor.entry.at + found.size)) }
+        ensures source { self.new.source.now ≡ self.old.source.now }
+        ensures reach { OnOk result (ReachAsFar self.old.tokens.items self.new.tokens.items) }
+        ensures opened { IfOk result (λ found. AreOpenWith self.new.tokens.items cursor.entry.at found self.new.brackets.stack.items) }
+    {
+        if is_task && cursor.at == 0 {
+            return self.task(cursor);
+        }
+        self.scan(cursor)
+    }
+
+    /// The mark of a task, or what else stands at the start of a text that may begin with one. The only error
+    /// is that memory ran out.
     fn task(&mut self, cursor: Cursor<'_>) -> Result<Found, AllocError>
-        ensures { IfOk result (λ found. found.size ≤ bytes_from cursor.entry) }
+        requires start { cursor.at ≡ 0 }
+        requires opened { AreOpen self.old.tokens.items self.old.brackets.stack.items }
+        ensures found { IfOk result (λ found. IsFound (text_of cursor.entry.content.now (R.text self.old.source.now.reading.now.references.now) true) found.kind cursor.entry.at (cursor.entry.at + found.size)) }
+        ensures source { self.new.source.now ≡ self.old.source.now }
+        ensures reach { OnOk result (ReachAsFar self.old.tokens.items self.new.tokens.items) }
+        ensures opened { IfOk result (λ found. AreOpenWith self.new.tokens.items cursor.entry.at found self.new.brackets.stack.items) }
     {
         match gfm_task_list_item_check::scan(cursor.rest()) {
             Some(found) => Ok(found),
@@ -125,9 +152,27 @@ impl<'c, R: References> Tokenizer<'c, R> {
         }
     }
 
-    /// What begins at the cursor. The only error is that memory ran out.
+    /// What begins at the cursor, but for the mark of a task. The only error is that memory ran out.
     fn scan(&mut self, cursor: Cursor<'_>) -> Result<Found, AllocError>
-        ensures { IfOk result (λ found. found.size ≤ bytes_from cursor.entry) }
+        requires opened { AreOpen self.old.tokens.items self.old.brackets.stack.items }
+        ensures found { IfOk result (λ found. IsFound (text_of cursor.entry.content.now (R.text self.old.source.now.reading.now.references.now) false) found.kind cursor.entry.at (cursor.entry.at + found.size)) }
+        ensures source { self.new.source.now ≡ self.old.source.now }
+        ensures reach { OnOk result (ReachAsFar self.old.tokens.items self.new.tokens.items) }
+        ensures opened { IfOk result (λ found. AreOpenWith self.new.tokens.items cursor.entry.at found self.new.brackets.stack.items) }
+    {
+        match cursor.byte() {
+            b'!' | b'[' => self.label_start(cursor),
+            b']' => self.label_end(cursor),
+            _ => self.construct(cursor),
+        }
+    }
+
+    /// The construct that begins at the cursor, but for labels. The only error is that memory ran out.
+    fn construct(&mut self, cursor: Cursor<'_>) -> Result<Found, AllocError>
+        ensures found { IfOk result (λ found. IsFound (text_of cursor.entry.content.now (R.text self.old.source.now.reading.now.references.now) false) found.kind cursor.entry.at (cursor.entry.at + found.size)) }
+        ensures source { self.new.source.now ≡ self.old.source.now }
+        ensures tokens { self.new.tokens ≡ self.old.tokens }
+        ensures brackets { self.new.brackets ≡ self.old.brackets }
     {
         match cursor.byte() {
             b'\n' => Ok(Found::token(TokenKind::LineEnding, 1)),
@@ -137,8 +182,6 @@ impl<'c, R: References> Tokenizer<'c, R> {
             b'$' => self.math_text(cursor),
             b'*' | b'_' | b'~' => self.attention(cursor),
             b'<' => Ok(self.angle_bracket(cursor)),
-            b'!' | b'[' => self.label_start(cursor),
-            b']' => self.label_end(cursor),
             b'f' | b'F' | b'h' | b'H' | b'w' | b'W' => Ok(self.autolink_literal(cursor)),
             _ => Ok(data(cursor)),
         }
@@ -146,7 +189,8 @@ impl<'c, R: References> Tokenizer<'c, R> {
 
     /// What a backslash begins.
     fn backslash(&self, cursor: Cursor<'_>) -> Found
-        ensures { result.size ≤ bytes_from cursor.entry }
+        requires { byte_at cursor ≡ 92 }
+        ensures { IsFound (bare cursor.entry.content.now) result.kind cursor.entry.at (cursor.entry.at + result.size) }
     {
         let constructs = self.constructs();
         if constructs.hard_break_escape
@@ -164,23 +208,31 @@ impl<'c, R: References> Tokenizer<'c, R> {
 
     /// What an ampersand begins. The only error is that memory ran out.
     fn character_reference(&self, cursor: Cursor<'_>) -> Result<Found, AllocError>
-        ensures { IfOk result (λ found. found.size ≤ bytes_from cursor.entry) }
+        requires { byte_at cursor ≡ 38 }
+        ensures { IfOk result (λ found. IsFound (text_of cursor.entry.content.now (R.text self.now.source.now.reading.now.references.now) false) found.kind cursor.entry.at (cursor.entry.at + found.size)) }
     {
         if !self.constructs().character_reference {
             return Ok(Found::data(1));
         }
         let source = self.source;
-        let found = character_reference::scan(
-            source.reading.alloc,
+        let alloc = source.reading.alloc;
+        if let Some(found) = character_reference::scan(
+            alloc,
             cursor.rest(),
             source.reading.references,
-        )?;
-        Ok(found.unwrap_or(Found::data(1)))
+        )? {
+            return Ok(found);
+        }
+        Ok(Found::data(1))
     }
 
     /// What a run of backticks begins. The only error is that memory ran out.
     fn code_text(&mut self, cursor: Cursor<'_>) -> Result<Found, AllocError>
-        ensures { IfOk result (λ found. found.size ≤ bytes_from cursor.entry) }
+        requires { byte_at cursor ≡ 96 }
+        ensures found { IfOk result (λ found. IsFound (bare cursor.entry.content.now) found.kind cursor.entry.at (cursor.entry.at + found.size)) }
+        ensures source { self.new.source.now ≡ self.old.source.now }
+        ensures tokens { self.new.tokens ≡ self.old.tokens }
+        ensures brackets { self.new.brackets ≡ self.old.brackets }
     {
         let sequence = cursor.run_length();
         if !self.constructs().code_text {
@@ -195,7 +247,11 @@ impl<'c, R: References> Tokenizer<'c, R> {
 
     /// What a run of dollars begins. The only error is that memory ran out.
     fn math_text(&mut self, cursor: Cursor<'_>) -> Result<Found, AllocError>
-        ensures { IfOk result (λ found. found.size ≤ bytes_from cursor.entry) }
+        requires { byte_at cursor ≡ 36 }
+        ensures found { IfOk result (λ found. IsFound (bare cursor.entry.content.now) found.kind cursor.entry.at (cursor.entry.at + found.size)) }
+        ensures source { self.new.source.now ≡ self.old.source.now }
+        ensures tokens { self.new.tokens ≡ self.old.tokens }
+        ensures brackets { self.new.brackets ≡ self.old.brackets }
     {
         let sequence = cursor.run_length();
         let is_short = sequence == 1 && !self.source.reading.options.math_text_single_dollar;
@@ -211,7 +267,12 @@ impl<'c, R: References> Tokenizer<'c, R> {
 
     /// What a run of delimiters is. The only error is that memory ran out.
     fn attention(&mut self, cursor: Cursor<'_>) -> Result<Found, AllocError>
-        ensures { IfOk result (λ found. found.size ≤ bytes_from cursor.entry) }
+        requires ascii { byte_at cursor < 128 }
+        requires line { byte_at cursor ≢ 10 }
+        ensures found { IfOk result (λ found. IsFound (bare cursor.entry.content.now) found.kind cursor.entry.at (cursor.entry.at + found.size)) }
+        ensures source { self.new.source.now ≡ self.old.source.now }
+        ensures tokens { self.new.tokens ≡ self.old.tokens }
+        ensures brackets { self.new.brackets ≡ self.old.brackets }
     {
         let size = cursor.run_length();
         if !is_delimiter_run(cursor.byte(), size, &self.source.reading.options) {
@@ -223,7 +284,11 @@ impl<'c, R: References> Tokenizer<'c, R> {
 
     /// What an angle bracket begins.
     fn angle_bracket(&mut self, cursor: Cursor<'_>) -> Found
-        ensures { result.size ≤ bytes_from cursor.entry }
+        requires { byte_at cursor ≡ 60 }
+        ensures found { IsFound (bare cursor.entry.content.now) result.kind cursor.entry.at (cursor.entry.at + result.size) }
+        ensures source { self.new.source.now ≡ self.old.source.now }
+        ensures tokens { self.new.tokens ≡ self.old.tokens }
+        ensures brackets { self.new.brackets ≡ self.old.brackets }
     {
         if self.constructs().autolink
             && let Some(found) = autolink::scan(cursor.rest())
@@ -240,7 +305,13 @@ impl<'c, R: References> Tokenizer<'c, R> {
 
     /// What an exclamation mark or an opening bracket begins. The only error is that memory ran out.
     fn label_start(&mut self, cursor: Cursor<'_>) -> Result<Found, AllocError>
-        ensures { IfOk result (λ found. found.size ≤ bytes_from cursor.entry) }
+        requires ascii { byte_at cursor < 128 }
+        requires line { byte_at cursor ≢ 10 }
+        requires opened { AreOpen self.old.tokens.items self.old.brackets.stack.items }
+        ensures found { IfOk result (λ found. IsFound (bare cursor.entry.content.now) found.kind cursor.entry.at (cursor.entry.at + found.size)) }
+        ensures source { self.new.source.now ≡ self.old.source.now }
+        ensures tokens { self.new.tokens ≡ self.old.tokens }
+        ensures opened { IfOk result (λ found. AreOpenWith self.new.tokens.items cursor.entry.at found self.new.brackets.stack.items) }
     {
         let constructs = self.constructs();
         let text = cursor.rest();
@@ -263,8 +334,13 @@ impl<'c, R: References> Tokenizer<'c, R> {
         form: LabelForm,
         size: usize,
     ) -> Result<Found, AllocError>
-        requires { 0 < size }
-        ensures { IfOk result (λ found. found.size ≡ size) }
+        requires size { size ≡ form_size form }
+        requires opened { AreOpen self.old.tokens.items self.old.brackets.stack.items }
+        ensures kind { IfOk result (λ found. found.kind ≡ Some (LabelStart None)) }
+        ensures size { IfOk result (λ found. found.size ≡ size) }
+        ensures source { self.new.source.now ≡ self.old.source.now }
+        ensures tokens { self.new.tokens ≡ self.old.tokens }
+        ensures opened { IfOk result (λ found. AreOpenWith self.new.tokens.items cursor.entry.at found self.new.brackets.stack.items) }
     {
         self.brackets.push(Bracket {
             form,
@@ -278,7 +354,12 @@ impl<'c, R: References> Tokenizer<'c, R> {
 
     /// What a closing bracket ends. The only error is that memory ran out.
     fn label_end(&mut self, cursor: Cursor<'_>) -> Result<Found, AllocError>
-        ensures { IfOk result (λ found. found.size ≤ bytes_from cursor.entry) }
+        requires byte { byte_at cursor ≡ 93 }
+        requires opened { AreOpen self.old.tokens.items self.old.brackets.stack.items }
+        ensures found { IfOk result (λ found. IsFound (bare cursor.entry.content.now) found.kind cursor.entry.at (cursor.entry.at + found.size)) }
+        ensures source { self.new.source.now ≡ self.old.source.now }
+        ensures reach { OnOk result (ReachAsFar self.old.tokens.items self.new.tokens.items) }
+        ensures opened { OnOk result (AreOpen self.new.tokens.items self.new.brackets.stack.items) }
     {
         if !self.constructs().label_end {
             return Ok(Found::data(1));
@@ -294,24 +375,31 @@ impl<'c, R: References> Tokenizer<'c, R> {
 
     /// Closes a bracket with what it makes. The only error is that memory ran out.
     fn close(&mut self, bracket: &Bracket, found: &Match) -> Result<Found, AllocError>
-        ensures { IfOk result (λ token. token.size ≡ found.now.size) }
+        requires closed { IsOpen self.old.tokens.items bracket.now }
+        requires labelled { label_start found.now.labelled ≤ form_size bracket.now.form }
+        requires opened { AreOpen self.old.tokens.items self.old.brackets.stack.items }
+        ensures kind { IfOk result (λ token. token.kind ≡ Some (LabelEnd found.now.labelled found.now.target)) }
+        ensures size { IfOk result (λ token. token.size ≡ found.now.size) }
+        ensures source { self.new.source.now ≡ self.old.source.now }
+        ensures reach { OnOk result (ReachAsFar self.old.tokens.items self.new.tokens.items) }
+        ensures opened { OnOk result (AreOpen self.new.tokens.items self.new.brackets.stack.items) }
     {
-        if found.labelled == Labelled::Link {
-            self.brackets.found_link();
-        }
+        self.brackets.found(found.labelled);
         let alloc = self.source.reading.alloc;
         let size = self.source.bytes.len();
         self.attention.resolve(alloc, size, bracket.waiting)?;
-        if let Some(start) = self.tokens.get_mut(bracket.token) {
-            start.kind = TokenKind::LabelStart(Some(found.labelled));
-        }
+        set_label(&mut self.tokens, bracket, found.labelled);
         let kind = TokenKind::LabelEnd(found.labelled, found.target);
         Ok(Found::token(kind, found.size))
     }
 
     /// The autolink literal, or the data, that a letter begins.
     fn autolink_literal(&mut self, cursor: Cursor<'_>) -> Found
-        ensures { result.size ≤ bytes_from cursor.entry }
+        requires { byte_at cursor ≢ 10 }
+        ensures found { IsFound (bare cursor.entry.content.now) result.kind cursor.entry.at (cursor.entry.at + result.size) }
+        ensures source { self.new.source.now ≡ self.old.source.now }
+        ensures tokens { self.new.tokens ≡ self.old.tokens }
+        ensures brackets { self.new.brackets ≡ self.old.brackets }
     {
         if self.constructs().gfm_autolink_literal
             && let Some(found) = gfm_autolink_literal::scan(
@@ -326,15 +414,29 @@ impl<'c, R: References> Tokenizer<'c, R> {
     }
 }
 
+/// Keeps what the label of a bracket belongs to.
+fn set_label(tokens: &mut Vec<Token>, bracket: &Bracket, labelled: Labelled)
+    requires opened { IsOpen tokens.old.items bracket.now }
+    requires size { label_start labelled ≤ form_size bracket.now.form }
+    ensures reach { ReachAsFar tokens.old.items tokens.new.items }
+    ensures opened { (brackets : List Bracket) → AreOpen tokens.old.items brackets → AreOpen tokens.new.items brackets }
+{
+    tokens[bracket.token].kind = TokenKind::LabelStart(Some(labelled));
+}
+
 /// The data at the cursor, up to a byte that may begin something.
 fn data(cursor: Cursor<'_>) -> Found
-    ensures { result.size ≤ bytes_from cursor.entry }
+    requires { byte_at cursor ≢ 10 }
+    ensures { IsFound (bare cursor.entry.content.now) result.kind cursor.entry.at (cursor.entry.at + result.size) }
 {
     Found::data(1 + count_while(after(cursor.content, cursor.at + 1), is_plain))
 }
 
 /// Whether a byte begins nothing.
-fn is_plain(byte: u8) -> bool {
+fn is_plain(byte: u8) -> bool
+    ensures line { IsTrue result → byte ≢ 10 }
+    ensures ascii { IsFalse result → byte < 128 }
+{
     !matches!(
         byte,
         b'\n'

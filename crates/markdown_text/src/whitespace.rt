@@ -1,8 +1,12 @@
 //! White space: which bytes are (GFM), and what stands at the ends of data (micromark), where it begins or
 //! ends a line, or the text.
 
+ghost use Rattle.std.specs.Prelude.{IsFalse, IsTrue, length, ◌≡◌, ◌≢◌, ◌≤◌, ◌<◌, ◌+◌, ◌-◌};
+ghost use Rattle.commonmark_syntax.specs.Cuts.{IsCut};
+ghost use Rattle.markdown_text.specs.declared.output.Next.TheVariants.{LineEnding};
+
 use crate::output::{ContentKind, Next};
-use commonmark_syntax::bytes::{count_back, count_while, is_space_or_tab};
+use commonmark_syntax::bytes::{after, count_back, count_while, is_space_or_tab};
 
 /// So many spaces before a line ending are a hard break, or more (CommonMark).
 const HARD_BREAK: usize = 2;
@@ -16,10 +20,14 @@ pub struct Whitespace {
     pub trailing: usize,
     /// How many of those at the end are a hard break.
     pub hard_break: usize,
+    ghost within: { hard_break ≤ trailing },
 }
 
 /// Whether a byte is white space (GFM).
-pub fn is_white_space(byte: u8) -> bool {
+pub fn is_white_space(byte: u8) -> bool
+    ensures ascii { IsTrue result → byte < 128 }
+    ensures other { IsFalse result → byte ≢ 10 }
+{
     matches!(byte, b'\t'..=b'\r' | b' ')
 }
 
@@ -30,29 +38,66 @@ pub fn scan(
     is_line_start: bool,
     next: Next,
     has_breaks: bool,
-) -> Whitespace {
-    let trailing = if is_trimmed(kind, next) {
-        count_back(text, is_space_or_tab)
-    } else {
-        0
-    };
-    let leading = if is_line_start && trailing < text.len() {
-        count_while(text, is_space_or_tab)
-    } else {
-        0
-    };
-    let may_break = has_breaks && kind == ContentKind::Text && next == Next::LineEnding;
+) -> Whitespace
+    ensures within { result.leading + result.trailing ≤ length text.now }
+    ensures leading { IsCut text.now result.leading }
+    ensures trailing { IsCut text.now (length text.now - result.trailing) }
+    ensures hard_break { IsCut text.now (length text.now - result.hard_break) }
+    ensures next { 0 < result.hard_break → next ≡ LineEnding }
+{
+    let trailing = trailing_size(text, kind, next);
+    let size = text.len() - trailing;
     Whitespace {
-        leading,
+        leading: leading_size(&text[..size], is_line_start),
         trailing,
-        hard_break: if may_break { hard_break(text) } else { 0 },
+        hard_break: break_size(after(text, size), kind, next, has_breaks),
     }
 }
 
+/// How many bytes at the end of data are white space that is written apart.
+fn trailing_size(text: &[u8], kind: ContentKind, next: Next) -> usize
+    ensures most { result ≤ length text.now }
+    ensures cut { IsCut text.now (length text.now - result) }
+{
+    if !is_trimmed(kind, next) {
+        return 0;
+    }
+    count_back(text, is_space_or_tab)
+}
+
+/// How many bytes at the start of data are.
+fn leading_size(text: &[u8], is_line_start: bool) -> usize
+    ensures most { result ≤ length text.now }
+    ensures cut { IsCut text.now result }
+{
+    if !is_line_start {
+        return 0;
+    }
+    count_while(text, is_space_or_tab)
+}
+
+/// How many bytes of the white space at the end of data are a hard break.
+fn break_size(text: &[u8], kind: ContentKind, next: Next, has_breaks: bool) -> usize
+    ensures most { result ≤ length text.now }
+    ensures cut { IsCut text.now (length text.now - result) }
+    ensures next { 0 < result → next ≡ LineEnding }
+{
+    if !has_breaks || kind != ContentKind::Text || next != Next::LineEnding {
+        return 0;
+    }
+    hard_break(text)
+}
+
 /// How many spaces at the end of a text are a hard break, where a line ending comes next.
-fn hard_break(text: &[u8]) -> usize {
+fn hard_break(text: &[u8]) -> usize
+    ensures most { result ≤ length text.now }
+    ensures cut { IsCut text.now (length text.now - result) }
+{
     let spaces = count_back(text, |byte| byte == b' ');
-    if spaces < HARD_BREAK { 0 } else { spaces }
+    if spaces < HARD_BREAK {
+        return 0;
+    }
+    spaces
 }
 
 /// Whether white space at the end of data is written apart.

@@ -1,7 +1,6 @@
 //! Why the program does not print what it is asked for.
 
 use crate::source::{Source, SourceError};
-use markdown_nodes::message::{Fault, Message};
 use std::fmt;
 
 /// Why the program does not print what it is asked for.
@@ -11,8 +10,6 @@ pub enum ProgramError {
     Usage,
     /// There is no text of this document.
     Unread(Source, SourceError),
-    /// This document has no tree.
-    Refused(Source, Message),
     /// The output cannot be written.
     Unwritten,
     /// Memory ran out.
@@ -28,18 +25,9 @@ impl ProgramError {
         }
     }
 
-    /// The error of a document for which there is no tree.
-    pub fn refused(source: Source, fault: Fault) -> ProgramError {
-        match fault {
-            Fault::Message(message) => ProgramError::Refused(source, message),
-            Fault::Memory(_) => ProgramError::Memory,
-        }
-    }
-
-    /// The exit status: 1 where there is no tree, 3 where memory ran out, and else 2.
+    /// The exit status: 3 where memory ran out, and else 2.
     pub fn status(&self) -> u8 {
         match self {
-            ProgramError::Refused(..) => 1,
             ProgramError::Memory => 3,
             _ => 2,
         }
@@ -53,7 +41,6 @@ impl fmt::Display for ProgramError {
                 f.write_str("usage: mdast [--events] [--commonmark | --gfm] [DOC]")
             }
             ProgramError::Unread(source, error) => write!(f, "mdast: {source}: {error}"),
-            ProgramError::Refused(source, message) => write!(f, "mdast: {source}: {message}"),
             ProgramError::Unwritten => f.write_str("mdast: cannot write the output"),
             ProgramError::Memory => f.write_str("mdast: out of memory"),
         }

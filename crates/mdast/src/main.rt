@@ -5,9 +5,9 @@
 //! `--events` it prints the events of the tokenizer, a line for each. The document is read as GFM with
 //! frontmatter and math. `--gfm` leaves these two out, and `--commonmark` leaves out GFM as well.
 //!
-//! Messages go to standard error. The status is 0 where the program printed what was asked for, 1 where
-//! the document has no tree, which is a fault of the program, 2 where the arguments are wrong, the
-//! document cannot be read or the output cannot be written, and 3 where memory ran out.
+//! Messages go to standard error. The status is 0 where the program printed what was asked for, 2 where
+//! the arguments are wrong, the document cannot be read or the output cannot be written, and 3 where
+//! memory ran out. Every document has a tree.
 #![tactic(auto)]
 
 mod error;
@@ -19,8 +19,7 @@ use crate::request::{Form, Request, read_arguments};
 use event_lines::written::lines_of;
 use markdown::{ParseOptions, to_events, to_mdast};
 use markdown_json::to_json;
-use markdown_nodes::message::Fault;
-use std::alloc::Global;
+use std::alloc::{AllocError, Global};
 use std::io::{self, Write};
 use std::process::ExitCode;
 
@@ -46,9 +45,8 @@ fn answer(rt: &HostRuntime) -> Result<(), ProgramError> {
         Ok(text) => text,
         Err(error) => return Err(ProgramError::unread(source, error)),
     };
-    let output = match output(rt.alloc(), text.as_str(), form, &options) {
-        Ok(output) => output,
-        Err(fault) => return Err(ProgramError::refused(source, fault)),
+    let Ok(output) = output(rt.alloc(), text.as_str(), form, &options) else {
+        return Err(ProgramError::Memory);
     };
     match io::writer(rt).write_all(output.as_bytes()) {
         Ok(()) => Ok(()),
@@ -62,7 +60,7 @@ fn output(
     document: &str,
     form: Form,
     options: &ParseOptions,
-) -> Result<String, Fault> {
+) -> Result<String, AllocError> {
     match form {
         Form::Json => {
             let tree = to_mdast(alloc, document, options)?;
@@ -72,7 +70,7 @@ fn output(
         }
         Form::Events => {
             let events = to_events(alloc, document, options)?;
-            Ok(lines_of(alloc, &events)?)
+            lines_of(alloc, &events)
         }
     }
 }

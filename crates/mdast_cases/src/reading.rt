@@ -3,8 +3,7 @@
 use crate::line::LineError;
 use markdown::{Constructs, ParseOptions, to_events};
 use markdown_nodes::event::Event;
-use markdown_nodes::message::Fault;
-use std::alloc::{AllocError, Global};
+use std::alloc::Global;
 
 /// How a document is read, as the word of a line `read` says.
 pub fn options_of_word(word: &str) -> Option<ParseOptions> {
@@ -29,16 +28,11 @@ fn everything() -> ParseOptions {
     }
 }
 
-/// The events of a document. There are none where the tokenizer refuses it: then the answer of
-/// `to_mdast` says so.
+/// The events of a document.
 pub fn events_of_document(
     alloc: Global,
     text: &str,
     options: &ParseOptions,
 ) -> Result<Vec<Event>, LineError> {
-    match to_events(alloc, text, options) {
-        Ok(events) => Ok(events),
-        Err(Fault::Message(_)) => Ok(Vec::new(alloc)),
-        Err(Fault::Memory(_)) => Err(LineError::Memory(AllocError)),
-    }
+    Ok(to_events(alloc, text, options)?)
 }

@@ -95,8 +95,8 @@ fn replay(alloc: Global, case: &Case<'_>, counts: &mut Counts) -> Result<(), Rep
 fn read(alloc: Global, case: &Case<'_>) -> Result<(), ReplayError> {
     match (&case.options, case.document.text()) {
         (Some(options), Some(text)) => {
-            let outcome = to_mdast(alloc, text, options);
-            expect(List::Whole, answer(alloc, &outcome), case.answer)
+            let tree = to_mdast(alloc, text, options)?;
+            expect(List::Whole, shown(alloc, &tree), case.answer)
         }
         _ => Ok(()),
     }
@@ -358,10 +358,15 @@ fn counted(alloc: Global, case: &Case<'_>) -> Result<String, AllocError> {
 /// The answer of a case for which this comes out.
 fn answer(alloc: Global, outcome: &Result<Node, Fault>) -> Result<String, AllocError> {
     match outcome {
-        Ok(tree) => format!(in alloc; "= {tree:?}"),
+        Ok(tree) => shown(alloc, tree),
         Err(Fault::Message(message)) => refusal(alloc, message),
         Err(Fault::Memory(_)) => Err(AllocError),
     }
+}
+
+/// The answer of a case that has this tree.
+fn shown(alloc: Global, tree: &Node) -> Result<String, AllocError> {
+    format!(in alloc; "= {tree:?}")
 }
 
 /// The answer of a case that is refused with this message.

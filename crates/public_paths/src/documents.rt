@@ -6,9 +6,10 @@ use markdown::{Constructs, ParseOptions, hidden_bytes, to_events, to_mdast};
 use markdown_nodes::mdast::Node;
 use markdown_nodes::message::Fault;
 use markdown_tree::to_mdast::{Document, Steps, compile_document};
+use std::alloc::AllocError;
 
 #[test]
-fn a_document_is_read(rt: HostRuntime) -> Result<(), Fault> {
+fn a_document_is_read(rt: HostRuntime) -> Result<(), AllocError> {
     let options = ParseOptions {
         constructs: Constructs::gfm(),
         ..ParseOptions::default()

@@ -3,8 +3,7 @@
 use crate::reading::{all, has, holds};
 use markdown::Constructs;
 use markdown_events::event::Name;
-use markdown_events::message::Fault;
-use std::alloc::Global;
+use std::alloc::{AllocError, Global};
 use std::process::Abort;
 
 /// A document with each construct of a text.
@@ -17,14 +16,14 @@ fn switches(
     alloc: Global,
     constructs: Constructs,
     name: Name,
-) -> Result<(), Fault> {
+) -> Result<(), AllocError> {
     holds(rt, has(alloc, DOCUMENT, all(), name)?, name.text());
     holds(rt, !has(alloc, DOCUMENT, constructs, name)?, name.text());
     Ok(())
 }
 
 #[test]
-fn constructs_of_common_mark(rt: HostRuntime) -> Result<(), Fault> {
+fn constructs_of_common_mark(rt: HostRuntime) -> Result<(), AllocError> {
     let without = Constructs {
         attention: false,
         autolink: false,
@@ -52,7 +51,7 @@ fn constructs_of_common_mark(rt: HostRuntime) -> Result<(), Fault> {
 }
 
 #[test]
-fn constructs_of_gfm_and_math(rt: HostRuntime) -> Result<(), Fault> {
+fn constructs_of_gfm_and_math(rt: HostRuntime) -> Result<(), AllocError> {
     let without = Constructs {
         gfm_autolink_literal: false,
         gfm_label_start_footnote: false,
@@ -74,7 +73,7 @@ fn constructs_of_gfm_and_math(rt: HostRuntime) -> Result<(), Fault> {
 }
 
 #[test]
-fn starts_and_ends_of_labels(rt: HostRuntime) -> Result<(), Fault> {
+fn starts_and_ends_of_labels(rt: HostRuntime) -> Result<(), AllocError> {
     let alloc = rt.alloc();
     let no_images = Constructs {
         label_start_image: false,

@@ -1,11 +1,10 @@
 //! Escapes, references, code, attention, autolinks, HTML, breaks and math (micromark's spans).
 
 use crate::reading::shows;
-use markdown_events::message::Fault;
 use std::alloc::{AllocError, Global};
 
 #[test]
-fn escapes(rt: HostRuntime) -> Result<(), Fault> {
+fn escapes(rt: HostRuntime) -> Result<(), AllocError> {
     let alloc = rt.alloc();
     shows(
         &rt,
@@ -17,7 +16,7 @@ fn escapes(rt: HostRuntime) -> Result<(), Fault> {
 }
 
 #[test]
-fn references(rt: HostRuntime) -> Result<(), Fault> {
+fn references(rt: HostRuntime) -> Result<(), AllocError> {
     let alloc = rt.alloc();
     shows(
         &rt,
@@ -42,7 +41,7 @@ fn references(rt: HostRuntime) -> Result<(), Fault> {
 }
 
 #[test]
-fn code_and_math(rt: HostRuntime) -> Result<(), Fault> {
+fn code_and_math(rt: HostRuntime) -> Result<(), AllocError> {
     let alloc = rt.alloc();
     shows(
         &rt,
@@ -66,7 +65,7 @@ fn code_and_math(rt: HostRuntime) -> Result<(), Fault> {
 }
 
 #[test]
-fn emphasis(rt: HostRuntime) -> Result<(), Fault> {
+fn emphasis(rt: HostRuntime) -> Result<(), AllocError> {
     let alloc = rt.alloc();
     shows(
         &rt,
@@ -102,7 +101,7 @@ fn emphasis(rt: HostRuntime) -> Result<(), Fault> {
 }
 
 #[test]
-fn struck_text(rt: HostRuntime) -> Result<(), Fault> {
+fn struck_text(rt: HostRuntime) -> Result<(), AllocError> {
     let alloc = rt.alloc();
     for (document, open, text, end) in [("~a~", 1, 2, 3), ("~~a~~", 2, 3, 5)] {
         let want = format!(in alloc;
@@ -120,7 +119,7 @@ fn struck_text(rt: HostRuntime) -> Result<(), Fault> {
 }
 
 #[test]
-fn autolinks(rt: HostRuntime) -> Result<(), Fault> {
+fn autolinks(rt: HostRuntime) -> Result<(), AllocError> {
     let alloc = rt.alloc();
     shows(
         &rt,
@@ -174,7 +173,7 @@ const LITERALS: [(&str, &str, usize, usize); 14] = [
 ];
 
 #[test]
-fn autolink_literals(rt: HostRuntime) -> Result<(), Fault> {
+fn autolink_literals(rt: HostRuntime) -> Result<(), AllocError> {
     let alloc = rt.alloc();
     for (document, name, start, end) in LITERALS {
         let size = document.len();
@@ -217,7 +216,7 @@ const NO_LITERALS: [&str; 15] = [
 ];
 
 #[test]
-fn no_autolink_literals(rt: HostRuntime) -> Result<(), Fault> {
+fn no_autolink_literals(rt: HostRuntime) -> Result<(), AllocError> {
     let alloc = rt.alloc();
     for document in NO_LITERALS {
         let size = document.len();
@@ -228,7 +227,7 @@ fn no_autolink_literals(rt: HostRuntime) -> Result<(), Fault> {
 }
 
 #[test]
-fn html(rt: HostRuntime) -> Result<(), Fault> {
+fn html(rt: HostRuntime) -> Result<(), AllocError> {
     let alloc = rt.alloc();
     shows(
         &rt,
@@ -246,7 +245,7 @@ fn html(rt: HostRuntime) -> Result<(), Fault> {
 }
 
 #[test]
-fn breaks(rt: HostRuntime) -> Result<(), Fault> {
+fn breaks(rt: HostRuntime) -> Result<(), AllocError> {
     let alloc = rt.alloc();
     shows(
         &rt,

@@ -1,10 +1,10 @@
 //! Links, images, calls of footnotes, and the marks of tasks (micromark's spans).
 
 use crate::reading::shows;
-use markdown_events::message::Fault;
+use std::alloc::AllocError;
 
 #[test]
-fn resources(rt: HostRuntime) -> Result<(), Fault> {
+fn resources(rt: HostRuntime) -> Result<(), AllocError> {
     let alloc = rt.alloc();
     shows(
         &rt,
@@ -28,7 +28,7 @@ fn resources(rt: HostRuntime) -> Result<(), Fault> {
 }
 
 #[test]
-fn references_need_a_definition(rt: HostRuntime) -> Result<(), Fault> {
+fn references_need_a_definition(rt: HostRuntime) -> Result<(), AllocError> {
     let alloc = rt.alloc();
     shows(&rt, alloc, "[a][b]", "(Paragraph Data:6 ) ")?;
     shows(
@@ -46,7 +46,7 @@ fn references_need_a_definition(rt: HostRuntime) -> Result<(), Fault> {
 }
 
 #[test]
-fn calls_need_a_definition(rt: HostRuntime) -> Result<(), Fault> {
+fn calls_need_a_definition(rt: HostRuntime) -> Result<(), AllocError> {
     let alloc = rt.alloc();
     shows(&rt, alloc, "[^a]", "(Paragraph Data:4 ) ")?;
     shows(
@@ -58,7 +58,7 @@ fn calls_need_a_definition(rt: HostRuntime) -> Result<(), Fault> {
 }
 
 #[test]
-fn no_link_stands_in_a_link(rt: HostRuntime) -> Result<(), Fault> {
+fn no_link_stands_in_a_link(rt: HostRuntime) -> Result<(), AllocError> {
     let alloc = rt.alloc();
     shows(
         &rt,
@@ -69,7 +69,7 @@ fn no_link_stands_in_a_link(rt: HostRuntime) -> Result<(), Fault> {
 }
 
 #[test]
-fn marks_of_tasks(rt: HostRuntime) -> Result<(), Fault> {
+fn marks_of_tasks(rt: HostRuntime) -> Result<(), AllocError> {
     let alloc = rt.alloc();
     shows(
         &rt,
@@ -87,7 +87,7 @@ fn marks_of_tasks(rt: HostRuntime) -> Result<(), Fault> {
 }
 
 #[test]
-fn marks_of_tasks_over_two_lines(rt: HostRuntime) -> Result<(), Fault> {
+fn marks_of_tasks_over_two_lines(rt: HostRuntime) -> Result<(), AllocError> {
     let alloc = rt.alloc();
     shows(
         &rt,
@@ -116,7 +116,7 @@ fn marks_of_tasks_over_two_lines(rt: HostRuntime) -> Result<(), Fault> {
 }
 
 #[test]
-fn strings_have_escapes_and_references_alone(rt: HostRuntime) -> Result<(), Fault> {
+fn strings_have_escapes_and_references_alone(rt: HostRuntime) -> Result<(), AllocError> {
     let alloc = rt.alloc();
     shows(
         &rt,

@@ -2,7 +2,6 @@
 
 use markdown::{Constructs, ParseOptions, to_events};
 use markdown_events::event::{Event, Kind, Name};
-use markdown_events::message::Fault;
 use std::alloc::{AllocError, Global};
 use std::process::Abort;
 
@@ -17,7 +16,11 @@ pub fn all() -> Constructs {
 }
 
 /// The events of a document with these constructs.
-pub fn events(alloc: Global, document: &str, constructs: Constructs) -> Result<Vec<Event>, Fault> {
+pub fn events(
+    alloc: Global,
+    document: &str,
+    constructs: Constructs,
+) -> Result<Vec<Event>, AllocError> {
     let options = ParseOptions {
         constructs,
         ..ParseOptions::gfm()
@@ -31,14 +34,14 @@ pub fn has(
     document: &str,
     constructs: Constructs,
     name: Name,
-) -> Result<bool, Fault> {
+) -> Result<bool, AllocError> {
     let events = events(alloc, document, constructs)?;
     Ok(events.iter().any(|event| event.name == name))
 }
 
 /// The events of a document as a text, with all constructs. `(A` begins a span, `)` ends one, and `A:1` is a
 /// token up to offset 1.
-pub fn shown(alloc: Global, document: &str) -> Result<String, Fault> {
+pub fn shown(alloc: Global, document: &str) -> Result<String, AllocError> {
     let events = events(alloc, document, all())?;
     let mut text = String::new(alloc);
     let mut entered = None;
@@ -76,7 +79,7 @@ fn show(
 }
 
 /// Stops the test where a document does not have these events.
-pub fn shows(rt: &impl Abort, alloc: Global, document: &str, want: &str) -> Result<(), Fault> {
+pub fn shows(rt: &impl Abort, alloc: Global, document: &str, want: &str) -> Result<(), AllocError> {
     let found = shown(alloc, document)?;
     assert_eq!(rt; found.as_str(), want, "{document}");
     Ok(())

@@ -1,4 +1,4 @@
-use Rattle.std.proofs.Common.{◌≡◌, ◌≤◌, ◌+◌, ◌++◌, length}
+use Rattle.std.proofs.Common.{◌≡◌, ◌+◌, ◌++◌, length}
 use Rattle.markdown.specs.Hidden.{escapes}
 use Rattle.markdown.proofs.hidden.add_escapes.Given as goal
 

@@ -36,8 +36,8 @@ token_to-requires-clause-cut c = λ other.
     let after = c.skip.new.self in
     let written = c.in_ok-write_label.ensures.written in
     let label = subst (λ (r : Bor (List ℕ)). HasLabel r.now c.args.size) (sym c.columns.ensures.text) c.requires.label in
-    let document = written.document ∙ ap (λ (x : Cursor). x.extent.document.now) c.enter-2.ensures.cursor ∙ c.in_ok-columns.ensures.at.document ∙ sym (ap (λ (s : Source). s.document.now) c.skip.ensures.moved.source) in
-    subst (λ (bytes : List ℕ). IsCut bytes (after.end - length after.rest.now)) (sym document) (label_cut line after c.args.size c.saturating_add.result c.skip.ensures.moved label c.saturating_add.ensures c.skip.ensures.rest c.skip.ensures.cut)
+    let source = written.source ∙ ap (λ (x : Cursor). x.extent.source) c.enter-2.ensures.cursor ∙ c.in_ok-columns.ensures.at.source ∙ sym c.skip.ensures.moved.source in
+    subst (λ (s : Source). IsCut s.document.now (after.end - length after.rest.now)) (sym source) (label_cut line after c.args.size c.saturating_add.result c.skip.ensures.moved label c.saturating_add.ensures c.skip.ensures.rest c.skip.ensures.cut)
 
 pub returns-in_err-columns-2-clause-moved : goal.returns-in_err-columns-2-clause-moved
 returns-in_err-columns-2-clause-moved c =
@@ -60,7 +60,7 @@ token_to-requires-clause-same c =
     let moved = c.skip.ensures.moved in
     let end : cursor.extent.end ≡ after.end = written.end ∙ ap (λ (x : Cursor). x.extent.end) entered ∙ at.end ∙ sym moved.end in
     let next : cursor.extent.next ≡ after.next = written.next ∙ ap (λ (x : Cursor). x.extent.next) entered ∙ at.next ∙ sym moved.next in
-    let document : cursor.extent.document.now ≡ after.source.document.now = written.document ∙ ap (λ (x : Cursor). x.extent.document.now) entered ∙ at.document ∙ sym (ap (λ (s : Source). s.document.now) moved.source) in
+    let source : cursor.extent.source ≡ after.source = written.source ∙ ap (λ (x : Cursor). x.extent.source) entered ∙ at.source ∙ sym moved.source in
     let from : c.enter-2.new.self.cursor.offset ≡ line.end - length line.rest.now = ap (λ (x : Cursor). x.offset) entered ∙ ap (λ (s : Spot). s.offset) at.spot in
     let most = c.in_ok-write_label.ensures.most in
     let order = written.writes.place.rest.order in
@@ -73,6 +73,6 @@ token_to-requires-clause-same c =
     let ends : cursor.extent.end ≡ line.end = end ∙ moved.end in
     let places = before_colon cursor.offset line.end (length line.rest.now) (length line.text.now) c.saturating_add.result (length after.rest.now) c.args.size c.saturating_add.ensures size shorter (omega (arith, fits)) (omega (arith, short, whole, last))
     (omega (arith, order, ends)) (omega (arith, most, from)) in
-    later_in cursor after written.writes.place document end next
+    later_in cursor after written.writes.place source end next
     (subst (λ (n : ℕ). (cursor.offset < n - length after.rest.now) ⊎ (cursor.offset ≡ n - length after.rest.now)) (sym moved.end) places.0)
     (subst (λ (n : ℕ). cursor.offset ≡ n - length after.rest.now → n - length after.rest.now ≡ n) (sym moved.end) places.1)

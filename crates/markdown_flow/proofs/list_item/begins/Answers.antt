@@ -5,8 +5,8 @@ use Rattle.markdown_flow.specs.Lines.{is_space_or_tab}
 use Rattle.markdown_flow.specs.Markers.{HasMarker}
 use Rattle.markdown_flow.proofs.list_item.begins.Goals as goal
 
-pub returns : goal.returns
-returns c =
+pub returns-clause-marker : goal.returns-clause-marker
+returns-clause-marker c =
     let text = c.text-text.result.now in
     let digits = c.count_while-digits.result in
     let found = c.in_ok-marker.ensures.lookup.3 in

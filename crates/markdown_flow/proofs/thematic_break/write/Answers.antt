@@ -13,7 +13,7 @@ runs-preserved c =
     record {
       written = record {
         writes = space.writes;
-        document = ap (λ (e : Extent). e.document.now) extent ∙ before.written.document;
+        source = ap (λ (e : Extent). e.source) extent ∙ before.written.source;
         end = ap (λ (e : Extent). e.end) extent ∙ before.written.end;
         next = ap (λ (e : Extent). e.next) extent ∙ before.written.next;
       };

@@ -1,8 +1,17 @@
-use Rattle.std.proofs.Common.{◌≡◌, vec_len}
+use Rattle.std.proofs.Common.{Bool, List, length, vec_len, ◌≡◌}
+use Rattle.event_writer.specs.Stages.{Enclosing}
+use Rattle.markdown_text.specs.Opens.{HasOpen}
+use Rattle.markdown_text.specs.Outputs.{GoesOn, IsAtText, bytes_of}
 use Rattle.markdown_text.proofs.text.inlines.Given as goal
 
+-- all is written, or waits as data
 abbrev pub invariant-open : goal.invariant-open
-invariant-open g l = l.output.writer.given ≡ l.initial.output.writer.given
+invariant-open g l = record {
+  given : l.output.writer.given ≡ l.initial.output.writer.given;
+  goes_on : GoesOn l.initial.output l.output;
+  ended : l.output.data ≡ length (bytes_of l.output);
+  stage : (h : Bool) → (outer : List Enclosing) → IsAtText l.is_task l.fn.writer h outer → HasOpen l.output l.open.items h outer;
+}
 
 abbrev pub decreases-open : goal.decreases-open
 decreases-open g l = vec_len l.open

@@ -1,5 +1,18 @@
-use Rattle.std.proofs.Common.{◌≡◌}
+use Rattle.std.proofs.Common.{Bool, List, false, length, ◌≡◌}
+use Rattle.event_writer.specs.Stages.{Enclosing}
+use Rattle.markdown_text.specs.Opens.{HasOpen}
+use Rattle.markdown_text.specs.Outputs.{GoesOn, as_text, references_of}
+use Rattle.markdown_text.specs.Tokens.{AreTokens}
 use Rattle.markdown_text.proofs.text.write_tokens.Given as goal
 
-abbrev pub invariant-loop-token : goal.invariant-loop-token
-invariant-loop-token g l = l.output.writer.given ≡ l.initial.output.writer.given
+-- the tokens that are left come after the data that waits
+abbrev pub invariant-tokens : goal.invariant-tokens
+invariant-tokens g l = record {
+  given : l.output.writer.given ≡ l.fn.output.writer.given;
+  goes_on : GoesOn l.fn.output l.output;
+  tokens : AreTokens (as_text l.output (g.R.References.text (references_of l.output)) false) l.output.data l.rest;
+  stage : (h : Bool) → (outer : List Enclosing) → HasOpen l.fn.output l.fn.open.items h outer → HasOpen l.output l.open.items h outer;
+}
+
+abbrev pub decreases-tokens : goal.decreases-tokens
+decreases-tokens g l = length l.rest

@@ -16,7 +16,7 @@ returns-in_default-clause-before c =
     let text = text_ended writer.text.now (rest_of output) (joined (drop 1 writer.lines.now)) writer.at c.requires.text.text (rest_none output c.requires.ended) in
     record {
       stands = written.stands;
-      lines = kept_next output c.end_line.new.self writer.content.now.prefixes.items writer.lines.now writer.lines.now written.document written.spot same c.requires.text.later;
+      lines = kept_next output c.end_line.new.self writer.content.now.prefixes.items writer.lines.now writer.lines.now written.source written.spot same c.requires.text.later;
       text = text ∙ ap joined (sym same);
     }
 
@@ -29,6 +29,6 @@ returns-in-len1-up-clause-before c =
     let text = text_ended writer.text.now (rest_of output) (joined (drop 1 writer.lines.now)) writer.at c.requires.text.text (rest_none output c.requires.ended) in
     record {
       stands = written.stands;
-      lines = kept_next output c.end_line.new.self writer.content.now.prefixes.items writer.lines.now _ written.document written.spot same c.requires.text.later;
+      lines = kept_next output c.end_line.new.self writer.content.now.prefixes.items writer.lines.now _ written.source written.spot same c.requires.text.later;
       text = text ∙ ap joined (sym same);
     }

@@ -22,8 +22,8 @@ returns-clause-on c =
     record {
       content = ended.content ∙ rest.content ∙ title.content ∙ destination.content ∙ space.content ∙ marker.content ∙ label.content ∙ indent.content ∙ begun.content;
       text = ended.text ∙ rest.text ∙ title.text ∙ destination.text ∙ space.text ∙ marker.text ∙ label.text ∙ indent.text ∙ begun.text;
-      document = ended.document ∙ ap (λ (x : Cursor). x.extent.document.now) c.exit.ensures.cursor ∙ rest.document ∙ title.document ∙ destination.document ∙ space.document ∙ marker.document ∙ label.document ∙ indent.document
-          ∙ ap (λ (x : Cursor). x.extent.document.now) c.enter.ensures.cursor ∙ begun.document;
+      source = ended.source ∙ ap (λ (x : Cursor). x.extent.source) c.exit.ensures.cursor ∙ rest.source ∙ title.source ∙ destination.source ∙ space.source ∙ marker.source ∙ label.source ∙ indent.source
+          ∙ ap (λ (x : Cursor). x.extent.source) c.enter.ensures.cursor ∙ begun.source;
     }
 
 pub returns-clause-less : goal.returns-clause-less

@@ -1,6 +1,7 @@
-use Rattle.std.proofs.Common.{◌≡◌, List, length, ℕ}
+use Rattle.std.proofs.Common.{◌≡◌, length}
 use Rattle.markdown_flow.specs.Moves.{HasMoved}
 use Rattle.markdown_flow.specs.Outputs.{Reads}
+use Rattle.markdown_flow.specs.declared.line.Source.{Source}
 use Rattle.markdown_flow.specs.Readers.{OpensAll}
 use Rattle.markdown_pieces.specs.Tilings.{Spot}
 use Rattle.markdown_flow.proofs.document.Reader.continue_containers.Given as goal
@@ -11,6 +12,6 @@ invariant-loop-number l = record {
   flow : l.self.flow ≡ l.initial.self.flow;
   number : length l.self.containers.items ≡ length l.initial.self.containers.items;
   opens : OpensAll l.self;
-  reads : (bytes : List ℕ) → (from : Spot) → Reads bytes from l.initial.input → Reads bytes from l.input;
+  reads : (source : Source) → (from : Spot) → Reads source from l.initial.input → Reads source from l.input;
   moved : HasMoved l.initial.input.line l.input.line;
 }

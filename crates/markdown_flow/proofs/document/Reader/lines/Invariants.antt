@@ -1,7 +1,7 @@
 use Rattle.std.proofs.Common.{◌≡◌, ◌-◌, [], length}
 use Rattle.markdown_flow.specs.Flows.{StandsWith, end_with}
 use Rattle.markdown_flow.specs.Readers.{OpensAll}
-use Rattle.markdown_flow.specs.Outputs.{document_of, next_of}
+use Rattle.markdown_flow.specs.Outputs.{next_of, source_of}
 use Rattle.markdown_flow.proofs.document.Reader.lines.Given as goal
 
 -- all is written up to the end of a line
@@ -9,9 +9,9 @@ abbrev pub invariant-lines : goal.invariant-lines
 invariant-lines l = record {
   opens : OpensAll l.self;
   stands : StandsWith l.self.flow l.self.output;
-  document : document_of l.self.output ≡ document_of l.fn.self.output;
+  source : source_of l.self.output ≡ source_of l.fn.self.output;
   taken : l.input.prefix.items ≡ [];
-  source : l.line.source.document.now ≡ document_of l.fn.self.output;
+  same : l.line.source ≡ source_of l.fn.self.output;
   end : end_with l.self.flow l.self.output ≡ next_of l.line;
 }
 

@@ -1,6 +1,6 @@
 use Rattle.std.proofs.Common.{◌≡◌, []}
 use Rattle.markdown_flow.specs.Moves.{HasMoved}
-use Rattle.markdown_flow.specs.Outputs.{IsAt, Opens, Writes, document_of}
+use Rattle.markdown_flow.specs.Outputs.{IsAt, Opens, Writes, source_of}
 use Rattle.markdown_flow.specs.Readers.{in_containers}
 use Rattle.markdown_flow.specs.declared.leaf.Leaf.TheVariants as leaves
 use Rattle.markdown_flow.proofs.document.Reader.open_containers.Given as goal
@@ -13,6 +13,6 @@ invariant-loop l = record {
   at : IsAt l.self.output.cursor l.input.line;
   none : l.self.flow.content.lines.items ≡ [];
   taken : l.input.prefix.items ≡ [];
-  document : document_of l.self.output ≡ document_of l.fn.self.output;
+  source : source_of l.self.output ≡ source_of l.fn.self.output;
   moved : HasMoved l.fn.input.line l.input.line;
 }

@@ -1,8 +1,10 @@
 use Rattle.std.proofs.Common.{refl, subst, sym}
 use Rattle.markdown_flow.proofs.Opens.{entered_on}
 use Rattle.markdown_flow.proofs.Outputs.{stands_with, written}
-use Rattle.markdown_flow.specs.Outputs.{document_of, spot}
+use Rattle.markdown_flow.specs.Outputs.{constructs_of, document_of, spot}
 use Rattle.markdown_pieces.proofs.Tilings.{ends}
+use Rattle.markdown_pieces.proofs.Spans.{on_with}
+use Rattle.markdown_pieces.specs.Spans.{IsOn}
 use Rattle.markdown_pieces.specs.Tilings.{Goes, MayBegin, end_from, origin}
 use Rattle.markdown_pieces.specs.declared.piece.PieceKind.{PieceKind}
 use Rattle.markdown_flow.proofs.output.Output.enter.Goals as goal
@@ -20,6 +22,7 @@ returns-clause-writes c =
         within = (w.stands).within;
         tiles = stands_with output c.push.new.self.items c.at_end-piece.result w.stands c.in_ok-push.ensures.items c.at_end-piece.ensures.end stays;
         between = (w.stands).between;
+        on = on_with (constructs_of output) c.push.new.self.items output.pieces.items c.at_end-piece.result c.in_ok-push.ensures.items (w.stands).on (subst (IsOn (constructs_of output)) (sym c.at_end-piece.ensures.kind) c.requires.on);
       };
       none_held = w.none_held;
       from_start = w.from_start;

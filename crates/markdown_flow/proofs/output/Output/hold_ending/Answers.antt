@@ -1,6 +1,8 @@
-use Rattle.std.proofs.Common.{◌≡◌, ◌≢◌, ◌++◌, ◌∙◌, List, ℕ, ap, arith, drop, subst, sym}
+use Rattle.std.proofs.Common.{◌≡◌, ◌≢◌, ◌++◌, ◌∙◌, ℕ, ap, arith, drop, subst, sym}
 use Rattle.markdown_flow.proofs.Outputs.{ends_here, ending_between, held_between, held_on}
 use Rattle.markdown_flow.specs.Outputs.{document_of, line_after, spot}
+use Rattle.markdown_flow.specs.declared.line.Source.{Source}
+use Rattle.markdown_pieces.specs.Spans.{AreOn}
 use mathlib.Core.Path.{transport}
 use Rattle.markdown_pieces.proofs.Tilings.{goes_as_ending}
 use Rattle.markdown_pieces.specs.Tilings.{Goes, Spot, Tiles, end_of, origin}
@@ -22,6 +24,7 @@ returns-clause-stands c =
     let held = held_on output c.push.new.self.items c.new.result (spot c.next_line-next.result) c.requires.stands c.in_ok-push.ensures.items goes (end ∙ sym next.spot) in
     record {
       within = held.0;
-      tiles = subst (λ (bytes : List ℕ). Tiles bytes origin (output.pieces.items ++ drop output.held_start c.push.new.self.items) (spot c.next_line-next.result)) (sym next.document) held.1;
+      tiles = subst (λ (s : Source). Tiles s.document.now origin (output.pieces.items ++ drop output.held_start c.push.new.self.items) (spot c.next_line-next.result)) (sym next.source) held.1;
       between = held_between output c.push.new.self.items c.new.result c.requires.stands c.in_ok-push.ensures.items (subst (λ (p : Piece). IsBetween p.kind) (sym c.new.ensures) (ending_between c.args.kind c.requires.kind));
+      on = subst (λ (s : Source). AreOn s.constructs.now output.pieces.items) (sym next.source) c.requires.stands.on;
     }

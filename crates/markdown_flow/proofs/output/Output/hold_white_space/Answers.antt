@@ -2,6 +2,7 @@ use Rattle.std.proofs.Common.{◌≡◌, ◌≢◌, ◌∙◌, ap, arith, refl, 
 use Rattle.markdown_flow.proofs.Outputs.{held_between, held_on, rest_goes}
 use Rattle.markdown_flow.specs.Outputs.{document_of, spot}
 use Rattle.markdown_flow.specs.declared.output.Extent.{Extent}
+use Rattle.markdown_pieces.specs.Spans.{AreOn}
 use Rattle.markdown_pieces.specs.Tilings.{Goes, Spot, Tiles, end_of, origin}
 use Rattle.markdown_pieces.specs.Walks.{IsBetween}
 use Rattle.markdown_pieces.specs.declared.piece.Piece.{Piece}
@@ -25,6 +26,7 @@ returns-clause-stands c =
     let held = held_on output c.push.new.self.items c.new-space.result (spot c.after-end.result) c.requires.stands c.in_ok-push.ensures.items goes (last ∙ sym there) in
     record {
       within = held.0;
-      tiles = subst (λ (x : Extent). Tiles x.document.now origin (output.pieces.items ++ drop output.held_start c.push.new.self.items) (spot c.after-end.result)) (sym after.extent) held.1;
+      tiles = subst (λ (x : Extent). Tiles x.source.document.now origin (output.pieces.items ++ drop output.held_start c.push.new.self.items) (spot c.after-end.result)) (sym after.extent) held.1;
       between = held_between output c.push.new.self.items c.new-space.result c.requires.stands c.in_ok-push.ensures.items (subst (λ (p : Piece). IsBetween p.kind) (sym c.new-space.ensures) refl);
+      on = subst (λ (x : Extent). AreOn x.source.constructs.now output.pieces.items) (sym after.extent) c.requires.stands.on;
     }

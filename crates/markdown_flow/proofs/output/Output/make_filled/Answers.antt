@@ -13,4 +13,4 @@ returns-in-BlankLineEnding-clause-stands c =
     let blank : piece.kind ≡ BlankLineEnding = c.in-BlankLineEnding.is in
     let filled : Piece = record { kind = LineEnding; end = piece.end; virtual_spaces = piece.virtual_spaces } in
     let held = refilled c.args.self.now c.args.index piece filled c.requires c.in-Some.ensures.value (inr (subst (λ (k : PieceKind). IsEnding k) (sym blank) tt, tt, refl)) in
-    record { within = held.0; tiles = held.1; between = between_set c.args.index c.args.self.now.held.items filled c.requires.between tt }
+    record { within = held.0; tiles = held.1; between = between_set c.args.index c.args.self.now.held.items filled c.requires.between tt; on = c.requires.on }

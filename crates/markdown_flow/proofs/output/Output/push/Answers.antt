@@ -1,5 +1,10 @@
 use Rattle.markdown_flow.proofs.Outputs.{written_on}
 use Rattle.markdown_flow.proofs.Opens.{pushed_on}
+use Rattle.std.proofs.Common.{subst, sym}
+use Rattle.markdown_flow.specs.Outputs.{constructs_of}
+use Rattle.markdown_flow.specs.declared.line.Source.{Source}
+use Rattle.markdown_pieces.proofs.Spans.{on_with}
+use Rattle.markdown_pieces.specs.Spans.{AreOn}
 use Rattle.markdown_flow.proofs.output.Output.push.Goals as goal
 
 pub returns-clause-writes : goal.returns-clause-writes
@@ -8,8 +13,9 @@ returns-clause-writes c =
     record {
       stands = record {
         within = (w.stands).within;
-        tiles = written_on c.args.self.now c.push.new.self.items c.args.cursor c.args.piece w c.in_ok-push.ensures.items c.requires.document c.requires.end c.requires.goes;
+        tiles = written_on c.args.self.now c.push.new.self.items c.args.cursor c.args.piece w c.in_ok-push.ensures.items c.requires.source c.requires.end c.requires.goes;
         between = (w.stands).between;
+        on = subst (λ (s : Source). AreOn s.constructs.now c.push.new.self.items) (sym c.requires.source) (on_with (constructs_of c.args.self.now) c.push.new.self.items c.args.self.now.pieces.items c.args.piece c.in_ok-push.ensures.items (w.stands).on c.requires.on);
       };
       none_held = w.none_held;
       from_start = w.from_start;

@@ -1,0 +1,16 @@
+pub mod Contents
+pub mod Found
+pub mod Labels
+pub mod Outputs
+pub mod Parts
+pub mod Ranges
+pub mod Reached
+pub mod Resources
+pub mod Tokens
+pub mod Standings
+pub mod Steps
+pub mod Waiting
+pub mod Constructs
+pub mod Opened
+pub mod Marks
+pub mod Tasks

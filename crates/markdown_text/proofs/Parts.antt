@@ -1,0 +1,311 @@
+-- Cuts and parts of texts, and those of a text in another.
+use Rattle.std.proofs.Common.{◌≡◌, ◌≢◌, ◌≤◌, ◌<◌, ◌+◌, ◌-◌, ◌^◌, ◌∙◌, ◌⊎◌, ◌++◌, ◌∷◌, [], Bool, List, Some, ℕ, ap, arith, drop, get_or, inl, inr, length, length-drop, map, refl, slice_get, slice_index, slice_range, subst, sym, take, true}
+use Rattle.std.proofs.Math.Nat.{eq-or-lt_of_le}
+use Rattle.std.proofs.lemmas.Bool.{cases_lt}
+use Rattle.std.proofs.lemmas.Bool.Decides.{nat_tests}
+use Rattle.std.specs.Char.{to_ascii_lowercase}
+use Rattle.std.proofs.lemmas.List.{drop-drop, get_or-drop, get_or-map, get_or-take, get_or_at, length-map, length-take-le, take-take, take_at, take_rest}
+use Rattle.std.proofs.lemmas.Option.{get_or_from_slice_get, slice_get-get_or, slice_get_within}
+use Rattle.commonmark_syntax.specs.Cuts.{IsCut, IsInLine, IsOfAscii, IsOfLine, IsRunOf}
+use Rattle.commonmark_syntax.proofs.Cuts.{cut_between, line_drop}
+use Rattle.markdown_text.specs.Contents.{IsAsciiPart, IsPart, IsRange}
+
+-- ---- Cuts
+
+-- at the start
+pub cut_start : (bytes : List ℕ) → IsCut bytes 0
+cut_start bytes = λ some. absurd (omega (arith, some))
+
+-- at the end
+pub cut_end : (bytes : List ℕ) → IsCut bytes (length bytes)
+cut_end bytes = λ some within. absurd (omega (arith, within))
+
+-- before a byte of ASCII
+pub cut_before : (bytes : List ℕ) (i : ℕ) → slice_index bytes i < 128 → IsCut bytes i
+cut_before bytes i ascii = λ some within high. ascii
+
+-- after a byte of ASCII
+pub cut_after : (bytes : List ℕ) (i : ℕ) → slice_index bytes i < 128 → IsCut bytes (i + 1)
+cut_after bytes i ascii =
+    λ some within high.
+    let e : i + 1 - 1 ≡ i = omega arith in
+    let same = ap (slice_index bytes) e in
+    absurd (omega (arith, high, same, ascii))
+
+-- where a text ends, or a byte of ASCII comes next
+pub cut_where : (bytes : List ℕ) (i : ℕ) → i ≤ length bytes → (i < length bytes → slice_index bytes i < 128) → IsCut bytes i
+cut_where bytes i within next = λ some less high. next less
+
+-- ---- Parts
+
+-- nothing
+pub part_none : (bytes : List ℕ) (a : ℕ) → a ≤ length bytes → IsCut bytes a → IsPart bytes a a
+part_none bytes a within cut = record {
+  order = omega arith;
+  within = within;
+  line = λ k from to. absurd (omega (arith, from, to));
+  start = cut;
+  end = cut;
+}
+
+-- a part, and the one after it
+pub part_join : (bytes : List ℕ) (a b c : ℕ) → IsPart bytes a b → IsPart bytes b c → IsPart bytes a c
+part_join bytes a b c p q =
+    let first = p.order in
+    let second = q.order in
+    record { order = omega (arith, first, second); within = q.within; line = λ k from to. by k from to (cases_lt k b); start = p.start; end = q.end }
+  where
+    by : (k : ℕ) → a ≤ k → k < c → (k < b) ⊎ (b ≤ k) → get_or bytes k 0 ≢ 10
+    by k from to (inl less) = p.line k from less
+    by k from to (inr more) = q.line k more to
+
+-- the same with ASCII
+pub ascii_join : (bytes : List ℕ) (a b c : ℕ) → IsAsciiPart bytes a b → IsAsciiPart bytes b c → IsAsciiPart bytes a c
+ascii_join bytes a b c p q = record { part = part_join bytes a b c p.part q.part; ascii = λ k from to. by k from to (cases_lt k b) }
+  where
+    by : (k : ℕ) → a ≤ k → k < c → (k < b) ⊎ (b ≤ k) → get_or bytes k 0 < 128
+    by k from to (inl less) = p.ascii k from less
+    by k from to (inr more) = q.ascii k more to
+
+-- one byte of ASCII in a line
+pub ascii_byte : (bytes : List ℕ) (a : ℕ) → a < length bytes → slice_index bytes a < 128 → slice_index bytes a ≢ 10 → IsAsciiPart bytes a (a + 1)
+ascii_byte bytes a within ascii other = record {
+  part = record {
+    order = omega arith;
+    within = omega (arith, within);
+    line = λ k from to feed. other (at k from to ∙ feed);
+    start = cut_before bytes a ascii;
+    end = cut_after bytes a ascii;
+  };
+  ascii = λ k from to. let same = at k from to in omega (arith, same, ascii);
+}
+  where
+    at : (k : ℕ) → a ≤ k → k < a + 1 → slice_index bytes a ≡ slice_index bytes k
+    at k from to = let e : a ≡ k = omega (arith, from, to) in ap (slice_index bytes) e
+
+-- one byte more
+pub ascii_more : (bytes : List ℕ) (a b : ℕ) → IsAsciiPart bytes a b → b < length bytes → slice_index bytes b < 128 → slice_index bytes b ≢ 10 → IsAsciiPart bytes a (b + 1)
+ascii_more bytes a b part within ascii other = ascii_join bytes a b (b + 1) part (ascii_byte bytes b within ascii other)
+
+-- bytes of ASCII in a line
+pub ascii_run : (bytes : List ℕ) (a b : ℕ) → a < b → b ≤ length bytes → ((k : ℕ) → a ≤ k → k < b → slice_index bytes k < 128) → ((k : ℕ) → a ≤ k → k < b → slice_index bytes k ≢ 10) → IsAsciiPart bytes a b
+ascii_run bytes a b some within ascii line =
+    let last = cut_after bytes (b - 1) (ascii (b - 1) (omega (arith, some)) (omega (arith, some))) in
+    let e : b - 1 + 1 ≡ b = omega (arith, some) in
+    record {
+      part = record { order = omega (arith, some); within = within; line = line; start = cut_before bytes a (ascii a (omega arith) some); end = subst (IsCut bytes) e last };
+      ascii = ascii;
+    }
+
+-- a run of a byte of ASCII
+pub run_part : (bytes : List ℕ) (a b byte : ℕ) → a < b → b ≤ length bytes → byte < 128 → byte ≢ 10 → ((k : ℕ) → a ≤ k → k < b → slice_index bytes k ≡ byte) → IsAsciiPart bytes a b
+run_part bytes a b byte some within ascii other run =
+    ascii_run bytes a b some within (λ k from to. let same = run k from to in omega (arith, same, ascii)) (λ k from to feed. other (sym (run k from to) ∙ feed))
+
+-- a byte and a run of it after it
+pub run_from : (bytes rest : List ℕ) (at size byte : ℕ) → at + (1 + size) ≤ length bytes → byte ≡ slice_index bytes at → slice_index bytes at < 128 → slice_index bytes at ≢ 10 → ((k : ℕ) → slice_index rest k ≡ slice_index bytes (at + 1 + k)) → IsRunOf rest byte size → IsAsciiPart bytes at (at + (1 + size))
+run_from bytes rest at size byte within is ascii other after run =
+    run_part bytes at (at + (1 + size)) (slice_index bytes at) (omega arith) within ascii other (λ k from to. by k from to (eq-or-lt_of_le from))
+  where
+    by : (k : ℕ) → at ≤ k → k < at + (1 + size) → (at ≡ k) ⊎ (at < k) → slice_index bytes k ≡ slice_index bytes at
+    by k from to (inl same) = ap (slice_index bytes) (sym same)
+    by k from to (inr more) =
+        let e : at + 1 + (k - at - 1) ≡ k = omega (arith, more) in
+        ap (slice_index bytes) (sym e) ∙ sym (after (k - at - 1)) ∙ run (k - at - 1) (omega (arith, more, to)) ∙ is
+
+-- bytes that a test tells, and one byte of ASCII after them
+pub tested_part : (P : ℕ → Bool → Type 0) (text front : List ℕ) (size : ℕ) → size ≤ length front → ((k : ℕ) → k < length front → slice_index front k ≡ slice_index text k) → ((k : ℕ) → k < size → P (slice_index front k) true) → ((k : ℕ) → slice_index text k < 2 ^ 8) → IsOfAscii P true → IsOfLine P true → size < length text → slice_index text size ≡ 59 → IsAsciiPart text 0 (size + 1)
+tested_part P text front size most same tested fits ascii line within end = ascii_run text 0 (size + 1) (omega arith) (omega (arith, within)) (λ k from to. low k (eq-or-lt_of_le (below k to))) (λ k from to. other k (eq-or-lt_of_le (below k to)))
+  where
+    below : (k : ℕ) → k < size + 1 → k ≤ size
+    below k to = omega (arith, to)
+
+    holds : (k : ℕ) → k < size → P (slice_index text k) true
+    holds k less = subst (λ (n : ℕ). P n true) (same k (omega (arith, less, most))) (tested k less)
+
+    low : (k : ℕ) → (k ≡ size) ⊎ (k < size) → slice_index text k < 128
+    low k (inl last) = let e = ap (slice_index text) last in omega (arith, e, end)
+    low k (inr less) = ascii (slice_index text k) (fits k) (holds k less)
+
+    other : (k : ℕ) → (k ≡ size) ⊎ (k < size) → slice_index text k ≢ 10
+    other k (inl last) feed = let e = ap (slice_index text) last in omega (arith, e, end, feed)
+    other k (inr less) feed = line (slice_index text k) (fits k) (holds k less) feed
+
+-- one byte more of a line
+pub line_more : (bytes : List ℕ) (n : ℕ) → IsInLine bytes n → slice_index bytes n ≢ 10 → IsInLine bytes (n + 1)
+line_more bytes n line other k less = by (eq-or-lt_of_le (below less))
+  where
+    below : k < n + 1 → k ≤ n
+    below h = omega (arith, h)
+
+    by : (k ≡ n) ⊎ (k < n) → slice_index bytes k ≢ 10
+    by (inl same) = λ feed. other (ap (slice_index bytes) (sym same) ∙ feed)
+    by (inr before) = line k before
+
+-- fewer bytes of a line
+pub line_less : (bytes : List ℕ) (n m : ℕ) → m ≤ n → IsInLine bytes n → IsInLine bytes m
+line_less bytes n m order line k less = line k (omega (arith, less, order))
+
+-- a byte that is a line feed in lower case is one
+feed_lower : (b : ℕ) → to_ascii_lowercase b ≡ 10 → b ≡ 10
+feed_lower b feed = grind (arith, nat_tests)
+
+-- bytes that are those of a line but for the case of letters
+pub line_same_case : (text front start : List ℕ) → front ≡ take (length start) text → map to_ascii_lowercase front ≡ map to_ascii_lowercase start → IsInLine start (length start) → IsInLine text (length start)
+line_same_case text front start is same line k less feed =
+    let size : length front ≡ length start = sym (length-map front to_ascii_lowercase) ∙ ap (λ (xs : List ℕ). length xs) same ∙ length-map start to_ascii_lowercase in
+    let here : get_or front k 0 ≡ 10 = ap (λ (xs : List ℕ). get_or xs k 0) is ∙ get_or-take (length start) text k 0 less ∙ feed in
+    let low : to_ascii_lowercase (get_or start k 0) ≡ 10 =
+    sym (get_or-map to_ascii_lowercase start k 0 0 less) ∙ sym (ap (λ (xs : List ℕ). get_or xs k 0) same) ∙ get_or-map to_ascii_lowercase front k 0 0 (omega (arith, size, less)) ∙ ap to_ascii_lowercase here in
+    line k less (feed_lower (get_or start k 0) low)
+
+-- bytes of a line, from a cut to another
+pub part_line : (bytes : List ℕ) (size : ℕ) → size ≤ length bytes → IsInLine bytes size → IsCut bytes size → IsPart bytes 0 size
+part_line bytes size within line cut = record { order = omega arith; within = within; line = λ k from to. line k to; start = cut_start bytes; end = cut }
+
+-- ---- Ranges
+
+-- a part is a range
+pub range_of : (bytes : List ℕ) (a b : ℕ) → IsPart bytes a b → IsRange bytes a b
+range_of bytes a b part = record { order = part.order; within = part.within; start = part.start; end = part.end }
+
+-- a range, and the one after it
+pub range_join : (bytes : List ℕ) (a b c : ℕ) → IsRange bytes a b → IsRange bytes b c → IsRange bytes a c
+range_join bytes a b c p q =
+    let first = p.order in
+    let second = q.order in
+    record { order = omega (arith, first, second); within = q.within; start = p.start; end = q.end }
+
+-- all after a cut
+pub range_rest : (bytes : List ℕ) (at : ℕ) → at ≤ length bytes → IsCut bytes at → IsRange bytes at (length bytes)
+range_rest bytes at within cut = record { order = within; within = omega arith; start = cut; end = cut_end bytes }
+
+-- ---- A text in another
+
+-- what comes after an offset is a range
+pub rest_range : (bytes : List ℕ) (at : ℕ) → drop at bytes ≡ slice_range bytes at (length bytes)
+rest_range bytes at = sym (take_rest bytes at)
+
+-- its length
+pub length_in : (bytes text : List ℕ) (from to : ℕ) → text ≡ slice_range bytes from to → IsRange bytes from to → length text ≡ to - from
+length_in bytes text from to is range =
+    let order = range.order in
+    let within = range.within in
+    let l = length-drop from bytes in
+    ap (λ (xs : List ℕ). length xs) is ∙ length-take-le (to - from) (drop from bytes) (omega (arith, l, within))
+
+-- a byte of it
+pub byte_in : (bytes text : List ℕ) (from to i a : ℕ) → text ≡ slice_range bytes from to → a ≡ from + i → a < to → slice_index text i ≡ slice_index bytes a
+byte_in bytes text from to i a is same within =
+    ap (λ (xs : List ℕ). get_or xs i 0) is ∙ get_or-take (to - from) (drop from bytes) i 0 (omega (arith, same, within)) ∙ get_or-drop from bytes i 0 ∙ ap (slice_index bytes) (sym same)
+
+-- the same, where it is known that there is one
+pub get_in : (bytes text : List ℕ) (from to i a b : ℕ) → text ≡ slice_range bytes from to → IsRange bytes from to → a ≡ from + i → slice_get text i ≡ Some b → slice_get bytes a ≡ Some b
+get_in bytes text from to i a b is range same at =
+    let within = range.within in
+    let order = range.order in
+    let less = slice_get_within text i b at in
+    let size = length_in bytes text from to is range in
+    let byte : get_or bytes a 0 ≡ b = sym (byte_in bytes text from to i a is same (omega (arith, less, size, same))) ∙ get_or_from_slice_get text i b 0 at in
+    slice_get-get_or bytes a 0 (omega (arith, less, size, same, within)) ∙ ap (λ (n : ℕ). Some n) byte
+
+-- a cut of it
+pub cut_in : (bytes text : List ℕ) (from to i a : ℕ) → text ≡ slice_range bytes from to → IsRange bytes from to → a ≡ from + i → i ≤ length text → IsCut text i → IsCut bytes a
+cut_in bytes text from to i a is range same within cut =
+    let size = length_in bytes text from to is range in
+    let order = range.order in
+    cut_between bytes from to i a same (omega (arith, same, within, size, order)) range.start range.end (subst (λ (xs : List ℕ). IsCut xs i) is cut)
+
+-- a part of it
+pub part_in : (bytes text : List ℕ) (from to i j a b : ℕ) → text ≡ slice_range bytes from to → IsRange bytes from to → a ≡ from + i → b ≡ from + j → IsPart text i j → IsPart bytes a b
+part_in bytes text from to i j a b is range first last part =
+    let size = length_in bytes text from to is range in
+    let order = part.order in
+    let within = part.within in
+    let whole = range.within in
+    let turn = range.order in
+    record {
+      order = omega (arith, order, first, last);
+      within = omega (arith, size, within, last, whole, turn);
+      line = λ k from_k to_k feed.
+          part.line (k - from) (omega (arith, from_k, first)) (omega (arith, from_k, to_k, first, last))
+          (byte_in bytes text from to (k - from) k is (omega (arith, from_k, first)) (omega (arith, to_k, last, within, size, turn)) ∙ feed);
+      start = cut_in bytes text from to i a is range first (omega (arith, order, within)) part.start;
+      end = cut_in bytes text from to j b is range last within part.end;
+    }
+
+-- a part of it that is ASCII
+pub ascii_in : (bytes text : List ℕ) (from to i j a b : ℕ) → text ≡ slice_range bytes from to → IsRange bytes from to → a ≡ from + i → b ≡ from + j → IsAsciiPart text i j → IsAsciiPart bytes a b
+ascii_in bytes text from to i j a b is range first last part =
+    let size = length_in bytes text from to is range in
+    let within = (part.part).within in
+    let turn = range.order in
+    record {
+      part = part_in bytes text from to i j a b is range first last part.part;
+      ascii = λ k from_k to_k.
+          let same = byte_in bytes text from to (k - from) k is (omega (arith, from_k, first)) (omega (arith, to_k, last, within, size, turn)) in
+          let low = part.ascii (k - from) (omega (arith, from_k, first)) (omega (arith, from_k, to_k, first, last)) in
+          omega (arith, same, low);
+    }
+
+-- a range of it
+pub range_in : (bytes text : List ℕ) (from to i j a b : ℕ) → text ≡ slice_range bytes from to → IsRange bytes from to → a ≡ from + i → b ≡ from + j → IsRange text i j → IsRange bytes a b
+range_in bytes text from to i j a b is range first last part =
+    let size = length_in bytes text from to is range in
+    let order = part.order in
+    let within = part.within in
+    let whole = range.within in
+    let turn = range.order in
+    record {
+      order = omega (arith, order, first, last);
+      within = omega (arith, size, within, last, whole, turn);
+      start = cut_in bytes text from to i a is range first (omega (arith, order, within)) part.start;
+      end = cut_in bytes text from to j b is range last within part.end;
+    }
+
+-- bytes of ASCII in a line, and those after them
+pub ascii_rest : (bytes rest : List ℕ) (n size m : ℕ) → rest ≡ drop n bytes → m ≡ n + size → IsAsciiPart bytes 0 n → IsAsciiPart rest 0 size → IsAsciiPart bytes 0 m
+ascii_rest bytes rest n size m is sum first later =
+    ascii_join bytes 0 n m first
+    (ascii_in bytes rest n (length bytes) 0 size n m (is ∙ rest_range bytes n) (range_rest bytes n (first.part).within (first.part).end) (omega arith) sum later)
+
+-- bytes of a line from a cut on, up to a byte of ASCII or the end
+pub part_after : (bytes : List ℕ) (at n : ℕ) → at + n ≤ length bytes → IsCut bytes at → IsInLine (drop at bytes) n → (at + n < length bytes → slice_index bytes (at + n) < 128) → IsPart bytes at (at + n)
+part_after bytes at n within cut line next = record {
+  order = omega arith;
+  within = within;
+  line = λ k from to feed.
+      let e : at + (k - at) ≡ k = omega (arith, from) in
+      line (k - at) (omega (arith, from, to)) (get_or-drop at bytes (k - at) 0 ∙ ap (slice_index bytes) e ∙ feed);
+  start = cut;
+  end = cut_where bytes (at + n) within next;
+}
+
+-- such bytes in two steps
+pub part_after_two : (bytes : List ℕ) (at n m : ℕ) → at + (n + m) ≤ length bytes → IsCut bytes at → IsInLine (drop at bytes) n → IsInLine (drop (at + n) bytes) m → (at + (n + m) < length bytes → slice_index bytes (at + (n + m)) < 128) → IsPart bytes at (at + (n + m))
+part_after_two bytes at n m within cut first later next =
+    part_after bytes at (n + m) within cut (line_drop (drop at bytes) n m (n + m) refl first (subst (λ (xs : List ℕ). IsInLine xs m) (sym (drop-drop n at bytes)) later)) next
+
+-- one byte of a line
+pub line_first : (bytes : List ℕ) (at : ℕ) → slice_index bytes at ≢ 10 → IsInLine (drop at bytes) 1
+line_first bytes at other k less feed =
+    let e : k ≡ 0 = omega (arith, less) in
+    let f : at + k ≡ at = omega (arith, e) in
+    other (ap (slice_index bytes) (sym f) ∙ sym (get_or-drop at bytes k 0) ∙ feed)
+
+-- ---- Fronts of texts
+
+-- all but the last byte of a front
+pub front_step : (path rest front : List ℕ) (last : ℕ) → rest ≡ take (length rest) path → rest ≡ front ++ last ∷ [] → length front + 1 ≡ length rest → last < 128 → (front ≡ take (length front) path) × (slice_index path (length front) < 128)
+front_step path rest front last is parts size ascii =
+    let same : front ≡ take (length front) rest = sym (ap (take (length front)) parts ∙ take_at front (last ∷ []) (length front) refl) in
+    let byte : slice_index path (length front) ≡ last =
+    sym (get_or-take (length rest) path (length front) 0 (omega (arith, size))) ∙ ap (λ (xs : List ℕ). get_or xs (length front) 0) (sym is ∙ parts) ∙ get_or_at front last [] 0 (length front) refl in
+    (same ∙ ap (take (length front)) is ∙ take-take (length front) (length rest) path (omega (arith, size)), omega (arith, byte, ascii))
+
+-- a front of a front
+pub front_less : (path front less : List ℕ) → front ≡ take (length front) path → length less < length front → less ≡ take (length less) front → slice_index front (length less) < 128 → (less ≡ take (length less) path) × (slice_index path (length less) < 128)
+front_less path front less is order same ascii =
+    let byte : slice_index path (length less) ≡ slice_index front (length less) =
+    sym (get_or-take (length front) path (length less) 0 order) ∙ ap (λ (xs : List ℕ). get_or xs (length less) 0) (sym is) in
+    (same ∙ ap (take (length less)) is ∙ take-take (length less) (length front) path (omega (arith, order)), omega (arith, byte, ascii))

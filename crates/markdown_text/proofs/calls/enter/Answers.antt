@@ -1,0 +1,8 @@
+use Rattle.markdown_text.proofs.Standings.{allowed, enter_allowed, enter_at}
+use Rattle.markdown_text.proofs.calls.enter.Goals as goal
+
+pub unreachable-requires : goal.unreachable-requires
+unreachable-requires g c = allowed c.in-Err-Misfit.field-0 c.in-Err-Misfit.field-0-is (enter_allowed c.args.writer.now c.args.name c.requires) c.in-Err-Misfit.ensures.refused
+
+pub returns-in-Ok-clause-at : goal.returns-in-Ok-clause-at
+returns-in-Ok-clause-at g c = λ a outer at. enter_at c.args.writer.now c.enter.new.self c.args.name a outer at c.enter.ensures.given c.in-Ok.ensures.cursor c.in-Ok.ensures.opened

@@ -1,0 +1,8 @@
+use Rattle.markdown_text.proofs.Standings.{allowed, exit_allowed, exit_at}
+use Rattle.markdown_text.proofs.calls.exit.Goals as goal
+
+pub unreachable-requires : goal.unreachable-requires
+unreachable-requires g c = allowed c.in-Err-Misfit.field-0 c.in-Err-Misfit.field-0-is (exit_allowed (g.R.References.text c.args.writer.now.given.references) c.args.writer.now c.requires) c.in-Err-Misfit.ensures.refused
+
+pub returns-in-Ok-clause-at : goal.returns-in-Ok-clause-at
+returns-in-Ok-clause-at g c = λ own a name outer at. exit_at c.args.writer.now c.exit.new.self own a name outer at c.exit.ensures.given c.exit.ensures.cursor c.in-Ok.ensures.closed

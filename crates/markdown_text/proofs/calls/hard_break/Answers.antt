@@ -1,0 +1,10 @@
+use Rattle.markdown_text.proofs.Standings.{contrary, reach_at, refusal, break_allowed, break_at}
+use Rattle.markdown_text.proofs.calls.hard_break.Goals as goal
+
+pub unreachable-requires : goal.unreachable-requires
+unreachable-requires g c =
+    let end = refusal c.in-Err-Misfit.field-0 c.in-Err-Misfit.field-0-is c.in-Err-Misfit.ensures.refused (reach_at c.args.writer.now.given.bytes c.args.writer.now.cursor c.args.to 0 c.requires.reach) in
+    contrary (break_allowed (g.R.References.text c.args.writer.now.given.references) c.args.writer.now c.args.name end.0 c.requires.may) end.3
+
+pub returns-in-Ok-clause-at : goal.returns-in-Ok-clause-at
+returns-in-Ok-clause-at g c = λ a outer may at. break_at c.args.writer.now c.token.new.self c.args.name c.args.to a outer (reach_at c.args.writer.now.given.bytes c.args.writer.now.cursor c.args.to 0 c.requires.reach) c.requires.cut c.requires.may.is_break may at c.token.ensures.given c.in-Ok.ensures.index c.in-Ok.ensures.virtual_spaces c.in-Ok.ensures.written

@@ -1,0 +1,10 @@
+use Rattle.markdown_text.proofs.Standings.{contrary, refusal, ending_allowed, ending_at}
+use Rattle.markdown_text.proofs.calls.line_ending.Goals as goal
+
+pub unreachable-requires : goal.unreachable-requires
+unreachable-requires g c =
+    let end = refusal c.in-Err-Misfit.field-0 c.in-Err-Misfit.field-0-is c.in-Err-Misfit.ensures.refused c.requires.ends in
+    contrary (ending_allowed (g.R.References.text c.args.writer.now.given.references) c.args.writer.now c.args.name end.0 end.1 c.requires.may) end.2
+
+pub returns-in-Ok-clause-at : goal.returns-in-Ok-clause-at
+returns-in-Ok-clause-at g c = λ waits a outer at. ending_at c.args.writer.now c.line_ending.new.self c.args.name waits a outer at c.line_ending.ensures.given c.in-Ok.ensures.start c.in-Ok.ensures.written

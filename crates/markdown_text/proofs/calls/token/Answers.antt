@@ -1,0 +1,10 @@
+use Rattle.markdown_text.proofs.Standings.{contrary, reach_at, refusal, token_allowed, token_at}
+use Rattle.markdown_text.proofs.calls.token.Goals as goal
+
+pub unreachable-requires : goal.unreachable-requires
+unreachable-requires g c =
+    let end = refusal c.in-Err-Misfit.field-0 c.in-Err-Misfit.field-0-is c.in-Err-Misfit.ensures.refused (reach_at c.args.writer.now.given.bytes c.args.writer.now.cursor c.args.to c.args.virtual_spaces c.requires.reach) in
+    contrary (token_allowed (g.R.References.text c.args.writer.now.given.references) c.args.writer.now c.args.name c.args.to c.args.virtual_spaces end.0 (reach_at c.args.writer.now.given.bytes c.args.writer.now.cursor c.args.to c.args.virtual_spaces c.requires.reach) c.requires.cut c.requires.may end.1 end.2) end.3
+
+pub returns-in-Ok-clause-at : goal.returns-in-Ok-clause-at
+returns-in-Ok-clause-at g c = λ a outer at. token_at c.args.writer.now c.token.new.self c.args.name c.args.to c.args.virtual_spaces a outer (reach_at c.args.writer.now.given.bytes c.args.writer.now.cursor c.args.to c.args.virtual_spaces c.requires.reach) c.requires.cut at c.token.ensures.given c.in-Ok.ensures.index c.in-Ok.ensures.virtual_spaces c.in-Ok.ensures.written

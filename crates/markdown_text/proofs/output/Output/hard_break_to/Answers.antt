@@ -1,0 +1,18 @@
+use Rattle.std.proofs.Common.{refl, true}
+use Rattle.event_writer.specs.Stages.{inlines}
+use Rattle.markdown_text.proofs.Outputs.{moved_at, moved_cut, moved_reach, moved_writes}
+use Rattle.markdown_text.proofs.output.Output.hard_break_to.Goals as goal
+
+pub hard_break-requires-clause-reach : goal.hard_break-requires-clause-reach
+hard_break-requires-clause-reach g c = moved_reach c.args.self.now c.move_to-to.new.self c.args.end c.move_to-to.result c.requires.stands c.requires.part c.if-end-self.false c.move_to-to.ensures.to c.move_to-to.ensures.writer
+
+pub hard_break-requires-clause-cut : goal.hard_break-requires-clause-cut
+hard_break-requires-clause-cut g c = moved_cut c.args.self.now c.move_to-to.new.self c.args.end c.move_to-to.result (inlines c.requires.inlines.in_heading) c.requires.inlines.outer c.requires.stands c.requires.part c.if-end-self.false c.move_to-to.ensures.to c.move_to-to.ensures.writer c.requires.inlines.at
+
+pub returns-clause-writes : goal.returns-clause-writes
+returns-clause-writes g c =
+    let moved = c.move_to-to.ensures in
+    moved_writes c.args.self.now c.move_to-to.new.self _ c.args.end c.move_to-to.result c.requires.stands c.requires.part moved.to moved.writer moved.source moved.lines moved.at moved.data_end refl refl refl refl c.hard_break.ensures.given c.in_ok-hard_break.ensures.spot
+
+pub returns-clause-stage : goal.returns-clause-stage
+returns-clause-stage g c = λ h outer at. (true, c.in_ok-hard_break.ensures.at (inlines h) outer refl (moved_at c.args.self.now c.move_to-to.new.self (inlines h) outer c.move_to-to.ensures.writer at))

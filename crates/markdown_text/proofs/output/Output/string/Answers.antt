@@ -1,0 +1,56 @@
+use Rattle.std.proofs.Common.{ap, false, is_some}
+use Rattle.event_writer.specs.Stages.{entered, exited, inlines}
+use Rattle.markdown_events.specs.Names.{role_of}
+use Rattle.markdown_pieces.specs.Walks.{inside}
+use Rattle.markdown_text.proofs.Standings.{if_some, some_value, weakened}
+use Rattle.markdown_text.proofs.Steps.{at_some, string_stands}
+use Rattle.markdown_text.specs.Outputs.{after_string}
+use Rattle.markdown_text.specs.Standings.{IsAt}
+use Rattle.markdown_text.proofs.output.Output.string.Goals as goal
+
+pub enter-requires-clause-may : goal.enter-requires-clause-may
+enter-requires-clause-may g c =
+    let m = c.requires.may in
+    let b = some_value (after_string m.stage c.args.name) m.may in
+    let s = string_stands m.stage c.args.name b.0 b.1 in
+    record { stage = m.stage; outer = m.outer; at = m.at; may = ap is_some s.begins; front = s.front c.args.self.now.writer.given.bytes c.args.self.now.writer.cursor }
+
+pub write-requires-clause-inlines : goal.write-requires-clause-inlines
+write-requires-clause-inlines g c =
+    let m = c.requires.may in
+    let b = some_value (after_string m.stage c.args.name) m.may in
+    let s = string_stands m.stage c.args.name b.0 b.1 in
+    let around = inside c.args.name m.stage m.outer in
+    record { in_heading = false; outer = around; at = at_some (λ x. IsAt c.enter.new.self.writer x around) (entered m.stage (role_of c.args.name)) (inlines false) s.begins (c.in_ok-enter.ensures.stage m.stage m.outer m.at) }
+
+pub flush-requires-clause-inlines : goal.flush-requires-clause-inlines
+flush-requires-clause-inlines g c =
+    let m = c.requires.may in
+    let b = some_value (after_string m.stage c.args.name) m.may in
+    let s = string_stands m.stage c.args.name b.0 b.1 in
+    let around = inside c.args.name m.stage m.outer in
+    record { in_heading = false; outer = around; at = c.in_ok-write.ensures.at false around (at_some (λ x. IsAt c.enter.new.self.writer x around) (entered m.stage (role_of c.args.name)) (inlines false) s.begins (c.in_ok-enter.ensures.stage m.stage m.outer m.at)) }
+
+pub exit-requires-clause-may : goal.exit-requires-clause-may
+exit-requires-clause-may g c =
+    let m = c.requires.may in
+    let b = some_value (after_string m.stage c.args.name) m.may in
+    let s = string_stands m.stage c.args.name b.0 b.1 in
+    let around = inside c.args.name m.stage m.outer in
+    record {
+      stage = inlines false;
+      outer = around;
+      at = c.in_ok-flush.ensures.stage false around (c.in_ok-write.ensures.at false around (at_some (λ x. IsAt c.enter.new.self.writer x around) (entered m.stage (role_of c.args.name)) (inlines false) s.begins (c.in_ok-enter.ensures.stage m.stage m.outer m.at)));
+      may = ap is_some s.ends;
+    }
+
+pub returns-clause-stage : goal.returns-clause-stage
+returns-clause-stage g c = λ a outer at.
+    let around = inside c.args.name a outer in
+    if_some (λ b. IsAt c.exit.new.self.writer b outer) (after_string a c.args.name) (λ b is.
+    let s = string_stands a c.args.name b is in
+    at_some (λ x. IsAt c.exit.new.self.writer x outer) (exited (inlines false) a (role_of c.args.name)) b s.ends
+    (c.in_ok-exit.ensures.stage (inlines false) a c.args.name outer (c.in_ok-flush.ensures.stage false around (c.in_ok-write.ensures.at false around (at_some (λ x. IsAt c.enter.new.self.writer x around) (entered a (role_of c.args.name)) (inlines false) s.begins (c.in_ok-enter.ensures.stage a outer at))))))
+
+pub returns-then-self-end-clause-stage : goal.returns-then-self-end-clause-stage
+returns-then-self-end-clause-stage g c = λ a outer at. if_some (λ b. IsAt c.args.self.now.writer b outer) (after_string a c.args.name) (λ b is. weakened c.args.self.now.writer a b outer (string_stands a c.args.name b is).skip at)

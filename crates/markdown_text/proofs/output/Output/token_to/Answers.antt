@@ -1,0 +1,18 @@
+use Rattle.std.proofs.Common.{refl}
+use Rattle.markdown_text.proofs.Outputs.{moved_at, moved_cut, moved_reach, moved_writes, plain_after}
+use Rattle.markdown_text.specs.Standings.{IsAt}
+use Rattle.markdown_text.proofs.output.Output.token_to.Goals as goal
+
+pub token-requires-clause-reach : goal.token-requires-clause-reach
+token-requires-clause-reach g c = moved_reach c.args.self.now c.move_to-to.new.self c.args.end c.move_to-to.result c.requires.stands c.requires.part c.requires.filled c.move_to-to.ensures.to c.move_to-to.ensures.writer
+
+pub token-requires-clause-cut : goal.token-requires-clause-cut
+token-requires-clause-cut g c = moved_cut c.args.self.now c.move_to-to.new.self c.args.end c.move_to-to.result c.requires.may.stage c.requires.may.outer c.requires.stands c.requires.part c.requires.filled c.move_to-to.ensures.to c.move_to-to.ensures.writer c.requires.may.at
+
+pub returns-clause-writes : goal.returns-clause-writes
+returns-clause-writes g c =
+    let moved = c.move_to-to.ensures in
+    moved_writes c.args.self.now c.move_to-to.new.self _ c.args.end c.move_to-to.result c.requires.stands c.requires.part moved.to moved.writer moved.source moved.lines moved.at moved.data_end refl refl refl refl c.token.ensures.given c.in_ok-token.ensures.spot
+
+pub returns-clause-stage : goal.returns-clause-stage
+returns-clause-stage g c = λ a outer at. plain_after (λ b. IsAt c.token.new.writer b outer) a c.args.name (c.in_ok-token.ensures.at a outer (moved_at c.args.self.now c.move_to-to.new.self a outer c.move_to-to.ensures.writer at))

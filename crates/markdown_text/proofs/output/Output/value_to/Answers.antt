@@ -1,0 +1,27 @@
+use Rattle.std.proofs.Common.{refl}
+use Rattle.event_writer.specs.Stages.{character_reference_value}
+use Rattle.markdown_text.proofs.Outputs.{known_value, moved_at, moved_cut, moved_reach, moved_writes}
+use Rattle.markdown_text.proofs.output.Output.value_to.Goals as goal
+
+pub token-requires-clause-reach : goal.token-requires-clause-reach
+token-requires-clause-reach g c = moved_reach c.args.self.now c.move_to-to.new.self c.args.end c.move_to-to.result c.requires.stands c.requires.part c.requires.filled c.move_to-to.ensures.to c.move_to-to.ensures.writer
+
+pub token-requires-clause-cut : goal.token-requires-clause-cut
+token-requires-clause-cut g c = moved_cut c.args.self.now c.move_to-to.new.self c.args.end c.move_to-to.result (character_reference_value c.requires.may.marker) c.requires.may.outer c.requires.stands c.requires.part c.requires.filled c.move_to-to.ensures.to c.move_to-to.ensures.writer c.requires.may.at
+
+pub returns-clause-writes : goal.returns-clause-writes
+returns-clause-writes g c =
+    let moved = c.move_to-to.ensures in
+    moved_writes c.args.self.now c.move_to-to.new.self _ c.args.end c.move_to-to.result c.requires.stands c.requires.part moved.to moved.writer moved.source moved.lines moved.at moved.data_end refl refl refl refl c.token.ensures.given c.in_ok-token.ensures.spot
+
+pub token-requires-clause-may : goal.token-requires-clause-may
+token-requires-clause-may g c = record {
+  stage = character_reference_value c.requires.may.marker;
+  outer = c.requires.may.outer;
+  at = moved_at c.args.self.now c.move_to-to.new.self (character_reference_value c.requires.may.marker) c.requires.may.outer c.move_to-to.ensures.writer c.requires.may.at;
+  may = refl;
+  value = known_value g.R.References.text c.args.self.now c.move_to-to.new.self c.args.end c.move_to-to.result c.requires.may.marker c.requires.stands c.requires.part c.move_to-to.ensures.to c.move_to-to.ensures.writer c.requires.whole c.requires.may.known;
+}
+
+pub returns-clause-stage : goal.returns-clause-stage
+returns-clause-stage g c = λ m outer at. c.in_ok-token.ensures.at (character_reference_value m) outer (moved_at c.args.self.now c.move_to-to.new.self (character_reference_value m) outer c.move_to-to.ensures.writer at)

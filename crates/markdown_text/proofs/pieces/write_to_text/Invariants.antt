@@ -1,0 +1,19 @@
+use Rattle.std.proofs.Common.{List, length, ◌≡◌}
+use Rattle.event_writer.specs.Stages.{Enclosing, Stage}
+use Rattle.markdown_pieces.specs.Tilings.{Tiles, end_from}
+use Rattle.markdown_text.specs.Contents.{IsContent, joined, spot}
+use Rattle.markdown_text.specs.Standings.{IsAt}
+use Rattle.markdown_text.proofs.pieces.write_to_text.Given as goal
+
+-- what is left is a content, with the bytes of all
+abbrev pub invariant-pieces : goal.invariant-pieces
+invariant-pieces g l = record {
+  given : l.writer.given ≡ l.initial.writer.given;
+  content : IsContent l.rest;
+  tiles : Tiles l.initial.writer.given.bytes (spot l.writer.cursor) l.rest (end_from (spot l.initial.writer.cursor) l.pieces);
+  at : (a : Stage) → (outer : List Enclosing) → IsAt l.initial.writer a outer → IsAt l.writer a outer;
+  bytes : joined l.initial.writer.given.bytes l.writer.cursor.index l.rest ≡ joined l.initial.writer.given.bytes l.initial.writer.cursor.index l.pieces;
+}
+
+abbrev pub decreases-pieces : goal.decreases-pieces
+decreases-pieces g l = length l.rest

@@ -1,0 +1,65 @@
+use Rattle.std.proofs.Common.{List, [], ap, arith, length, refl, subst, sym, ℕ, ◌∙◌}
+use Rattle.event_writer.specs.Stages.{inlines}
+use Rattle.markdown_text.proofs.Marks.{begins_somewhere, text_goes}
+use Rattle.markdown_text.proofs.Opened.{has_innermost, none_open, same_open}
+use Rattle.markdown_text.proofs.Outputs.{goes_on_then, moved_at, stays}
+use Rattle.markdown_text.specs.Opens.{HasOpen, flag_of, outer_of}
+use Rattle.markdown_text.specs.declared.text.Open.{Open}
+use Rattle.markdown_text.proofs.text.inlines.Goals as goal
+
+pub new-requires-clause-stage : goal.new-requires-clause-stage
+new-requires-clause-stage g c = begins_somewhere c.args.is_task c.args.writer c.requires.begins
+
+pub write_task-requires-clause-begins : goal.write_task-requires-clause-begins
+write_task-requires-clause-begins g c =
+    let h = c.requires.begins.in_heading in
+    let outer = c.requires.begins.outer in
+    record { in_heading = h; outer = outer; at = text_goes c.args.is_task c.args.writer c.in_ok-output.output.writer h outer (λ a at. c.in_ok-output.ensures.stage a outer at) c.requires.begins.at }
+
+pub write_tokens-requires-clause-at : goal.write_tokens-requires-clause-at
+write_tokens-requires-clause-at g c =
+    let h = c.requires.begins.in_heading in
+    let outer = c.requires.begins.outer in
+    let begun = text_goes c.args.is_task c.args.writer c.in_ok-output.output.writer h outer (λ a at. c.in_ok-output.ensures.stage a outer at) c.requires.begins.at in
+    record { in_heading = h; outer = outer; at = same_open c.write_task.new.output c.new-open.result.items [] h outer c.new-open.ensures.items (c.in_ok-tokens.ensures.at h outer begun) }
+
+pub open-init : goal.open-init
+open-init g c =
+    let o = c.data.new.self in
+    let items = c.write_tokens.new.«open».items in
+    let bytes = c.data.ensures.goes_on.bytes ∙ c.in_ok-write_tokens.ensures.goes_on.bytes ∙ c.in_ok-tokens.ensures.goes_on.bytes ∙ c.in_ok-output.ensures.bytes in
+    record {
+      given = refl;
+      goes_on = stays o c.data.ensures.goes_on.stands;
+      ended = c.data.ensures.data_end ∙ sym (ap (λ (bs : List ℕ). length bs) bytes);
+      stage = λ h outer at.
+          let begun = text_goes c.args.is_task c.args.writer c.in_ok-output.output.writer h outer (λ a at. c.in_ok-output.ensures.stage a outer at) at in
+          let none = same_open c.write_task.new.output c.new-open.result.items [] h outer c.new-open.ensures.items (c.in_ok-tokens.ensures.at h outer begun) in
+          moved_at c.write_tokens.new.output o (inlines (flag_of items h)) (outer_of items h outer) c.data.ensures.writer (c.in_ok-write_tokens.ensures.at h outer none);
+    }
+
+pub close-requires-clause-at : goal.close-requires-clause-at
+close-requires-clause-at g c =
+    let h = c.requires.begins.in_heading in
+    let outer = c.requires.begins.outer in
+    let rest = c.pop.new.self.items in
+    record { in_heading = flag_of rest h; outer = outer_of rest h outer; at = has_innermost c.«open».output c.«open».«open».items rest c.in-Some.last h outer c.in-Some.ensures.items (c.«open».invariant.stage h outer c.requires.begins.at) }
+
+pub open-preserved : goal.open-preserved
+open-preserved g c =
+    let i = c.«open».invariant in
+    let closed = c.in_ok-close.ensures in
+    let rest = c.pop.new.self.items in
+    record {
+      given = c.close.ensures.given ∙ i.given;
+      goes_on = goes_on_then c.data.new.self c.«open».output c.close.new.output i.goes_on closed.goes_on;
+      ended = closed.data_end ∙ i.ended ∙ sym (ap (λ (bs : List ℕ). length bs) closed.goes_on.bytes);
+      stage = λ h outer at. closed.at (flag_of rest h) (outer_of rest h outer) (has_innermost c.«open».output c.«open».«open».items rest c.in-Some.last h outer c.in-Some.ensures.items (i.stage h outer at));
+    }
+
+pub returns-clause-at : goal.returns-clause-at
+returns-clause-at g c = λ h outer at.
+    let o = c.«open».output in
+    let items = c.«open».«open».items in
+    let none = none_open items (omega (arith, c.«open».«open».ok.0, c.in_default.ensures.cases.0)) in
+    c.finish.ensures.stage h outer (subst (λ (os : List Open). HasOpen o os h outer) none (c.«open».invariant.stage h outer at))

@@ -1,0 +1,18 @@
+use Rattle.std.proofs.Common.{None, ap, arith, rules, subst, ◌+◌, ℕ}
+use Rattle.commonmark_syntax.specs.Cuts.{IsInLine}
+use Rattle.markdown_text.proofs.Found.{found_as}
+use Rattle.markdown_text.proofs.Parts.{line_first, part_after_two}
+use Rattle.markdown_text.specs.Texts.{bare}
+use Rattle.markdown_text.proofs.tokenizer.data.Goals as goal
+
+pub returns : goal.returns
+returns c =
+    let cursor = c.args.cursor in
+    let bytes = cursor.content.now in
+    let count = c.count_while.result in
+    let within = cursor.within in
+    let most = c.count_while.ensures.most in
+    let rest = c.after.ensures.length in
+    let later = subst (λ xs. IsInLine xs count) c.after.ensures.rest (c.count_while.ensures.in_line (search rules)) in
+    let part = part_after_two bytes cursor.at 1 count (omega (arith, most, rest, within)) cursor.cut (line_first bytes cursor.at c.requires) later (search rules) in
+    found_as (bare bytes) c.data.result.kind None cursor.at (cursor.at + c.data.result.size) (cursor.at + (1 + count)) c.data.ensures.kind (ap (λ (n : ℕ). cursor.at + n) c.data.ensures.size) part

@@ -1,0 +1,18 @@
+-- Addresses of mail in a text.
+use Rattle.std.specs.Prelude.{List, length, ℕ, ◌<◌, ◌≡◌, ◌≤◌, ◌⊎◌}
+use Rattle.commonmark_syntax.specs.Cuts.{IsCut}
+use Rattle.markdown_events.specs.declared.event.Name.{Name}
+use Rattle.markdown_events.specs.declared.event.Name.TheVariants.{GfmAutolinkLiteralEmail, GfmAutolinkLiteralMailto, GfmAutolinkLiteralXmpp}
+use Rattle.markdown_text.specs.declared.gfm_autolink_literal_email.Address.{Address}
+
+-- the name of the span of an address
+abbrev pub IsAddressName : Name → Type 0
+IsAddressName name = (name ≡ GfmAutolinkLiteralEmail) ⊎ ((name ≡ GfmAutolinkLiteralMailto) ⊎ (name ≡ GfmAutolinkLiteralXmpp))
+
+-- an address in a text: it has bytes, and no character goes over its ends
+pub record IsAddress (text : List ℕ) (a : Address) : Type 0 where
+  pub order : a.start < a.end
+  pub within : a.end ≤ length text
+  pub first : IsCut text a.start
+  pub last : IsCut text a.end
+  pub named : IsAddressName a.name

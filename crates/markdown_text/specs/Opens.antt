@@ -1,0 +1,114 @@
+-- The constructs of a text that are open, and the spans around what comes next.
+use Rattle.std.specs.Prelude.{Bool, List, OnOk, Result, [], false, ℕ, ◌∷◌}
+use Rattle.event_writer.specs.Stages.{Enclosing, Stage, footnote_call, inlines, media, media_target, nothing}
+use Rattle.markdown_events.specs.declared.event.Name.{Name}
+use Rattle.markdown_events.specs.declared.event.Name.TheVariants as names
+use Rattle.markdown_pieces.specs.Walks.{inside}
+use Rattle.markdown_text.specs.declared.attention.AttentionKind.{AttentionKind}
+use Rattle.markdown_text.specs.declared.attention.AttentionKind.TheVariants.{DoubleStrikethrough, Emphasis, Strikethrough, Strong}
+use Rattle.markdown_text.specs.Standings.{IsAt}
+use Rattle.markdown_text.specs.declared.output.Output.{Output}
+use Rattle.markdown_text.specs.declared.text.Open.{Open}
+use Rattle.markdown_text.specs.declared.text.Open.TheVariants.{Attention, Label}
+use Rattle.markdown_text.specs.declared.token.Labelled.{Labelled}
+use Rattle.markdown_text.specs.declared.token.Labelled.TheVariants.{FootnoteCall, Image, Link}
+
+-- the names of the spans of attention: all of it, and what stands between its sequences
+abbrev pub group_name : AttentionKind → Name
+group_name Emphasis = names.Emphasis
+group_name Strong = names.Strong
+group_name Strikethrough = names.GfmStrikethrough
+group_name DoubleStrikethrough = names.GfmStrikethrough
+
+abbrev pub text_name : AttentionKind → Name
+text_name Emphasis = names.EmphasisText
+text_name Strong = names.StrongText
+text_name Strikethrough = names.GfmStrikethroughText
+text_name DoubleStrikethrough = names.GfmStrikethroughText
+
+abbrev pub sequence_name : AttentionKind → Name
+sequence_name Emphasis = names.EmphasisSequence
+sequence_name Strong = names.StrongSequence
+sequence_name Strikethrough = names.GfmStrikethroughSequence
+sequence_name DoubleStrikethrough = names.GfmStrikethroughSequence
+
+-- how many markers each of its sequences has
+abbrev pub attention_size : AttentionKind → ℕ
+attention_size Emphasis = 1
+attention_size Strong = 2
+attention_size Strikethrough = 1
+attention_size DoubleStrikethrough = 2
+
+-- the name of the span that a label belongs to, and the stage in it before and after the label
+abbrev pub labelled_name : Labelled → Name
+labelled_name Link = names.Link
+labelled_name Image = names.Image
+labelled_name FootnoteCall = names.GfmFootnoteCall
+
+abbrev pub label_stage : Labelled → Stage
+label_stage Link = media
+label_stage Image = media
+label_stage FootnoteCall = footnote_call
+
+-- the spans around the text of a construct that is open, by the flag of the inlines and the spans where it began
+abbrev pub opened : Open → Bool → List Enclosing → List Enclosing
+opened (Attention kind) h outer = inside (text_name kind) (inlines false) (inside (group_name kind) (inlines h) outer)
+opened (Label labelled) h outer = inside names.LabelText (label_stage labelled) (inside names.Label (label_stage labelled) (inside (labelled_name labelled) (inlines h) outer))
+
+-- the spans around what comes next, where constructs are open in others, the outermost first
+abbrev pub outer_of : List Open → Bool → List Enclosing → List Enclosing
+outer_of [] h outer = outer
+outer_of (o ∷ os) h outer = outer_of os false (opened o h outer)
+
+-- the flag of the inlines there
+abbrev pub flag_of : List Open → Bool → Bool
+flag_of [] h = h
+flag_of (o ∷ os) h = false
+
+-- a content is written where these constructs are open, by the flag and the spans around it
+abbrev pub HasOpen : {R : Type 0} → Output R → List Open → Bool → List Enclosing → Type 0
+HasOpen output os h outer = IsAt output.writer (inlines (flag_of os h)) (outer_of os h outer)
+
+-- the same of a flag and of spans
+pub record AtOpen {R : Type 0} (output : Output R) (os : List Open) : Type 0 where
+  pub in_heading : Bool
+  pub outer : List Enclosing
+  pub at : HasOpen output os in_heading outer
+
+-- what is written opens and closes constructs, and nothing else
+abbrev pub KeepsOpen : {R V E : Type 0} → Result V E → Output R → Output R → List Open → List Open → Type 0
+KeepsOpen result old new before after = (h : Bool) → (outer : List Enclosing) → HasOpen old before h outer → OnOk result (HasOpen new after h outer)
+
+-- a construct is the innermost one that is open
+pub record AtOpened {R : Type 0} (output : Output R) (o : Open) : Type 0 where
+  pub in_heading : Bool
+  pub outer : List Enclosing
+  pub at : IsAt output.writer (inlines false) (opened o in_heading outer)
+
+-- what is written begins a label among inlines
+abbrev pub BeginsLabel : {R V E : Type 0} → Result V E → Labelled → Output R → Output R → Type 0
+BeginsLabel result labelled old new = (h : Bool) → (outer : List Enclosing) → IsAt old.writer (inlines h) outer
+    → OnOk result (IsAt new.writer (label_stage labelled) (inside names.Label (label_stage labelled) (inside (labelled_name labelled) (inlines h) outer)))
+
+-- the stage after the text of a label
+abbrev pub label_end_stage : Labelled → Stage
+label_end_stage Link = media_target
+label_end_stage Image = media_target
+label_end_stage FootnoteCall = nothing
+
+-- the text of a label has ended
+abbrev pub IsAtLabelEnd : {R : Type 0} → Output R → Labelled → Bool → List Enclosing → Type 0
+IsAtLabelEnd output labelled h outer = IsAt output.writer (label_end_stage labelled) (inside names.Label (label_stage labelled) (inside (labelled_name labelled) (inlines h) outer))
+
+-- the same of a flag and of spans
+pub record AtLabelEnd {R : Type 0} (output : Output R) (labelled : Labelled) : Type 0 where
+  pub in_heading : Bool
+  pub outer : List Enclosing
+  pub at : IsAtLabelEnd output labelled in_heading outer
+
+-- what is written ends the label, and then what it belongs to
+abbrev pub LeavesLabel : {R V E : Type 0} → Result V E → Labelled → Output R → Output R → Type 0
+LeavesLabel result labelled old new = (h : Bool) → (outer : List Enclosing) → IsAtLabelEnd old labelled h outer → OnOk result (IsAt new.writer (label_end_stage labelled) (inside (labelled_name labelled) (inlines h) outer))
+
+abbrev pub EndsLabel : {R V E : Type 0} → Result V E → Labelled → Output R → Output R → Type 0
+EndsLabel result labelled old new = (h : Bool) → (outer : List Enclosing) → IsAtLabelEnd old labelled h outer → OnOk result (IsAt new.writer (inlines h) outer)

@@ -1,0 +1,165 @@
+-- Contents that are written: what is written follows the pieces, and stands where the grammar takes it.
+use Rattle.std.specs.Prelude.{Bool, List, None, OnOk, Option, Result, Some, drop, false, is_some, if◌then◌else◌, slice_range, true, ℕ, ◌≡◌}
+use Rattle.event_writer.specs.Stages.{Enclosing, Stage, character_reference_value, exited, in_part, inlines, skips, takes_line_endings, task, written}
+use Rattle.event_writer.specs.Written.{Written}
+use Rattle.markdown_events.specs.Names.{role_of}
+use Rattle.markdown_events.specs.declared.event.Name.{Name}
+use Rattle.markdown_events.specs.declared.role.ItemKind.TheVariants.{Part as part}
+use Rattle.markdown_events.specs.declared.role.Part.{Part}
+use Rattle.markdown_events.specs.declared.role.Part.TheVariants as parts
+use Rattle.markdown_events.specs.declared.role.Role.{Role}
+use Rattle.markdown_events.specs.declared.role.Role.TheVariants.{Significant as significant}
+use Rattle.markdown_pieces.specs.Tilings.{Spot, end_from}
+use Rattle.markdown_text.specs.Contents.{IsLeft, IsPart, left, spot, whole}
+use Rattle.markdown_text.specs.Standings.{IsAt, StandsIn}
+use Rattle.markdown_text.specs.Texts.{text_of}
+use Rattle.markdown_text.specs.Tokens.{Text}
+use Rattle.markdown_text.specs.declared.output.Next.{Next}
+use Rattle.markdown_text.specs.declared.output.Next.TheVariants as next
+use Rattle.markdown_text.specs.declared.output.Output.{Output}
+
+-- the document that a content is of
+abbrev pub document_of : {R : Type 0} → Output R → List ℕ
+document_of output = output.source.now.reading.now.document.now
+
+-- the bytes of the content
+abbrev pub bytes_of : {R : Type 0} → Output R → List ℕ
+bytes_of output = output.source.now.bytes.now
+
+-- what the document is read with
+abbrev pub references_of : {R : Type 0} → Output R → R
+references_of output = output.source.now.reading.now.references.now
+
+-- the content as a text that is read with a decoder, by whether it may begin with the mark of a task
+abbrev pub as_text : {R : Type 0} → Output R → (List ℕ → ℕ → Option (List ℕ)) → Bool → Text
+as_text output decode may_be_task = text_of (bytes_of output) decode may_be_task
+
+-- where the content ends in the document
+abbrev pub content_end : {R : Type 0} → Output R → Spot
+content_end output = end_from (whole output.lines.end) output.lines.later.now
+
+-- the bytes that are not written are those of the pieces that are left, and the data that waits is within a line
+pub record Stands {R : Type 0} (output : Output R) : Type 0 where
+  pub document : output.writer.given.bytes ≡ document_of output
+  pub references : output.writer.given.references ≡ references_of output
+  pub rest : IsLeft (document_of output) (spot output.writer.cursor) output.lines.end output.lines.later.now
+  pub bytes : drop output.at (bytes_of output) ≡ left (document_of output) output.writer.cursor.index output.lines.end output.lines.later.now
+  pub waits : IsPart (bytes_of output) output.at output.data
+
+-- the same content is written on
+pub record GoesOn {R : Type 0} (old new : Output R) : Type 0 where
+  pub stands : Stands new
+  pub document : document_of new ≡ document_of old
+  pub references : references_of new ≡ references_of old
+  pub bytes : bytes_of new ≡ bytes_of old
+  pub end : content_end new ≡ content_end old
+
+-- it is written up to an offset in it
+pub record WritesTo {R : Type 0} (old new : Output R) (to : ℕ) : Type 0 where
+  pub goes_on : GoesOn old new
+  pub at : new.at ≡ to
+  pub data_end : new.data ≡ to
+
+-- ---- Inlines
+
+-- inlines may stand, and no break waits
+pub record AtInlines {R : Type 0} (output : Output R) : Type 0 where
+  pub in_heading : Bool
+  pub outer : List Enclosing
+  pub at : IsAt output.writer (inlines in_heading) outer
+
+-- a content begins, by whether the mark of a task may stand there
+abbrev pub IsAtText : {R : Type 0} → Bool → Written R → Bool → List Enclosing → Type 0
+IsAtText true w h outer = (h ≡ false) × IsAt w task outer
+IsAtText false w h outer = IsAt w (inlines h) outer
+
+-- the same of a flag and of spans
+pub record BeginsText {R : Type 0} (is_task : Bool) (w : Written R) : Type 0 where
+  pub in_heading : Bool
+  pub outer : List Enclosing
+  pub at : IsAtText is_task w in_heading outer
+
+-- what is written leaves the stage of inlines as it is
+abbrev pub KeepsInlines : {R V E : Type 0} → Result V E → Output R → Output R → Type 0
+KeepsInlines result old new = (h : Bool) → (outer : List Enclosing) → IsAt old.writer (inlines h) outer → OnOk result (IsAt new.writer (inlines h) outer)
+
+-- the same of data that is written before what comes next: before a line ending, a break may wait
+abbrev pub IsFlushed : {R : Type 0} → Next → Output R → Stage → List Enclosing → Type 0
+IsFlushed next.LineEnding output a outer = (waits : Bool) × StandsIn waits output.writer a outer
+IsFlushed next.Span output a outer = IsAt output.writer a outer
+IsFlushed next.End output a outer = IsAt output.writer a outer
+
+-- a content is written at a stage
+pub record AtStage {R : Type 0} (output : Output R) (a : Stage) : Type 0 where
+  pub outer : List Enclosing
+  pub at : IsAt output.writer a outer
+
+-- what is written leads from one stage to another
+abbrev pub Leads : {R V E : Type 0} → Result V E → Stage → Stage → Output R → Output R → Type 0
+Leads result a b old new = (outer : List Enclosing) → IsAt old.writer a outer → OnOk result (IsAt new.writer b outer)
+
+-- ---- Tokens and strings
+
+-- nothing is read of a token of this name but its text
+abbrev pub is_plain : Role → Bool
+is_plain (significant (part parts.HeadingAtxSequence)) = false
+is_plain (significant (part parts.HeadingSetextUnderlineSequence)) = false
+is_plain (significant (part parts.ListItemValue)) = false
+is_plain (significant (part parts.CharacterReferenceValue)) = false
+is_plain _ = true
+
+-- the stage after such a token
+abbrev pub after_plain : Stage → Name → Option Stage
+after_plain a name = if is_plain (role_of name) then written a (role_of name) else None
+
+-- such a token may stand
+pub record MayPut {R : Type 0} (output : Output R) (name : Name) : Type 0 where
+  pub stage : Stage
+  pub outer : List Enclosing
+  pub at : IsAt output.writer stage outer
+  pub may : is_some (after_plain stage name) ≡ true
+
+-- such tokens may stand one after the other
+pub record MayFill {R : Type 0} (output : Output R) (name : Name) : Type 0 where
+  pub stage : Stage
+  pub outer : List Enclosing
+  pub at : IsAt output.writer stage outer
+  pub keeps : after_plain stage name ≡ Some stage
+
+-- the same with line endings between them
+pub record MayFillLines {R : Type 0} (output : Output R) (name : Name) : Type 0 where
+  pub stage : Stage
+  pub outer : List Enclosing
+  pub at : IsAt output.writer stage outer
+  pub keeps : after_plain stage name ≡ Some stage
+  pub ends : takes_line_endings stage ≡ true
+
+-- the value of a character reference may stand, which the decoder knows
+pub record MayDecode {R : Type 0} (decode : List ℕ → ℕ → Option (List ℕ)) (output : Output R) (end : ℕ) : Type 0 where
+  pub marker : ℕ
+  pub outer : List Enclosing
+  pub at : IsAt output.writer (character_reference_value marker) outer
+  pub known : is_some (decode (slice_range (bytes_of output) output.at end) marker) ≡ true
+
+-- the stage after a part with a string in it, or after none
+abbrev pub after_inlines : Stage → Part → Option Stage → Option Stage
+after_inlines a p (Some (inlines false)) = exited (inlines false) a (significant (part p))
+after_inlines a p _ = None
+
+abbrev pub if_skips : Stage → Option Stage → Option Stage
+if_skips a None = None
+if_skips a (Some b) = if skips a b then Some b else None
+
+abbrev pub after_string_in : Stage → Role → Option Stage
+after_string_in a (significant (part p)) = if_skips a (after_inlines a p (in_part a p))
+after_string_in a _ = None
+
+abbrev pub after_string : Stage → Name → Option Stage
+after_string a name = after_string_in a (role_of name)
+
+-- such a span may stand
+pub record MayWriteString {R : Type 0} (output : Output R) (name : Name) : Type 0 where
+  pub stage : Stage
+  pub outer : List Enclosing
+  pub at : IsAt output.writer stage outer
+  pub may : is_some (after_string stage name) ≡ true

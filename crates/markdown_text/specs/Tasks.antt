@@ -1,0 +1,40 @@
+-- Where the mark of a task may come.
+use Rattle.std.specs.Prelude.{Bool, List, false, ◌≡◌, ◌⊎◌}
+use Rattle.event_writer.specs.Stages.{Enclosing, inlines, item, task}
+use Rattle.event_writer.specs.Written.{Written}
+use Rattle.markdown_events.specs.declared.event.Name.TheVariants.{ListItemPrefix, Paragraph, SpaceOrTab}
+use Rattle.markdown_pieces.specs.Walks.{State}
+use Rattle.markdown_pieces.specs.declared.piece.PieceKind.{PieceKind}
+use Rattle.markdown_pieces.specs.declared.piece.PieceKind.TheVariants.{BlankLineEnding, Enter, Exit, Token}
+use Rattle.markdown_text.specs.Standings.{IsAt}
+use Rattle.markdown_text.specs.declared.document.TaskPlace.{TaskPlace}
+use Rattle.markdown_text.specs.declared.document.TaskPlace.TheVariants.{InItem, InParagraph, Nowhere}
+
+-- the place after a piece of this kind
+abbrev pub next_task_place : TaskPlace → PieceKind → TaskPlace
+next_task_place place (Exit ListItemPrefix) = InItem
+next_task_place InItem (Enter Paragraph) = InParagraph
+next_task_place place (Token SpaceOrTab) = place
+next_task_place place BlankLineEnding = place
+next_task_place place _ = Nowhere
+
+-- what a place says of a writer in the spans of a state
+abbrev pub IsTaskPlace : {R : Type 0} → Written R → TaskPlace → State → Type 0
+IsTaskPlace w Nowhere s = Unit {0}
+IsTaskPlace w InItem s = (n : Bool) × IsAt w (item n) s.outer
+IsTaskPlace w InParagraph s = ((s.stage ≡ task) ⊎ (s.stage ≡ inlines false)) × IsAt w task s.outer
+
+-- what it says where inlines may stand
+abbrev pub IsTask : {R : Type 0} → Written R → TaskPlace → Bool → List Enclosing → Type 0
+IsTask w InParagraph h outer = (h ≡ false) × IsAt w task outer
+IsTask w _ h outer = Unit {0}
+
+-- a content begins at a place
+abbrev pub IsAtContent : {R : Type 0} → TaskPlace → Written R → Bool → List Enclosing → Type 0
+IsAtContent place w h outer = IsAt w (inlines h) outer × IsTask w place h outer
+
+-- the same of a flag and of spans
+pub record BeginsContent {R : Type 0} (place : TaskPlace) (w : Written R) : Type 0 where
+  pub in_heading : Bool
+  pub outer : List Enclosing
+  pub at : IsAtContent place w in_heading outer

@@ -1,0 +1,104 @@
+//! The calls of the writer, where the grammar takes what they write: only memory can run out.
+
+ghost use Rattle.std.specs.Prelude.{Bool, IfSome, List, OnOk, true, ◌≡◌, ◌+◌};
+ghost use Rattle.std.specs.Str.{IsCharBoundary};
+ghost use Rattle.event_writer.specs.Calls.{CanReach, EndsLine, line_ending_length};
+ghost use Rattle.event_writer.specs.Stages.{Enclosing, Stage, entered, exited, takes_inlines, written};
+ghost use Rattle.markdown_events.specs.Names.{role_of};
+ghost use Rattle.markdown_events.specs.declared.event.Name.{Name};
+ghost use Rattle.markdown_pieces.specs.Tilings.{point};
+ghost use Rattle.markdown_pieces.specs.Walks.{inside};
+ghost use Rattle.markdown_text.specs.Contents.{spot, whole};
+ghost use Rattle.markdown_text.specs.Standings.{BreaksAt, IsAt, MayBreak, MayEndLine, MayEnter, MayExit, MayWrite, StandsIn, after_line};
+
+use character_references::references::References;
+use event_writer::error::WriteError;
+use event_writer::writer::Writer;
+use markdown_events::event::Name;
+use std::alloc::AllocError;
+
+/// Opens a span at the cursor. The only error is that memory ran out.
+pub fn enter<R: References>(writer: &mut Writer<'_, R>, name: Name) -> Result<(), AllocError>
+    requires { MayEnter writer.old name }
+    ensures given { writer.new.given ≡ writer.old.given }
+    ensures cursor { writer.new.cursor ≡ writer.old.cursor }
+    ensures at { (a : Stage) → (outer : List Enclosing) → IsAt writer.old a outer → OnOk result (IfSome (entered a (role_of name)) (λ b. IsAt writer.new b (inside name a outer))) }
+{
+    match writer.enter(name) {
+        Ok(()) => Ok(()),
+        Err(WriteError::Memory(error)) => Err(error),
+        Err(WriteError::Misfit) => unreachable!(),
+    }
+}
+
+/// Closes the innermost span at the cursor. The only error is that memory ran out.
+pub fn exit<R: References>(writer: &mut Writer<'_, R>) -> Result<(), AllocError>
+    requires { MayExit writer.old }
+    ensures given { writer.new.given ≡ writer.old.given }
+    ensures cursor { writer.new.cursor ≡ writer.old.cursor }
+    ensures at { (own a : Stage) → (name : Name) → (outer : List Enclosing) → IsAt writer.old own (inside name a outer) → OnOk result (IfSome (exited own a (role_of name)) (λ b. IsAt writer.new b outer)) }
+{
+    match writer.exit() {
+        Ok(()) => Ok(()),
+        Err(WriteError::Memory(error)) => Err(error),
+        Err(WriteError::Misfit) => unreachable!(),
+    }
+}
+
+/// Writes a token up to an offset of the line, and so many columns into the tab there. The only error is that
+/// memory ran out.
+pub fn token<R: References>(
+    writer: &mut Writer<'_, R>,
+    name: Name,
+    to: usize,
+    virtual_spaces: usize,
+) -> Result<(), AllocError>
+    requires reach { CanReach writer.old.given.bytes (point (spot writer.old.cursor)) to virtual_spaces }
+    requires cut { IsCharBoundary writer.old.given.bytes to }
+    requires may { MayWrite (R.text writer.old.given.references) writer.old name (record { offset = to; virtual_spaces = virtual_spaces }) }
+    ensures given { writer.new.given ≡ writer.old.given }
+    ensures spot { OnOk result (spot writer.new.cursor ≡ record { offset = to; virtual_spaces = virtual_spaces }) }
+    ensures at { (a : Stage) → (outer : List Enclosing) → IsAt writer.old a outer → OnOk result (IfSome (written a (role_of name)) (λ b. IsAt writer.new b outer)) }
+{
+    match writer.token(name, to, virtual_spaces) {
+        Ok(()) => Ok(()),
+        Err(WriteError::Memory(error)) => Err(error),
+        Err(WriteError::Misfit) => unreachable!(),
+    }
+}
+
+/// Writes a hard break up to an offset of the line. It waits for its line ending then. The only error is that
+/// memory ran out.
+pub fn hard_break<R: References>(
+    writer: &mut Writer<'_, R>,
+    name: Name,
+    to: usize,
+) -> Result<(), AllocError>
+    requires reach { CanReach writer.old.given.bytes (point (spot writer.old.cursor)) to 0 }
+    requires cut { IsCharBoundary writer.old.given.bytes to }
+    requires may { MayBreak writer.old name }
+    ensures given { writer.new.given ≡ writer.old.given }
+    ensures spot { OnOk result (spot writer.new.cursor ≡ whole to) }
+    ensures at { (a : Stage) → (outer : List Enclosing) → takes_inlines a ≡ true → IsAt writer.old a outer → OnOk result (BreaksAt writer.new a outer) }
+{
+    match writer.token(name, to, 0) {
+        Ok(()) => Ok(()),
+        Err(WriteError::Memory(error)) => Err(error),
+        Err(WriteError::Misfit) => unreachable!(),
+    }
+}
+
+/// Writes the line ending at the cursor as a token of this name. The only error is that memory ran out.
+pub fn line_ending<R: References>(writer: &mut Writer<'_, R>, name: Name) -> Result<(), AllocError>
+    requires ends { EndsLine writer.old.given.bytes writer.old.cursor.index }
+    requires may { MayEndLine (R.text writer.old.given.references) writer.old name }
+    ensures given { writer.new.given ≡ writer.old.given }
+    ensures spot { OnOk result (spot writer.new.cursor ≡ whole (writer.old.cursor.index + line_ending_length writer.old.given.bytes writer.old.cursor.index)) }
+    ensures at { (waits : Bool) → (a : Stage) → (outer : List Enclosing) → StandsIn waits writer.old a outer → OnOk result (IfSome (after_line waits a (role_of name)) (λ b. IsAt writer.new b outer)) }
+{
+    match writer.line_ending(name) {
+        Ok(()) => Ok(()),
+        Err(WriteError::Memory(error)) => Err(error),
+        Err(WriteError::Misfit) => unreachable!(),
+    }
+}
