@@ -6,6 +6,7 @@ ghost use Rattle.character_references.specs.Html.{html};
 ghost use Rattle.event_writer.specs.Finished.{IsFinished};
 ghost use Rattle.event_writer.specs.Stages.{flow};
 ghost use Rattle.markdown_grammar.specs.Document.{source};
+ghost use Rattle.markdown_options.specs.Spans.{AreOn};
 ghost use Rattle.markdown_text.specs.Standings.{IsAt};
 
 use character_references::html::HtmlReferences;
@@ -23,7 +24,7 @@ use std::alloc::{AllocError, Global};
 /// The list is that of a forest which the grammar accepts. Its tokens, the spans that hold no span,
 /// are the document, from the first byte to the last. In each event `line` and `column` count from 1,
 /// and `index` counts bytes from 0; a tab goes to the next column that is one more than a multiple of
-/// four.
+/// four. A construct that is off in the options has no span.
 ///
 /// The document `Hi` has four: a paragraph begins at 1:1, and data in it, and both end at 1:3.
 pub fn to_events(
@@ -33,6 +34,8 @@ pub fn to_events(
 ) -> Result<Vec<Event>, AllocError>
     // The grammar accepts the events, their tokens tile the document, and each stands at a true point.
     ensures finished { IfOk result (λ events. IsFinished (source value.now html) events.items) }
+    // A construct that is off has no span.
+    ensures on { IfOk result (λ events. AreOn options.now.constructs events.items) }
 {
     let writer = written(alloc, value.as_bytes(), options)?;
     match writer.finish() {
@@ -51,6 +54,7 @@ fn written<'d>(
     ensures given { IfOk result (λ writer. writer.given.bytes ≡ document.now) }
     ensures end { IfOk result (λ writer. writer.cursor.index ≡ length document.now) }
     ensures root { IfOk result (λ writer. IsAt writer (flow false) []) }
+    ensures on { IfOk result (λ writer. AreOn options.now.constructs writer.events) }
 {
     let blocks = read(alloc, document, options)?;
     let reading = Reading {

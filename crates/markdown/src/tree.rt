@@ -10,6 +10,7 @@ ghost use Rattle.markdown.specs.Roots.{whole_document};
 ghost use Rattle.markdown_grammar.specs.Document.{source, source_hiding};
 ghost use Rattle.markdown_grammar.specs.Ordered.{IsOrdered};
 ghost use Rattle.markdown_nodes.specs.Tree.{only};
+ghost use Rattle.markdown_options.specs.Spans.{AreOn};
 ghost use Rattle.markdown_nodes.specs.View.{view};
 ghost use Rattle.positions.specs.declared.message.Fault.TheVariants as faults;
 ghost use Rattle.positions.specs.declared.message.Message.{Message};
@@ -35,8 +36,10 @@ use std::alloc::{AllocError, Global};
 ///
 /// `to_mdast(alloc, "# Hi", &ParseOptions::default())?` is a root with a heading of depth 1.
 pub fn to_mdast(alloc: Global, value: &str, options: &ParseOptions) -> Result<Node, AllocError>
-    // The tree is the meaning of finished events, with whole values and without what is hidden.
+    // The tree is the meaning of finished events, with whole values and without what is hidden. No event is of a
+    // construct that is off.
     ensures tree { IfOk result (λ tree. (events : List Event) × IsFinished (source value.now html) events
+        × AreOn options.now.constructs events
         × IsMeaning tree events (source_hiding (hidden value.now events) value.now html)) }
     // Its root reaches from the first byte of the document to the last.
     ensures root { IfOk result (λ tree. (view tree).position ≡ Some (whole_document value.now)) }

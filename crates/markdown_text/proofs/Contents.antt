@@ -4,6 +4,8 @@ use Rattle.std.proofs.lemmas.List.{drop_more, take-append-drop, take_more}
 use Rattle.event_writer.specs.Calls.{CanReach}
 use Rattle.markdown_events.specs.declared.event.Name.TheVariants.{SpaceOrTab}
 use Rattle.markdown_pieces.proofs.Tilings.{ends, parted}
+use Rattle.markdown_options.specs.declared.Constructs.{Constructs}
+use Rattle.markdown_pieces.specs.Spans.{IsOn}
 use Rattle.markdown_pieces.specs.Tilings.{Goes, Spot, Tiles, end_from, end_of, point}
 use Rattle.markdown_pieces.specs.Walks.{State, Steps}
 use Rattle.markdown_pieces.specs.declared.piece.Piece.{Piece}
@@ -125,6 +127,16 @@ between_steps BlockQuotePrefix ps s h other = refl
 
 pub between_step : (p : Piece) (ps : List Piece) (s : State) → IsContent (p ∷ ps) → p.kind ≢ Text → Steps p.kind s s
 between_step p ps s h other = between_steps p.kind ps s h other
+
+-- its construct is on: it is of none
+between_on_as : (c : Constructs) (k : PieceKind) (ps : List Piece) → place_after (next_place BeforeText k) ps ≡ AfterText → IsOn c k
+between_on_as c (Enter name) ps h = absurd (cc (outside ps))
+between_on_as c (Token SpaceOrTab) ps h = refl
+between_on_as c (Token name) ps h = absurd (cc (outside ps))
+between_on_as c _ ps h = tt
+
+pub between_on : (c : Constructs) (p : Piece) (ps : List Piece) → IsContent (p ∷ ps) → IsOn c p.kind
+between_on c p ps h = between_on_as c p.kind ps h
 
 -- a content does not end before a text
 pub no_content : (ps : List Piece) → ps ≡ [] → IsContent ps → ⊥

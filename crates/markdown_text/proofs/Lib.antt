@@ -14,3 +14,5 @@ pub mod Constructs
 pub mod Opened
 pub mod Marks
 pub mod Tasks
+pub mod Spans
+pub mod Switches

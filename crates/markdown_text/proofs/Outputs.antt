@@ -16,6 +16,8 @@ use Rattle.event_writer.specs.Written.{Given, Written}
 use Rattle.markdown_events.specs.Names.{role_of}
 use Rattle.markdown_events.specs.Slices.{edge}
 use Rattle.markdown_events.specs.declared.event.Name.{Name}
+use Rattle.markdown_events.specs.declared.event.Point.{Point}
+use Rattle.markdown_options.specs.declared.Constructs.{Constructs}
 use Rattle.markdown_pieces.specs.Tilings.{Goes, Spot, Tiles, end_from, end_of, point}
 use Rattle.markdown_pieces.specs.declared.piece.Piece.{Piece}
 use Rattle.markdown_pieces.specs.declared.piece.PieceKind.{PieceKind}
@@ -24,11 +26,12 @@ use Rattle.markdown_text.proofs.Contents.{lines_begin}
 use Rattle.markdown_text.proofs.Parts.{part_none}
 use Rattle.markdown_text.proofs.Ranges.{byte_in_range, cut_feed, drop_range, length_range}
 use Rattle.markdown_text.specs.Contents.{AreLines, IsContent, IsLeft, IsPart, IsRange, joined, left, piece_bytes, spot, whole}
-use Rattle.markdown_text.specs.Outputs.{GoesOn, Stands, WritesTo, after_plain, bytes_of, content_end, document_of, is_plain, references_of}
+use Rattle.markdown_text.specs.Outputs.{GoesOn, Stands, WritesTo, after_plain, bytes_of, constructs_of, content_end, document_of, is_plain, references_of}
 use Rattle.markdown_text.specs.Tokens.{IsFound, IsOfString, Text}
 use Rattle.markdown_text.specs.declared.token.TokenKind.{TokenKind}
 use Rattle.markdown_text.specs.declared.token.TokenKind.TheVariants.{CharacterEscape, CharacterReference, LineEnding as LineEndingToken}
 use Rattle.markdown_text.proofs.Standings.{edge_whole}
+use Rattle.markdown_text.specs.Spans.{IsWithin}
 use Rattle.markdown_text.specs.Standings.{IsAt}
 use Rattle.markdown_text.specs.declared.output.Output.{Output}
 
@@ -241,9 +244,9 @@ put_cut o end to s part less is valid =
     subst (λ (bs : List ℕ). IsCharBoundary bs to) (sym s.document)
     (cut_boundary (document_of o) to (IsUtf8-from_is_utf8 (document_of o) (subst (λ (bs : List ℕ). is_utf8 bs ≡ true) s.document valid)) (omega (arith, is, most, within)) (subst (IsCut (document_of o)) (sym is) cut))
 
-pub put_writes : {R : Type 0} (old new : Output R) (end to : ℕ) → Stands old → IsPart (bytes_of old) old.at end → to ≡ old.writer.cursor.index + (end - old.at) → document_of new ≡ document_of old → references_of new ≡ references_of old → bytes_of new ≡ bytes_of old → new.writer.given ≡ old.writer.given
-    → spot new.writer.cursor ≡ whole to → new.lines ≡ old.lines → new.at ≡ end → new.«data» ≡ end → WritesTo old new end
-put_writes old new end to s part is document references bytes given cursor lines at stop =
+pub put_writes : {R : Type 0} (old new : Output R) (end to : ℕ) → Stands old → IsPart (bytes_of old) old.at end → to ≡ old.writer.cursor.index + (end - old.at) → document_of new ≡ document_of old → references_of new ≡ references_of old → constructs_of new ≡ constructs_of old → bytes_of new ≡ bytes_of old → new.writer.given ≡ old.writer.given
+    → spot new.writer.cursor ≡ whole to → new.lines ≡ old.lines → new.at ≡ end → new.«data» ≡ end → IsWithin (constructs_of old) new.writer → WritesTo old new end
+put_writes old new end to s part is document references constructs bytes given cursor lines at stop within =
     let l = token_left (document_of old) (bytes_of old) (spot old.writer.cursor) old.lines.end old.at end old.lines.later.now s.rest s.bytes part in
     let here : whole (old.writer.cursor.index + (end - old.at)) ≡ spot new.writer.cursor = ap whole (sym is) ∙ sym cursor in
     record {
@@ -254,9 +257,11 @@ put_writes old new end to s part is document references bytes given cursor lines
           rest = at_new (spot new.writer.cursor) new.lines.end new.lines.later.now here l.0;
           bytes = left_new l.1;
           waits = stays;
+          within = subst (λ (c : Constructs). IsWithin c new.writer) (sym constructs) within;
         };
         document = document;
         references = references;
+        constructs = constructs;
         bytes = bytes;
         end = ap (λ ls. end_from (whole ls.end) ls.later.now) lines;
       };
@@ -296,8 +301,8 @@ feed_within o feed = let h = slice_get_within (bytes_of o) o.at 10 feed in omega
 pub ending_writes : {R : Type 0} (o new : Output R) (p : Piece) (ps : List Piece) (mid : Spot) (between : Given R) → Stands o → slice_get (bytes_of o) o.at ≡ Some 10 → o.lines.later.now ≡ p ∷ ps → mid ≡ end_of p
     → between ≡ o.writer.given → new.writer.given ≡ between → IsLeft between.bytes (spot new.writer.cursor) new.lines.end new.lines.later.now
     → left between.bytes new.writer.cursor.index new.lines.end new.lines.later.now ≡ joined between.bytes mid.offset ps → content_end new ≡ end_from mid ps
-    → document_of new ≡ document_of o → references_of new ≡ references_of o → bytes_of new ≡ bytes_of o → new.at ≡ o.at + 1 → new.«data» ≡ o.at + 1 → WritesTo o new (o.at + 1)
-ending_writes {R} o new p ps mid between s feed is here given later rest same end document references bytes at stop =
+    → document_of new ≡ document_of o → references_of new ≡ references_of o → constructs_of new ≡ constructs_of o → bytes_of new ≡ bytes_of o → new.at ≡ o.at + 1 → new.«data» ≡ o.at + 1 → IsWithin (constructs_of o) new.writer → WritesTo o new (o.at + 1)
+ending_writes {R} o new p ps mid between s feed is here given later rest same end document references constructs bytes at stop within =
     let e = feed_ends o p ps s feed is in
     let first : between.bytes ≡ document_of o = ap (λ (g : Given R). g.bytes) given ∙ s.document in
     let doc : between.bytes ≡ document_of new = first ∙ sym document in
@@ -310,9 +315,11 @@ ending_writes {R} o new p ps mid between s feed is here given later rest same en
           bytes = ap (λ (n : ℕ). drop n (bytes_of new)) at ∙ ap (λ (bs : List ℕ). drop (o.at + 1) bs) bytes ∙ e.after ∙ ap (λ (bs : List ℕ). joined bs p.end ps) (sym first) ∙ ap (λ (s : Spot). joined between.bytes s.offset ps) (sym here)
               ∙ sym same ∙ ap (λ (bs : List ℕ). left bs new.writer.cursor.index new.lines.end new.lines.later.now) doc;
           waits = subst (λ (n : ℕ). IsPart (bytes_of new) n new.«data») (sym at) (subst (λ (n : ℕ). IsPart (bytes_of new) (o.at + 1) n) (sym stop) (subst (λ (bs : List ℕ). IsPart bs (o.at + 1) (o.at + 1)) (sym bytes) (part_none (bytes_of o) (o.at + 1) (feed_within o feed) (cut_feed (bytes_of o) o.at feed).1)));
+          within = subst (λ (c : Constructs). IsWithin c new.writer) (sym constructs) within;
         };
         document = document;
         references = references;
+        constructs = constructs;
         bytes = bytes;
         end = end ∙ ap (λ (s : Spot). end_from s ps) here ∙ sym (ap (λ (qs : List Piece). end_from (whole o.lines.end) qs) is);
       };
@@ -346,10 +353,32 @@ next_tiles {R} o p ps given mid s feed is same here =
 -- ---- One call after the other
 
 pub goes_on_then : {R : Type 0} (a b c : Output R) → GoesOn a b → GoesOn b c → GoesOn a c
-goes_on_then a b c x y = record { stands = y.stands; document = y.document ∙ x.document; references = y.references ∙ x.references; bytes = y.bytes ∙ x.bytes; end = y.end ∙ x.end }
+goes_on_then a b c x y = record { stands = y.stands; document = y.document ∙ x.document; references = y.references ∙ x.references; constructs = y.constructs ∙ x.constructs; bytes = y.bytes ∙ x.bytes; end = y.end ∙ x.end }
 
 pub stays : {R : Type 0} (a : Output R) → Stands a → GoesOn a a
-stays a s = record { stands = s; document = refl; references = refl; bytes = refl; end = refl }
+stays a s = record { stands = s; document = refl; references = refl; constructs = refl; bytes = refl; end = refl }
+
+-- the same where a span begins or ends
+pub call_writes : {R : Type 0} (old : Output R) (w : Written R) → Stands old → old.«data» ≡ old.at → w.given ≡ old.writer.given → w.cursor ≡ old.writer.cursor → IsWithin (constructs_of old) w → WritesTo old (record old { writer = w; is_line_start = false }) old.at
+call_writes {R} old w s none given cursor within = record {
+  goes_on = record {
+    stands = record {
+      document = ap (λ (g : Given R). g.bytes) given ∙ s.document;
+      references = ap (λ (g : Given R). g.references) given ∙ s.references;
+      rest = subst (λ (p : Point). IsLeft (document_of old) (spot p) old.lines.end old.lines.later.now) (sym cursor) s.rest;
+      bytes = s.bytes ∙ ap (λ (p : Point). left (document_of old) p.index old.lines.end old.lines.later.now) (sym cursor);
+      waits = s.waits;
+      within = within;
+    };
+    document = refl;
+    references = refl;
+    constructs = refl;
+    bytes = refl;
+    end = refl;
+  };
+  at = refl;
+  data_end = none;
+}
 
 -- ---- A token, after the cursor of the content has moved
 
@@ -360,10 +389,14 @@ pub moved_cut : {R : Type 0} (old mid : Output R) (end to : ℕ) (a : Stage) (ou
 moved_cut {R} old mid end to a outer s part less is writer at = subst (λ (w : Written R). IsCharBoundary w.given.bytes to) (sym writer) (put_cut old end to s part less is at.valid)
 
 pub moved_writes : {R : Type 0} (old mid new : Output R) (end to : ℕ) → Stands old → IsPart (bytes_of old) old.at end → to ≡ old.writer.cursor.index + (end - old.at) → mid.writer ≡ old.writer → mid.source ≡ old.source → mid.lines ≡ old.lines → mid.at ≡ end → mid.«data» ≡ end
-    → new.source ≡ mid.source → new.lines ≡ mid.lines → new.at ≡ mid.at → new.«data» ≡ mid.«data» → new.writer.given ≡ mid.writer.given → spot new.writer.cursor ≡ whole to → WritesTo old new end
-moved_writes {R} old mid new end to s part is writer source lines at stop source' lines' at' stop' given cursor =
-    put_writes old new end to s part is (ap (λ s. s.now.reading.now.document.now) (source' ∙ source)) (ap (λ s. s.now.reading.now.references.now) (source' ∙ source)) (ap (λ s. s.now.bytes.now) (source' ∙ source))
-    (given ∙ ap (λ (w : Written R). w.given) writer) cursor (lines' ∙ lines) (at' ∙ at) (stop' ∙ stop)
+    → new.source ≡ mid.source → new.lines ≡ mid.lines → new.at ≡ mid.at → new.«data» ≡ mid.«data» → new.writer.given ≡ mid.writer.given → spot new.writer.cursor ≡ whole to → IsWithin (constructs_of old) new.writer → WritesTo old new end
+moved_writes {R} old mid new end to s part is writer source lines at stop source' lines' at' stop' given cursor within =
+    put_writes old new end to s part is (ap (λ s. s.now.reading.now.document.now) (source' ∙ source)) (ap (λ s. s.now.reading.now.references.now) (source' ∙ source)) (ap (λ s. s.now.reading.now.options.constructs) (source' ∙ source)) (ap (λ s. s.now.bytes.now) (source' ∙ source))
+    (given ∙ ap (λ (w : Written R). w.given) writer) cursor (lines' ∙ lines) (at' ∙ at) (stop' ∙ stop) within
+
+-- what is written is of constructs that are on, as it was
+pub moved_within : {R : Type 0} (old mid : Output R) → mid.writer ≡ old.writer → Stands old → IsWithin (constructs_of old) mid.writer
+moved_within {R} old mid writer s = subst (λ (w : Written R). IsWithin (constructs_of old) w) (sym writer) s.within
 
 -- it stands at the stage at which it stood
 pub moved_at : {R : Type 0} (old mid : Output R) (a : Stage) (outer : List Enclosing) → mid.writer ≡ old.writer → IsAt old.writer a outer → IsAt mid.writer a outer

@@ -19,7 +19,7 @@ use Rattle.markdown_events.specs.declared.role.Role.TheVariants.{Significant as 
 use Rattle.markdown_grammar.specs.Document.{is_item_number}
 use Rattle.markdown_pieces.specs.Tilings.{EndsCharacter, GoesAsToken, HasValue as PieceHasValue, Spot, point}
 use Rattle.markdown_pieces.specs.Walks.{SaysAll, State, Steps, after_closing, after_token, inside, more, same}
-use Rattle.markdown_pieces.specs.declared.piece.PieceKind.TheVariants.{Enter, LineEnding, OpeningSequence, Token}
+use Rattle.markdown_pieces.specs.declared.piece.PieceKind.TheVariants.{Enter, Exit, LineEnding, OpeningSequence, Token}
 use Rattle.markdown_text.proofs.Standings.{beside, cut_is_boundary, edge_whole, weakened}
 use Rattle.markdown_text.specs.Contents.{spot}
 use Rattle.markdown_text.specs.Outputs.{after_inlines, after_string, after_string_in, if_skips}
@@ -81,6 +81,11 @@ token_value bytes decode name a b from to within is value = tt
 
 pub step_enter : {R : Type 0} (new : Written R) (name : Name) (s t : State) → Steps (Enter name) s t → IfSome (entered s.stage (role_of name)) (λ b. IsAt new b (inside name s.stage s.outer)) → IsAt new t.stage t.outer
 step_enter new name s t step h = subst (λ (os : List Enclosing). IsAt new t.stage os) (sym step.1) (at_some (λ b. IsAt new b (inside name s.stage s.outer)) (entered s.stage (role_of name)) t.stage step.0 h)
+
+pub step_exit : {R X E : Type 0} (r : Result X E) (old new : Written R) (name : Name) (s t : State) → Steps (Exit name) s t → IsAt old s.stage s.outer
+    → ((own a : Stage) → (name : Name) → (outer : List Enclosing) → IsAt old own (inside name a outer) → OnOk r (IfSome (exited own a (role_of name)) (λ b. IsAt new b outer))) → OnOk r (IsAt new t.stage t.outer)
+step_exit r old new name s t step at h =
+    on_ok r (at_some (λ b. IsAt new b t.outer) (exited s.stage step.0 (role_of name)) t.stage step.1) (h s.stage step.0 name t.outer (subst (λ (os : List Enclosing). IsAt old s.stage os) step.2 at))
 
 pub step_token : {R : Type 0} (new : Written R) (name : Name) (s t : State) → Steps (Token name) s t → IfSome (written s.stage (role_of name)) (λ b. IsAt new b s.outer) → IsAt new t.stage t.outer
 step_token new name s t step h = subst (λ (os : List Enclosing). IsAt new t.stage os) (sym step.1) (at_some (λ b. IsAt new b s.outer) (written s.stage (role_of name)) t.stage (token_stage s.stage t.stage name step.0) h)

@@ -8,3 +8,6 @@ pub mod Standings
 pub mod Opens
 pub mod Tasks
 pub mod Addresses
+pub mod Spans
+pub mod Constructs
+pub mod Runs

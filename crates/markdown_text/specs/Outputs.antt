@@ -9,8 +9,10 @@ use Rattle.markdown_events.specs.declared.role.Part.{Part}
 use Rattle.markdown_events.specs.declared.role.Part.TheVariants as parts
 use Rattle.markdown_events.specs.declared.role.Role.{Role}
 use Rattle.markdown_events.specs.declared.role.Role.TheVariants.{Significant as significant}
+use Rattle.markdown_options.specs.declared.Constructs.{Constructs}
 use Rattle.markdown_pieces.specs.Tilings.{Spot, end_from}
 use Rattle.markdown_text.specs.Contents.{IsLeft, IsPart, left, spot, whole}
+use Rattle.markdown_text.specs.Spans.{IsWithin}
 use Rattle.markdown_text.specs.Standings.{IsAt, StandsIn}
 use Rattle.markdown_text.specs.Texts.{text_of}
 use Rattle.markdown_text.specs.Tokens.{Text}
@@ -30,6 +32,10 @@ bytes_of output = output.source.now.bytes.now
 abbrev pub references_of : {R : Type 0} → Output R → R
 references_of output = output.source.now.reading.now.references.now
 
+-- which constructs it is read with
+abbrev pub constructs_of : {R : Type 0} → Output R → Constructs
+constructs_of output = output.source.now.reading.now.options.constructs
+
 -- the content as a text that is read with a decoder, by whether it may begin with the mark of a task
 abbrev pub as_text : {R : Type 0} → Output R → (List ℕ → ℕ → Option (List ℕ)) → Bool → Text
 as_text output decode may_be_task = text_of (bytes_of output) decode may_be_task
@@ -38,19 +44,21 @@ as_text output decode may_be_task = text_of (bytes_of output) decode may_be_task
 abbrev pub content_end : {R : Type 0} → Output R → Spot
 content_end output = end_from (whole output.lines.end) output.lines.later.now
 
--- the bytes that are not written are those of the pieces that are left, and the data that waits is within a line
+-- the bytes that are not written are those of the pieces that are left, the data that waits is within a line, and what is written is of constructs that are on
 pub record Stands {R : Type 0} (output : Output R) : Type 0 where
   pub document : output.writer.given.bytes ≡ document_of output
   pub references : output.writer.given.references ≡ references_of output
   pub rest : IsLeft (document_of output) (spot output.writer.cursor) output.lines.end output.lines.later.now
   pub bytes : drop output.at (bytes_of output) ≡ left (document_of output) output.writer.cursor.index output.lines.end output.lines.later.now
   pub waits : IsPart (bytes_of output) output.at output.data
+  pub within : IsWithin (constructs_of output) output.writer
 
 -- the same content is written on
 pub record GoesOn {R : Type 0} (old new : Output R) : Type 0 where
   pub stands : Stands new
   pub document : document_of new ≡ document_of old
   pub references : references_of new ≡ references_of old
+  pub constructs : constructs_of new ≡ constructs_of old
   pub bytes : bytes_of new ≡ bytes_of old
   pub end : content_end new ≡ content_end old
 

@@ -1,7 +1,9 @@
 //! Attention (micromark): emphasis, strong emphasis (CommonMark) and struck text (GFM).
 
-ghost use Rattle.std.specs.Prelude.{◌≡◌, ◌≤◌, ◌+◌, ◌-◌, length};
-ghost use Rattle.markdown_text.specs.Cursors.{bytes_from};
+ghost use Rattle.std.specs.Prelude.{◌≡◌, ◌≤◌, ◌+◌, ◌-◌, length, [], IsTrue, true};
+ghost use Rattle.markdown_options.specs.declared.Constructs.{Constructs};
+ghost use Rattle.markdown_text.specs.Constructs.{AreDelimitersOn, is_delimiter_on, is_marker_on};
+ghost use Rattle.markdown_text.specs.Cursors.{bytes_from, byte_at};
 
 use crate::character_kind::{CharacterKind, kind_after, kind_before};
 use crate::cursor::Cursor;
@@ -88,7 +90,9 @@ pub enum Delimiter {
 }
 
 /// Whether a run of so many of these markers is one of delimiters.
-pub fn is_delimiter_run(marker: u8, size: usize, options: &ParseOptions) -> bool {
+pub fn is_delimiter_run(marker: u8, size: usize, options: &ParseOptions) -> bool
+    ensures { IsTrue result → is_marker_on options.now.constructs marker ≡ true }
+{
     if marker != b'~' {
         return options.constructs.attention;
     }
@@ -119,9 +123,13 @@ pub struct Run {
 }
 
 impl Run {
+    ghost use Rattle.markdown_options.specs.Spans.{is_on};
+    ghost use Rattle.markdown_text.specs.Opens.{group_name};
+
     /// The run of so many markers at the cursor.
     pub fn new(cursor: Cursor<'_>, size: usize) -> Run
         requires { size ≤ bytes_from cursor }
+        ensures { result.marker ≡ byte_at cursor.entry }
     {
         let marker = cursor.byte();
         let before = kind_before(cursor.before());
@@ -173,7 +181,9 @@ impl Run {
     }
 
     /// What this run, as the opening one, makes with a closing one.
-    fn kind_with(&self, closer: &Run) -> AttentionKind {
+    fn kind_with(&self, closer: &Run) -> AttentionKind
+        ensures { (c : Constructs) → is_on c (group_name result) ≡ is_marker_on c self.now.marker }
+    {
         let is_double = self.left() > 1 && closer.left() > 1;
         match (self.marker, is_double) {
             (b'~', true) => AttentionKind::DoubleStrikethrough,
@@ -186,6 +196,7 @@ impl Run {
     /// Takes so many markers that close something, and gives the offset at which they begin.
     fn close(&mut self, size: usize) -> usize
         requires { size ≤ self.old.end - self.old.start - (self.old.closing + self.old.opening) }
+        ensures { self.new.marker ≡ self.old.marker }
     {
         let at = self.start + self.closing;
         self.closing += size;
@@ -195,6 +206,7 @@ impl Run {
     /// Takes so many markers that open something, and gives the offset at which they begin.
     fn open(&mut self, size: usize) -> usize
         requires { size ≤ self.old.end - self.old.start - (self.old.closing + self.old.opening) }
+        ensures { self.new.marker ≡ self.old.marker }
     {
         self.opening += size;
         self.end - self.opening
@@ -226,8 +238,12 @@ pub struct Attention {
 }
 
 impl Attention {
+    ghost use Rattle.markdown_text.specs.Runs.{IsAttentionOn};
+
     /// No runs.
-    pub fn new(alloc: Global) -> Attention {
+    pub fn new(alloc: Global) -> Attention
+        ensures { (c : Constructs) → IsAttentionOn c result }
+    {
         Attention {
             runs: Vec::new(alloc),
             delimiters: Vec::new(alloc),
@@ -240,30 +256,46 @@ impl Attention {
     }
 
     /// Adds a run. The only error is that memory ran out.
-    pub fn push(&mut self, run: Run) -> Result<(), AllocError> {
+    pub fn push(&mut self, run: Run) -> Result<(), AllocError>
+        ensures { (c : Constructs) → IsAttentionOn c self.old → is_marker_on c run.marker ≡ true → IsAttentionOn c self.new }
+    {
         self.runs.push(run)?;
         Ok(())
     }
 
     /// Makes what can be made of the runs from this one on, in a content of so many bytes. They then wait
     /// no more. The only error is that memory ran out.
-    pub fn resolve(&mut self, alloc: Global, size: usize, from: usize) -> Result<(), AllocError> {
+    pub fn resolve(&mut self, alloc: Global, size: usize, from: usize) -> Result<(), AllocError>
+        ensures { (c : Constructs) → IsAttentionOn c self.old → IsAttentionOn c self.new }
+    {
         if self.runs.len() <= from {
             return Ok(());
         }
-        if self.delimiters.is_empty() {
-            self.delimiters = vec![in alloc; Delimiter::Data; size]?;
-        }
+        self.begin(alloc, size)?;
         let mut openers = Openers::new(alloc);
-        for run in self.runs.as_slice().get(from..).unwrap_or(&[]) {
-            openers.take(*run, &mut self.delimiters)?;
-        }
+        let waiting = &self.runs[from..];
+        openers.take_all(waiting, &mut self.delimiters)?;
         self.runs.truncate(from);
         Ok(())
     }
 
+    /// Makes room for the delimiters in a content of so many bytes, if there is none yet. The only error is
+    /// that memory ran out.
+    fn begin(&mut self, alloc: Global, size: usize) -> Result<(), AllocError>
+        ensures runs { self.new.runs ≡ self.old.runs }
+        ensures delimiters { (c : Constructs) → AreDelimitersOn c self.old.delimiters.items → AreDelimitersOn c self.new.delimiters.items }
+    {
+        if !self.delimiters.is_empty() {
+            return Ok(());
+        }
+        self.delimiters = vec![in alloc; Delimiter::Data; size]?;
+        Ok(())
+    }
+
     /// What begins at each offset. It is empty where there are no runs.
-    pub fn into_delimiters(self) -> Vec<Delimiter> {
+    pub fn into_delimiters(self) -> Vec<Delimiter>
+        ensures { (c : Constructs) → IsAttentionOn c self → AreDelimitersOn c result.items }
+    {
         let Attention {
             runs: _,
             delimiters,
@@ -282,17 +314,34 @@ struct Openers {
 }
 
 impl Openers {
+    ghost use Rattle.markdown_text.specs.Runs.{AreRunsOn};
+
     /// None.
-    fn new(alloc: Global) -> Openers {
+    fn new(alloc: Global) -> Openers
+        ensures { result.stack.items ≡ [] }
+    {
         Openers {
             stack: Vec::new(alloc),
             bottoms: [0; CLASSES],
         }
     }
 
+    /// Takes runs, one after the other. The only error is that memory ran out.
+    fn take_all(&mut self, runs: &[Run], delimiters: &mut Vec<Delimiter>) -> Result<(), AllocError>
+        ensures { (c : Constructs) → AreRunsOn c self.old.stack.items → AreRunsOn c runs.now → AreDelimitersOn c delimiters.old.items → AreDelimitersOn c delimiters.new.items }
+    {
+        for run in runs {
+            self.take(*run, delimiters)?;
+        }
+        Ok(())
+    }
+
     /// Takes the next run: it closes what it can, and may open something later. The only error is that
     /// memory ran out.
-    fn take(&mut self, run: Run, delimiters: &mut Vec<Delimiter>) -> Result<(), AllocError> {
+    fn take(&mut self, run: Run, delimiters: &mut Vec<Delimiter>) -> Result<(), AllocError>
+        ensures runs { (c : Constructs) → AreRunsOn c self.old.stack.items → is_marker_on c run.marker ≡ true → AreRunsOn c self.new.stack.items }
+        ensures delimiters { (c : Constructs) → AreRunsOn c self.old.stack.items → AreDelimitersOn c delimiters.old.items → AreDelimitersOn c delimiters.new.items }
+    {
         let mut run = run;
         let most = if run.can_close { run.size() } else { 0 };
         for _ in 0..most {
@@ -321,7 +370,9 @@ impl Openers {
     }
 
     /// Keeps that no run goes with a closing one.
-    fn raise_bottom(&mut self, closer: &Run) {
+    fn raise_bottom(&mut self, closer: &Run)
+        ensures { self.new.stack ≡ self.old.stack }
+    {
         let size = self.stack.len();
         if let Some(bottom) = self.bottoms.get_mut(closer.class()) {
             *bottom = size;
@@ -329,7 +380,11 @@ impl Openers {
     }
 
     /// Makes something of the run on top and a closing one.
-    fn pair(&mut self, closer: &mut Run, delimiters: &mut Vec<Delimiter>) {
+    fn pair(&mut self, closer: &mut Run, delimiters: &mut Vec<Delimiter>)
+        ensures closer { closer.new.marker ≡ closer.old.marker }
+        ensures runs { (c : Constructs) → AreRunsOn c self.old.stack.items → AreRunsOn c self.new.stack.items }
+        ensures delimiters { (c : Constructs) → AreRunsOn c self.old.stack.items → AreDelimitersOn c delimiters.old.items → AreDelimitersOn c delimiters.new.items }
+    {
         let Some(opener) = self.stack.last_mut() else {
             return;
         };
@@ -348,7 +403,9 @@ impl Openers {
 }
 
 /// Sets what begins at an offset.
-fn set_delimiter(delimiters: &mut Vec<Delimiter>, at: usize, delimiter: Delimiter) {
+fn set_delimiter(delimiters: &mut Vec<Delimiter>, at: usize, delimiter: Delimiter)
+    ensures { (c : Constructs) → is_delimiter_on c delimiter ≡ true → AreDelimitersOn c delimiters.old.items → AreDelimitersOn c delimiters.new.items }
+{
     if let Some(place) = delimiters.get_mut(at) {
         *place = delimiter;
     }

@@ -1,8 +1,10 @@
 //! Autolinks (CommonMark): addresses in angle brackets.
 
-ghost use Rattle.std.specs.Prelude.{◌≡◌, ◌≢◌, ◌≤◌, ◌<◌, ◌+◌, IfSome, IsTrue, OnOk, length, slice_index};
+ghost use Rattle.std.specs.Prelude.{◌≡◌, ◌≢◌, ◌≤◌, ◌<◌, ◌+◌, IfSome, IsTrue, OnOk, length, slice_index, true};
 ghost use Rattle.commonmark_syntax.specs.Cuts.{IsInLine};
-ghost use Rattle.markdown_text.specs.Outputs.{Stands, WritesTo, bytes_of, AtInlines, KeepsInlines};
+ghost use Rattle.markdown_options.specs.declared.Constructs.{Constructs};
+ghost use Rattle.markdown_text.specs.Constructs.{is_found_on};
+ghost use Rattle.markdown_text.specs.Outputs.{Stands, WritesTo, bytes_of, AtInlines, KeepsInlines, constructs_of};
 ghost use Rattle.markdown_text.specs.Texts.{bare};
 ghost use Rattle.markdown_text.specs.Tokens.{IsFound, IsAutolink};
 
@@ -21,7 +23,8 @@ const DOMAIN_LABEL_MOST: usize = 63;
 
 /// The autolink that a text begins with: an address with a scheme, or one of mail.
 pub fn scan(text: &[u8]) -> Option<Found>
-    ensures { IfSome result (λ found. IsFound (bare text.now) found.kind 0 found.size) }
+    ensures found { IfSome result (λ found. IsFound (bare text.now) found.kind 0 found.size) }
+    ensures on { IfSome result (λ found. (c : Constructs) → c.autolink ≡ true → is_found_on c found.kind ≡ true) }
 {
     let inside = text.strip_prefix(b"<")?;
     if let Some(size) = protocol_length(inside) {
@@ -123,6 +126,7 @@ pub fn write<R: References>(
     requires stands { Stands output.old }
     requires autolink { IsAutolink (bytes_of output.old) address output.old.data end }
     requires inlines { AtInlines output.old }
+    requires on { (constructs_of output.old).autolink ≡ true }
     ensures given { output.new.writer.given ≡ output.old.writer.given }
     ensures writes { OnOk result (WritesTo output.old output.new end) }
     ensures at { KeepsInlines result output.old output.new }

@@ -1,6 +1,8 @@
 //! The brackets of a text that are open.
 
-ghost use Rattle.std.specs.Prelude.{[], ◌≡◌, IfSome, List, OnOk};
+ghost use Rattle.std.specs.Prelude.{[], ◌≡◌, IfSome, List, OnOk, true};
+ghost use Rattle.markdown_options.specs.declared.Constructs.{Constructs};
+ghost use Rattle.markdown_text.specs.Constructs.{AreBracketsOn, is_form_on};
 ghost use Rattle.markdown_text.specs.Reached.{AreOpen, IsOpen};
 ghost use Rattle.markdown_text.specs.declared.token.Token.{Token};
 
@@ -72,7 +74,8 @@ impl Brackets {
 
     /// Opens a bracket. The only error is that memory ran out.
     pub fn push(&mut self, bracket: Bracket) -> Result<(), AllocError>
-        ensures { OnOk result ((tokens : List Token) → AreOpen tokens self.old.stack.items → IsOpen tokens bracket → AreOpen tokens self.new.stack.items) }
+        ensures opened { OnOk result ((tokens : List Token) → AreOpen tokens self.old.stack.items → IsOpen tokens bracket → AreOpen tokens self.new.stack.items) }
+        ensures on { (c : Constructs) → AreBracketsOn c self.old.stack.items → is_form_on c bracket.form ≡ true → AreBracketsOn c self.new.stack.items }
     {
         self.mark_outer();
         self.stack.push(bracket)?;
@@ -81,7 +84,8 @@ impl Brackets {
 
     /// Keeps that another bracket is opened in the innermost one.
     fn mark_outer(&mut self)
-        ensures { (tokens : List Token) → AreOpen tokens self.old.stack.items → AreOpen tokens self.new.stack.items }
+        ensures opened { (tokens : List Token) → AreOpen tokens self.old.stack.items → AreOpen tokens self.new.stack.items }
+        ensures on { (c : Constructs) → AreBracketsOn c self.old.stack.items → AreBracketsOn c self.new.stack.items }
     {
         if let Some(outer) = self.stack.last_mut() {
             outer.has_bracket = true;
@@ -92,6 +96,8 @@ impl Brackets {
     pub fn pop(&mut self) -> Option<Bracket>
         ensures left { (tokens : List Token) → AreOpen tokens self.old.stack.items → AreOpen tokens self.new.stack.items }
         ensures closed { (tokens : List Token) → AreOpen tokens self.old.stack.items → IfSome result (IsOpen tokens) }
+        ensures on { (c : Constructs) → AreBracketsOn c self.old.stack.items → AreBracketsOn c self.new.stack.items }
+        ensures form { (c : Constructs) → AreBracketsOn c self.old.stack.items → IfSome result (λ bracket. is_form_on c bracket.form ≡ true) }
     {
         let bracket = self.stack.pop()?;
         let left = self.stack.len();

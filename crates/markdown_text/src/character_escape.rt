@@ -1,8 +1,8 @@
 //! Character escapes (CommonMark).
 
-ghost use Rattle.std.specs.Prelude.{◌≡◌, ◌+◌, IfSome, OnOk, ◌<◌, length};
+ghost use Rattle.std.specs.Prelude.{◌≡◌, ◌+◌, IfSome, OnOk, ◌<◌, length, true};
 ghost use Rattle.markdown_text.specs.Contents.{IsAsciiPart};
-ghost use Rattle.markdown_text.specs.Outputs.{Stands, WritesTo, bytes_of, AtInlines, KeepsInlines};
+ghost use Rattle.markdown_text.specs.Outputs.{Stands, WritesTo, bytes_of, AtInlines, KeepsInlines, constructs_of};
 
 use crate::output::{Next, Output};
 use character_references::references::References;
@@ -26,6 +26,7 @@ pub fn write<R: References>(output: &mut Output<'_, '_, R>) -> Result<(), AllocE
     requires stands { Stands output.old }
     requires ascii { IsAsciiPart (bytes_of output.old) output.old.data (output.old.data + 2) }
     requires inlines { AtInlines output.old }
+    requires on { (constructs_of output.old).character_escape ≡ true }
     ensures given { output.new.writer.given ≡ output.old.writer.given }
     ensures writes { OnOk result (WritesTo output.old output.new (output.old.data + 2)) }
     ensures at { KeepsInlines result output.old output.new }

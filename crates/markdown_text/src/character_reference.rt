@@ -2,8 +2,10 @@
 
 ghost use Rattle.std.specs.Prelude.{◌≡◌, ◌≢◌, ◌≤◌, ◌<◌, ◌+◌, ◌-◌, ℕ, false, length, slice_index, slice_range, true, IfOk, IfSome, IsTrue, OnOk, List};
 ghost use Rattle.commonmark_syntax.specs.Cuts.{IsOfAscii, IsOfLine};
+ghost use Rattle.markdown_options.specs.declared.Constructs.{Constructs};
+ghost use Rattle.markdown_text.specs.Constructs.{is_found_on};
 ghost use Rattle.markdown_text.specs.Contents.{IsAsciiPart};
-ghost use Rattle.markdown_text.specs.Outputs.{Stands, WritesTo, bytes_of, AtInlines, AtStage, KeepsInlines, as_text, references_of};
+ghost use Rattle.markdown_text.specs.Outputs.{Stands, WritesTo, bytes_of, AtInlines, AtStage, KeepsInlines, as_text, references_of, constructs_of};
 ghost use Rattle.markdown_text.specs.Texts.{text_of};
 ghost use Rattle.markdown_text.specs.Tokens.{IsFound, IsOfString, marker, markers, IsReference};
 ghost use Rattle.event_writer.specs.Stages.{Enclosing, character_reference, character_reference_value};
@@ -168,6 +170,7 @@ pub fn scan<R: References>(
 ) -> Result<Option<Found>, AllocError>
     ensures kind { IfOk result (λ found. IfSome found (λ found. IsOfString found.kind)) }
     ensures found { IfOk result (λ found. IfSome found (λ found. IsFound (text_of text.now (R.text references.now) false) found.kind 0 found.size)) }
+    ensures on { IfOk result (λ found. IfSome found (λ found. (c : Constructs) → c.character_reference ≡ true → is_found_on c found.kind ≡ true)) }
 {
     let Some(form) = form_of(text) else {
         return Ok(None);
@@ -191,6 +194,7 @@ pub fn write<R: References>(
     requires stands { Stands output.old }
     requires reference { IsReference (as_text output.old (R.text (references_of output.old)) false) kind output.old.data end }
     requires inlines { AtInlines output.old }
+    requires on { (constructs_of output.old).character_reference ≡ true }
     ensures given { output.new.writer.given ≡ output.old.writer.given }
     ensures writes { OnOk result (WritesTo output.old output.new end) }
     ensures at { KeepsInlines result output.old output.new }

@@ -1,9 +1,9 @@
 //! Data (micromark): text that stands for itself, with the white space and the addresses of mail in it.
 
-ghost use Rattle.std.specs.Prelude.{Bool, List, OnOk, ◌<◌, ◌≡◌};
+ghost use Rattle.std.specs.Prelude.{Bool, List, OnOk, ◌<◌, ◌≡◌, true};
 ghost use Rattle.event_writer.specs.Stages.{Enclosing, inlines};
 ghost use Rattle.markdown_text.specs.Contents.{IsPart};
-ghost use Rattle.markdown_text.specs.Outputs.{AtInlines, IsFlushed, KeepsInlines, Stands, WritesTo, bytes_of};
+ghost use Rattle.markdown_text.specs.Outputs.{AtInlines, IsFlushed, KeepsInlines, Stands, WritesTo, bytes_of, constructs_of};
 ghost use Rattle.markdown_text.specs.Standings.{IsAt};
 ghost use Rattle.markdown_text.specs.declared.output.Next.TheVariants.{LineEnding};
 
@@ -51,6 +51,7 @@ fn write_break<R: References>(
     requires part { IsPart (bytes_of output.old) output.old.at end }
     requires next { output.old.at < end → next ≡ LineEnding }
     requires inlines { AtInlines output.old }
+    requires on { output.old.at < end → (constructs_of output.old).hard_break_trailing ≡ true }
     ensures given { output.new.writer.given ≡ output.old.writer.given }
     ensures writes { OnOk result (WritesTo output.old output.new end) }
     ensures at { (h : Bool) → (outer : List Enclosing) → IsAt output.old.writer (inlines h) outer → OnOk result (IsFlushed next output.new (inlines h) outer) }

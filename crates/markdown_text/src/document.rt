@@ -2,9 +2,12 @@
 
 ghost use Rattle.std.specs.Prelude.{Bool, IfOk, List, [], false, true, ◌≡◌};
 ghost use Rattle.event_writer.specs.Stages.{Enclosing, flow, inlines};
+ghost use Rattle.markdown_options.specs.Spans.{AreOn};
+ghost use Rattle.markdown_pieces.specs.Spans.{AreOn as ArePiecesOn};
 ghost use Rattle.markdown_pieces.specs.Tilings.{Tiles, end_from};
 ghost use Rattle.markdown_pieces.specs.Walks.{Walks, start};
 ghost use Rattle.markdown_text.specs.Contents.{IsContent, joined, spot};
+ghost use Rattle.markdown_text.specs.Spans.{IsWithin};
 ghost use Rattle.markdown_text.specs.Standings.{IsAt};
 ghost use Rattle.markdown_text.specs.Tasks.{BeginsContent, IsAtContent, next_task_place};
 ghost use Rattle.markdown_text.specs.declared.document.TaskPlace.TheVariants.{InParagraph};
@@ -58,9 +61,12 @@ pub fn write<'c, 'd, R: References>(
     requires tiles { Tiles reading.now.document.now (spot writer.cursor) pieces.now (end_from (spot writer.cursor) pieces.now) }
     requires nest { Walks start pieces.now start }
     requires root { IsAt writer (flow false) [] }
+    requires on { ArePiecesOn reading.now.options.constructs pieces.now }
+    requires events { AreOn reading.now.options.constructs writer.events }
     ensures given { IfOk result (λ written. written.given ≡ writer.entry.given) }
     ensures end { IfOk result (λ written. spot written.cursor ≡ end_from (spot writer.entry.cursor) pieces.now) }
     ensures root { IfOk result (λ written. IsAt written (flow false) []) }
+    ensures options { IfOk result (λ written. AreOn reading.now.options.constructs written.events) }
 {
     let mut writer = writer;
     let mut rest = pieces;
@@ -110,7 +116,8 @@ impl TaskPlace {
 
 /// Whether a content at a place may begin with the mark of a task.
 fn may_be_task(options: &ParseOptions, place: TaskPlace) -> bool
-    ensures { result ≡ true → place ≡ InParagraph }
+    ensures place { result ≡ true → place ≡ InParagraph }
+    ensures on { result ≡ true → options.now.constructs.gfm_task_list_item ≡ true }
 {
     options.constructs.gfm_task_list_item && place == TaskPlace::InParagraph
 }
@@ -149,9 +156,11 @@ fn inlines<'c, 'd, R: References>(
     requires content { IsContent pieces.now }
     requires tiles { Tiles writer.given.bytes (spot writer.cursor) pieces.now (end_from (spot writer.cursor) pieces.now) }
     requires begins { BeginsContent place writer }
+    requires within { IsWithin reading.now.options.constructs writer }
     ensures given { IfOk result (λ written. written.given ≡ writer.entry.given) }
     ensures end { IfOk result (λ written. spot written.cursor ≡ end_from (spot writer.entry.cursor) pieces.now) }
     ensures at { (h : Bool) → (outer : List Enclosing) → IsAtContent place writer.entry h outer → IfOk result (λ written. IsAt written (inlines h) outer) }
+    ensures within { IfOk result (λ written. IsWithin reading.now.options.constructs written) }
 {
     let document = reading.document;
     let start = writer.cursor().index;
@@ -182,9 +191,11 @@ fn inlines_of<'c, 'd, R: References>(
     requires tiles { Tiles writer.given.bytes (spot writer.cursor) pieces.now (end_from (spot writer.cursor) pieces.now) }
     requires bytes { bytes.now ≡ joined writer.given.bytes writer.cursor.index pieces.now }
     requires begins { BeginsContent place writer }
+    requires within { IsWithin reading.now.options.constructs writer }
     ensures given { IfOk result (λ written. written.given ≡ writer.entry.given) }
     ensures end { IfOk result (λ written. spot written.cursor ≡ end_from (spot writer.entry.cursor) pieces.now) }
     ensures at { (h : Bool) → (outer : List Enclosing) → IsAtContent place writer.entry h outer → IfOk result (λ written. IsAt written (inlines h) outer) }
+    ensures within { IfOk result (λ written. IsWithin reading.now.options.constructs written) }
 {
     let source = Source {
         reading,

@@ -1,8 +1,10 @@
 //! Autolink literals that begin with `www.`, `http://`, `https://` or `ftp://` (GFM).
 
-ghost use Rattle.std.specs.Prelude.{◌≡◌, ◌≤◌, ◌<◌, ◌+◌, ◌⊎◌, IfSome, IsTrue, length};
+ghost use Rattle.std.specs.Prelude.{◌≡◌, ◌≤◌, ◌<◌, ◌+◌, ◌⊎◌, IfSome, IsTrue, length, true};
 ghost use Rattle.commonmark_syntax.specs.Cuts.{IsInLine};
 ghost use Rattle.markdown_events.specs.declared.event.Name.TheVariants.{GfmAutolinkLiteralProtocol, GfmAutolinkLiteralWww};
+ghost use Rattle.markdown_options.specs.declared.Constructs.{Constructs};
+ghost use Rattle.markdown_text.specs.Constructs.{is_found_on};
 ghost use Rattle.markdown_text.specs.Texts.{bare};
 ghost use Rattle.markdown_text.specs.Tokens.{IsFound};
 
@@ -18,7 +20,8 @@ use markdown_events::event::Name;
 /// Where a domain is refused for an underscore, `barred` becomes the offset of that. A domain that begins
 /// before it is refused, too, and is not read again, so that all searches together are linear.
 pub fn scan(cursor: Cursor<'_>, in_bracket: bool, barred: &mut usize) -> Option<Found>
-    ensures { IfSome result (λ found. IsFound (bare cursor.entry.content.now) found.kind cursor.entry.at (cursor.entry.at + found.size)) }
+    ensures found { IfSome result (λ found. IsFound (bare cursor.entry.content.now) found.kind cursor.entry.at (cursor.entry.at + found.size)) }
+    ensures on { IfSome result (λ found. (c : Constructs) → c.gfm_autolink_literal ≡ true → is_found_on c found.kind ≡ true) }
 {
     let start = start_length(cursor.rest())?;
     if !may_stand_before(cursor.before().last().copied()) {

@@ -1,10 +1,10 @@
 //! Autolink literals that are addresses of mail (GFM), which are found in data.
 
-ghost use Rattle.std.specs.Prelude.{IfSome, IsTrue, OnOk, length, slice_index, slice_range, ℕ, ◌≡◌, ◌≤◌, ◌<◌};
+ghost use Rattle.std.specs.Prelude.{IfSome, IsTrue, OnOk, length, slice_index, slice_range, ℕ, ◌≡◌, ◌≤◌, ◌<◌, true};
 ghost use Rattle.commonmark_syntax.specs.Cuts.{IsCut};
 ghost use Rattle.markdown_text.specs.Addresses.{IsAddress, IsAddressName};
 ghost use Rattle.markdown_text.specs.Contents.{IsPart};
-ghost use Rattle.markdown_text.specs.Outputs.{AtInlines, GoesOn, KeepsInlines, Stands, WritesTo, bytes_of};
+ghost use Rattle.markdown_text.specs.Outputs.{AtInlines, GoesOn, KeepsInlines, Stands, WritesTo, bytes_of, constructs_of};
 
 use crate::output::Output;
 use character_references::references::References;
@@ -28,6 +28,7 @@ pub fn write<R: References>(output: &mut Output<'_, '_, R>, end: usize) -> Resul
     requires stands { Stands output.old }
     requires part { IsPart (bytes_of output.old) output.old.at end }
     requires inlines { AtInlines output.old }
+    requires on { (constructs_of output.old).gfm_autolink_literal ≡ true }
     ensures given { output.new.writer.given ≡ output.old.writer.given }
     ensures writes { OnOk result (WritesTo output.old output.new end) }
     ensures at { KeepsInlines result output.old output.new }
@@ -49,6 +50,7 @@ fn write_address<R: References>(
     requires stands { Stands output.old }
     requires address { (end : ℕ) × IsPart (bytes_of output.old) output.old.at end × IsAddress (slice_range (bytes_of output.old) output.old.at end) address.now }
     requires inlines { AtInlines output.old }
+    requires on { (constructs_of output.old).gfm_autolink_literal ≡ true }
     ensures given { output.new.writer.given ≡ output.old.writer.given }
     ensures goes_on { OnOk result (GoesOn output.old output.new) }
     ensures left { (end : ℕ) → IsPart (bytes_of output.old) output.old.at end → IsAddress (slice_range (bytes_of output.old) output.old.at end) address.now → OnOk result (IsPart (bytes_of output.new) output.new.at end) }

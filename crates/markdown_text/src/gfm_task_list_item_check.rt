@@ -1,7 +1,9 @@
 //! The mark of a task (GFM), at the start of the first paragraph of an item.
 
 ghost use Rattle.std.specs.Prelude.{◌≡◌, ◌+◌, IfSome, OnOk, true, ◌⊎◌, false};
-ghost use Rattle.markdown_text.specs.Outputs.{Stands, WritesTo, bytes_of, AtStage, Leads};
+ghost use Rattle.markdown_options.specs.declared.Constructs.{Constructs};
+ghost use Rattle.markdown_text.specs.Constructs.{is_found_on};
+ghost use Rattle.markdown_text.specs.Outputs.{Stands, WritesTo, bytes_of, AtStage, Leads, constructs_of};
 ghost use Rattle.markdown_text.specs.Texts.{no_values, text_of};
 ghost use Rattle.event_writer.specs.Stages.{inlines, task};
 ghost use Rattle.markdown_events.specs.declared.event.Name.TheVariants.{GfmTaskListItemValueChecked, GfmTaskListItemValueUnchecked};
@@ -18,7 +20,8 @@ use std::alloc::AllocError;
 
 /// The mark of a task that a text begins with. White space comes after it, and then more of the text.
 pub fn scan(text: &[u8]) -> Option<Found>
-    ensures { IfSome result (λ found. IsFound (text_of text.now no_values true) found.kind 0 found.size) }
+    ensures found { IfSome result (λ found. IsFound (text_of text.now no_values true) found.kind 0 found.size) }
+    ensures on { IfSome result (λ found. (c : Constructs) → c.gfm_task_list_item ≡ true → is_found_on c found.kind ≡ true) }
 {
     let [b'[', value, b']', rest @ ..] = text else {
         return None;
@@ -40,6 +43,7 @@ pub fn write<R: References>(
     requires none_waits { output.old.data ≡ 0 }
     requires enclosed { IsEnclosed (bytes_of output.old) 1 0 3 }
     requires at { AtStage output.old task }
+    requires on { (constructs_of output.old).gfm_task_list_item ≡ true }
     ensures given { output.new.writer.given ≡ output.old.writer.given }
     ensures writes { OnOk result (WritesTo output.old output.new 3) }
     ensures at { Leads result task (inlines false) output.old output.new }

@@ -1,8 +1,8 @@
 //! Hard breaks by a backslash (CommonMark).
 
-ghost use Rattle.std.specs.Prelude.{Some, slice_get, ◌≡◌, ◌≤◌, ◌<◌, ◌+◌, length, IfSome, OnOk};
+ghost use Rattle.std.specs.Prelude.{Some, slice_get, ◌≡◌, ◌≤◌, ◌<◌, ◌+◌, length, IfSome, OnOk, true};
 ghost use Rattle.markdown_text.specs.Contents.{IsAsciiPart};
-ghost use Rattle.markdown_text.specs.Outputs.{AtInlines, KeepsInlines, Stands, WritesTo, bytes_of};
+ghost use Rattle.markdown_text.specs.Outputs.{AtInlines, KeepsInlines, Stands, WritesTo, bytes_of, constructs_of};
 
 use crate::output::{Next, Output};
 use character_references::references::References;
@@ -27,6 +27,7 @@ pub fn write<R: References>(output: &mut Output<'_, '_, R>) -> Result<(), AllocE
     requires backslash { IsAsciiPart (bytes_of output.old) output.old.data (output.old.data + 1) }
     requires feed { slice_get (bytes_of output.old) (output.old.data + 1) ≡ Some 10 }
     requires inlines { AtInlines output.old }
+    requires on { (constructs_of output.old).hard_break_escape ≡ true }
     ensures given { output.new.writer.given ≡ output.old.writer.given }
     ensures writes { OnOk result (WritesTo output.old output.new (output.old.data + 2)) }
     ensures at { KeepsInlines result output.old output.new }

@@ -1,8 +1,8 @@
 //! HTML in a text (CommonMark): tags, comments, instructions, declarations and CDATA sections.
 
-ghost use Rattle.std.specs.Prelude.{◌≡◌, ◌<◌, IfSome, OnOk, length};
+ghost use Rattle.std.specs.Prelude.{◌≡◌, ◌<◌, IfSome, OnOk, length, true};
 ghost use Rattle.markdown_text.specs.Contents.{IsRange};
-ghost use Rattle.markdown_text.specs.Outputs.{Stands, WritesTo, bytes_of, AtInlines, KeepsInlines};
+ghost use Rattle.markdown_text.specs.Outputs.{Stands, WritesTo, bytes_of, AtInlines, KeepsInlines, constructs_of};
 
 use crate::output::{Next, Output};
 use character_references::references::References;
@@ -82,6 +82,7 @@ pub fn write<R: References>(output: &mut Output<'_, '_, R>, end: usize) -> Resul
     requires stands { Stands output.old }
     requires range { IsRange (bytes_of output.old) output.old.data end }
     requires inlines { AtInlines output.old }
+    requires on { (constructs_of output.old).html_text ≡ true }
     ensures given { output.new.writer.given ≡ output.old.writer.given }
     ensures writes { OnOk result (WritesTo output.old output.new end) }
     ensures at { KeepsInlines result output.old output.new }

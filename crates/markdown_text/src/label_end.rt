@@ -1,6 +1,7 @@
 //! The end of a label (micromark), and what comes after it: a resource or a reference.
 
-ghost use Rattle.std.specs.Prelude.{◌≡◌, ◌≢◌, ◌≤◌, ◌<◌, ◌+◌, ◌-◌, IfOk, IfSome, OnOk, length};
+ghost use Rattle.std.specs.Prelude.{◌≡◌, ◌≢◌, ◌≤◌, ◌<◌, ◌+◌, ◌-◌, IfOk, IfSome, OnOk, length, true};
+ghost use Rattle.markdown_text.specs.Constructs.{is_form_on, is_label_on};
 ghost use Rattle.markdown_text.specs.Contents.{IsPart, IsRange};
 ghost use Rattle.markdown_text.specs.Cursors.{byte_at};
 ghost use Rattle.markdown_text.specs.Outputs.{Stands, WritesTo, bytes_of, AtStage, Leads};
@@ -45,9 +46,12 @@ pub fn scan<R: References>(
     cursor: Cursor<'_>,
     bracket: &Bracket,
 ) -> Result<Option<Match>, AllocError>
-    requires { byte_at cursor ≡ 93 }
+    requires byte { byte_at cursor ≡ 93 }
+    requires form { is_form_on source.now.reading.now.options.constructs bracket.now.form ≡ true }
+    requires end { source.now.reading.now.options.constructs.label_end ≡ true }
     ensures labelled { IfOk result (λ found. IfSome found (λ found. label_start found.labelled ≤ form_size bracket.now.form)) }
     ensures found { IfOk result (λ found. IfSome found (λ found. IsToken (bare cursor.entry.content.now) (LabelEnd found.labelled found.target) cursor.entry.at (cursor.entry.at + found.size))) }
+    ensures on { IfOk result (λ found. IfSome found (λ found. is_label_on source.now.reading.now.options.constructs found.labelled ≡ true)) }
 {
     let label = after(after(cursor.before(), bracket.start), bracket.form.prefix());
     let is_footnote = bracket.form == LabelForm::Footnote
@@ -73,8 +77,11 @@ pub fn scan<R: References>(
 
 /// What a bracket of this form begins, where it is no call of a footnote.
 fn labelled(form: LabelForm, constructs: &Constructs) -> Option<Labelled>
+    requires form { is_form_on constructs.now form ≡ true }
+    requires end { constructs.now.label_end ≡ true }
     ensures other { IfSome result (λ labelled. labelled ≢ FootnoteCall) }
     ensures size { IfSome result (λ labelled. label_start labelled ≤ form_size form) }
+    ensures on { IfSome result (λ labelled. is_label_on constructs.now labelled ≡ true) }
 {
     match form {
         LabelForm::Image => Some(Labelled::Image),

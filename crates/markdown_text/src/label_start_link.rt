@@ -1,9 +1,10 @@
 //! The start of the label of a link (CommonMark).
 
-ghost use Rattle.std.specs.Prelude.{◌≡◌, ◌≤◌, ◌<◌, length, IfSome, ◌+◌, OnOk};
+ghost use Rattle.std.specs.Prelude.{◌≡◌, ◌≤◌, ◌<◌, length, IfSome, ◌+◌, OnOk, true};
+ghost use Rattle.markdown_text.specs.Constructs.{is_label_on};
 ghost use Rattle.markdown_text.specs.Contents.{IsAsciiPart};
 ghost use Rattle.markdown_text.specs.Opens.{BeginsLabel};
-ghost use Rattle.markdown_text.specs.Outputs.{AtInlines, Stands, WritesTo, bytes_of};
+ghost use Rattle.markdown_text.specs.Outputs.{AtInlines, Stands, WritesTo, bytes_of, constructs_of};
 ghost use Rattle.markdown_text.specs.declared.token.Labelled.TheVariants.{Link};
 
 use crate::output::{Next, Output};
@@ -16,6 +17,7 @@ use std::alloc::AllocError;
 pub fn scan(text: &[u8], constructs: &Constructs) -> Option<usize>
     ensures size { IfSome result (λ size. size ≡ 1) }
     ensures ascii { IfSome result (λ size. IsAsciiPart text.now 0 size) }
+    ensures on { IfSome result (λ _. constructs.now.label_start_link ≡ true) }
 {
     match text {
         [b'[', ..] if constructs.label_start_link => Some(1),
@@ -28,6 +30,7 @@ pub fn write<R: References>(output: &mut Output<'_, '_, R>) -> Result<(), AllocE
     requires stands { Stands output.old }
     requires ascii { IsAsciiPart (bytes_of output.old) output.old.data (output.old.data + 1) }
     requires inlines { AtInlines output.old }
+    requires on { is_label_on (constructs_of output.old) Link ≡ true }
     ensures given { output.new.writer.given ≡ output.old.writer.given }
     ensures writes { OnOk result (WritesTo output.old output.new (output.old.data + 1)) }
     ensures at { BeginsLabel result Link output.old output.new }

@@ -5,9 +5,11 @@ ghost use Rattle.event_writer.specs.Stages.{Enclosing, Stage, character_referenc
 ghost use Rattle.markdown_events.specs.Names.{role_of};
 ghost use Rattle.markdown_events.specs.declared.event.Name.{Name};
 ghost use Rattle.markdown_events.specs.declared.event.Name.TheVariants.{SpaceOrTab};
+ghost use Rattle.markdown_options.specs.Spans.{is_on};
 ghost use Rattle.markdown_pieces.specs.Walks.{inside};
 ghost use Rattle.markdown_text.specs.Contents.{IsPart, IsRange};
 ghost use Rattle.markdown_text.specs.Outputs.{AtInlines, IsFlushed, KeepsInlines, MayDecode, MayFill, MayFillLines, MayPut, MayWriteString, after_plain, after_string, references_of};
+ghost use Rattle.markdown_text.specs.Spans.{IsWithin};
 ghost use Rattle.markdown_text.specs.Standings.{IsAt, IsSomewhere, MayEndLine, MayEnter, MayExit, StandsIn, after_line, is_hard_break};
 ghost use Rattle.markdown_text.specs.declared.output.Next.TheVariants.{LineEnding};
 
@@ -67,7 +69,7 @@ pub struct Output<'c, 'd, R: References> {
 impl<'c, 'd, R: References> Output<'c, 'd, R> {
     ghost use Rattle.markdown_pieces.specs.Tilings.{Tiles, end_from};
     ghost use Rattle.markdown_text.specs.Contents.{IsContent, joined, spot};
-    ghost use Rattle.markdown_text.specs.Outputs.{GoesOn, Stands, WritesTo, bytes_of, content_end, document_of};
+    ghost use Rattle.markdown_text.specs.Outputs.{GoesOn, Stands, WritesTo, bytes_of, constructs_of, content_end, document_of};
 
     /// The start of a content, which is at the cursor of the writer. `pieces` are those of the block structure.
     pub fn new(
@@ -82,10 +84,12 @@ impl<'c, 'd, R: References> Output<'c, 'd, R> {
         requires tiles { Tiles writer.given.bytes (spot writer.cursor) pieces.now (end_from (spot writer.cursor) pieces.now) }
         requires bytes { source.now.bytes.now ≡ joined writer.given.bytes writer.cursor.index pieces.now }
         requires stage { IsSomewhere writer }
+        requires within { IsWithin source.now.reading.now.options.constructs writer }
         ensures given { IfOk result (λ output. output.writer.given ≡ writer.entry.given) }
         ensures stands { IfOk result (λ output. Stands output) }
         ensures document { IfOk result (λ output. document_of output ≡ source.now.reading.now.document.now) }
         ensures references { IfOk result (λ output. references_of output ≡ source.now.reading.now.references.now) }
+        ensures constructs { IfOk result (λ output. constructs_of output ≡ source.now.reading.now.options.constructs) }
         ensures bytes { IfOk result (λ output. bytes_of output ≡ source.now.bytes.now) }
         ensures end { IfOk result (λ output. content_end output ≡ end_from (spot writer.entry.cursor) pieces.now) }
         ensures at { IfOk result (λ output. output.at ≡ 0) }
@@ -196,6 +200,7 @@ impl<'c, 'd, R: References> Output<'c, 'd, R> {
         requires stands { Stands self.old }
         requires none_waits { self.old.data ≡ self.old.at }
         requires may { MayEnter self.old.writer name }
+        requires on { is_on (constructs_of self.old) name ≡ true }
         ensures given { self.new.writer.given ≡ self.old.writer.given }
         ensures writes { OnOk result (WritesTo self.old self.new self.old.at) }
         ensures stage { (a : Stage) → (outer : List Enclosing) → IsAt self.old.writer a outer → OnOk result (IfSome (entered a (role_of name)) (λ b. IsAt self.new.writer b (inside name a outer))) }
@@ -223,6 +228,7 @@ impl<'c, 'd, R: References> Output<'c, 'd, R> {
         requires filled { 0 < size }
         requires part { IsPart (bytes_of self.old) self.old.at (self.old.at + size) }
         requires may { MayPut self.old name }
+        requires on { is_on (constructs_of self.old) name ≡ true }
         ensures given { self.new.writer.given ≡ self.old.writer.given }
         ensures writes { OnOk result (WritesTo self.old self.new (self.old.at + size)) }
         ensures whole { OnOk result (self.new.writer.cursor.vs ≡ 0) }
@@ -237,6 +243,7 @@ impl<'c, 'd, R: References> Output<'c, 'd, R> {
         requires filled { self.old.at < end }
         requires part { IsPart (bytes_of self.old) self.old.at end }
         requires may { MayPut self.old name }
+        requires on { is_on (constructs_of self.old) name ≡ true }
         ensures given { self.new.writer.given ≡ self.old.writer.given }
         ensures writes { OnOk result (WritesTo self.old self.new end) }
         ensures whole { OnOk result (self.new.writer.cursor.vs ≡ 0) }
@@ -268,6 +275,7 @@ impl<'c, 'd, R: References> Output<'c, 'd, R> {
         requires stands { Stands self.old }
         requires part { IsPart (bytes_of self.old) self.old.at end }
         requires may { MayFill self.old name }
+        requires on { is_on (constructs_of self.old) name ≡ true }
         ensures given { self.new.writer.given ≡ self.old.writer.given }
         ensures writes { OnOk result (WritesTo self.old self.new end) }
         ensures stage { (a : Stage) → (outer : List Enclosing) → after_plain a name ≡ Some a → IsAt self.old.writer a outer → OnOk result (IsAt self.new.writer a outer) }
@@ -286,6 +294,7 @@ impl<'c, 'd, R: References> Output<'c, 'd, R> {
         requires part { IsPart (bytes_of self.old) self.old.at end }
         requires name { is_hard_break (role_of name) ≡ true }
         requires inlines { AtInlines self.old }
+        requires on { self.old.at < end → is_on (constructs_of self.old) name ≡ true }
         ensures given { self.new.writer.given ≡ self.old.writer.given }
         ensures writes { OnOk result (WritesTo self.old self.new end) }
         ensures stage { (h : Bool) → (outer : List Enclosing) → IsAt self.old.writer (inlines h) outer → OnOk result (IsFlushed LineEnding self.new (inlines h) outer) }
@@ -337,6 +346,7 @@ impl<'c, 'd, R: References> Output<'c, 'd, R> {
         requires none_waits { self.old.data ≡ self.old.at }
         requires feed { slice_get (bytes_of self.old) self.old.at ≡ Some 10 }
         requires may { MayEndLine (R.text self.old.writer.given.references) self.old.writer name }
+        requires on { is_on (constructs_of self.old) name ≡ true }
         ensures given { self.new.writer.given ≡ self.old.writer.given }
         ensures writes { OnOk result (WritesTo self.old self.new (self.old.at + 1)) }
         ensures stage { (waits : Bool) → (a : Stage) → (outer : List Enclosing) → StandsIn waits self.old.writer a outer → OnOk result (IfSome (after_line waits a (role_of name)) (λ b. IsAt self.new.writer b outer)) }
@@ -358,6 +368,7 @@ impl<'c, 'd, R: References> Output<'c, 'd, R> {
         requires none_waits { self.old.data ≡ self.old.at }
         requires range { IsRange (bytes_of self.old) self.old.at end }
         requires may { MayFillLines self.old name }
+        requires on { is_on (constructs_of self.old) name ≡ true }
         ensures given { self.new.writer.given ≡ self.old.writer.given }
         ensures writes { OnOk result (WritesTo self.old self.new end) }
         ensures stage { (a : Stage) → (outer : List Enclosing) → after_plain a name ≡ Some a → takes_line_endings a ≡ true → IsAt self.old.writer a outer → OnOk result (IsAt self.new.writer a outer) }
@@ -375,6 +386,7 @@ impl<'c, 'd, R: References> Output<'c, 'd, R> {
         requires range { IsRange (bytes_of self.old) self.old.at end }
         requires filled { self.old.at < end }
         requires may { MayFillLines self.old name }
+        requires on { is_on (constructs_of self.old) name ≡ true }
         ensures given { self.new.writer.given ≡ self.old.writer.given }
         ensures stage { (a : Stage) → (outer : List Enclosing) → after_plain a name ≡ Some a → takes_line_endings a ≡ true → IsAt self.old.writer a outer → OnOk result (IsAt self.new.writer a outer) }
         ensures goes_on { OnOk result (GoesOn self.old self.new) }
@@ -430,6 +442,7 @@ impl<'c, 'd, R: References> Output<'c, 'd, R> {
         requires none_waits { self.old.data ≡ self.old.at }
         requires range { IsRange (bytes_of self.old) self.old.at end }
         requires may { MayWriteString self.old name }
+        requires on { is_on (constructs_of self.old) name ≡ true }
         ensures given { self.new.writer.given ≡ self.old.writer.given }
         ensures writes { OnOk result (WritesTo self.old self.new end) }
         ensures stage { (a : Stage) → (outer : List Enclosing) → IsAt self.old.writer a outer → OnOk result (IfSome (after_string a name) (λ b. IsAt self.new.writer b outer)) }
@@ -468,6 +481,7 @@ impl<'c, 'd, R: References> Output<'c, 'd, R> {
         requires inlines { AtInlines self }
         ensures given { IfOk result (λ writer. writer.given ≡ self.entry.writer.given) }
         ensures end { IfOk result (λ writer. spot writer.cursor ≡ content_end self.entry) }
+        ensures within { IfOk result (λ writer. IsWithin (constructs_of self.entry) writer) }
         ensures stage { (h : Bool) → (outer : List Enclosing) → IsAt self.entry.writer (inlines h) outer → IfOk result (λ writer. IsAt writer (inlines h) outer) }
     {
         self.flush(Next::End)?;

@@ -5,10 +5,13 @@ ghost use Rattle.std.specs.Str.{IsCharBoundary};
 ghost use Rattle.commonmark_syntax.specs.Cuts.{IsCut};
 ghost use Rattle.event_writer.specs.Calls.{CanReach};
 ghost use Rattle.event_writer.specs.Stages.{Enclosing, Stage};
+ghost use Rattle.markdown_options.specs.declared.Constructs.{Constructs};
+ghost use Rattle.markdown_pieces.specs.Spans.{IsOn};
 ghost use Rattle.markdown_pieces.specs.Tilings.{Goes, Tiles, end_from, end_of, point};
 ghost use Rattle.markdown_pieces.specs.Walks.{State, Steps};
 ghost use Rattle.markdown_pieces.specs.declared.piece.PieceKind.TheVariants.{BlockQuotePrefix, Text};
 ghost use Rattle.markdown_text.specs.Contents.{IsContent, IsLeft, joined, left, spot, whole};
+ghost use Rattle.markdown_text.specs.Spans.{IsWithin};
 ghost use Rattle.markdown_text.specs.Standings.{IsAt, IsSomewhere, MayStep};
 
 use crate::calls;
@@ -49,6 +52,7 @@ pub fn write_to_text<'c, R: References>(
     ensures end { IfOk result (λ lines. end_from (whole lines.end) lines.later.now ≡ end_from (spot writer.old.cursor) pieces.now) }
     ensures cut { IfOk result (λ lines. IsCut writer.old.given.bytes lines.end) }
     ensures at { (a : Stage) → (outer : List Enclosing) → IsAt writer.old a outer → OnOk result (IsAt writer.new a outer) }
+    ensures within { (c : Constructs) → IsWithin c writer.old → OnOk result (IsWithin c writer.new) }
 {
     let mut rest = pieces;
     'pieces: while let Some((piece, later)) = rest.split_first() {
@@ -75,6 +79,7 @@ pub fn write_piece<R: References>(
     ensures given { writer.new.given ≡ writer.old.given }
     ensures spot { OnOk result (spot writer.new.cursor ≡ end_of piece.now) }
     ensures at { (s t : State) → Steps piece.now.kind s t → IsAt writer.old s.stage s.outer → OnOk result (IsAt writer.new t.stage t.outer) }
+    ensures within { (c : Constructs) → IsOn c piece.now.kind → IsWithin c writer.old → OnOk result (IsWithin c writer.new) }
 {
     let end = piece.end;
     match piece.kind {
@@ -102,6 +107,7 @@ fn write_block_quote_prefix<R: References>(
     ensures given { writer.new.given ≡ writer.old.given }
     ensures spot { OnOk result (spot writer.new.cursor ≡ record { offset = end; virtual_spaces = virtual_spaces }) }
     ensures at { (a : Stage) → (outer : List Enclosing) → IsAt writer.old a outer → OnOk result (IsAt writer.new a outer) }
+    ensures within { (c : Constructs) → IsWithin c writer.old → OnOk result (IsWithin c writer.new) }
 {
     calls::enter(writer, Name::BlockQuotePrefix)?;
     let marker_end = writer.cursor().index + 1;
@@ -123,6 +129,7 @@ fn write_space<R: References>(
     ensures given { writer.new.given ≡ writer.old.given }
     ensures spot { OnOk result (spot writer.new.cursor ≡ record { offset = to; virtual_spaces = virtual_spaces }) }
     ensures at { (a : Stage) → (outer : List Enclosing) → IsAt writer.old a outer → OnOk result (IsAt writer.new a outer) }
+    ensures within { (c : Constructs) → IsWithin c writer.old → OnOk result (IsWithin c writer.new) }
 {
     let cursor = writer.cursor();
     if cursor.index == to && cursor.vs == virtual_spaces {

@@ -1,8 +1,8 @@
 //! Raw text (micromark): code between backticks (CommonMark), and math between dollars.
 
-ghost use Rattle.std.specs.Prelude.{◌≡◌, ◌≢◌, ◌<◌, ◌+◌, IfOk, IfSome, OnOk, ◌-◌, length};
+ghost use Rattle.std.specs.Prelude.{◌≡◌, ◌≢◌, ◌<◌, ◌+◌, IfOk, IfSome, OnOk, ◌-◌, length, true};
 ghost use Rattle.markdown_text.specs.Contents.{IsAsciiPart};
-ghost use Rattle.markdown_text.specs.Outputs.{Stands, WritesTo, bytes_of, AtInlines, KeepsInlines};
+ghost use Rattle.markdown_text.specs.Outputs.{Stands, WritesTo, bytes_of, AtInlines, KeepsInlines, constructs_of};
 ghost use Rattle.markdown_text.specs.Tokens.{IsEnclosed};
 
 use crate::cursor::Cursor;
@@ -121,6 +121,7 @@ pub fn write_code<R: References>(
     requires filled { 0 < sequence }
     requires enclosed { IsEnclosed (bytes_of output.old) sequence output.old.data end }
     requires inlines { AtInlines output.old }
+    requires on { (constructs_of output.old).code_text ≡ true }
     ensures given { output.new.writer.given ≡ output.old.writer.given }
     ensures writes { OnOk result (WritesTo output.old output.new end) }
     ensures at { KeepsInlines result output.old output.new }
@@ -143,6 +144,7 @@ pub fn write_math<R: References>(
     requires filled { 0 < sequence }
     requires enclosed { IsEnclosed (bytes_of output.old) sequence output.old.data end }
     requires inlines { AtInlines output.old }
+    requires on { (constructs_of output.old).math_text ≡ true }
     ensures given { output.new.writer.given ≡ output.old.writer.given }
     ensures writes { OnOk result (WritesTo output.old output.new end) }
     ensures at { KeepsInlines result output.old output.new }

@@ -1,10 +1,13 @@
 //! String content (micromark): escapes and character references, as in a label, a destination or a title.
 
-ghost use Rattle.std.specs.Prelude.{Bool, IfOk, IsFalse, IsTrue, List, OnOk, false, length, slice_index, ◌≡◌, ◌≤◌, ◌<◌, ◌≢◌};
+ghost use Rattle.std.specs.Prelude.{Bool, IfOk, IsFalse, IsTrue, List, OnOk, false, length, slice_index, ◌≡◌, ◌≤◌, ◌<◌, ◌≢◌, true};
 ghost use Rattle.event_writer.specs.Stages.{Enclosing, inlines};
+ghost use Rattle.markdown_options.specs.declared.Constructs.{Constructs};
 ghost use Rattle.markdown_pieces.specs.Tilings.{Tiles, end_from};
+ghost use Rattle.markdown_text.specs.Constructs.{is_found_on};
 ghost use Rattle.markdown_text.specs.Contents.{IsContent, IsPart, IsRange, joined, spot};
-ghost use Rattle.markdown_text.specs.Outputs.{AtInlines, BeginsText, GoesOn, KeepsInlines, Stands, as_text, bytes_of, references_of};
+ghost use Rattle.markdown_text.specs.Outputs.{AtInlines, BeginsText, GoesOn, KeepsInlines, Stands, as_text, bytes_of, references_of, constructs_of};
+ghost use Rattle.markdown_text.specs.Spans.{IsWithin};
 ghost use Rattle.markdown_text.specs.Standings.{IsAt};
 ghost use Rattle.markdown_text.specs.Texts.{bare, text_of};
 ghost use Rattle.markdown_text.specs.Tokens.{IsFound, IsOfString};
@@ -32,9 +35,11 @@ pub fn inlines<'c, 'd, R: References>(
     requires bytes { source.now.bytes.now ≡ joined writer.given.bytes writer.cursor.index pieces.now }
     requires references { writer.given.references ≡ source.now.reading.now.references.now }
     requires begins { BeginsText false writer }
+    requires within { IsWithin source.now.reading.now.options.constructs writer }
     ensures given { IfOk result (λ written. written.given ≡ writer.entry.given) }
     ensures end { IfOk result (λ written. spot written.cursor ≡ end_from (spot writer.entry.cursor) pieces.now) }
     ensures at { (h : Bool) → (outer : List Enclosing) → IsAt writer.entry (inlines h) outer → IfOk result (λ written. IsAt written (inlines h) outer) }
+    ensures within { IfOk result (λ written. IsWithin source.now.reading.now.options.constructs written) }
 {
     let mut output = Output::new(source, writer, pieces, ContentKind::String)?;
     write(&mut output, source.bytes.len())?;
@@ -68,6 +73,7 @@ fn scan<R: References>(source: &Source<'_, R>, text: &[u8]) -> Result<Found, All
     ensures most { IfOk result (λ found. found.size ≤ length text.now) }
     ensures kind { IfOk result (λ found. IsOfString found.kind) }
     ensures found { IfOk result (λ found. IsFound (text_of text.now (R.text source.now.reading.now.references.now) false) found.kind 0 found.size) }
+    ensures on { IfOk result (λ found. is_found_on source.now.reading.now.options.constructs found.kind ≡ true) }
 {
     let constructs = &source.reading.options.constructs;
     if text[0] == b'\n' {
@@ -105,6 +111,7 @@ fn escape_or_data(text: &[u8]) -> Found
     ensures most { result.size ≤ length text.now }
     ensures kind { IsOfString result.kind }
     ensures found { IsFound (bare text.now) result.kind 0 result.size }
+    ensures on { (c : Constructs) → c.character_escape ≡ true → is_found_on c result.kind ≡ true }
 {
     match character_escape::scan(text) {
         Some(size) => Found::token(TokenKind::CharacterEscape, size),
@@ -130,6 +137,7 @@ fn write_found<R: References>(
     requires found { IsFound (as_text output.old (R.text (references_of output.old)) false) found.kind output.old.data end }
     requires kind { IsOfString found.kind }
     requires inlines { AtInlines output.old }
+    requires on { is_found_on (constructs_of output.old) found.kind ≡ true }
     ensures given { output.new.writer.given ≡ output.old.writer.given }
     ensures goes_on { OnOk result (GoesOn output.old output.new) }
     ensures data_end { OnOk result (output.new.data ≡ end) }

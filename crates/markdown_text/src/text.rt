@@ -2,10 +2,13 @@
 
 ghost use Rattle.std.specs.Prelude.{Bool, false, [], ◌∷◌, ◌++◌, ◌≡◌, ◌↔◌, ◌⊎◌, ◌≤◌, ◌<◌, ◌+◌, IfOk, IfSome, List, OnOk, Some, length, slice_get, true, ◌-◌};
 ghost use Rattle.event_writer.specs.Stages.{Enclosing, inlines};
+ghost use Rattle.markdown_options.specs.Spans.{is_on};
 ghost use Rattle.markdown_pieces.specs.Tilings.{Tiles, end_from};
+ghost use Rattle.markdown_text.specs.Constructs.{AreDelimitersOn, AreTokensOn, is_delimiter_on, is_kind_on, is_label_on};
 ghost use Rattle.markdown_text.specs.Contents.{IsAsciiPart, IsContent, IsPart, joined, spot};
-ghost use Rattle.markdown_text.specs.Opens.{AtOpen, AtOpened, BeginsLabel, KeepsOpen, attention_size, opened};
-ghost use Rattle.markdown_text.specs.Outputs.{AtInlines, BeginsText, GoesOn, IsAtText, KeepsInlines, Stands, WritesTo, bytes_of, as_text, references_of};
+ghost use Rattle.markdown_text.specs.Opens.{AtOpen, AtOpened, BeginsLabel, KeepsOpen, attention_size, opened, group_name};
+ghost use Rattle.markdown_text.specs.Outputs.{AtInlines, BeginsText, GoesOn, IsAtText, KeepsInlines, Stands, WritesTo, bytes_of, as_text, references_of, constructs_of};
+ghost use Rattle.markdown_text.specs.Spans.{IsWithin};
 ghost use Rattle.markdown_text.specs.Standings.{IsAt};
 ghost use Rattle.markdown_text.specs.Tokens.{AreTokens, IsToken, label_start};
 ghost use Rattle.markdown_events.specs.declared.event.Name.TheVariants.{GfmAutolinkLiteralProtocol, GfmAutolinkLiteralWww};
@@ -53,9 +56,12 @@ pub fn inlines<'c, 'd, R: References>(
     requires tiles { Tiles writer.given.bytes (spot writer.cursor) pieces.now (end_from (spot writer.cursor) pieces.now) }
     requires bytes { source.now.bytes.now ≡ joined writer.given.bytes writer.cursor.index pieces.now }
     requires begins { BeginsText is_task writer }
+    requires task { is_task ≡ true → source.now.reading.now.options.constructs.gfm_task_list_item ≡ true }
+    requires within { IsWithin source.now.reading.now.options.constructs writer }
     ensures given { IfOk result (λ written. written.given ≡ writer.entry.given) }
     ensures end { IfOk result (λ written. spot written.cursor ≡ end_from (spot writer.entry.cursor) pieces.now) }
     ensures at { (h : Bool) → (outer : List Enclosing) → IsAtText is_task writer.entry h outer → IfOk result (λ written. IsAt written (inlines h) outer) }
+    ensures within { IfOk result (λ written. IsWithin source.now.reading.now.options.constructs written) }
 {
     let found = tokenize(source, is_task)?;
     let mut output = Output::new(source, writer, pieces, ContentKind::Text)?;
@@ -80,10 +86,12 @@ fn write_task<'t, R: References>(
     requires none_waits { output.old.at ≡ 0 }
     requires tokens { AreTokens (as_text output.old (R.text (references_of output.old)) is_task) 0 tokens.now }
     requires begins { BeginsText is_task output.old.writer }
+    requires on { AreTokensOn (constructs_of output.old) tokens.now }
     ensures given { output.new.writer.given ≡ output.old.writer.given }
     ensures goes_on { OnOk result (GoesOn output.old output.new) }
     ensures left { IfOk result (λ rest. AreTokens (as_text output.new (R.text (references_of output.new)) false) output.new.data rest.now) }
     ensures at { (h : Bool) → (outer : List Enclosing) → IsAtText is_task output.old.writer h outer → OnOk result (IsAt output.new.writer (inlines h) outer) }
+    ensures on { IfOk result (λ rest. AreTokensOn (constructs_of output.old) rest.now) }
 {
     if !is_task {
         return Ok(tokens);
@@ -108,6 +116,8 @@ fn write_tokens<R: References>(
     requires stands { Stands output.old }
     requires tokens { AreTokens (as_text output.old (R.text (references_of output.old)) false) output.old.data tokens.now }
     requires at { AtOpen output.old open.old.items }
+    requires on { AreTokensOn (constructs_of output.old) tokens.now }
+    requires delimiters { AreDelimitersOn (constructs_of output.old) delimiters.now }
     ensures given { output.new.writer.given ≡ output.old.writer.given }
     ensures goes_on { OnOk result (GoesOn output.old output.new) }
     ensures rest { OnOk result (IsPart (bytes_of output.new) output.new.data (length (bytes_of output.new))) }
@@ -134,11 +144,15 @@ fn write_next<'t, R: References>(
     requires token { IsToken (as_text output.old (R.text (references_of output.old)) false) token.now.kind token.now.start token.now.end }
     requires later { AreTokens (as_text output.old (R.text (references_of output.old)) false) token.now.end later.now }
     requires at { AtOpen output.old open.old.items }
+    requires delimiters { AreDelimitersOn (constructs_of output.old) delimiters.now }
+    requires on { is_kind_on (constructs_of output.old) token.now.kind ≡ true }
+    requires later_on { AreTokensOn (constructs_of output.old) later.now }
     ensures given { output.new.writer.given ≡ output.old.writer.given }
     ensures goes_on { OnOk result (GoesOn output.old output.new) }
     ensures left { IfOk result (λ rest. AreTokens (as_text output.new (R.text (references_of output.new)) false) output.new.data rest.now) }
     ensures shorter { IfOk result (λ rest. length rest.now ≤ length later.now) }
     ensures at { KeepsOpen result output.old output.new open.old.items open.new.items }
+    ensures on { IfOk result (λ rest. AreTokensOn (constructs_of output.old) rest.now) }
 {
     output.data(token.start);
     if let Some((end, last)) = later.split_first()
@@ -188,6 +202,7 @@ fn write_empty_label<R: References>(
     requires start { IsAsciiPart (bytes_of output.old) output.old.data (output.old.data + label_start label.now.labelled) }
     requires token { IsToken (as_text output.old (R.text (references_of output.old)) false) (LabelEnd label.now.labelled label.now.target) (output.old.data + label_start label.now.labelled) end }
     requires inlines { AtInlines output.old }
+    requires on { is_label_on (constructs_of output.old) label.now.labelled ≡ true }
     ensures given { output.new.writer.given ≡ output.old.writer.given }
     ensures goes_on { OnOk result (GoesOn output.old output.new) }
     ensures data_end { OnOk result (output.new.data ≡ end) }
@@ -208,6 +223,8 @@ fn write_token<R: References>(
     requires start { output.old.data ≡ token.now.start }
     requires token { IsToken (as_text output.old (R.text (references_of output.old)) false) token.now.kind output.old.data token.now.end }
     requires at { AtOpen output.old open.old.items }
+    requires delimiters { AreDelimitersOn (constructs_of output.old) delimiters.now }
+    requires on { is_kind_on (constructs_of output.old) token.now.kind ≡ true }
     ensures given { output.new.writer.given ≡ output.old.writer.given }
     ensures goes_on { OnOk result (GoesOn output.old output.new) }
     ensures data_end { OnOk result (output.new.data ≡ token.now.end) }
@@ -244,6 +261,7 @@ fn write_autolink_literal<R: References>(
     requires filled { output.old.data < end }
     requires name { (name ≡ GfmAutolinkLiteralProtocol) ⊎ (name ≡ GfmAutolinkLiteralWww) }
     requires inlines { AtInlines output.old }
+    requires on { (constructs_of output.old).gfm_autolink_literal ≡ true }
     ensures given { output.new.writer.given ≡ output.old.writer.given }
     ensures goes_on { OnOk result (GoesOn output.old output.new) }
     ensures data_end { OnOk result (output.new.data ≡ end) }
@@ -268,6 +286,7 @@ fn write_run<R: References>(
     requires ascii { IsAsciiPart (bytes_of output.old) output.old.data token.now.end }
     requires start { output.old.data ≡ token.now.start }
     requires at { AtOpen output.old open.old.items }
+    requires delimiters { AreDelimitersOn (constructs_of output.old) delimiters.now }
     ensures given { output.new.writer.given ≡ output.old.writer.given }
     ensures goes_on { OnOk result (GoesOn output.old output.new) }
     ensures data_end { OnOk result (output.new.data ≡ token.now.end) }
@@ -295,6 +314,7 @@ fn write_delimiter<R: References>(
     requires some { 1 ≤ most }
     requires ascii { IsAsciiPart (bytes_of output.old) output.old.data (output.old.data + most) }
     requires at { AtOpen output.old open.old.items }
+    requires on { is_delimiter_on (constructs_of output.old) delimiter ≡ true }
     ensures least { IfOk result (λ size. 1 ≤ size) }
     ensures most { IfOk result (λ size. size ≤ most) }
     ensures given { output.new.writer.given ≡ output.old.writer.given }
@@ -330,6 +350,7 @@ fn open_attention<R: References>(
     requires stands { Stands output.old }
     requires ascii { IsAsciiPart (bytes_of output.old) output.old.data (output.old.data + attention_size kind) }
     requires at { AtOpen output.old open.old.items }
+    requires on { is_on (constructs_of output.old) (group_name kind) ≡ true }
     ensures size { IfOk result (λ size. size ≡ attention_size kind) }
     ensures given { output.new.writer.given ≡ output.old.writer.given }
     ensures goes_on { OnOk result (GoesOn output.old output.new) }
@@ -378,6 +399,7 @@ fn write_label_start<R: References>(
     requires stands { Stands output.old }
     requires token { IsToken (as_text output.old (R.text (references_of output.old)) false) (LabelStart labelled) output.old.data end }
     requires at { AtOpen output.old open.old.items }
+    requires on { is_kind_on (constructs_of output.old) (LabelStart labelled) ≡ true }
     ensures given { output.new.writer.given ≡ output.old.writer.given }
     ensures goes_on { OnOk result (GoesOn output.old output.new) }
     ensures data_end { OnOk result (output.new.data ≡ end) }
@@ -405,6 +427,7 @@ fn write_label_marks<R: References>(
     requires stands { Stands output.old }
     requires ascii { IsAsciiPart (bytes_of output.old) output.old.data (output.old.data + label_start labelled) }
     requires inlines { AtInlines output.old }
+    requires on { is_label_on (constructs_of output.old) labelled ≡ true }
     ensures given { output.new.writer.given ≡ output.old.writer.given }
     ensures writes { OnOk result (WritesTo output.old output.new (output.old.data + label_start labelled)) }
     ensures at { BeginsLabel result labelled output.old output.new }

@@ -1,8 +1,12 @@
 //! The first pass over a text: the constructs in it, in order.
 
 ghost use Rattle.std.specs.Prelude.{List, None, Some, [], false, true, ◌≡◌, ◌≢◌, ◌<◌, ◌≤◌, ◌+◌, ◌-◌, length, IfOk, IsFalse, IsTrue, OnOk};
+ghost use Rattle.std.proofs.Props.{props};
+ghost use Rattle.markdown_options.specs.declared.Constructs.{Constructs};
+ghost use Rattle.markdown_text.specs.Constructs.{AreBracketsOn, AreDelimitersOn, AreTokensOn, is_form_on, is_found_on, is_label_on};
 ghost use Rattle.markdown_text.specs.Cursors.{byte_at, bytes_from};
 ghost use Rattle.markdown_text.specs.Reached.{AreOpen, AreOpenWith, IsOpen, IsWith, ReachAsFar, form_size};
+ghost use Rattle.markdown_text.specs.Runs.{IsAttentionOn};
 ghost use Rattle.markdown_text.specs.Texts.{bare, text_of};
 ghost use Rattle.markdown_text.specs.Tokens.{AreTokens, IsFound, label_start};
 ghost use Rattle.markdown_text.specs.declared.brackets.Bracket.{Bracket};
@@ -38,7 +42,10 @@ pub struct Tokens {
 /// The constructs in a text. With `is_task` it may begin with the mark of a task. The only error is that
 /// memory ran out.
 pub fn tokenize<R: References>(source: &Source<'_, R>, is_task: bool) -> Result<Tokens, AllocError>
-    ensures { IfOk result (λ found. AreTokens (text_of source.now.bytes.now (R.text source.now.reading.now.references.now) is_task) 0 found.tokens.items) }
+    requires task { is_task ≡ true → source.now.reading.now.options.constructs.gfm_task_list_item ≡ true }
+    ensures found { IfOk result (λ found. AreTokens (text_of source.now.bytes.now (R.text source.now.reading.now.references.now) is_task) 0 found.tokens.items) }
+    ensures on { IfOk result (λ found. AreTokensOn source.now.reading.now.options.constructs found.tokens.items) }
+    ensures delimiters { IfOk result (λ found. AreDelimitersOn source.now.reading.now.options.constructs found.delimiters.items) }
 {
     let content = source.bytes;
     let mut tokenizer = Tokenizer::new(source);
@@ -77,6 +84,9 @@ struct Tokenizer<'c, R> {
     missing: MissingEnds,
     /// The offset before which no domain of an autolink literal begins.
     barred: usize,
+    ghost tokens_on: { AreTokensOn source.now.reading.now.options.constructs tokens.items } by { Prim.hlevel props },
+    ghost brackets_on: { AreBracketsOn source.now.reading.now.options.constructs brackets.stack.items } by { Prim.hlevel props },
+    ghost attention_on: { IsAttentionOn source.now.reading.now.options.constructs attention } by { Prim.hlevel props },
 }
 
 impl<'c, R: References> Tokenizer<'c, R> {
@@ -100,13 +110,16 @@ impl<'c, R: References> Tokenizer<'c, R> {
     }
 
     /// Which constructs there are.
-    fn constructs(&self) -> &'c Constructs {
+    fn constructs(&self) -> &'c Constructs
+        ensures { result.now ≡ self.now.source.now.reading.now.options.constructs }
+    {
         &self.source.reading.options.constructs
     }
 
     /// Adds what was found at the cursor. Data is not kept. The only error is that memory ran out.
     fn push(&mut self, cursor: Cursor<'_>, found: Found) -> Result<(), AllocError>
-        requires { found.size ≤ bytes_from cursor }
+        requires size { found.size ≤ bytes_from cursor }
+        requires on { is_found_on self.old.source.now.reading.now.options.constructs found.kind ≡ true }
         ensures tokens { OnOk result (IsWith self.old.tokens.items cursor.entry.at found.kind (cursor.entry.at + found.size) self.new.tokens.items) }
         ensures source { self.new.source.now ≡ self.old.source.now }
         ensures brackets { self.new.brackets ≡ self.old.brackets }
@@ -125,10 +138,12 @@ impl<'c, R: References> Tokenizer<'c, R> {
     /// that memory ran out.
     fn find(&mut self, cursor: Cursor<'_>, is_task: bool) -> Result<Found, AllocError>
         requires opened { AreOpen self.old.tokens.items self.old.brackets.stack.items }
+        requires task { is_task ≡ true → self.old.source.now.reading.now.options.constructs.gfm_task_list_item ≡ true }
         ensures found { IfOk result (λ found. IsFound (text_of cursor.entry.content.now (R.text self.old.source.now.reading.now.references.now) is_task) found.kind cursor.entry.at (cursor.entry.at + found.size)) }
         ensures source { self.new.source.now ≡ self.old.source.now }
         ensures reach { OnOk result (ReachAsFar self.old.tokens.items self.new.tokens.items) }
         ensures opened { IfOk result (λ found. AreOpenWith self.new.tokens.items cursor.entry.at found self.new.brackets.stack.items) }
+        ensures on { IfOk result (λ found. is_found_on self.old.source.now.reading.now.options.constructs found.kind ≡ true) }
     {
         if is_task && cursor.at == 0 {
             return self.task(cursor);
@@ -141,10 +156,12 @@ impl<'c, R: References> Tokenizer<'c, R> {
     fn task(&mut self, cursor: Cursor<'_>) -> Result<Found, AllocError>
         requires start { cursor.at ≡ 0 }
         requires opened { AreOpen self.old.tokens.items self.old.brackets.stack.items }
+        requires on { self.old.source.now.reading.now.options.constructs.gfm_task_list_item ≡ true }
         ensures found { IfOk result (λ found. IsFound (text_of cursor.entry.content.now (R.text self.old.source.now.reading.now.references.now) true) found.kind cursor.entry.at (cursor.entry.at + found.size)) }
         ensures source { self.new.source.now ≡ self.old.source.now }
         ensures reach { OnOk result (ReachAsFar self.old.tokens.items self.new.tokens.items) }
         ensures opened { IfOk result (λ found. AreOpenWith self.new.tokens.items cursor.entry.at found self.new.brackets.stack.items) }
+        ensures on { IfOk result (λ found. is_found_on self.old.source.now.reading.now.options.constructs found.kind ≡ true) }
     {
         match gfm_task_list_item_check::scan(cursor.rest()) {
             Some(found) => Ok(found),
@@ -159,6 +176,7 @@ impl<'c, R: References> Tokenizer<'c, R> {
         ensures source { self.new.source.now ≡ self.old.source.now }
         ensures reach { OnOk result (ReachAsFar self.old.tokens.items self.new.tokens.items) }
         ensures opened { IfOk result (λ found. AreOpenWith self.new.tokens.items cursor.entry.at found self.new.brackets.stack.items) }
+        ensures on { IfOk result (λ found. is_found_on self.old.source.now.reading.now.options.constructs found.kind ≡ true) }
     {
         match cursor.byte() {
             b'!' | b'[' => self.label_start(cursor),
@@ -173,6 +191,7 @@ impl<'c, R: References> Tokenizer<'c, R> {
         ensures source { self.new.source.now ≡ self.old.source.now }
         ensures tokens { self.new.tokens ≡ self.old.tokens }
         ensures brackets { self.new.brackets ≡ self.old.brackets }
+        ensures on { IfOk result (λ found. is_found_on self.old.source.now.reading.now.options.constructs found.kind ≡ true) }
     {
         match cursor.byte() {
             b'\n' => Ok(Found::token(TokenKind::LineEnding, 1)),
@@ -190,7 +209,8 @@ impl<'c, R: References> Tokenizer<'c, R> {
     /// What a backslash begins.
     fn backslash(&self, cursor: Cursor<'_>) -> Found
         requires { byte_at cursor ≡ 92 }
-        ensures { IsFound (bare cursor.entry.content.now) result.kind cursor.entry.at (cursor.entry.at + result.size) }
+        ensures found { IsFound (bare cursor.entry.content.now) result.kind cursor.entry.at (cursor.entry.at + result.size) }
+        ensures on { is_found_on self.now.source.now.reading.now.options.constructs result.kind ≡ true }
     {
         let constructs = self.constructs();
         if constructs.hard_break_escape
@@ -209,7 +229,8 @@ impl<'c, R: References> Tokenizer<'c, R> {
     /// What an ampersand begins. The only error is that memory ran out.
     fn character_reference(&self, cursor: Cursor<'_>) -> Result<Found, AllocError>
         requires { byte_at cursor ≡ 38 }
-        ensures { IfOk result (λ found. IsFound (text_of cursor.entry.content.now (R.text self.now.source.now.reading.now.references.now) false) found.kind cursor.entry.at (cursor.entry.at + found.size)) }
+        ensures found { IfOk result (λ found. IsFound (text_of cursor.entry.content.now (R.text self.now.source.now.reading.now.references.now) false) found.kind cursor.entry.at (cursor.entry.at + found.size)) }
+        ensures on { IfOk result (λ found. is_found_on self.now.source.now.reading.now.options.constructs found.kind ≡ true) }
     {
         if !self.constructs().character_reference {
             return Ok(Found::data(1));
@@ -233,6 +254,7 @@ impl<'c, R: References> Tokenizer<'c, R> {
         ensures source { self.new.source.now ≡ self.old.source.now }
         ensures tokens { self.new.tokens ≡ self.old.tokens }
         ensures brackets { self.new.brackets ≡ self.old.brackets }
+        ensures on { IfOk result (λ found. is_found_on self.old.source.now.reading.now.options.constructs found.kind ≡ true) }
     {
         let sequence = cursor.run_length();
         if !self.constructs().code_text {
@@ -252,6 +274,7 @@ impl<'c, R: References> Tokenizer<'c, R> {
         ensures source { self.new.source.now ≡ self.old.source.now }
         ensures tokens { self.new.tokens ≡ self.old.tokens }
         ensures brackets { self.new.brackets ≡ self.old.brackets }
+        ensures on { IfOk result (λ found. is_found_on self.old.source.now.reading.now.options.constructs found.kind ≡ true) }
     {
         let sequence = cursor.run_length();
         let is_short = sequence == 1 && !self.source.reading.options.math_text_single_dollar;
@@ -273,6 +296,7 @@ impl<'c, R: References> Tokenizer<'c, R> {
         ensures source { self.new.source.now ≡ self.old.source.now }
         ensures tokens { self.new.tokens ≡ self.old.tokens }
         ensures brackets { self.new.brackets ≡ self.old.brackets }
+        ensures on { IfOk result (λ found. is_found_on self.old.source.now.reading.now.options.constructs found.kind ≡ true) }
     {
         let size = cursor.run_length();
         if !is_delimiter_run(cursor.byte(), size, &self.source.reading.options) {
@@ -289,6 +313,7 @@ impl<'c, R: References> Tokenizer<'c, R> {
         ensures source { self.new.source.now ≡ self.old.source.now }
         ensures tokens { self.new.tokens ≡ self.old.tokens }
         ensures brackets { self.new.brackets ≡ self.old.brackets }
+        ensures on { is_found_on self.old.source.now.reading.now.options.constructs result.kind ≡ true }
     {
         if self.constructs().autolink
             && let Some(found) = autolink::scan(cursor.rest())
@@ -312,6 +337,7 @@ impl<'c, R: References> Tokenizer<'c, R> {
         ensures source { self.new.source.now ≡ self.old.source.now }
         ensures tokens { self.new.tokens ≡ self.old.tokens }
         ensures opened { IfOk result (λ found. AreOpenWith self.new.tokens.items cursor.entry.at found self.new.brackets.stack.items) }
+        ensures on { IfOk result (λ found. is_found_on self.old.source.now.reading.now.options.constructs found.kind ≡ true) }
     {
         let constructs = self.constructs();
         let text = cursor.rest();
@@ -336,11 +362,13 @@ impl<'c, R: References> Tokenizer<'c, R> {
     ) -> Result<Found, AllocError>
         requires size { size ≡ form_size form }
         requires opened { AreOpen self.old.tokens.items self.old.brackets.stack.items }
+        requires on { is_form_on self.old.source.now.reading.now.options.constructs form ≡ true }
         ensures kind { IfOk result (λ found. found.kind ≡ Some (LabelStart None)) }
         ensures size { IfOk result (λ found. found.size ≡ size) }
         ensures source { self.new.source.now ≡ self.old.source.now }
         ensures tokens { self.new.tokens ≡ self.old.tokens }
         ensures opened { IfOk result (λ found. AreOpenWith self.new.tokens.items cursor.entry.at found self.new.brackets.stack.items) }
+        ensures on { IfOk result (λ found. is_found_on self.old.source.now.reading.now.options.constructs found.kind ≡ true) }
     {
         self.brackets.push(Bracket {
             form,
@@ -360,6 +388,7 @@ impl<'c, R: References> Tokenizer<'c, R> {
         ensures source { self.new.source.now ≡ self.old.source.now }
         ensures reach { OnOk result (ReachAsFar self.old.tokens.items self.new.tokens.items) }
         ensures opened { OnOk result (AreOpen self.new.tokens.items self.new.brackets.stack.items) }
+        ensures on { IfOk result (λ found. is_found_on self.old.source.now.reading.now.options.constructs found.kind ≡ true) }
     {
         if !self.constructs().label_end {
             return Ok(Found::data(1));
@@ -378,6 +407,7 @@ impl<'c, R: References> Tokenizer<'c, R> {
         requires closed { IsOpen self.old.tokens.items bracket.now }
         requires labelled { label_start found.now.labelled ≤ form_size bracket.now.form }
         requires opened { AreOpen self.old.tokens.items self.old.brackets.stack.items }
+        requires on { is_label_on self.old.source.now.reading.now.options.constructs found.now.labelled ≡ true }
         ensures kind { IfOk result (λ token. token.kind ≡ Some (LabelEnd found.now.labelled found.now.target)) }
         ensures size { IfOk result (λ token. token.size ≡ found.now.size) }
         ensures source { self.new.source.now ≡ self.old.source.now }
@@ -400,6 +430,7 @@ impl<'c, R: References> Tokenizer<'c, R> {
         ensures source { self.new.source.now ≡ self.old.source.now }
         ensures tokens { self.new.tokens ≡ self.old.tokens }
         ensures brackets { self.new.brackets ≡ self.old.brackets }
+        ensures on { is_found_on self.old.source.now.reading.now.options.constructs result.kind ≡ true }
     {
         if self.constructs().gfm_autolink_literal
             && let Some(found) = gfm_autolink_literal::scan(
@@ -420,6 +451,7 @@ fn set_label(tokens: &mut Vec<Token>, bracket: &Bracket, labelled: Labelled)
     requires size { label_start labelled ≤ form_size bracket.now.form }
     ensures reach { ReachAsFar tokens.old.items tokens.new.items }
     ensures opened { (brackets : List Bracket) → AreOpen tokens.old.items brackets → AreOpen tokens.new.items brackets }
+    ensures on { (c : Constructs) → is_label_on c labelled ≡ true → AreTokensOn c tokens.old.items → AreTokensOn c tokens.new.items }
 {
     tokens[bracket.token].kind = TokenKind::LabelStart(Some(labelled));
 }
@@ -427,7 +459,8 @@ fn set_label(tokens: &mut Vec<Token>, bracket: &Bracket, labelled: Labelled)
 /// The data at the cursor, up to a byte that may begin something.
 fn data(cursor: Cursor<'_>) -> Found
     requires { byte_at cursor ≢ 10 }
-    ensures { IsFound (bare cursor.entry.content.now) result.kind cursor.entry.at (cursor.entry.at + result.size) }
+    ensures kind { result.kind ≡ None }
+    ensures found { IsFound (bare cursor.entry.content.now) result.kind cursor.entry.at (cursor.entry.at + result.size) }
 {
     Found::data(1 + count_while(after(cursor.content, cursor.at + 1), is_plain))
 }

@@ -1,7 +1,7 @@
 //! White space: which bytes are (GFM), and what stands at the ends of data (micromark), where it begins or
 //! ends a line, or the text.
 
-ghost use Rattle.std.specs.Prelude.{IsFalse, IsTrue, length, ◌≡◌, ◌≢◌, ◌≤◌, ◌<◌, ◌+◌, ◌-◌};
+ghost use Rattle.std.specs.Prelude.{IsFalse, IsTrue, length, ◌≡◌, ◌≢◌, ◌≤◌, ◌<◌, ◌+◌, ◌-◌, true};
 ghost use Rattle.commonmark_syntax.specs.Cuts.{IsCut};
 ghost use Rattle.markdown_text.specs.declared.output.Next.TheVariants.{LineEnding};
 
@@ -44,6 +44,7 @@ pub fn scan(
     ensures trailing { IsCut text.now (length text.now - result.trailing) }
     ensures hard_break { IsCut text.now (length text.now - result.hard_break) }
     ensures next { 0 < result.hard_break → next ≡ LineEnding }
+    ensures has_breaks { 0 < result.hard_break → has_breaks ≡ true }
 {
     let trailing = trailing_size(text, kind, next);
     let size = text.len() - trailing;
@@ -81,6 +82,7 @@ fn break_size(text: &[u8], kind: ContentKind, next: Next, has_breaks: bool) -> u
     ensures most { result ≤ length text.now }
     ensures cut { IsCut text.now (length text.now - result) }
     ensures next { 0 < result → next ≡ LineEnding }
+    ensures has_breaks { 0 < result → has_breaks ≡ true }
 {
     if !has_breaks || kind != ContentKind::Text || next != Next::LineEnding {
         return 0;

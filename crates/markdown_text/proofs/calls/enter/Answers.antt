@@ -1,3 +1,4 @@
+use Rattle.markdown_text.proofs.Spans.{begun_on}
 use Rattle.markdown_text.proofs.Standings.{allowed, enter_allowed, enter_at}
 use Rattle.markdown_text.proofs.calls.enter.Goals as goal
 
@@ -6,3 +7,6 @@ unreachable-requires g c = allowed c.in-Err-Misfit.field-0 c.in-Err-Misfit.field
 
 pub returns-in-Ok-clause-at : goal.returns-in-Ok-clause-at
 returns-in-Ok-clause-at g c = λ a outer at. enter_at c.args.writer.now c.enter.new.self c.args.name a outer at c.enter.ensures.given c.in-Ok.ensures.cursor c.in-Ok.ensures.opened
+
+pub returns-in-Ok-clause-within : goal.returns-in-Ok-clause-within
+returns-in-Ok-clause-within g c = λ constructs within on. begun_on constructs c.args.writer.now c.enter.new.self c.args.name c.args.writer.now.cursor within on c.in-Ok.ensures.events c.in-Ok.ensures.opened

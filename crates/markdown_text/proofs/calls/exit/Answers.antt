@@ -1,3 +1,4 @@
+use Rattle.markdown_text.proofs.Spans.{exited_on}
 use Rattle.markdown_text.proofs.Standings.{allowed, exit_allowed, exit_at}
 use Rattle.markdown_text.proofs.calls.exit.Goals as goal
 
@@ -6,3 +7,6 @@ unreachable-requires g c = allowed c.in-Err-Misfit.field-0 c.in-Err-Misfit.field
 
 pub returns-in-Ok-clause-at : goal.returns-in-Ok-clause-at
 returns-in-Ok-clause-at g c = λ own a name outer at. exit_at c.args.writer.now c.exit.new.self own a name outer at c.exit.ensures.given c.exit.ensures.cursor c.in-Ok.ensures.closed
+
+pub returns-in-Ok-clause-within : goal.returns-in-Ok-clause-within
+returns-in-Ok-clause-within g c = λ constructs within. exited_on constructs c.args.writer.now c.exit.new.self c.args.writer.now.cursor within c.in-Ok.ensures.events c.in-Ok.ensures.closed

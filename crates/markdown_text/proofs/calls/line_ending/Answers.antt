@@ -1,3 +1,4 @@
+use Rattle.markdown_text.proofs.Spans.{written_on}
 use Rattle.markdown_text.proofs.Standings.{contrary, refusal, ending_allowed, ending_at}
 use Rattle.markdown_text.proofs.calls.line_ending.Goals as goal
 
@@ -8,3 +9,6 @@ unreachable-requires g c =
 
 pub returns-in-Ok-clause-at : goal.returns-in-Ok-clause-at
 returns-in-Ok-clause-at g c = λ waits a outer at. ending_at c.args.writer.now c.line_ending.new.self c.args.name waits a outer at c.line_ending.ensures.given c.in-Ok.ensures.start c.in-Ok.ensures.written
+
+pub returns-in-Ok-clause-within : goal.returns-in-Ok-clause-within
+returns-in-Ok-clause-within g c = λ constructs within on. written_on constructs c.args.writer.now c.line_ending.new.self c.args.name c.args.writer.now.cursor c.line_ending.new.self.cursor within on c.in-Ok.ensures.events c.in-Ok.ensures.written

@@ -1,3 +1,4 @@
+use Rattle.markdown_text.proofs.Spans.{written_on}
 use Rattle.markdown_text.proofs.Standings.{contrary, reach_at, refusal, token_allowed, token_at}
 use Rattle.markdown_text.proofs.calls.token.Goals as goal
 
@@ -8,3 +9,6 @@ unreachable-requires g c =
 
 pub returns-in-Ok-clause-at : goal.returns-in-Ok-clause-at
 returns-in-Ok-clause-at g c = λ a outer at. token_at c.args.writer.now c.token.new.self c.args.name c.args.to c.args.virtual_spaces a outer (reach_at c.args.writer.now.given.bytes c.args.writer.now.cursor c.args.to c.args.virtual_spaces c.requires.reach) c.requires.cut at c.token.ensures.given c.in-Ok.ensures.index c.in-Ok.ensures.virtual_spaces c.in-Ok.ensures.written
+
+pub returns-in-Ok-clause-within : goal.returns-in-Ok-clause-within
+returns-in-Ok-clause-within g c = λ constructs within on. written_on constructs c.args.writer.now c.token.new.self c.args.name c.args.writer.now.cursor c.token.new.self.cursor within on c.in-Ok.ensures.events c.in-Ok.ensures.written

@@ -1,7 +1,8 @@
-use Rattle.std.proofs.Common.{◌∙◌, List, ap, drop, refl, subst, sym, take, ℕ}
+use Rattle.std.proofs.Common.{◌∙◌, List, ap, drop, false, refl, subst, sym, take, ℕ}
 use Rattle.std.proofs.lemmas.List.{take-append-drop}
-use Rattle.event_writer.specs.Stages.{Stage, inlines}
+use Rattle.event_writer.specs.Stages.{Stage, flow, inlines}
 use Rattle.event_writer.specs.Written.{Given}
+use Rattle.markdown_pieces.specs.Spans.{AreOn as ArePiecesOn}
 use Rattle.markdown_pieces.specs.Tilings.{Spot, Tiles, end_from}
 use Rattle.markdown_pieces.specs.declared.piece.Piece.{Piece}
 use Rattle.markdown_pieces.specs.Walks.{State, Steps, Walks, same, start}
@@ -10,6 +11,7 @@ use Rattle.markdown_pieces.specs.declared.piece.PieceKind.{PieceKind}
 use Rattle.markdown_pieces.specs.declared.piece.PieceKind.TheVariants.{Text}
 use Rattle.markdown_text.proofs.Contents.{content_taken, tiles_parted}
 use Rattle.markdown_text.proofs.Steps.{says_at}
+use Rattle.markdown_text.proofs.Switches.{dropped_on, started_on}
 use Rattle.markdown_text.proofs.Tasks.{content_walks, place_after_piece, task_begins, text_inlines, walked}
 use Rattle.markdown_text.specs.Contents.{spot}
 use Rattle.markdown_text.specs.Standings.{IsAt}
@@ -56,6 +58,8 @@ pieces-preserved g c =
     let end = end_from (spot c.args.writer.cursor) c.args.pieces.now in
     let k = subst (λ (ps : List Piece). Walks n.0 ps start) is n.3 in
     let wrote = c.in_ok-write_piece.ensures in
+    let constructs = c.args.reading.now.options.constructs in
+    let on = subst (ArePiecesOn constructs) is i.on in
     let here = wrote.at k.0 k.1 k.3 (says_at c.pieces.writer k.0 n.0 k.2 n.1) in
     record {
       given = c.write_piece.ensures.given ∙ i.given;
@@ -66,6 +70,8 @@ pieces-preserved g c =
         subst (λ (place : TaskPlace). IsTaskPlace c.write_piece.new.writer place k.1) (sym c.after-place.ensures) (place_after_piece c.pieces.writer c.write_piece.new.writer c.pieces.place p.kind k.0 n.0 k.1 k.2 k.3 here wrote.at n.2),
         k.4,
       );
+      within = wrote.within constructs on.0 i.within;
+      on = on.1;
     }
 
 pub pieces-preserved-then-is_text : goal.pieces-preserved-then-is_text
@@ -97,9 +103,23 @@ pieces-preserved-then-is_text g c =
             (subst (λ (ps : List Piece). Walks (state (inlines h.0) k.0.outer) ps start) (sym (take-append-drop size rest)) (subst (λ (s : State). Walks s rest start) (λ i. record { stage = h.1 i; outer = k.0.outer })
             (subst (λ (ps : List Piece). Walks k.0 ps start) (sym is) (k.0, k.1, same k.0 refl, k.3, k.4))))),
       );
+      within = c.in_ok-writer.ensures.within;
+      on = subst (ArePiecesOn c.args.reading.now.options.constructs) (sym c.split_at.ensures.back) (dropped_on c.args.reading.now.options.constructs size rest i.on);
     }
 
 pub returns-clause-root : goal.returns-clause-root
 returns-clause-root g c =
     let n = c.pieces.invariant.nest in
     says_at c.pieces.writer start n.0 (walked n.0 start c.pieces.rest.now c.in_default.ensures.cases n.3) n.1
+
+pub pieces-init : goal.pieces-init
+pieces-init g c = record {
+  given = refl;
+  tiles = c.requires.tiles;
+  nest = (start, c.requires.root, tt, c.requires.nest);
+  within = started_on c.args.reading.now.options.constructs c.args.writer (flow false) c.requires.root c.requires.events;
+  on = c.requires.on;
+}
+
+pub returns-clause-options : goal.returns-clause-options
+returns-clause-options g c = c.pieces.invariant.within.events

@@ -7,8 +7,8 @@ use Rattle.markdown_text.specs.Texts.{bare}
 use Rattle.markdown_text.specs.declared.token.TokenKind.TheVariants.{AutolinkLiteral}
 use Rattle.markdown_text.proofs.gfm_autolink_literal.scan.Goals as goal
 
-pub returns : goal.returns
-returns c =
+pub returns-clause-found : goal.returns-clause-found
+returns-clause-found c =
     let cursor = c.args.cursor in
     let bytes = cursor.content.now in
     let start = c.in_ok-start.start in

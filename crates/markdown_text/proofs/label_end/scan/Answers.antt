@@ -19,5 +19,5 @@ returns-clause-found g c =
     IfOk-weaker c.with_target.result
     (λ (found : Option Match). IfSome found (λ (m : Match). (m.labelled ≡ labelled) × IsTarget rest m.target 0 (m.size - 1) × IsRange rest 0 (m.size - 1)))
     (λ (found : Option Match). IfSome found (λ (m : Match). IsToken (bare bytes) (LabelEnd m.labelled m.target) cursor.at (cursor.at + m.size)))
-    (λ found says. IfSome_then found says (λ m p. label_end_is bytes rest cursor.at m.labelled labelled m.target m.size m.filled cursor.within c.requires c.after-2.ensures.rest c.in-Some.ensures.other p.0 p.1 p.2))
+    (λ found says. IfSome_then found says (λ m p. label_end_is bytes rest cursor.at m.labelled labelled m.target m.size m.filled cursor.within c.requires.byte c.after-2.ensures.rest c.in-Some.ensures.other p.0 p.1 p.2))
     c.with_target.ensures.found

@@ -42,3 +42,7 @@ pub returns-clause-at : goal.returns-clause-at
 returns-clause-at g c = λ a outer at.
     let around = inside BlockQuotePrefix a outer in
     at_some (λ b. IsAt c.exit.new.writer b outer) _ a (transparent_exit a) (c.in_ok-exit.ensures.at a a BlockQuotePrefix outer (c.in_ok-write_space.ensures.at a around (c.in_ok-token.ensures.at a around (c.in_ok-enter.ensures.at a outer at))))
+
+pub returns-clause-within : goal.returns-clause-within
+returns-clause-within g c = λ constructs h.
+    c.in_ok-exit.ensures.within constructs (c.in_ok-write_space.ensures.within constructs (c.in_ok-token.ensures.within constructs (c.in_ok-enter.ensures.within constructs h refl) refl))

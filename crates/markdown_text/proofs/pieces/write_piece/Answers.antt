@@ -3,7 +3,7 @@ use Rattle.markdown_pieces.specs.Tilings.{Goes, GoesAsOpening, GoesAsToken, end_
 use Rattle.markdown_pieces.specs.Walks.{Steps}
 use Rattle.markdown_pieces.specs.declared.piece.PieceKind.{PieceKind}
 use Rattle.markdown_text.proofs.Standings.{cut_is_boundary}
-use Rattle.markdown_text.proofs.Steps.{may_end_line, may_write_token, on_ok, step_ending, step_enter, step_opening, step_same, step_token, token_boundary}
+use Rattle.markdown_text.proofs.Steps.{may_end_line, may_write_token, on_ok, step_ending, step_enter, step_exit, step_opening, step_same, step_token, token_boundary}
 use Rattle.markdown_text.specs.Contents.{spot}
 use Rattle.markdown_text.proofs.pieces.write_piece.Goals as goal
 
@@ -31,6 +31,9 @@ line_ending-requires-clause-may g c =
 pub returns-in-Enter-clause-at : goal.returns-in-Enter-clause-at
 returns-in-Enter-clause-at g c = λ s t step at.
     on_ok c.enter.result (step_enter c.enter.new.writer c.in-Enter.name s t (subst (λ (k : PieceKind). Steps k s t) c.in-Enter.is step)) (c.enter.ensures.at s.stage s.outer at)
+
+pub returns-in-Exit-clause-at : goal.returns-in-Exit-clause-at
+returns-in-Exit-clause-at g c = λ s t step at. step_exit c.exit.result c.args.writer.now c.exit.new.writer c.in-Exit.field-0 s t (subst (λ (k : PieceKind). Steps k s t) c.in-Exit.is step) at c.exit.ensures.at
 
 pub returns-in-Token-clause-at : goal.returns-in-Token-clause-at
 returns-in-Token-clause-at g c = λ s t step at.

@@ -1,7 +1,9 @@
 use Rattle.std.proofs.Common.{List, length, ◌≡◌}
 use Rattle.event_writer.specs.Stages.{Enclosing, Stage}
+use Rattle.markdown_options.specs.declared.Constructs.{Constructs}
 use Rattle.markdown_pieces.specs.Tilings.{Tiles, end_from}
 use Rattle.markdown_text.specs.Contents.{IsContent, joined, spot}
+use Rattle.markdown_text.specs.Spans.{IsWithin}
 use Rattle.markdown_text.specs.Standings.{IsAt}
 use Rattle.markdown_text.proofs.pieces.write_to_text.Given as goal
 
@@ -13,6 +15,7 @@ invariant-pieces g l = record {
   tiles : Tiles l.initial.writer.given.bytes (spot l.writer.cursor) l.rest (end_from (spot l.initial.writer.cursor) l.pieces);
   at : (a : Stage) → (outer : List Enclosing) → IsAt l.initial.writer a outer → IsAt l.writer a outer;
   bytes : joined l.initial.writer.given.bytes l.writer.cursor.index l.rest ≡ joined l.initial.writer.given.bytes l.initial.writer.cursor.index l.pieces;
+  within : (c : Constructs) → IsWithin c l.initial.writer → IsWithin c l.writer;
 }
 
 abbrev pub decreases-pieces : goal.decreases-pieces

@@ -1,7 +1,8 @@
 use Rattle.std.proofs.Common.{Bool, List, false, length, ◌≡◌}
 use Rattle.event_writer.specs.Stages.{Enclosing}
+use Rattle.markdown_text.specs.Constructs.{AreTokensOn}
 use Rattle.markdown_text.specs.Opens.{HasOpen}
-use Rattle.markdown_text.specs.Outputs.{GoesOn, as_text, references_of}
+use Rattle.markdown_text.specs.Outputs.{GoesOn, as_text, constructs_of, references_of}
 use Rattle.markdown_text.specs.Tokens.{AreTokens}
 use Rattle.markdown_text.proofs.text.write_tokens.Given as goal
 
@@ -12,6 +13,7 @@ invariant-tokens g l = record {
   goes_on : GoesOn l.fn.output l.output;
   tokens : AreTokens (as_text l.output (g.R.References.text (references_of l.output)) false) l.output.data l.rest;
   stage : (h : Bool) → (outer : List Enclosing) → HasOpen l.fn.output l.fn.open.items h outer → HasOpen l.output l.open.items h outer;
+  on : AreTokensOn (constructs_of l.fn.output) l.rest;
 }
 
 abbrev pub decreases-tokens : goal.decreases-tokens

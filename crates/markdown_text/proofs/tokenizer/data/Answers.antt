@@ -5,8 +5,8 @@ use Rattle.markdown_text.proofs.Parts.{line_first, part_after_two}
 use Rattle.markdown_text.specs.Texts.{bare}
 use Rattle.markdown_text.proofs.tokenizer.data.Goals as goal
 
-pub returns : goal.returns
-returns c =
+pub returns-clause-found : goal.returns-clause-found
+returns-clause-found c =
     let cursor = c.args.cursor in
     let bytes = cursor.content.now in
     let count = c.count_while.result in

@@ -10,8 +10,8 @@ invariant_of-cursor-clause-cut g c =
     let source = c.args.source.now in
     reach_cut (text_of source.bytes.now (g.R.References.text source.reading.now.references.now) c.args.is_task) 0 c.tokens.tokenizer.tokens.items c.tokens.at c.tokens.invariant.reach
 
-pub push-requires : goal.push-requires
-push-requires g c =
+pub push-requires-clause-size : goal.push-requires-clause-size
+push-requires-clause-size g c =
     let found = c.in_ok-found.found in
     let range = found_range (text_of c.args.source.now.bytes.now (g.R.References.text c.tokens.tokenizer.source.now.reading.now.references.now) c.args.is_task) found.kind c.tokens.at (c.tokens.at + found.size) c.in_ok-found.ensures.found in
     let within = range.within in
@@ -35,8 +35,8 @@ tokens-preserved g c =
       opened = subst (λ brackets. AreOpen c.push.new.self.tokens.items brackets.stack.items) (sym pushed.brackets) (ensured.opened c.push.new.self.tokens.items pushed.tokens);
     }
 
-pub returns : goal.returns
-returns g c =
+pub returns-clause-found : goal.returns-clause-found
+returns-clause-found g c =
     let source = c.args.source.now in
     let within = c.tokens.invariant.within in
     let end = c.tokens-test.false in

@@ -1,6 +1,7 @@
 use Rattle.std.proofs.Common.{refl, true}
 use Rattle.event_writer.specs.Stages.{inlines}
-use Rattle.markdown_text.proofs.Outputs.{moved_at, moved_cut, moved_reach, moved_writes}
+use Rattle.markdown_text.proofs.Outputs.{moved_at, moved_cut, moved_reach, moved_within, moved_writes}
+use Rattle.markdown_text.specs.Outputs.{constructs_of}
 use Rattle.markdown_text.proofs.output.Output.hard_break_to.Goals as goal
 
 pub hard_break-requires-clause-reach : goal.hard_break-requires-clause-reach
@@ -13,6 +14,7 @@ pub returns-clause-writes : goal.returns-clause-writes
 returns-clause-writes g c =
     let moved = c.move_to-to.ensures in
     moved_writes c.args.self.now c.move_to-to.new.self _ c.args.end c.move_to-to.result c.requires.stands c.requires.part moved.to moved.writer moved.source moved.lines moved.at moved.data_end refl refl refl refl c.hard_break.ensures.given c.in_ok-hard_break.ensures.spot
+    (c.in_ok-hard_break.ensures.within (constructs_of c.args.self.now) (moved_within c.args.self.now c.move_to-to.new.self c.move_to-to.ensures.writer c.requires.stands) (c.requires.on c.if-end-self.false))
 
 pub returns-clause-stage : goal.returns-clause-stage
 returns-clause-stage g c = λ h outer at. (true, c.in_ok-hard_break.ensures.at (inlines h) outer refl (moved_at c.args.self.now c.move_to-to.new.self (inlines h) outer c.move_to-to.ensures.writer at))

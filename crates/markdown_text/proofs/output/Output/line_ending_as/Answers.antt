@@ -5,6 +5,7 @@ use Rattle.markdown_events.specs.Names.{role_of}
 use Rattle.markdown_text.proofs.Standings.{some_value}
 use Rattle.markdown_text.proofs.Steps.{at_some, some_then}
 use Rattle.markdown_text.specs.Contents.{spot}
+use Rattle.markdown_text.specs.Outputs.{constructs_of}
 use Rattle.markdown_text.specs.Standings.{IsAt, after_line}
 use Rattle.markdown_text.proofs.output.Output.line_ending_as.Goals as goal
 
@@ -28,9 +29,11 @@ pub returns-clause-writes : goal.returns-clause-writes
 returns-clause-writes g c =
     let is = c.in-Some.ensures.cases.0 in
     let last = c.in_ok-self.ensures in
+    let constructs = constructs_of c.args.self.now in
     ending_writes c.args.self.now _ _ c.in-Some.next.now (spot c.line_ending.new.writer.cursor) c.line_ending.new.writer.given c.requires.stands c.requires.feed is
     (next_spot c.args.self.now _ _ (spot c.line_ending.new.writer.cursor) c.requires.stands c.requires.feed is c.in_ok-line_ending.ensures.spot)
-    c.line_ending.ensures.given c.write_to_text.ensures.given last.left last.bytes last.end refl refl refl c.later-self.ensures c.later-self.ensures
+    c.line_ending.ensures.given c.write_to_text.ensures.given last.left last.bytes last.end refl refl refl refl c.later-self.ensures c.later-self.ensures
+    (last.within constructs (c.in_ok-line_ending.ensures.within constructs c.requires.stands.within c.requires.on))
 
 pub unreachable-requires : goal.unreachable-requires
 unreachable-requires g c = no_feed_at_end c.args.self.now c.requires.stands c.requires.feed (none_left c.args.self.now.lines.later.now c.in_default.ensures.cases)

@@ -1,6 +1,7 @@
 use Rattle.std.proofs.Common.{refl}
-use Rattle.markdown_text.proofs.Outputs.{moved_at, moved_cut, moved_reach, moved_writes, plain_after}
+use Rattle.markdown_text.proofs.Outputs.{moved_at, moved_cut, moved_reach, moved_within, moved_writes, plain_after}
 use Rattle.markdown_text.specs.Standings.{IsAt}
+use Rattle.markdown_text.specs.Outputs.{constructs_of}
 use Rattle.markdown_text.proofs.output.Output.token_to.Goals as goal
 
 pub token-requires-clause-reach : goal.token-requires-clause-reach
@@ -13,6 +14,7 @@ pub returns-clause-writes : goal.returns-clause-writes
 returns-clause-writes g c =
     let moved = c.move_to-to.ensures in
     moved_writes c.args.self.now c.move_to-to.new.self _ c.args.end c.move_to-to.result c.requires.stands c.requires.part moved.to moved.writer moved.source moved.lines moved.at moved.data_end refl refl refl refl c.token.ensures.given c.in_ok-token.ensures.spot
+    (c.in_ok-token.ensures.within (constructs_of c.args.self.now) (moved_within c.args.self.now c.move_to-to.new.self c.move_to-to.ensures.writer c.requires.stands) c.requires.on)
 
 pub returns-clause-stage : goal.returns-clause-stage
 returns-clause-stage g c = λ a outer at. plain_after (λ b. IsAt c.token.new.writer b outer) a c.args.name (c.in_ok-token.ensures.at a outer (moved_at c.args.self.now c.move_to-to.new.self a outer c.move_to-to.ensures.writer at))

@@ -1,6 +1,7 @@
 use Rattle.std.proofs.Common.{refl}
 use Rattle.event_writer.specs.Stages.{character_reference_value}
-use Rattle.markdown_text.proofs.Outputs.{known_value, moved_at, moved_cut, moved_reach, moved_writes}
+use Rattle.markdown_text.proofs.Outputs.{known_value, moved_at, moved_cut, moved_reach, moved_within, moved_writes}
+use Rattle.markdown_text.specs.Outputs.{constructs_of}
 use Rattle.markdown_text.proofs.output.Output.value_to.Goals as goal
 
 pub token-requires-clause-reach : goal.token-requires-clause-reach
@@ -13,6 +14,7 @@ pub returns-clause-writes : goal.returns-clause-writes
 returns-clause-writes g c =
     let moved = c.move_to-to.ensures in
     moved_writes c.args.self.now c.move_to-to.new.self _ c.args.end c.move_to-to.result c.requires.stands c.requires.part moved.to moved.writer moved.source moved.lines moved.at moved.data_end refl refl refl refl c.token.ensures.given c.in_ok-token.ensures.spot
+    (c.in_ok-token.ensures.within (constructs_of c.args.self.now) (moved_within c.args.self.now c.move_to-to.new.self c.move_to-to.ensures.writer c.requires.stands) refl)
 
 pub token-requires-clause-may : goal.token-requires-clause-may
 token-requires-clause-may g c = record {

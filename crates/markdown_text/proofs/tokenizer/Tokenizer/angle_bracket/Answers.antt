@@ -7,4 +7,4 @@ pub returns-clause-found : goal.returns-clause-found
 returns-clause-found g c =
     let cursor = c.args.cursor in
     let within = cursor.within in
-    found_rest cursor.content.now c.rest.result.now no_values cursor.at c.in-Some.found.kind c.in-Some.found.size c.rest.ensures.rest (omega (arith, within)) cursor.cut c.in-Some.ensures
+    found_rest cursor.content.now c.rest.result.now no_values cursor.at c.in-Some.found.kind c.in-Some.found.size c.rest.ensures.rest (omega (arith, within)) cursor.cut c.in-Some.ensures.found

@@ -6,8 +6,8 @@ use Rattle.markdown_text.specs.Tokens.{IsFound}
 use Rattle.markdown_text.specs.declared.token.Found.{Found}
 use Rattle.markdown_text.proofs.tokenizer.Tokenizer.character_reference.Goals as goal
 
-pub returns-in-Some : goal.returns-in-Some
-returns-in-Some g c =
+pub returns-in-Some-clause-found : goal.returns-in-Some-clause-found
+returns-in-Some-clause-found g c =
     let cursor = c.args.cursor in
     let rest = c.rest.result.now in
     let within = cursor.within in

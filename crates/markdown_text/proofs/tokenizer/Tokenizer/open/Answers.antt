@@ -10,5 +10,5 @@ returns-clause-opened g c us with =
     let end = at + c.token.result.size in
     let size = c.token.ensures.size in
     let form = c.requires.size in
-    c.in_ok-push.ensures us (open_with ts us kind at end c.args.self.now.brackets.stack.items with c.requires.opened)
+    c.in_ok-push.ensures.opened us (open_with ts us kind at end c.args.self.now.brackets.stack.items with c.requires.opened)
     (open_new ts us (record { form = c.args.form; token = c.len.result; start = at; waiting = c.waiting.result; has_bracket = false }) kind at end c.token.ensures.kind (search rules) (omega (arith, size, form)) with)
