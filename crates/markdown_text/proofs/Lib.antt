@@ -4,6 +4,7 @@ pub mod Labels
 pub mod Outputs
 pub mod Parts
 pub mod Ranges
+pub mod RawTexts
 pub mod Reached
 pub mod Resources
 pub mod Tokens

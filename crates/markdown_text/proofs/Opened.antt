@@ -6,11 +6,11 @@ use Rattle.event_writer.specs.Stages.{Enclosing, Stage, entered, exited, inlines
 use Rattle.event_writer.specs.Written.{Written}
 use Rattle.markdown_events.specs.Names.{role_of}
 use Rattle.markdown_events.specs.declared.event.Name.{Name}
-use Rattle.markdown_events.specs.declared.event.Name.TheVariants.{GfmAutolinkLiteralProtocol, GfmAutolinkLiteralWww, LabelText}
+use Rattle.markdown_events.specs.declared.event.Name.TheVariants.{GfmAutolinkLiteralProtocol, GfmAutolinkLiteralWww, Label, LabelMarker, LabelText}
 use Rattle.markdown_events.specs.declared.event.Point.{Point}
 use Rattle.markdown_pieces.specs.Walks.{inside}
 use Rattle.markdown_text.proofs.Steps.{at_some}
-use Rattle.markdown_text.specs.Opens.{HasOpen, flag_of, group_name, label_end_stage, label_stage, labelled_name, opened, outer_of, sequence_name, text_name}
+use Rattle.markdown_text.specs.Opens.{HasOpen, flag_of, group_name, label_end_stage, label_stage, label_start_name, labelled_name, opened, outer_of, sequence_name, text_name}
 use Rattle.markdown_text.specs.Outputs.{MayPut, after_plain}
 use Rattle.markdown_text.specs.Standings.{HasFront, IsAt, MayEnter, MayExit}
 use Rattle.markdown_text.specs.declared.attention.AttentionKind.{AttentionKind}
@@ -72,6 +72,48 @@ group_exits Strikethrough h = refl
 group_exits DoubleStrikethrough h = refl
 
 -- ---- Labels
+
+-- the span that a label belongs to may begin among inlines
+pub labelled_enters : (l : Labelled) (h : Bool) → entered (inlines h) (role_of (labelled_name l)) ≡ Some (label_stage l)
+labelled_enters Link h = refl
+labelled_enters Image h = refl
+labelled_enters FootnoteCall h = refl
+
+-- it asks for no byte where it begins
+pub labelled_front : (l : Labelled) (bytes : List ℕ) (p : Point) → HasFront bytes p (role_of (labelled_name l))
+labelled_front Link bytes p = tt
+labelled_front Image bytes p = tt
+labelled_front FootnoteCall bytes p = tt
+
+-- the span of the label may begin in it
+pub label_enters : (l : Labelled) → entered (label_stage l) (role_of Label) ≡ Some (label_stage l)
+label_enters Link = refl
+label_enters Image = refl
+label_enters FootnoteCall = refl
+
+-- the span of the signs that begin the label may begin
+pub start_enters : (l : Labelled) → entered (label_stage l) (role_of (label_start_name l)) ≡ Some (label_stage l)
+start_enters Link = refl
+start_enters Image = refl
+start_enters FootnoteCall = refl
+
+-- it asks for no byte, either
+pub start_front : (l : Labelled) (bytes : List ℕ) (p : Point) → HasFront bytes p (role_of (label_start_name l))
+start_front Link bytes p = tt
+start_front Image bytes p = tt
+start_front FootnoteCall bytes p = tt
+
+-- a sign may stand in it, since the names of all of them have one role
+pub sign_put : (l : Labelled) → after_plain (label_stage l) LabelMarker ≡ Some (label_stage l)
+sign_put Link = refl
+sign_put Image = refl
+sign_put FootnoteCall = refl
+
+-- the span may end
+pub start_exits : (l : Labelled) → exited (label_stage l) (label_stage l) (role_of (label_start_name l)) ≡ Some (label_stage l)
+start_exits Link = refl
+start_exits Image = refl
+start_exits FootnoteCall = refl
 
 -- the text of a label may begin
 pub label_text_enters : (l : Labelled) → entered (label_stage l) (role_of LabelText) ≡ Some (inlines false)
@@ -165,9 +207,10 @@ opens_innermost o items os last h outer is at =
 pub same_open : {R : Type 0} (o : Output R) (items os : List Open) (h : Bool) (outer : List Enclosing) → items ≡ os → HasOpen o os h outer → HasOpen o items h outer
 same_open o items os h outer is at = subst (λ (xs : List Open). HasOpen o xs h outer) (sym is) at
 
--- the innermost construct
-pub innermost : (os : List Open) (last : Open) → slice_get os (length os - 1) ≡ Some last → os ≡ take (length os - 1) os ++ last ∷ []
-innermost os last at =
+-- the innermost construct, by a slice of those that are open
+pub innermost : (os slice : List Open) (last : Open) → slice ≡ os → slice_get slice (length slice - 1) ≡ Some last → os ≡ take (length os - 1) os ++ last ∷ []
+innermost os slice last is there =
+    let at = subst (λ (xs : List Open). slice_get xs (length xs - 1) ≡ Some last) is there in
     let less = slice_get_within os (length os - 1) last at in
     let more : length os ≡ length os - 1 + 1 = omega (arith, less) in
     sym (take_all (length os) os (omega arith)) ∙ ap (λ (n : ℕ). take n os) more ∙ take_more os (length os - 1) last less ∙ ap (λ (x : Open). take (length os - 1) os ++ x ∷ []) (get_or_from_slice_get os (length os - 1) last last at)

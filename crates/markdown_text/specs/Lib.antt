@@ -1,6 +1,7 @@
 pub mod Contents
 pub mod Cursors
 pub mod Outputs
+pub mod RawTexts
 pub mod Reached
 pub mod Texts
 pub mod Tokens

@@ -39,21 +39,34 @@ attention_size Strong = 2
 attention_size Strikethrough = 1
 attention_size DoubleStrikethrough = 2
 
--- the name of the span that a label belongs to, and the stage in it before and after the label
+-- the names of the span that a label belongs to, and of the span of the signs that begin the label
 abbrev pub labelled_name : Labelled → Name
 labelled_name Link = names.Link
 labelled_name Image = names.Image
 labelled_name FootnoteCall = names.GfmFootnoteCall
 
+abbrev pub label_start_name : Labelled → Name
+label_start_name Link = names.LabelLink
+label_start_name Image = names.LabelImage
+label_start_name FootnoteCall = names.GfmFootnoteCallLabel
+
+-- the stage in what a label belongs to, up to the text of the label
 abbrev pub label_stage : Labelled → Stage
 label_stage Link = media
 label_stage Image = media
 label_stage FootnoteCall = footnote_call
 
+-- the spans around what stands in a label, and around the signs that begin it, by the flag of the inlines and the spans where what it belongs to began
+abbrev pub in_label : Labelled → Bool → List Enclosing → List Enclosing
+in_label labelled h outer = inside names.Label (label_stage labelled) (inside (labelled_name labelled) (inlines h) outer)
+
+abbrev pub in_label_start : Labelled → Bool → List Enclosing → List Enclosing
+in_label_start labelled h outer = inside (label_start_name labelled) (label_stage labelled) (in_label labelled h outer)
+
 -- the spans around the text of a construct that is open, by the flag of the inlines and the spans where it began
 abbrev pub opened : Open → Bool → List Enclosing → List Enclosing
 opened (Attention kind) h outer = inside (text_name kind) (inlines false) (inside (group_name kind) (inlines h) outer)
-opened (Label labelled) h outer = inside names.LabelText (label_stage labelled) (inside names.Label (label_stage labelled) (inside (labelled_name labelled) (inlines h) outer))
+opened (Label labelled) h outer = inside names.LabelText (label_stage labelled) (in_label labelled h outer)
 
 -- the spans around what comes next, where constructs are open in others, the outermost first
 abbrev pub outer_of : List Open → Bool → List Enclosing → List Enclosing
@@ -87,8 +100,7 @@ pub record AtOpened {R : Type 0} (output : Output R) (o : Open) : Type 0 where
 
 -- what is written begins a label among inlines
 abbrev pub BeginsLabel : {R V E : Type 0} → Result V E → Labelled → Output R → Output R → Type 0
-BeginsLabel result labelled old new = (h : Bool) → (outer : List Enclosing) → IsAt old.writer (inlines h) outer
-    → OnOk result (IsAt new.writer (label_stage labelled) (inside names.Label (label_stage labelled) (inside (labelled_name labelled) (inlines h) outer)))
+BeginsLabel result labelled old new = (h : Bool) → (outer : List Enclosing) → IsAt old.writer (inlines h) outer → OnOk result (IsAt new.writer (label_stage labelled) (in_label labelled h outer))
 
 -- the stage after the text of a label
 abbrev pub label_end_stage : Labelled → Stage
@@ -98,7 +110,7 @@ label_end_stage FootnoteCall = nothing
 
 -- the text of a label has ended
 abbrev pub IsAtLabelEnd : {R : Type 0} → Output R → Labelled → Bool → List Enclosing → Type 0
-IsAtLabelEnd output labelled h outer = IsAt output.writer (label_end_stage labelled) (inside names.Label (label_stage labelled) (inside (labelled_name labelled) (inlines h) outer))
+IsAtLabelEnd output labelled h outer = IsAt output.writer (label_end_stage labelled) (in_label labelled h outer)
 
 -- the same of a flag and of spans
 pub record AtLabelEnd {R : Type 0} (output : Output R) (labelled : Labelled) : Type 0 where

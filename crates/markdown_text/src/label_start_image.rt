@@ -1,17 +1,9 @@
 //! The start of the label of an image (CommonMark).
 
-ghost use Rattle.std.specs.Prelude.{◌≡◌, ◌≤◌, ◌<◌, length, IfSome, ◌+◌, OnOk, true};
-ghost use Rattle.markdown_text.specs.Constructs.{is_label_on};
+ghost use Rattle.std.specs.Prelude.{◌≡◌, IfSome, true};
 ghost use Rattle.markdown_text.specs.Contents.{IsAsciiPart};
-ghost use Rattle.markdown_text.specs.Opens.{BeginsLabel};
-ghost use Rattle.markdown_text.specs.Outputs.{AtInlines, Stands, WritesTo, bytes_of, constructs_of};
-ghost use Rattle.markdown_text.specs.declared.token.Labelled.TheVariants.{Image};
 
-use crate::output::{Next, Output};
-use character_references::references::References;
-use markdown_events::event::Name;
 use markdown_options::Constructs;
-use std::alloc::AllocError;
 
 /// The length of the start of the label of an image that a text begins with. Where calls of footnotes
 /// are a construct, no image begins before a caret (micromark).
@@ -25,23 +17,4 @@ pub fn scan(text: &[u8], constructs: &Constructs) -> Option<usize>
         [b'!', b'[', ..] if constructs.label_start_image => Some(2),
         _ => None,
     }
-}
-
-/// Writes the start of the label of an image.
-pub fn write<R: References>(output: &mut Output<'_, '_, R>) -> Result<(), AllocError>
-    requires stands { Stands output.old }
-    requires ascii { IsAsciiPart (bytes_of output.old) output.old.data (output.old.data + 2) }
-    requires inlines { AtInlines output.old }
-    requires on { is_label_on (constructs_of output.old) Image ≡ true }
-    ensures given { output.new.writer.given ≡ output.old.writer.given }
-    ensures writes { OnOk result (WritesTo output.old output.new (output.old.data + 2)) }
-    ensures at { BeginsLabel result Image output.old output.new }
-{
-    output.flush(Next::Span)?;
-    output.enter(Name::Image)?;
-    output.enter(Name::Label)?;
-    output.enter(Name::LabelImage)?;
-    output.token(Name::LabelImageMarker, 1)?;
-    output.token(Name::LabelMarker, 1)?;
-    output.exit()
 }

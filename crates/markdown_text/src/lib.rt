@@ -26,6 +26,7 @@ mod gfm_task_list_item_check;
 mod hard_break_escape;
 mod html_text;
 mod label_end;
+mod label_start;
 mod label_start_image;
 mod label_start_link;
 mod output;

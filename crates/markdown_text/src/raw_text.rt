@@ -1,8 +1,11 @@
 //! Raw text (micromark): code between backticks (CommonMark), and math between dollars.
 
-ghost use Rattle.std.specs.Prelude.{◌≡◌, ◌≢◌, ◌<◌, ◌+◌, IfOk, IfSome, OnOk, ◌-◌, length, true};
+ghost use Rattle.std.specs.Prelude.{false, ◌≡◌, ◌≢◌, ◌<◌, ◌+◌, IfOk, IfSome, OnOk, ◌-◌, length, true};
+ghost use Rattle.event_writer.specs.Stages.{inlines};
+ghost use Rattle.markdown_options.specs.Spans.{is_on};
 ghost use Rattle.markdown_text.specs.Contents.{IsAsciiPart};
-ghost use Rattle.markdown_text.specs.Outputs.{Stands, WritesTo, bytes_of, AtInlines, KeepsInlines, constructs_of};
+ghost use Rattle.markdown_text.specs.Outputs.{AtInlines, AtStage, KeepsInlines, Leads, Stands, WritesTo, bytes_of, constructs_of};
+ghost use Rattle.markdown_text.specs.RawTexts.{raw_text_name};
 ghost use Rattle.markdown_text.specs.Tokens.{IsEnclosed};
 
 use crate::cursor::Cursor;
@@ -11,6 +14,49 @@ use character_references::references::References;
 use commonmark_syntax::bytes::after;
 use markdown_events::event::Name;
 use std::alloc::{AllocError, Global};
+
+/// What a raw text is.
+#[derive(Clone, Copy, PartialEq, Eq, Debug)]
+pub enum RawText {
+    /// Code: `` `a` ``.
+    Code,
+    /// Math: `$a$`.
+    Math,
+}
+
+impl RawText {
+    ghost use Rattle.markdown_text.specs.RawTexts.{raw_data_name, raw_text_name, raw_sequence_name};
+
+    /// The name of its span.
+    pub fn name(self) -> Name
+        ensures { result ≡ raw_text_name self }
+    {
+        match self {
+            RawText::Code => Name::CodeText,
+            RawText::Math => Name::MathText,
+        }
+    }
+
+    /// The name of the span of the sequence at either end.
+    pub fn sequence(self) -> Name
+        ensures { result ≡ raw_sequence_name self }
+    {
+        match self {
+            RawText::Code => Name::CodeTextSequence,
+            RawText::Math => Name::MathTextSequence,
+        }
+    }
+
+    /// The name of the spans of what each line has between them.
+    pub fn data(self) -> Name
+        ensures { result ≡ raw_data_name self }
+    {
+        match self {
+            RawText::Code => Name::CodeTextData,
+            RawText::Math => Name::MathTextData,
+        }
+    }
+}
 
 /// Where the last run of each length ends, of one marker in a content.
 ///
@@ -111,9 +157,10 @@ fn length_through_closing(text: &[u8], marker: u8, sequence: usize) -> Option<us
     (run == sequence).then_some(text.len())
 }
 
-/// Writes code that ends at an offset, between sequences of this length.
-pub fn write_code<R: References>(
+/// Writes a raw text that ends at an offset, between sequences of this length.
+pub fn write<R: References>(
     output: &mut Output<'_, '_, R>,
+    kind: RawText,
     sequence: usize,
     end: usize,
 ) -> Result<(), AllocError>
@@ -121,38 +168,34 @@ pub fn write_code<R: References>(
     requires filled { 0 < sequence }
     requires enclosed { IsEnclosed (bytes_of output.old) sequence output.old.data end }
     requires inlines { AtInlines output.old }
-    requires on { (constructs_of output.old).code_text ≡ true }
+    requires on { is_on (constructs_of output.old) (raw_text_name kind) ≡ true }
     ensures given { output.new.writer.given ≡ output.old.writer.given }
     ensures writes { OnOk result (WritesTo output.old output.new end) }
     ensures at { KeepsInlines result output.old output.new }
 {
     output.flush(Next::Span)?;
-    output.enter(Name::CodeText)?;
-    output.token(Name::CodeTextSequence, sequence)?;
-    output.lines(Name::CodeTextData, end - sequence)?;
-    output.token(Name::CodeTextSequence, sequence)?;
+    output.enter(kind.name())?;
+    write_enclosed(output, kind, sequence, end)?;
     output.exit()
 }
 
-/// Writes math that ends at an offset, between sequences of this length.
-pub fn write_math<R: References>(
+/// Writes the two sequences of a raw text, and what each line has between them.
+fn write_enclosed<R: References>(
     output: &mut Output<'_, '_, R>,
+    kind: RawText,
     sequence: usize,
     end: usize,
 ) -> Result<(), AllocError>
     requires stands { Stands output.old }
+    requires none_waits { output.old.data ≡ output.old.at }
     requires filled { 0 < sequence }
-    requires enclosed { IsEnclosed (bytes_of output.old) sequence output.old.data end }
-    requires inlines { AtInlines output.old }
-    requires on { (constructs_of output.old).math_text ≡ true }
+    requires enclosed { IsEnclosed (bytes_of output.old) sequence output.old.at end }
+    requires at { AtStage output.old (inlines false) }
     ensures given { output.new.writer.given ≡ output.old.writer.given }
     ensures writes { OnOk result (WritesTo output.old output.new end) }
-    ensures at { KeepsInlines result output.old output.new }
+    ensures at { Leads result (inlines false) (inlines false) output.old output.new }
 {
-    output.flush(Next::Span)?;
-    output.enter(Name::MathText)?;
-    output.token(Name::MathTextSequence, sequence)?;
-    output.lines(Name::MathTextData, end - sequence)?;
-    output.token(Name::MathTextSequence, sequence)?;
-    output.exit()
+    output.token(kind.sequence(), sequence)?;
+    output.lines(kind.data(), end - sequence)?;
+    output.token(kind.sequence(), sequence)
 }

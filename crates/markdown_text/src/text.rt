@@ -6,7 +6,7 @@ ghost use Rattle.markdown_options.specs.Spans.{is_on};
 ghost use Rattle.markdown_pieces.specs.Tilings.{Tiles, end_from};
 ghost use Rattle.markdown_text.specs.Constructs.{AreDelimitersOn, AreTokensOn, is_delimiter_on, is_kind_on, is_label_on};
 ghost use Rattle.markdown_text.specs.Contents.{IsAsciiPart, IsContent, IsPart, joined, spot};
-ghost use Rattle.markdown_text.specs.Opens.{AtOpen, AtOpened, BeginsLabel, KeepsOpen, attention_size, opened, group_name};
+ghost use Rattle.markdown_text.specs.Opens.{AtOpen, AtOpened, KeepsOpen, attention_size, opened, group_name};
 ghost use Rattle.markdown_text.specs.Outputs.{AtInlines, BeginsText, GoesOn, IsAtText, KeepsInlines, Stands, WritesTo, bytes_of, as_text, references_of, constructs_of};
 ghost use Rattle.markdown_text.specs.Spans.{IsWithin};
 ghost use Rattle.markdown_text.specs.Standings.{IsAt};
@@ -20,13 +20,13 @@ ghost use Rattle.markdown_text.specs.declared.token.TokenKind.TheVariants.{Label
 
 use crate::attention::{AttentionKind, Delimiter};
 use crate::output::{ContentKind, Next, Output};
+use crate::raw_text::{self, RawText};
 use crate::source::Source;
 use crate::token::{Labelled, Target, Token, TokenKind};
 use crate::tokenizer::{Tokens, tokenize};
 use crate::{
-    autolink, character_escape, character_reference, gfm_label_start_footnote,
-    gfm_task_list_item_check, hard_break_escape, html_text, label_end, label_start_image,
-    label_start_link, raw_text,
+    autolink, character_escape, character_reference, gfm_task_list_item_check, hard_break_escape,
+    html_text, label_end, label_start,
 };
 use character_references::references::References;
 use event_writer::writer::Writer;
@@ -208,7 +208,7 @@ fn write_empty_label<R: References>(
     ensures data_end { OnOk result (output.new.data ≡ end) }
     ensures at { KeepsInlines result output.old output.new }
 {
-    write_label_marks(output, label.labelled)?;
+    label_start::write(output, label.labelled)?;
     label_end::write(output, label.labelled, &label.target, end)
 }
 
@@ -236,8 +236,8 @@ fn write_token<R: References>(
         TokenKind::HardBreakEscape => hard_break_escape::write(output),
         TokenKind::CharacterEscape => character_escape::write(output),
         TokenKind::CharacterReference(kind) => character_reference::write(output, kind, end),
-        TokenKind::CodeText(size) => raw_text::write_code(output, size, end),
-        TokenKind::MathText(size) => raw_text::write_math(output, size, end),
+        TokenKind::CodeText(size) => raw_text::write(output, RawText::Code, size, end),
+        TokenKind::MathText(size) => raw_text::write(output, RawText::Math, size, end),
         TokenKind::Autolink(address) => autolink::write(output, address, end),
         TokenKind::HtmlText => html_text::write(output, end),
         TokenKind::AutolinkLiteral(name) => write_autolink_literal(output, name, end),
@@ -410,32 +410,22 @@ fn write_label_start<R: References>(
         return Ok(());
     };
     open.push(Open::Label(labelled))?;
-    write_label_marks(output, labelled)?;
+    label_start::write(output, labelled)?;
     output.enter(Name::LabelText)?;
     output.data(end);
-    if labelled == Labelled::Link {
-        output.enter_link();
-    }
+    enter_labelled(output, labelled);
     Ok(())
 }
 
-/// Writes the marks at the start of a label.
-fn write_label_marks<R: References>(
-    output: &mut Output<'_, '_, R>,
-    labelled: Labelled,
-) -> Result<(), AllocError>
-    requires stands { Stands output.old }
-    requires ascii { IsAsciiPart (bytes_of output.old) output.old.data (output.old.data + label_start labelled) }
-    requires inlines { AtInlines output.old }
-    requires on { is_label_on (constructs_of output.old) labelled ≡ true }
-    ensures given { output.new.writer.given ≡ output.old.writer.given }
-    ensures writes { OnOk result (WritesTo output.old output.new (output.old.data + label_start labelled)) }
-    ensures at { BeginsLabel result labelled output.old output.new }
+/// Keeps that a link begins, if a label belongs to one.
+fn enter_labelled<R: References>(output: &mut Output<'_, '_, R>, labelled: Labelled)
+    requires { Stands output.old }
+    ensures writer { output.new.writer ≡ output.old.writer }
+    ensures goes_on { GoesOn output.old output.new }
+    ensures data_end { output.new.data ≡ output.old.data }
 {
-    match labelled {
-        Labelled::Link => label_start_link::write(output),
-        Labelled::Image => label_start_image::write(output),
-        Labelled::FootnoteCall => gfm_label_start_footnote::write(output),
+    if labelled == Labelled::Link {
+        output.enter_link();
     }
 }
 
@@ -460,12 +450,40 @@ fn write_label_end<R: References>(
         return output.lines(Name::Data, end);
     }
     open.pop();
+    end_label(output, labelled, target, end)?;
+    exit_labelled(output, labelled);
+    Ok(())
+}
+
+/// Writes the end of a label, which is the innermost construct that is open, and what comes after it up to an offset.
+fn end_label<R: References>(
+    output: &mut Output<'_, '_, R>,
+    labelled: Labelled,
+    target: &Target,
+    end: usize,
+) -> Result<(), AllocError>
+    requires stands { Stands output.old }
+    requires none_waits { output.old.data ≡ output.old.at }
+    requires token { IsToken (as_text output.old (R.text (references_of output.old)) false) (LabelEnd labelled target.now) output.old.at end }
+    requires at { AtOpened output.old (Label labelled) }
+    ensures given { output.new.writer.given ≡ output.old.writer.given }
+    ensures writes { OnOk result (WritesTo output.old output.new end) }
+    ensures at { (h : Bool) → (outer : List Enclosing) → IsAt output.old.writer (inlines false) (opened (Label labelled) h outer) → OnOk result (IsAt output.new.writer (inlines h) outer) }
+{
     output.exit()?;
-    label_end::write(output, labelled, target, end)?;
+    label_end::write(output, labelled, target, end)
+}
+
+/// Keeps that a link ends, if a label belongs to one.
+fn exit_labelled<R: References>(output: &mut Output<'_, '_, R>, labelled: Labelled)
+    requires { Stands output.old }
+    ensures writer { output.new.writer ≡ output.old.writer }
+    ensures goes_on { GoesOn output.old output.new }
+    ensures data_end { output.new.data ≡ output.old.data }
+{
     if labelled == Labelled::Link {
         output.exit_link();
     }
-    Ok(())
 }
 
 /// Whether a label is the innermost construct that is open.

@@ -18,7 +18,30 @@ pub enum Labelled {
 }
 
 impl Labelled {
+    ghost use Rattle.markdown_text.specs.Opens.{label_start_name, labelled_name};
     ghost use Rattle.markdown_text.specs.Tokens.{has_target, label_start};
+
+    /// The name of its span.
+    pub fn name(self) -> Name
+        ensures { result ≡ labelled_name self }
+    {
+        match self {
+            Labelled::Link => Name::Link,
+            Labelled::Image => Name::Image,
+            Labelled::FootnoteCall => Name::GfmFootnoteCall,
+        }
+    }
+
+    /// The name of the span of the signs that begin its label.
+    pub fn start_name(self) -> Name
+        ensures { result ≡ label_start_name self }
+    {
+        match self {
+            Labelled::Link => Name::LabelLink,
+            Labelled::Image => Name::LabelImage,
+            Labelled::FootnoteCall => Name::GfmFootnoteCallLabel,
+        }
+    }
 
     /// How many bytes are written at the start of its label.
     pub fn start_size(self) -> usize

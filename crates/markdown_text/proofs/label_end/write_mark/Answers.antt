@@ -5,7 +5,7 @@ use Rattle.markdown_events.specs.declared.event.Name.TheVariants.{Label, LabelEn
 use Rattle.markdown_pieces.specs.Walks.{inside}
 use Rattle.markdown_text.proofs.Constructs.{label_ends, mark_begins, mark_ends, mark_put}
 use Rattle.markdown_text.proofs.Steps.{at_some, on_ok}
-use Rattle.markdown_text.specs.Opens.{label_end_stage, label_stage, labelled_name}
+use Rattle.markdown_text.specs.Opens.{in_label, label_end_stage, label_stage, labelled_name}
 use Rattle.markdown_text.specs.Outputs.{after_plain}
 use Rattle.markdown_text.specs.Standings.{IsAt}
 use Rattle.markdown_text.proofs.label_end.write_mark.Goals as goal
@@ -14,7 +14,7 @@ pub token-requires-clause-may : goal.token-requires-clause-may
 token-requires-clause-may g c =
     let l = c.requires.at.0 in
     let a = label_end_stage l in
-    let label = inside Label (label_stage l) (inside (labelled_name l) (inlines c.requires.at.1.in_heading) c.requires.at.1.outer) in
+    let label = in_label l c.requires.at.1.in_heading c.requires.at.1.outer in
     let inner = inside LabelEnd a label in
     let begun = at_some (λ b. IsAt c.enter.new.self.writer b inner) (entered a (role_of LabelEnd)) a (mark_begins l) (c.in_ok-enter.ensures.stage a label c.requires.at.1.at) in
     record { stage = a; outer = inner; at = begun; may = ap is_some (mark_put l) }
@@ -23,7 +23,7 @@ pub exit-requires-clause-may : goal.exit-requires-clause-may
 exit-requires-clause-may g c =
     let l = c.requires.at.0 in
     let a = label_end_stage l in
-    let label = inside Label (label_stage l) (inside (labelled_name l) (inlines c.requires.at.1.in_heading) c.requires.at.1.outer) in
+    let label = in_label l c.requires.at.1.in_heading c.requires.at.1.outer in
     let inner = inside LabelEnd a label in
     let begun = at_some (λ b. IsAt c.enter.new.self.writer b inner) (entered a (role_of LabelEnd)) a (mark_begins l) (c.in_ok-enter.ensures.stage a label c.requires.at.1.at) in
     let put = at_some (λ b. IsAt c.token.new.self.writer b inner) (after_plain a LabelMarker) a (mark_put l) (c.in_ok-token.ensures.stage a inner begun) in
@@ -33,7 +33,7 @@ pub exit-requires-2-clause-may : goal.exit-requires-2-clause-may
 exit-requires-2-clause-may g c =
     let l = c.requires.at.0 in
     let a = label_end_stage l in
-    let label = inside Label (label_stage l) (inside (labelled_name l) (inlines c.requires.at.1.in_heading) c.requires.at.1.outer) in
+    let label = in_label l c.requires.at.1.in_heading c.requires.at.1.outer in
     let inner = inside LabelEnd a label in
     let begun = at_some (λ b. IsAt c.enter.new.self.writer b inner) (entered a (role_of LabelEnd)) a (mark_begins l) (c.in_ok-enter.ensures.stage a label c.requires.at.1.at) in
     let put = at_some (λ b. IsAt c.token.new.self.writer b inner) (after_plain a LabelMarker) a (mark_put l) (c.in_ok-token.ensures.stage a inner begun) in
@@ -44,7 +44,7 @@ pub returns-clause-at : goal.returns-clause-at
 returns-clause-at g c = λ l h outer at.
     let a = label_end_stage l in
     let group = inside (labelled_name l) (inlines h) outer in
-    let label = inside Label (label_stage l) group in
+    let label = in_label l h outer in
     let inner = inside LabelEnd a label in
     let begun = at_some (λ b. IsAt c.enter.new.self.writer b inner) (entered a (role_of LabelEnd)) a (mark_begins l) (c.in_ok-enter.ensures.stage a label at) in
     let put = at_some (λ b. IsAt c.token.new.self.writer b inner) (after_plain a LabelMarker) a (mark_put l) (c.in_ok-token.ensures.stage a inner begun) in

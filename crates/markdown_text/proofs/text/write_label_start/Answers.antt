@@ -1,12 +1,12 @@
 use Rattle.std.proofs.Common.{ap, false, is_some}
 use Rattle.event_writer.specs.Stages.{entered, inlines}
 use Rattle.markdown_events.specs.Names.{role_of}
-use Rattle.markdown_events.specs.declared.event.Name.TheVariants.{Label as LabelSpan, LabelText}
+use Rattle.markdown_events.specs.declared.event.Name.TheVariants.{LabelText}
 use Rattle.markdown_pieces.specs.Walks.{inside}
 use Rattle.markdown_text.proofs.Opened.{label_text_enters, opens_innermost}
 use Rattle.markdown_text.proofs.Outputs.{moved_at}
 use Rattle.markdown_text.proofs.Steps.{at_some}
-use Rattle.markdown_text.specs.Opens.{flag_of, label_stage, labelled_name, outer_of}
+use Rattle.markdown_text.specs.Opens.{flag_of, in_label, label_stage, outer_of}
 use Rattle.markdown_text.specs.Standings.{IsAt}
 use Rattle.markdown_text.specs.declared.text.Open.TheVariants.{Label}
 use Rattle.markdown_text.proofs.text.write_label_start.Goals as goal
@@ -17,28 +17,17 @@ enter-requires-clause-may g c =
     let os = c.args.«open».now.items in
     let h = flag_of os c.requires.at.in_heading in
     let outer = outer_of os c.requires.at.in_heading c.requires.at.outer in
-    let label = inside LabelSpan (label_stage l) (inside (labelled_name l) (inlines h) outer) in
-    record { stage = label_stage l; outer = label; at = c.in_ok-write_label_marks.ensures.at h outer c.requires.at.at; may = ap is_some (label_text_enters l); front = tt }
+    let label = in_label l h outer in
+    record { stage = label_stage l; outer = label; at = c.in_ok-write.ensures.at h outer c.requires.at.at; may = ap is_some (label_text_enters l); front = tt }
 
-pub returns-then-eq-clause-at : goal.returns-then-eq-clause-at
-returns-then-eq-clause-at g c = λ in_heading around at.
+pub returns-clause-at : goal.returns-clause-at
+returns-clause-at g c = λ in_heading around at.
     let l = c.in-Some.labelled in
     let os = c.args.«open».now.items in
     let h = flag_of os in_heading in
     let outer = outer_of os in_heading around in
-    let label = inside LabelSpan (label_stage l) (inside (labelled_name l) (inlines h) outer) in
+    let label = in_label l h outer in
     let text = inside LabelText (label_stage l) label in
-    let begun = at_some (λ b. IsAt c.enter.new.self.writer b text) (entered (label_stage l) (role_of LabelText)) (inlines false) (label_text_enters l) (c.in_ok-enter.ensures.stage (label_stage l) label (c.in_ok-write_label_marks.ensures.at h outer at)) in
+    let begun = at_some (λ b. IsAt c.enter.new.self.writer b text) (entered (label_stage l) (role_of LabelText)) (inlines false) (label_text_enters l) (c.in_ok-enter.ensures.stage (label_stage l) label (c.in_ok-write.ensures.at h outer at)) in
     let more = moved_at c.enter.new.self c.data-2.new.self (inlines false) text c.data-2.ensures.writer begun in
-    opens_innermost c.enter_link.new.self c.push.new.self.items os (Label l) in_heading around c.in_ok-push.ensures.items (moved_at c.data-2.new.self c.enter_link.new.self (inlines false) text c.enter_link.ensures.writer more)
-
-pub returns-else-eq-clause-at : goal.returns-else-eq-clause-at
-returns-else-eq-clause-at g c = λ in_heading around at.
-    let l = c.in-Some.labelled in
-    let os = c.args.«open».now.items in
-    let h = flag_of os in_heading in
-    let outer = outer_of os in_heading around in
-    let label = inside LabelSpan (label_stage l) (inside (labelled_name l) (inlines h) outer) in
-    let text = inside LabelText (label_stage l) label in
-    let begun = at_some (λ b. IsAt c.enter.new.self.writer b text) (entered (label_stage l) (role_of LabelText)) (inlines false) (label_text_enters l) (c.in_ok-enter.ensures.stage (label_stage l) label (c.in_ok-write_label_marks.ensures.at h outer at)) in
-    opens_innermost c.data-2.new.self c.push.new.self.items os (Label l) in_heading around c.in_ok-push.ensures.items (moved_at c.enter.new.self c.data-2.new.self (inlines false) text c.data-2.ensures.writer begun)
+    opens_innermost c.enter_labelled.new.output c.push.new.self.items os (Label l) in_heading around c.in_ok-push.ensures.items (moved_at c.data-2.new.self c.enter_labelled.new.output (inlines false) text c.enter_labelled.ensures.writer more)
