@@ -1,8 +1,8 @@
-/* tree DOCUMENT EVENTS: prints the tree of a document as JSON, from its event lines. */
+/* tree DOCUMENT: prints the tree of a markdown document as JSON. */
 #include <stdio.h>
 #include <stdlib.h>
 
-#include "mdast.h"
+#include <mdast.h>
 
 /* Ends the program where a file cannot be read. */
 static void fail(const char *name) {
@@ -25,30 +25,15 @@ static mdast_text contents(const char *name) {
     return (mdast_text){bytes, (size_t)length};
 }
 
-/* Writes a text. */
-static void put(mdast_text text, FILE *file) {
-    fwrite(text.bytes, 1, text.length, file);
-}
-
 /* Prints what a call came to, and gives the exit status. */
-static int answer(const mdast_outcome *outcome) {
+static int answer(const char *name, const mdast_outcome *outcome) {
     switch (outcome->status) {
     case MDAST_TREE:
-        put(outcome->text, stdout);
+        fwrite(outcome->text.bytes, 1, outcome->text.length, stdout);
         putchar('\n');
         return 0;
-    case MDAST_REFUSED:
-        fprintf(stderr, "%zu:%zu (%zu): ", outcome->line, outcome->column, outcome->offset);
-        put(outcome->reason, stderr);
-        fprintf(stderr, " (");
-        put(outcome->rule, stderr);
-        fprintf(stderr, ")\n");
-        return 1;
-    case MDAST_UNREAD:
-        fprintf(stderr, "tree: event line %zu cannot be read\n", outcome->line);
-        return 2;
-    case MDAST_TABLE:
-        fprintf(stderr, "tree: the table of references is not UTF-8\n");
+    case MDAST_TEXT:
+        fprintf(stderr, "tree: %s: byte %zu is not UTF-8\n", name, outcome->offset);
         return 2;
     default:
         fprintf(stderr, "tree: out of memory\n");
@@ -57,19 +42,15 @@ static int answer(const mdast_outcome *outcome) {
 }
 
 int main(int count, char **arguments) {
-    if (count != 3) {
-        fprintf(stderr, "usage: tree DOCUMENT EVENTS\n");
+    if (count != 2) {
+        fprintf(stderr, "usage: tree DOCUMENT\n");
         return 2;
     }
     mdast_text document = contents(arguments[1]);
-    mdast_text events = contents(arguments[2]);
     mdast_outcome outcome = MDAST_OUTCOME_INIT;
-    mdast_compile(document.bytes, document.length, events.bytes, events.length,
-                  (const uint8_t *)"", 0, &outcome);
-    int status = answer(&outcome);
-    if (outcome.status == MDAST_TREE)
-        free((void *)outcome.text.bytes);
+    mdast_parse(document.bytes, document.length, MDAST_EVERYTHING, MDAST_FORM_JSON, &outcome);
+    int status = answer(arguments[1], &outcome);
+    mdast_outcome_free(&outcome);
     free((void *)document.bytes);
-    free((void *)events.bytes);
     return status;
 }

@@ -1,22 +1,14 @@
--- The programs, and what they call themselves.
-use Rattle.std.specs.Prelude.{ℕ, List, codes, ◌++◌}
-use Rattle.command_line.specs.declared.program.Program.{Program}
-use Rattle.command_line.specs.declared.program.Program.TheVariants.{Show, Json}
-
--- the name of a program
-abbrev pub program_name : Program → List ℕ
-program_name Show = codes "mdast_show"
-program_name (Json units) = codes "mdast_json"
+-- The fixed lines of `mdast_show`.
+use Rattle.std.specs.Prelude.{ℕ, List, codes}
 
 -- the line for wrong arguments
-abbrev pub usage_line : Program → List ℕ
-usage_line Show = codes "usage: mdast_show [--check] DOC\n"
-usage_line (Json units) = codes "usage: mdast_json [--utf16] DOC\n"
+abbrev pub usage_line : List ℕ
+usage_line = codes "usage: mdast_show [--check] DOC\n"
 
 -- the line for a document that cannot be read
-abbrev pub unreadable_line : Program → List ℕ
-unreadable_line program = program_name program ++ codes ": cannot read the document\n"
+abbrev pub unreadable_line : List ℕ
+unreadable_line = codes "mdast_show: cannot read the document\n"
 
 -- the line for want of memory
-abbrev pub memory_line : Program → List ℕ
-memory_line program = program_name program ++ codes ": out of memory\n"
+abbrev pub memory_line : List ℕ
+memory_line = codes "mdast_show: out of memory\n"

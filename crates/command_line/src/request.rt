@@ -1,10 +1,9 @@
-//! What the arguments of a program ask for, and what it prints where there is no document.
+//! What the arguments of `mdast_show` ask for, and what it prints where there is no document.
 
 ghost use Rattle.std.specs.Prelude.{◌≡◌};
-ghost use Rattle.command_line.specs.Requests;
-ghost use Rattle.command_line.specs.Requests.{error_line, error_status, requested, requested_json};
+ghost use Rattle.command_line.specs.Requests.{error_line, error_status, requested};
 
-use crate::program::{Program, Units};
+use crate::program::{OUT_OF_MEMORY, UNREADABLE, USAGE};
 
 /// What `mdast_show` is asked to do.
 #[derive(Debug, PartialEq, Eq, Drop)]
@@ -30,52 +29,15 @@ impl Request {
     ) -> Option<Request>
         ensures { result ≡ requested first second third }
     {
-        let (checks, document) = named("--check", first, second, third)?;
-        if checks {
-            return Some(Request::Check(document));
+        let first = first?;
+        let Some(second) = second else {
+            return Some(Request::Show(first));
+        };
+        if third.is_some() || first.as_str() != "--check" {
+            return None;
         }
-        Some(Request::Show(document))
+        Some(Request::Check(second))
     }
-}
-
-/// What the first three arguments of `mdast_json` ask for: in which form, and the name of the document.
-/// Gives `None` where they are not those of the usage line.
-///
-/// One argument names a document, whatever it is. Of two the first has to be `--utf16`, and the second
-/// names the document. The form is ours.
-///
-/// `hi.md` asks for JSON in bytes, and `--utf16 hi.md` for JSON in UTF-16 units.
-pub fn json_request(
-    first: Option<String>,
-    second: Option<String>,
-    third: Option<String>,
-) -> Option<(Program, String)>
-    ensures { result ≡ requested_json first second third }
-{
-    let (in_utf16, document) = named("--utf16", first, second, third)?;
-    if in_utf16 {
-        return Some((Program::Json(Units::Utf16), document));
-    }
-    Some((Program::Json(Units::Bytes), document))
-}
-
-/// Whether an option stands before the name of a document, and that name.
-fn named(
-    option: &str,
-    first: Option<String>,
-    second: Option<String>,
-    third: Option<String>,
-) -> Option<(bool, String)>
-    ensures { result ≡ Requests.named option.now first second third }
-{
-    let first = first?;
-    let Some(second) = second else {
-        return Some((false, first));
-    };
-    if third.is_some() || first.as_str() != option {
-        return None;
-    }
-    Some((true, second))
 }
 
 /// Why there is no document.
@@ -90,16 +52,16 @@ pub enum DocumentError {
 }
 
 impl DocumentError {
-    /// The line with which a program says so.
+    /// The line with which the program says so.
     ///
-    /// Wrong arguments of `mdast_show` give its usage line, `usage: mdast_show [--check] DOC`.
-    pub fn line(&self, program: Program) -> &'static str
-        ensures { result.now ≡ error_line program self.now }
+    /// Wrong arguments give its usage line, `usage: mdast_show [--check] DOC`.
+    pub fn line(&self) -> &'static str
+        ensures { result.now ≡ error_line self.now }
     {
         match self {
-            DocumentError::Usage => program.usage(),
-            DocumentError::Unreadable => program.unreadable(),
-            DocumentError::Memory => program.out_of_memory(),
+            DocumentError::Usage => USAGE,
+            DocumentError::Unreadable => UNREADABLE,
+            DocumentError::Memory => OUT_OF_MEMORY,
         }
     }
 

@@ -52,8 +52,11 @@ fn inside_length(inside: &[u8]) -> Option<usize>
     None
 }
 
-/// Whether a label may have this text between its brackets.
-fn is_text(inside: &[u8]) -> bool {
+/// Whether a label may have this text between its brackets: more than white space, and at most
+/// [`CHARACTERS_MOST`] characters (CommonMark).
+///
+/// ` a ` is such a text, and ` ` is none.
+pub fn is_text(inside: &[u8]) -> bool {
     let is_blank = inside.iter().all(|byte| is_space_or_line_ending(*byte));
     let characters = inside
         .iter()

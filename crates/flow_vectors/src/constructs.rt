@@ -1,6 +1,6 @@
 //! Each construct can be switched off.
 
-use crate::reading::{all, has, holds};
+use crate::reading::{has, holds};
 use markdown_events::event::Name;
 use markdown_options::Constructs;
 use std::alloc::{AllocError, Global};
@@ -17,7 +17,11 @@ fn switches(
     constructs: Constructs,
     name: Name,
 ) -> Result<(), AllocError> {
-    holds(rt, has(alloc, DOCUMENT, all(), name)?, name.text());
+    holds(
+        rt,
+        has(alloc, DOCUMENT, Constructs::everything(), name)?,
+        name.text(),
+    );
     holds(rt, !has(alloc, DOCUMENT, constructs, name)?, name.text());
     Ok(())
 }
@@ -29,7 +33,7 @@ fn containers(rt: HostRuntime) -> Result<(), AllocError> {
         block_quote: false,
         list_item: false,
         gfm_footnote_definition: false,
-        ..all()
+        ..Constructs::everything()
     };
     switches(&rt, alloc, without, Name::BlockQuote)?;
     switches(&rt, alloc, without, Name::ListItem)?;
@@ -43,7 +47,7 @@ fn headings_and_breaks(rt: HostRuntime) -> Result<(), AllocError> {
         heading_atx: false,
         heading_setext: false,
         thematic_break: false,
-        ..all()
+        ..Constructs::everything()
     };
     switches(&rt, alloc, without, Name::HeadingAtx)?;
     switches(&rt, alloc, without, Name::HeadingSetext)?;
@@ -59,7 +63,7 @@ fn raw_blocks(rt: HostRuntime) -> Result<(), AllocError> {
         math_flow: false,
         html_flow: false,
         frontmatter: false,
-        ..all()
+        ..Constructs::everything()
     };
     switches(&rt, alloc, without, Name::CodeIndented)?;
     switches(&rt, alloc, without, Name::CodeFenced)?;
@@ -74,7 +78,7 @@ fn definitions_and_tables(rt: HostRuntime) -> Result<(), AllocError> {
     let without = Constructs {
         definition: false,
         gfm_table: false,
-        ..all()
+        ..Constructs::everything()
     };
     switches(&rt, alloc, without, Name::Definition)?;
     switches(&rt, alloc, without, Name::GfmTable)
@@ -85,7 +89,7 @@ fn without_indented_code_blocks_may_be_indented(rt: HostRuntime) -> Result<(), A
     let alloc = rt.alloc();
     let without = Constructs {
         code_indented: false,
-        ..all()
+        ..Constructs::everything()
     };
     let document = "      # a\n      > b\n      * c\n      ***\n";
     for name in [
@@ -95,7 +99,11 @@ fn without_indented_code_blocks_may_be_indented(rt: HostRuntime) -> Result<(), A
         Name::ThematicBreak,
     ] {
         holds(&rt, has(alloc, document, without, name)?, name.text());
-        holds(&rt, !has(alloc, document, all(), name)?, name.text());
+        holds(
+            &rt,
+            !has(alloc, document, Constructs::everything(), name)?,
+            name.text(),
+        );
     }
     Ok(())
 }

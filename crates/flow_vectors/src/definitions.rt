@@ -1,7 +1,8 @@
 //! Definitions, and what a document defines.
 
-use crate::reading::{all, blocks, has, holds, shows};
+use crate::reading::{blocks, has, holds, shows};
 use markdown_events::event::Name;
+use markdown_options::Constructs;
 use std::alloc::{AllocError, Global};
 
 #[test]
@@ -38,17 +39,32 @@ fn an_underline_after_definitions_is_text(rt: HostRuntime) -> Result<(), AllocEr
     let alloc = rt.alloc();
     holds(
         &rt,
-        has(alloc, "[a]: b\n===", all(), Name::Paragraph)?,
+        has(
+            alloc,
+            "[a]: b\n===",
+            Constructs::everything(),
+            Name::Paragraph,
+        )?,
         "text",
     );
     holds(
         &rt,
-        !has(alloc, "[a]: b\n===", all(), Name::HeadingSetext)?,
+        !has(
+            alloc,
+            "[a]: b\n===",
+            Constructs::everything(),
+            Name::HeadingSetext,
+        )?,
         "heading",
     );
     holds(
         &rt,
-        has(alloc, "[a]: b\nc\n===", all(), Name::HeadingSetext)?,
+        has(
+            alloc,
+            "[a]: b\nc\n===",
+            Constructs::everything(),
+            Name::HeadingSetext,
+        )?,
         "heading",
     );
     Ok(())
@@ -57,7 +73,7 @@ fn an_underline_after_definitions_is_text(rt: HostRuntime) -> Result<(), AllocEr
 #[test]
 fn identifiers(rt: HostRuntime) -> Result<(), AllocError> {
     let alloc = rt.alloc();
-    let blocks = blocks(alloc, "> [a\n> b]: c\n\n[^d]: e", all())?;
+    let blocks = blocks(alloc, "> [a\n> b]: c\n\n[^d]: e", Constructs::everything())?;
     let found = &blocks.identifiers;
     holds(&rt, found.defines(alloc, b"A\nB")?, "a b");
     holds(&rt, !found.defines(alloc, b"d")?, "d");
@@ -88,20 +104,38 @@ fn a_label_has_at_most_999_characters(rt: HostRuntime) -> Result<(), AllocError>
     let longest = labelled(alloc, "[", 999, "]: b")?;
     holds(
         &rt,
-        has(alloc, longest.as_str(), all(), Name::Definition)?,
+        has(
+            alloc,
+            longest.as_str(),
+            Constructs::everything(),
+            Name::Definition,
+        )?,
         "999",
     );
     let longer = labelled(alloc, "[", 1000, "]: b")?;
     holds(
         &rt,
-        !has(alloc, longer.as_str(), all(), Name::Definition)?,
+        !has(
+            alloc,
+            longer.as_str(),
+            Constructs::everything(),
+            Name::Definition,
+        )?,
         "1000",
     );
     let name = Name::GfmFootnoteDefinition;
     let longest = labelled(alloc, "[^", 999, "]: b")?;
-    holds(&rt, has(alloc, longest.as_str(), all(), name)?, "999");
+    holds(
+        &rt,
+        has(alloc, longest.as_str(), Constructs::everything(), name)?,
+        "999",
+    );
     let longer = labelled(alloc, "[^", 1000, "]: b")?;
-    holds(&rt, !has(alloc, longer.as_str(), all(), name)?, "1000");
+    holds(
+        &rt,
+        !has(alloc, longer.as_str(), Constructs::everything(), name)?,
+        "1000",
+    );
     Ok(())
 }
 
@@ -109,8 +143,20 @@ fn a_label_has_at_most_999_characters(rt: HostRuntime) -> Result<(), AllocError>
 fn raw_elements_begin_no_other_tag(rt: HostRuntime) -> Result<(), AllocError> {
     let alloc = rt.alloc();
     // CommonMark, HTML blocks: condition 7 is for no opening tag of `pre`, `script`, `style` or `textarea`
-    holds(&rt, !has(alloc, "<pre/>", all(), Name::HtmlFlow)?, "<pre/>");
-    holds(&rt, has(alloc, "<pre>", all(), Name::HtmlFlow)?, "<pre>");
-    holds(&rt, has(alloc, "</pre>", all(), Name::HtmlFlow)?, "</pre>");
+    holds(
+        &rt,
+        !has(alloc, "<pre/>", Constructs::everything(), Name::HtmlFlow)?,
+        "<pre/>",
+    );
+    holds(
+        &rt,
+        has(alloc, "<pre>", Constructs::everything(), Name::HtmlFlow)?,
+        "<pre>",
+    );
+    holds(
+        &rt,
+        has(alloc, "</pre>", Constructs::everything(), Name::HtmlFlow)?,
+        "</pre>",
+    );
     Ok(())
 }

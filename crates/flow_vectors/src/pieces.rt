@@ -1,7 +1,8 @@
 //! The pieces of documents (micromark's spans).
 
 use crate::constructs::DOCUMENT;
-use crate::reading::{all, blocks, holds, shows};
+use crate::reading::{blocks, holds, shows};
+use markdown_options::Constructs;
 use std::alloc::AllocError;
 
 #[test]
@@ -91,7 +92,7 @@ fn code_and_html(rt: HostRuntime) -> Result<(), AllocError> {
 
 #[test]
 fn pieces_tile_the_document(rt: HostRuntime) -> Result<(), AllocError> {
-    let blocks = blocks(rt.alloc(), DOCUMENT, all())?;
+    let blocks = blocks(rt.alloc(), DOCUMENT, Constructs::everything())?;
     let mut end = 0;
     for piece in blocks.pieces.as_slice() {
         holds(&rt, piece.end >= end, "a piece goes back");

@@ -7,15 +7,6 @@ use markdown_pieces::piece::{Piece, PieceKind};
 use std::alloc::{AllocError, Global};
 use std::process::Abort;
 
-/// All constructs of blocks.
-pub fn all() -> Constructs {
-    Constructs {
-        frontmatter: true,
-        math_flow: true,
-        ..Constructs::gfm()
-    }
-}
-
 /// The blocks of a document with these constructs.
 pub fn blocks(alloc: Global, document: &str, constructs: Constructs) -> Result<Blocks, AllocError> {
     let options = ParseOptions {
@@ -44,7 +35,7 @@ pub fn has(
 /// The pieces of a document as a text, with all constructs. `(A` begins a span, `)` ends one, and `A:1` is a
 /// token up to offset 1.
 pub fn shown(alloc: Global, document: &str) -> Result<String, AllocError> {
-    let blocks = blocks(alloc, document, all())?;
+    let blocks = blocks(alloc, document, Constructs::everything())?;
     let mut text = String::new(alloc);
     for piece in blocks.pieces.as_slice() {
         show(&mut text, piece)?;

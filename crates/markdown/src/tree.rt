@@ -1,14 +1,14 @@
 //! The tree of a document.
 
-ghost use Rattle.std.specs.Prelude.{IfOk, List, Some, ◌≡◌, ◌≢◌};
+ghost use Rattle.std.specs.Prelude.{IfErr, IfOk, List, Some, ◌≡◌, ◌≢◌};
 ghost use Rattle.character_references.specs.Html.{html};
 ghost use Rattle.event_writer.specs.Finished.{IsFinished};
 ghost use Rattle.markdown_events.specs.declared.event.Event.{Event};
-ghost use Rattle.markdown_grammar.specs.Correct.{IsMeaning};
+ghost use Rattle.markdown_grammar.specs.Correct.{FailsRightly, IsMeaning};
 ghost use Rattle.markdown.specs.Hidden.{hidden};
 ghost use Rattle.markdown.specs.Roots.{whole_document};
 ghost use Rattle.markdown_grammar.specs.Document.{source, source_hiding};
-ghost use Rattle.markdown_grammar.specs.Ordered.{IsOrdered};
+ghost use Rattle.markdown_grammar.specs.Ordered.{IsOrdered, NeverGoesBack};
 ghost use Rattle.markdown_nodes.specs.Tree.{only};
 ghost use Rattle.markdown_options.specs.Spans.{AreOn};
 ghost use Rattle.markdown_nodes.specs.View.{view};
@@ -19,6 +19,7 @@ use crate::events::to_events;
 use crate::hidden::hidden_bytes;
 use character_references::html::HtmlReferences;
 use event_writer::laws::{no_message_comes, offsets_never_go_back};
+use markdown_events::event::Event;
 use markdown_nodes::mdast::Node;
 use markdown_nodes::message::Fault;
 use markdown_options::ParseOptions;
@@ -50,13 +51,34 @@ pub fn to_mdast(alloc: Global, value: &str, options: &ParseOptions) -> Result<No
     offsets_never_go_back();
     no_message_comes();
     let events = to_events(alloc, value, options)?;
-    let bytes = value.as_bytes();
-    let hidden = hidden_bytes(alloc, bytes, &events)?;
-    let document = Document::hiding(bytes, &hidden);
-    match compile_document(alloc, &mut Steps::new(&events), &document, &HtmlReferences) {
+    match compile_events(alloc, value, &events) {
         Ok(tree) => Ok(tree),
         Err(fault) => Err(memory_error(fault)),
     }
+}
+
+/// The syntax tree of a document and its events, whoever made them.
+///
+/// It does what [`to_mdast`] does, with these events in place of those of [`to_events`]: values are whole,
+/// and hidden bytes are left out. For the events of `to_events` it gives the tree of `to_mdast`.
+///
+/// `Fault::Message` says which rule the events break, as for `compile` of the crate `markdown_tree`, and
+/// `Fault::Memory` that memory ran out.
+///
+/// For `Hi` and the events of a paragraph with one data span it is a root with a paragraph with a text.
+pub fn compile_events(alloc: Global, value: &str, events: &[Event]) -> Result<Node, Fault>
+    // A tree is the meaning of an accepted forest that has these events.
+    ensures found { IfOk result (λ tree. IsMeaning tree events.now (source_hiding (hidden value.now events.now) value.now html)) }
+    // A message comes only where there is no such forest.
+    ensures refused { IfErr result (λ fault. FailsRightly fault events.now (source_hiding (hidden value.now events.now) value.now html)) }
+    // Where the offsets never go back, spans nest and siblings stand in order, but for the starts in the first
+    // paragraphs of task items.
+    ensures ordered { IfOk result (λ tree. NeverGoesBack events.now → IsOrdered (only (view tree))) }
+{
+    let bytes = value.as_bytes();
+    let hidden = hidden_bytes(alloc, bytes, events)?;
+    let document = Document::hiding(bytes, &hidden);
+    compile_document(alloc, &mut Steps::new(events), &document, &HtmlReferences)
 }
 
 /// The error that memory ran out, where a fault is no message.

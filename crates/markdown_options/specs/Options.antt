@@ -1,4 +1,4 @@
--- Which constructs CommonMark has, and which GFM.
+-- Which constructs CommonMark has, which GFM, and which there are.
 use Rattle.std.specs.Prelude.{true, false}
 use Rattle.markdown_options.specs.declared.Constructs.{Constructs}
 use Rattle.markdown_options.specs.declared.ParseOptions.{ParseOptions}
@@ -48,6 +48,19 @@ gfm = record commonmark {
   gfm_task_list_item = true;
 }
 
--- these constructs, and a single tilde or dollar where they are among them
+-- all: frontmatter and math besides
+abbrev pub everything : Constructs
+everything = record gfm {
+  frontmatter = true;
+  math_flow = true;
+  math_text = true;
+}
+
+-- these constructs, and a single tilde or dollar where they are among them; references need definitions
 abbrev pub options : Constructs → ParseOptions
-options constructs = record { constructs = constructs; gfm_strikethrough_single_tilde = true; math_text_single_dollar = true }
+options constructs = record {
+  constructs = constructs;
+  gfm_strikethrough_single_tilde = true;
+  math_text_single_dollar = true;
+  undefined_references = false;
+}

@@ -3,7 +3,7 @@
 #![tactic(auto)]
 
 ghost use Rattle.std.specs.Prelude.{◌≡◌};
-ghost use Rattle.markdown_options.specs.Options.{commonmark, gfm, options};
+ghost use Rattle.markdown_options.specs.Options.{commonmark, everything, gfm, options};
 
 /// Which constructs there are.
 ///
@@ -89,6 +89,20 @@ impl Constructs {
             ..Constructs::default()
         }
     }
+
+    /// All constructs: those of GFM, frontmatter and math.
+    ///
+    /// `Constructs::everything().math_text` is true.
+    pub fn everything() -> Constructs
+        ensures { result ≡ everything }
+    {
+        Constructs {
+            frontmatter: true,
+            math_flow: true,
+            math_text: true,
+            ..Constructs::gfm()
+        }
+    }
 }
 
 /// The constructs of CommonMark.
@@ -141,6 +155,10 @@ pub struct ParseOptions {
     pub gfm_strikethrough_single_tilde: bool,
     /// Whether a single dollar begins math in a text, too: `$a$`.
     pub math_text_single_dollar: bool,
+    /// Whether references with a label of their own, and calls of footnotes, are read where nothing defines
+    /// them, too: `[a][b]`, `[a][]`, `[^a]`. A linter wants to see them. In CommonMark and GFM they are text
+    /// (ours).
+    pub undefined_references: bool,
 }
 
 impl ParseOptions {
@@ -154,6 +172,7 @@ impl ParseOptions {
             constructs: Constructs::gfm(),
             gfm_strikethrough_single_tilde: true,
             math_text_single_dollar: true,
+            undefined_references: false,
         }
     }
 }
@@ -167,6 +186,7 @@ impl Default for ParseOptions {
             constructs: Constructs::default(),
             gfm_strikethrough_single_tilde: true,
             math_text_single_dollar: true,
+            undefined_references: false,
         }
     }
 }

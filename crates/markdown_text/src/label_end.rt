@@ -57,7 +57,7 @@ pub fn scan<R: References>(
     let is_footnote = bracket.form == LabelForm::Footnote
         && !bracket.has_bracket
         && !has_white_space(label);
-    if is_footnote && source.defines_footnote(after(label, 1))? {
+    if is_footnote && source.calls_footnote(after(label, 1))? {
         return Ok(Some(Match {
             labelled: Labelled::FootnoteCall,
             target: Target::Shortcut,
@@ -115,21 +115,25 @@ fn with_target<R: References>(
         }));
     }
     if let Some(size) = label::scan(rest) {
-        let is_defined = source.defines(&rest[1..size - 1])?;
-        return Ok(is_defined.then_some(Match {
+        let is_reference = source.refers(&rest[1..size - 1])?;
+        return Ok(is_reference.then_some(Match {
             labelled,
             target: Target::Full,
             size: size + 1,
         }));
     }
-    let is_defined = match own {
-        Some(own) => source.defines(own)?,
-        None => false,
+    let Some(own) = own else {
+        return Ok(None);
     };
-    Ok(is_defined.then_some(with_own_label(labelled, rest)))
+    let found = with_own_label(labelled, rest);
+    let is_reference = match found.target {
+        Target::Collapsed => source.refers(own)?,
+        _ => source.defines(own)?,
+    };
+    Ok(is_reference.then_some(found))
 }
 
-/// What a label that is defined makes with what comes after it: a collapsed or a shortcut reference.
+/// What a label makes with what comes after it, where it is a reference: a collapsed or a shortcut one.
 fn with_own_label(labelled: Labelled, rest: &[u8]) -> Match
     ensures labelled { result.labelled ≡ labelled }
     ensures target { IsTarget rest.now result.target 0 (result.size - 1) }

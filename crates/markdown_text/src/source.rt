@@ -2,6 +2,7 @@
 
 use crate::document::Reading;
 use commonmark_syntax::bytes::after;
+use commonmark_syntax::label::is_text;
 use std::alloc::{AllocError, Global};
 
 /// The bytes of a content, and what its document is read with.
@@ -28,13 +29,30 @@ impl<R> Source<'_, R> {
     }
 
     /// The same of a footnote.
-    pub fn defines_footnote(&self, label: &[u8]) -> Result<bool, AllocError> {
+    fn defines_footnote(&self, label: &[u8]) -> Result<bool, AllocError> {
         let alloc = self.reading.alloc;
         if self.escapes_pipes(label) {
             let label = without_escapes(alloc, label)?;
             return self.reading.identifiers.defines_footnote(alloc, &label);
         }
         self.reading.identifiers.defines_footnote(alloc, label)
+    }
+
+    /// Whether a label of this content, which stands alone between brackets, is a reference. It is defined, or
+    /// references are read that are not. The only error is that memory ran out.
+    pub fn refers(&self, label: &[u8]) -> Result<bool, AllocError> {
+        if self.reading.options.undefined_references && is_text(label) {
+            return Ok(true);
+        }
+        self.defines(label)
+    }
+
+    /// The same of a footnote.
+    pub fn calls_footnote(&self, label: &[u8]) -> Result<bool, AllocError> {
+        if self.reading.options.undefined_references && is_text(label) {
+            return Ok(true);
+        }
+        self.defines_footnote(label)
     }
 
     /// Whether pipes may be escaped in a label for the table around it.

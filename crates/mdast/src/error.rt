@@ -1,48 +1,108 @@
-//! Why the program does not print what it is asked for.
+//! Why a document gives no output.
 
-use crate::source::{Source, SourceError};
-use std::fmt;
+use event_lines::lines::LinesError;
+use markdown_nodes::message::{Fault, Message};
+use std::alloc::{AllocError, AllocFailed};
+use std::io::{self, ErrorKind};
+use std::{error, fmt};
 
-/// Why the program does not print what it is asked for.
+/// Why a document gives no output.
 #[derive(Debug, Drop)]
-pub enum ProgramError {
-    /// The arguments are not those of the usage line.
-    Usage,
-    /// There is no text of this document.
-    Unread(Source, SourceError),
-    /// The output cannot be written.
-    Unwritten,
+pub enum DocumentError {
+    /// It cannot be read.
+    Unread(ErrorKind),
+    /// Its byte at this offset, counted from 0, begins no character of UTF-8.
+    NotUtf8(usize),
+    /// The file of its events cannot be read.
+    UnreadEvents(ErrorKind),
+    /// The line with this number, counted from 1, is no event.
+    EventLine(usize),
+    /// Its events have no tree.
+    Refused(Message),
     /// Memory ran out.
     Memory,
 }
 
-impl ProgramError {
-    /// The error of a document that has no text.
-    pub fn unread(source: Source, error: SourceError) -> ProgramError {
-        match error {
-            SourceError::Memory(_) => ProgramError::Memory,
-            error => ProgramError::Unread(source, error),
+impl DocumentError {
+    /// The error of events that cannot be read.
+    pub fn of_events(error: io::Error) -> DocumentError {
+        match error.kind() {
+            ErrorKind::OutOfMemory => DocumentError::Memory,
+            kind => DocumentError::UnreadEvents(kind),
         }
     }
 
-    /// The exit status: 3 where memory ran out, and else 2.
+    /// The exit status: 1 where the events have no tree, 3 where memory ran out, and else 2.
     pub fn status(&self) -> u8 {
         match self {
-            ProgramError::Memory => 3,
+            DocumentError::Refused(_) => 1,
+            DocumentError::Memory => 3,
             _ => 2,
         }
     }
 }
 
-impl fmt::Display for ProgramError {
+impl From<AllocError> for DocumentError {
+    fn from(_error: AllocError) -> DocumentError {
+        DocumentError::Memory
+    }
+}
+
+impl<T: Drop> From<AllocFailed<T>> for DocumentError {
+    fn from(_error: AllocFailed<T>) -> DocumentError {
+        DocumentError::Memory
+    }
+}
+
+impl From<io::Error> for DocumentError {
+    fn from(error: io::Error) -> DocumentError {
+        match error.kind() {
+            ErrorKind::OutOfMemory => DocumentError::Memory,
+            kind => DocumentError::Unread(kind),
+        }
+    }
+}
+
+impl From<LinesError> for DocumentError {
+    fn from(error: LinesError) -> DocumentError {
+        match error {
+            LinesError::Unread(number) => DocumentError::EventLine(number),
+            LinesError::Memory(_) => DocumentError::Memory,
+        }
+    }
+}
+
+impl From<Fault> for DocumentError {
+    fn from(fault: Fault) -> DocumentError {
+        match fault {
+            Fault::Message(message) => DocumentError::Refused(message),
+            Fault::Memory(_) => DocumentError::Memory,
+        }
+    }
+}
+
+impl fmt::Display for DocumentError {
     fn fmt<W: fmt::Write>(&self, f: &mut fmt::Formatter<W>) -> fmt::Result {
         match self {
-            ProgramError::Usage => {
-                f.write_str("usage: mdast [--events] [--commonmark | --gfm] [DOC]")
-            }
-            ProgramError::Unread(source, error) => write!(f, "mdast: {source}: {error}"),
-            ProgramError::Unwritten => f.write_str("mdast: cannot write the output"),
-            ProgramError::Memory => f.write_str("mdast: out of memory"),
+            DocumentError::Unread(kind) => f.write_str(cause(*kind)),
+            DocumentError::NotUtf8(offset) => write!(f, "byte {offset} is not UTF-8"),
+            DocumentError::UnreadEvents(kind) => write!(f, "events: {}", cause(*kind)),
+            DocumentError::EventLine(number) => write!(f, "event line {number} cannot be read"),
+            DocumentError::Refused(message) => write!(f, "{message}"),
+            DocumentError::Memory => f.write_str("out of memory"),
         }
+    }
+}
+
+impl error::Error for DocumentError {}
+
+/// Why a file cannot be read, for people.
+fn cause(kind: ErrorKind) -> &'static str {
+    match kind {
+        ErrorKind::NotFound => "no such file",
+        ErrorKind::PermissionDenied => "permission denied",
+        ErrorKind::IsADirectory => "is a directory",
+        ErrorKind::NotADirectory => "not a directory",
+        _ => "cannot be read",
     }
 }

@@ -1,76 +1,60 @@
-//! Prints the syntax tree of a markdown document as JSON.
+//! Prints the syntax trees of markdown documents, and what follows from them.
 //!
-//! `mdast [OPTION]... [DOC]` reads the document from the file DOC, or from standard input where DOC is
-//! `-` or is not given. It prints one line: the tree as JSON, with the names and fields of mdast. With
-//! `--events` it prints the events of the tokenizer, a line for each. The document is read as GFM with
-//! frontmatter and math. `--gfm` leaves these two out, and `--commonmark` leaves out GFM as well.
+//! `mdast [OPTION]... [DOC]...` reads each document from a file, or from standard input where DOC is `-` or
+//! none is given. It prints the tree as JSON, with the names and fields of mdast, or what an option asks
+//! for: an outline of the tree, the events, the headings, the plain text, or what a linter warns of.
+//! `mdast --help` lists the options.
 //!
-//! Messages go to standard error. The status is 0 where the program printed what was asked for, 2 where
-//! the arguments are wrong, the document cannot be read or the output cannot be written, and 3 where
-//! memory ran out. Every document has a tree.
+//! Results go to standard output and messages to standard error. The status is 0 where everything that
+//! was asked for was printed. It is 1 where `--check` found something, or where the events of
+//! `--from-events` have no tree. It is 2 where the arguments are wrong, a document cannot be read or the
+//! output cannot be written, and 3 where memory ran out. Of several documents the greatest counts.
 #![tactic(auto)]
 
+mod arguments;
+mod constructs;
 mod error;
-mod request;
+mod form;
+mod inspect;
+mod line;
+mod progress;
 mod source;
+mod task;
+#[cfg(test)]
+mod tests;
 
-use crate::error::ProgramError;
-use crate::request::{Form, Request, read_arguments};
-use event_lines::written::lines_of;
-use markdown::{ParseOptions, to_events, to_mdast};
-use markdown_json::to_json;
-use std::alloc::{AllocError, Global};
-use std::io::{self, Write};
+use crate::arguments::{read_arguments, status};
+use std::env;
+use std::io::ErrorKind;
 use std::process::ExitCode;
 
 fn main(rt: HostRuntime) -> ExitCode {
-    match answer(&rt) {
-        Ok(()) => ExitCode::SUCCESS,
+    ExitCode::from(match env::args(&rt) {
+        Ok(arguments) => match arguments.collect(rt.alloc()) {
+            Ok(words) => answer(&rt, &words),
+            Err(_) => refuse(&rt, ErrorKind::OutOfMemory),
+        },
+        Err(error) => refuse(&rt, error.kind()),
+    })
+}
+
+/// Does what the arguments ask for, and gives the status.
+fn answer(rt: &HostRuntime, words: &Vec<String>) -> u8 {
+    match read_arguments(rt, words.as_slice()) {
+        Ok(request) => task::run(rt, &request),
         Err(error) => {
-            let status = error.status();
-            let _ = rt.eprintln(&error);
-            ExitCode::from(status)
+            let _ = error.print(rt);
+            status(&error)
         }
     }
 }
 
-/// Prints what the arguments ask for.
-fn answer(rt: &HostRuntime) -> Result<(), ProgramError> {
-    let Request {
-        form,
-        options,
-        source,
-    } = read_arguments(rt)?;
-    let text = match source.read(rt) {
-        Ok(text) => text,
-        Err(error) => return Err(ProgramError::unread(source, error)),
+/// Says why there are no arguments, and gives the status.
+fn refuse(rt: &HostRuntime, kind: ErrorKind) -> u8 {
+    let (cause, status) = match kind {
+        ErrorKind::OutOfMemory => ("out of memory", 3),
+        _ => ("the arguments are not UTF-8", 2),
     };
-    let Ok(output) = output(rt.alloc(), text.as_str(), form, &options) else {
-        return Err(ProgramError::Memory);
-    };
-    match io::writer(rt).write_all(output.as_bytes()) {
-        Ok(()) => Ok(()),
-        Err(_) => Err(ProgramError::Unwritten),
-    }
-}
-
-/// What is printed for a document.
-fn output(
-    alloc: Global,
-    document: &str,
-    form: Form,
-    options: &ParseOptions,
-) -> Result<String, AllocError> {
-    match form {
-        Form::Json => {
-            let tree = to_mdast(alloc, document, options)?;
-            let mut line = to_json(alloc, &tree)?;
-            line.push_str("\n")?;
-            Ok(line)
-        }
-        Form::Events => {
-            let events = to_events(alloc, document, options)?;
-            lines_of(alloc, &events)
-        }
-    }
+    let _ = rt.eprintln(format_args!("mdast: {cause}"));
+    status
 }

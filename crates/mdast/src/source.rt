@@ -1,11 +1,12 @@
-//! Where the document comes from.
+//! Where a document, or its events, come from.
 
-use std::alloc::AllocError;
-use std::io::{self, ErrorKind, Read};
+use crate::error::DocumentError;
+use std::alloc::{AllocError, Global};
+use std::io::{self, Read};
 use std::{fmt, fs};
 
-/// Where the document comes from.
-#[derive(Debug, Drop)]
+/// Where a document, or its events, come from.
+#[derive(Debug, PartialEq, Eq, Drop)]
 pub enum Source {
     /// The file of this name.
     File(String),
@@ -14,24 +15,27 @@ pub enum Source {
 }
 
 impl Source {
-    /// The one that an argument names: `-` is standard input.
-    pub fn named(argument: String) -> Source {
-        if argument.as_str() == "-" {
-            Source::Input
-        } else {
-            Source::File(argument)
+    /// The one that an argument names: `-` is standard input. The only error is that memory ran out.
+    pub fn named(alloc: Global, name: &str) -> Result<Source, AllocError> {
+        if name == "-" {
+            return Ok(Source::Input);
+        }
+        Ok(Source::File(String::from_str(alloc, name)?))
+    }
+
+    /// All its bytes.
+    pub fn read(&self, rt: &HostRuntime) -> io::Result<Vec<u8>> {
+        match self {
+            Source::File(name) => fs::read(rt, name.as_str()),
+            Source::Input => read_input(rt),
         }
     }
 
-    /// The text of the document.
-    pub fn read(&self, rt: &HostRuntime) -> Result<String, SourceError> {
-        let bytes = match self {
-            Source::File(name) => fs::read(rt, name.as_str())?,
-            Source::Input => read_input(rt)?,
-        };
-        match String::from_utf8(bytes) {
+    /// All that it says.
+    pub fn read_text(&self, rt: &HostRuntime) -> Result<String, DocumentError> {
+        match String::from_utf8(self.read(rt)?) {
             Ok(text) => Ok(text),
-            Err(error) => Err(SourceError::NotUtf8(error.utf8_error().valid_up_to())),
+            Err(error) => Err(DocumentError::NotUtf8(error.utf8_error().valid_up_to())),
         }
     }
 }
@@ -40,7 +44,7 @@ impl fmt::Display for Source {
     fn fmt<W: fmt::Write>(&self, f: &mut fmt::Formatter<W>) -> fmt::Result {
         match self {
             Source::File(name) => f.write_str(name.as_str()),
-            Source::Input => f.write_str("standard input"),
+            Source::Input => f.write_str("<stdin>"),
         }
     }
 }
@@ -50,45 +54,4 @@ fn read_input(rt: &HostRuntime) -> io::Result<Vec<u8>> {
     let mut bytes = Vec::new(rt.alloc());
     rt.reader().read_to_end(&mut bytes)?;
     Ok(bytes)
-}
-
-/// Why there is no text of a document.
-#[derive(Debug, Drop)]
-pub enum SourceError {
-    /// It cannot be read, for this reason.
-    Unread(ErrorKind),
-    /// The byte at this offset, counted from 0, begins no character of UTF-8.
-    NotUtf8(usize),
-    /// Memory ran out.
-    Memory(AllocError),
-}
-
-impl From<io::Error> for SourceError {
-    fn from(error: io::Error) -> SourceError {
-        match error.kind() {
-            ErrorKind::OutOfMemory => SourceError::Memory(AllocError),
-            kind => SourceError::Unread(kind),
-        }
-    }
-}
-
-impl fmt::Display for SourceError {
-    fn fmt<W: fmt::Write>(&self, f: &mut fmt::Formatter<W>) -> fmt::Result {
-        match self {
-            SourceError::Unread(kind) => f.write_str(cause(*kind)),
-            SourceError::NotUtf8(offset) => write!(f, "byte {offset} is not UTF-8"),
-            SourceError::Memory(_) => f.write_str("out of memory"),
-        }
-    }
-}
-
-/// Why a document cannot be read, for people.
-fn cause(kind: ErrorKind) -> &'static str {
-    match kind {
-        ErrorKind::NotFound => "no such file",
-        ErrorKind::PermissionDenied => "permission denied",
-        ErrorKind::IsADirectory => "is a directory",
-        ErrorKind::NotADirectory => "not a directory",
-        _ => "cannot be read",
-    }
 }

@@ -1,10 +1,33 @@
-//! The C interface: the one function that C, and what calls C, links.
+//! The C interface: the functions that C, and what calls C, links.
 #![tactic(auto)]
 
 ghost use Rattle.mdast_outcomes.specs.Outcomes.{IsOutcome};
+ghost use Rattle.mdast_outcomes.specs.Parsed.{IsParsed};
 
+use mdast_outcomes::parsed::parsed;
 use mdast_outcomes::{Outcome, outcome_of};
 use std::alloc::Global;
+
+/// Parses a document for a caller in C, or in a language that calls C, and gives a form of its tree.
+///
+/// The outcome is set to what [`parsed`] gives for the same arguments: its statuses say when a call
+/// fails, and what the outcome then says. Whatever it had before, each of its fields is set. The form is
+/// ours.
+///
+/// For `# Hi`, the constructs `1 << 18`, which are headings with number signs alone, and the form 2, the
+/// outline, the status is 0, and `text` is `Hi (1:1)` and a line feed.
+#[unsafe(no_mangle)]
+pub extern "C" fn mdast_parse(
+    alloc: Global,
+    document: &[u8],
+    constructs: u32,
+    form: u32,
+    outcome: &mut Outcome,
+)
+    ensures { IsParsed outcome.new document.now constructs form }
+{
+    *outcome = parsed(alloc, document, constructs, form);
+}
 
 /// Compiles the tree of a document for a caller in C, or in a language that calls C.
 ///

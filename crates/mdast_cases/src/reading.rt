@@ -10,21 +10,11 @@ pub fn options_of_word(word: &str) -> Option<ParseOptions> {
     match word {
         "commonmark" => Some(ParseOptions::default()),
         "gfm" => Some(ParseOptions::gfm()),
-        "all" => Some(everything()),
+        "all" => Some(ParseOptions {
+            constructs: Constructs::everything(),
+            ..ParseOptions::gfm()
+        }),
         _ => None,
-    }
-}
-
-/// GFM with frontmatter and math.
-fn everything() -> ParseOptions {
-    ParseOptions {
-        constructs: Constructs {
-            frontmatter: true,
-            math_flow: true,
-            math_text: true,
-            ..Constructs::gfm()
-        },
-        ..ParseOptions::gfm()
     }
 }
 

@@ -48,7 +48,7 @@ is_told test node found kind identifier text position says some fails same stand
     ∙ sym (ap (unless test) (reference-is node found (Some (kind, identifier)) says some) ∙ ap (λ (b : Bool). cond b None whole) fails)
 
 -- what was gathered answers what the nodes answer
-answered-is : (known : Known) (nodes : List Tree) → IsKnown known nodes → (kind : OpenKind) (text : List ℕ) → answered known kind text ≡ list_any (bytes_eq text) (answers kind nodes)
+pub answered-is : (known : Known) (nodes : List Tree) → IsKnown known nodes → (kind : OpenKind) (text : List ℕ) → answered known kind text ≡ list_any (bytes_eq text) (answers kind nodes)
 answered-is known nodes is Link text = is.0 text
 answered-is known nodes is Image text = is.0 text
 answered-is known nodes is Footnote text = is.1 text
@@ -65,7 +65,7 @@ asked test tree (Some it) found rest same is =
     ∙ ap (λ (b : Bool). cond (not b) (it ∷ found) found) (same it.kind it.identifier)
     ∙ ap (λ (l : List Reference). cond (is_open tree it) (it ∷ l) l) is
 
-all_asked : (test : OpenKind → List ℕ → Bool) (tree : Tree) (nodes : List Tree) → ((kind : OpenKind) (text : List ℕ) → test kind text ≡ list_any (bytes_eq text) (answers kind (walk tree))) → filter_map (open_node test) nodes ≡ filter (is_open tree) (filter_map reference nodes)
+pub all_asked : (test : OpenKind → List ℕ → Bool) (tree : Tree) (nodes : List Tree) → ((kind : OpenKind) (text : List ℕ) → test kind text ≡ list_any (bytes_eq text) (answers kind (walk tree))) → filter_map (open_node test) nodes ≡ filter (is_open tree) (filter_map reference nodes)
 all_asked test tree [] same = refl
 all_asked test tree (node ∷ nodes) same =
     asked test tree (reference node) (filter_map (open_node test) nodes) (filter_map reference nodes) same (all_asked test tree nodes same)

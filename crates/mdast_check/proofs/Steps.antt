@@ -6,7 +6,7 @@ use Rattle.markdown_nodes.specs.Tree.{Tree, Trees}
 use Rattle.markdown_nodes.specs.View.{view, views}
 use Rattle.markdown_nodes.proofs.Views.{view-is}
 use Rattle.mdast_check.specs.Levels.{ahead, to_come}
-use Rattle.mdast_check.specs.Walk.{Yields, walk, walks}
+use Rattle.mdast_check.specs.Walk.{Yields, walks}
 
 -- the level on top comes first
 pub to_come-snoc : (levels : List (Bor (List Node))) (level : Bor (List Node)) → to_come (levels ++ level ∷ []) ≡ walks (views level.now) ++ to_come levels
@@ -20,7 +20,7 @@ pub label-is : (node : Node) → (view node).label ≡ label_of node
 label-is node = ap (λ (t : Tree). t.label) (view-is node)
 
 -- the children of a node are the nodes in it
-children-are : (node : Node) → (view node).children ≡ views (nodes_in node)
+pub children-are : (node : Node) → (view node).children ≡ views (nodes_in node)
 children-are node = ap (λ (t : Tree). t.children) (view-is node)
 
 -- a node is taken: what is in it comes before the nodes after it

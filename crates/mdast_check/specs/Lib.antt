@@ -5,3 +5,7 @@ pub mod Levels
 pub mod Known
 pub mod Asking
 pub mod Report
+pub mod Warnings
+pub mod Surroundings
+pub mod WarningLines
+pub mod Undefined

@@ -49,7 +49,9 @@ fn title_of(alloc: Global, node: &Node) -> Result<Option<Title>, AllocError>
 }
 
 /// The depth of a heading, and `None` for any other node.
-fn depth(node: &Node) -> Option<u8>
+///
+/// The node of `## a` has the depth 2.
+pub fn depth(node: &Node) -> Option<u8>
     ensures { result ≡ depth_of (label_of node.now) }
 {
     match node {

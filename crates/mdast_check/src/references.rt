@@ -64,17 +64,17 @@ pub fn open_references(alloc: Global, tree: &Node) -> Result<Vec<Open>, AllocErr
     Ok(found)
 }
 
-/// The identifiers that a tree defines.
+/// Identifiers of definitions and of footnotes, as those that a tree defines.
 #[derive(Drop)]
-struct Known<'a> {
-    /// Those of its Definitions, which links and images refer to.
-    definitions: BTreeSet<&'a str>,
-    /// Those of its FootnoteDefinitions.
-    footnotes: BTreeSet<&'a str>,
+pub(crate) struct Known<'a> {
+    /// Those of Definitions, which links and images refer to.
+    pub definitions: BTreeSet<&'a str>,
+    /// Those of FootnoteDefinitions.
+    pub footnotes: BTreeSet<&'a str>,
 }
 
 /// The identifiers that a tree defines, in one pass over it.
-fn known_in<'a>(alloc: Global, tree: &'a Node) -> Result<Known<'a>, AllocError>
+pub(crate) fn known_in<'a>(alloc: Global, tree: &'a Node) -> Result<Known<'a>, AllocError>
     ensures { IfOk result (λ known. IsKnown known (walk (view tree.now))) }
 {
     let mut definitions = BTreeSet::new(alloc);
@@ -91,7 +91,7 @@ fn known_in<'a>(alloc: Global, tree: &'a Node) -> Result<Known<'a>, AllocError>
 }
 
 /// Puts a text, where there is one, into a set.
-fn put<'a>(set: &mut BTreeSet<&'a str>, text: Option<&'a str>) -> Result<(), AllocError>
+pub(crate) fn put<'a>(set: &mut BTreeSet<&'a str>, text: Option<&'a str>) -> Result<(), AllocError>
     ensures { OnOk result ((other : List ℕ) → has set.new other ≡ with_one text.entry other (has set.old other)) }
 {
     if let Some(text) = text {
@@ -101,7 +101,7 @@ fn put<'a>(set: &mut BTreeSet<&'a str>, text: Option<&'a str>) -> Result<(), All
 }
 
 /// The identifier that a definition defines, and `None` for any other node.
-fn definition_identifier(node: &Node) -> Option<&str>
+pub(crate) fn definition_identifier(node: &Node) -> Option<&str>
     ensures { option_map (λ text. text.now) result ≡ definition_identifier_of (label_of node.now) }
 {
     match node {
@@ -111,7 +111,7 @@ fn definition_identifier(node: &Node) -> Option<&str>
 }
 
 /// The identifier that a footnote definition defines, and `None` for any other node.
-fn footnote_identifier(node: &Node) -> Option<&str>
+pub(crate) fn footnote_identifier(node: &Node) -> Option<&str>
     ensures { option_map (λ text. text.now) result ≡ footnote_identifier_of (label_of node.now) }
 {
     match node {
@@ -151,8 +151,8 @@ fn refers(node: &Node) -> Option<(OpenKind, &str)>
     }
 }
 
-/// Whether a definition answers a reference of a kind to an identifier.
-fn is_known<'a>(known: &Known<'a>, kind: OpenKind, identifier: &'a str) -> bool
+/// Whether an identifier is known, to which a reference of a kind refers.
+pub(crate) fn is_known<'a>(known: &Known<'a>, kind: OpenKind, identifier: &'a str) -> bool
     ensures { result ≡ answered known.now kind identifier.now }
 {
     match kind {

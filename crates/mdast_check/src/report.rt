@@ -116,7 +116,7 @@ fn place(position: Option<Position>, alloc: Global) -> Result<String, AllocError
 }
 
 /// The word for a kind.
-fn kind_word(kind: OpenKind) -> &'static str
+pub(crate) fn kind_word(kind: OpenKind) -> &'static str
     ensures { result.now ≡ kind_text kind }
 {
     match kind {

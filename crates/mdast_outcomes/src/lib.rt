@@ -1,12 +1,17 @@
-//! What a call of the compiler from another language comes to: a document and its event lines go in,
-//! and its tree comes out as JSON, or what is wrong. `mdast_c` is the function that C calls.
+//! What a call from another language comes to. A document goes in, and its tree comes out as JSON or in
+//! another form: [`parsed::parsed`]. Or a document and its event lines go in, and its tree comes out as
+//! JSON, or what is wrong: [`outcome_of`]. `mdast_c` has the functions that C calls.
 #![tactic(auto)]
 
-ghost use Rattle.std.specs.Prelude.{◌≡◌, ◌≢◌, ◌⊎◌, [], IfSome};
+ghost use Rattle.std.specs.Prelude.{◌≡◌, ◌≢◌, ◌⊎◌, ◌<◌, [], IfOk, IfSome, IsOkAnd, string_bytes};
+ghost use Rattle.std.specs.String.{string_capacity};
 ghost use Rattle.positions.specs.Messages.{start_of};
 ghost use Rattle.markdown_json.specs.Json.{json};
 ghost use Rattle.markdown_nodes.specs.View.{view};
 ghost use Rattle.mdast_outcomes.specs.Outcomes.{IsOutcome, IsWithoutRefusal, point_of};
+
+mod constructs;
+pub mod parsed;
 
 use character_references::named::NamedReferences;
 use event_lines::lines::{LinesError, events};
@@ -15,9 +20,9 @@ use markdown_events::unist::Point;
 use markdown_json::to_json;
 use markdown_nodes::mdast::Node;
 use markdown_tree::to_mdast::compile;
-use std::alloc::Global;
+use std::alloc::{AllocError, Global};
 
-/// The status of a tree.
+/// The status of a tree, and of another form of it.
 const TREE: u32 = 0;
 
 /// The status of events that are refused.
@@ -32,18 +37,19 @@ const MEMORY: u32 = 3;
 /// The status of a table of references that is no text.
 const TABLE: u32 = 4;
 
-/// What a call of [`outcome_of`] comes to.
+/// What a call of [`outcome_of`] or [`parsed::parsed`] comes to.
 ///
 /// `status` says which of the other fields say something; what it does not say is an empty text or 0.
 /// A text is a pointer and a length in bytes, and no pointer is null. The caller frees `text` after
-/// status 0, and never `rule` or `reason`, which are constants. The form is ours.
+/// status 0, also where it is empty, and never `rule` or `reason`, which are constants. The form is ours.
 #[repr(C)]
 #[derive(Drop)]
 pub struct Outcome {
     /// 0 for a tree, 1 where the events are refused, 2 where a line cannot be read, 3 where memory
-    /// ran out, and 4 where the table of references is not UTF-8.
+    /// ran out, 4 where the table of references is not UTF-8, 5 where the document is not UTF-8, and 6
+    /// where the options are none.
     pub status: u32,
-    /// With status 0 the tree as JSON, as [`to_json`] writes it.
+    /// With status 0 the tree, as JSON or in the form that was asked for.
     pub text: &'static [u8],
     /// With status 1 the rule that is violated: an identifier for programs, such as `slice-invalid`.
     pub rule: &'static [u8],
@@ -54,7 +60,8 @@ pub struct Outcome {
     pub line: usize,
     /// With status 1 the column of the place, counted from 1.
     pub column: usize,
-    /// With status 1 the offset of the place: how many bytes of the document come before it.
+    /// With status 1 the offset of the place, and with status 5 that of the first byte that begins no
+    /// character: how many bytes of the document come before it.
     pub offset: usize,
 }
 
@@ -133,7 +140,21 @@ fn compiled(alloc: Global, tree: &Node) -> Outcome
     ensures refusal { IsWithoutRefusal result }
     ensures line { result.line ≡ 0 }
 {
-    match to_json(alloc, tree) {
+    with_text(to_json(alloc, tree))
+}
+
+/// A text that is the caller's from now on, or that memory ran out.
+fn with_text(text: Result<String, AllocError>) -> Outcome
+    ensures status { (result.status ≡ 0) ⊎ (result.status ≡ 3) }
+    ensures given { result.status ≡ 0 → IsOkAnd text (λ text. result.text.now ≡ string_bytes text) }
+    ensures text { result.status ≢ 0 → result.text.now ≡ [] }
+    ensures refusal { IsWithoutRefusal result }
+    ensures line { result.line ≡ 0 }
+{
+    let Ok(text) = text else {
+        return bare(MEMORY);
+    };
+    match with_memory(text) {
         Ok(text) => {
             let mut outcome = bare(TREE);
             outcome.text = text.into_bytes().leak();
@@ -141,6 +162,17 @@ fn compiled(alloc: Global, tree: &Node) -> Outcome
         }
         Err(_) => bare(MEMORY),
     }
+}
+
+/// A text whose bytes the caller can free: they lie in memory of their own, also where there are none.
+fn with_memory(mut text: String) -> Result<String, AllocError>
+    ensures bytes { IfOk result (λ given. string_bytes given ≡ string_bytes text) }
+    ensures memory { IfOk result (λ given. 0 < string_capacity given) }
+{
+    if text.is_empty() {
+        text.reserve_exact(1)?;
+    }
+    Ok(text)
 }
 
 /// What a message says.

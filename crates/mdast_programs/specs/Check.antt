@@ -6,7 +6,6 @@ use Rattle.mdast_check.specs.Report.{IsReport}
 use Rattle.mdast_programs.specs.declared.run.Answer.{Answer}
 use Rattle.mdast_programs.specs.declared.run.Answer.TheVariants as answers
 use Rattle.mdast_programs.specs.Run.{Prints}
-use Rattle.command_line.specs.declared.program.Program.TheVariants.{Show}
 
 -- the exit status for a tree: 4 where a reference is open
 abbrev pub tree_status : List Reference → ℕ
@@ -16,6 +15,6 @@ tree_status (first ∷ rest) = 4
 -- the text and the exit status for an answer: those of a report for a tree, and those of `run` for any other
 abbrev pub IsChecked : Answer → List ℕ → ℕ → Type 0
 IsChecked (answers.Tree tree) text status = IsReport (view tree) text × (status ≡ tree_status (open_in (view tree)))
-IsChecked (answers.Refused message) text status = Prints Show [] (answers.Refused message) text × (status ≡ 1)
-IsChecked (answers.UnreadLine number) text status = Prints Show [] (answers.UnreadLine number) text × (status ≡ 2)
-IsChecked answers.UnreadEvents text status = Prints Show [] answers.UnreadEvents text × (status ≡ 2)
+IsChecked (answers.Refused message) text status = Prints (answers.Refused message) text × (status ≡ 1)
+IsChecked (answers.UnreadLine number) text status = Prints (answers.UnreadLine number) text × (status ≡ 2)
+IsChecked answers.UnreadEvents text status = Prints answers.UnreadEvents text × (status ≡ 2)

@@ -15,12 +15,6 @@ use Rattle.mdast_programs.specs.declared.run.Answer.{Answer}
 use Rattle.mdast_programs.specs.declared.run.Answer.TheVariants as answers
 use Rattle.character_references.specs.Decoder.{decoded}
 use Rattle.event_lines.specs.Lines.{lines, IsFirstUnread}
-use Rattle.command_line.specs.Programs.{program_name}
-use Rattle.command_line.specs.declared.program.Program.{Program}
-use Rattle.command_line.specs.declared.program.Program.TheVariants.{Show, Json}
-use Rattle.command_line.specs.declared.program.Units.TheVariants.{Bytes, Utf16}
-use Rattle.markdown_json.specs.Json.{json}
-use Rattle.markdown_json.specs.Json.{json_utf16}
 
 -- the document, with what the program's decoder knows
 abbrev pub over : List ℕ → Source
@@ -56,22 +50,16 @@ IsRefusedWith known doc Said =
     IfSome known (λ all. IsSomeAnd (lines all) (λ events.
     (message : Message) × Refuses message events (over doc) × Said (message_line message)))
 
--- the text of a tree of a document, by the program; which characters beyond ASCII stand as their Unicode escape in that of Debug is left open
-abbrev pub IsTextOf : Program → List ℕ → Tree → List ℕ → Type 0
-IsTextOf Show doc tree text = (escapes : ℕ → Bool) × (text ≡ shown escapes tree)
-IsTextOf (Json Bytes) doc tree text = text ≡ json tree
-IsTextOf (Json Utf16) doc tree text = text ≡ json_utf16 doc tree
+-- the line of a tree: its text as Debug writes it, and a line feed; which characters beyond ASCII stand as their Unicode escape is left open
+abbrev pub IsLineOf : Tree → List ℕ → Type 0
+IsLineOf tree line = (escapes : ℕ → Bool) × (line ≡ shown escapes tree ++ codes "\n")
 
--- its line: the text, and a line feed
-abbrev pub IsLineOf : Program → List ℕ → Tree → List ℕ → Type 0
-IsLineOf program doc tree line = (text : List ℕ) × IsTextOf program doc tree text × (line ≡ text ++ codes "\n")
-
--- the line of an answer over a document
-abbrev pub Prints : Program → List ℕ → Answer → List ℕ → Type 0
-Prints program doc (answers.Tree tree) text = IsLineOf program doc (view tree) text
-Prints program doc (answers.Refused message) text = text ≡ message_line message
-Prints program doc (answers.UnreadLine number) text = text ≡ program_name program ++ codes ": event line " ++ decimal number ++ codes " cannot be read\n"
-Prints program doc answers.UnreadEvents text = text ≡ program_name program ++ codes ": cannot read the events\n"
+-- the line of an answer
+abbrev pub Prints : Answer → List ℕ → Type 0
+Prints (answers.Tree tree) text = IsLineOf (view tree) text
+Prints (answers.Refused message) text = text ≡ message_line message
+Prints (answers.UnreadLine number) text = text ≡ codes "mdast_show: event line " ++ decimal number ++ codes " cannot be read\n"
+Prints answers.UnreadEvents text = text ≡ codes "mdast_show: cannot read the events\n"
 
 -- the exit status of an answer
 abbrev pub status_of : Answer → ℕ

@@ -1,7 +1,8 @@
 //! One run of a program that checks a tree.
 
-ghost use Rattle.std.specs.Prelude.{◌≡◌, ◌≢◌, ◌≤◌, List, [], ℕ, codes, IfOk, string_bytes};
+ghost use Rattle.std.specs.Prelude.{◌≡◌, ◌≢◌, ◌≤◌, List, ℕ, [], IfOk, string_bytes};
 ghost use Rattle.std.specs.Io.KnownBytes.{IsAtEnd, Appends};
+ghost use Rattle.command_line.specs.Programs.{memory_line};
 ghost use Rattle.markdown_nodes.specs.declared.mdast.Node.{Node};
 ghost use Rattle.mdast_check.specs.References.{open_in};
 ghost use Rattle.mdast_check.specs.Report.{IsReport};
@@ -12,7 +13,7 @@ ghost use Rattle.markdown_nodes.specs.View.{view};
 
 use crate::run::{Answer, answer_to};
 use command_line::output::say;
-use command_line::program::Program;
+use command_line::program::OUT_OF_MEMORY;
 use markdown_nodes::mdast::Node;
 use mdast_check::report::report_of;
 use std::alloc::{AllocError, Global};
@@ -46,14 +47,14 @@ pub fn run_check<I: Read, O: Write>(alloc: Global, doc: &[u8], input: &mut I, ou
         → IsRefusedWith (I.remaining input.old) doc.now (Appends (O.contents output.old) (O.contents output.new)) }
 
     // The line says that memory ran out, and nothing else is written.
-    ensures memory { result ≡ 3 → Appends (O.contents output.old) (O.contents output.new) (codes "mdast_show: out of memory\n") }
+    ensures memory { result ≡ 3 → Appends (O.contents output.old) (O.contents output.new) memory_line }
 {
     let Ok(answer) = answer_to(alloc, doc, input) else {
-        return say(output, Program::Show.out_of_memory(), 3);
+        return say(output, OUT_OF_MEMORY, 3);
     };
     match checked(alloc, &answer) {
         Ok(said) => say(output, said.text.as_str(), said.status),
-        Err(_) => say(output, Program::Show.out_of_memory(), 3),
+        Err(_) => say(output, OUT_OF_MEMORY, 3),
     }
 }
 
@@ -72,7 +73,7 @@ fn checked(alloc: Global, answer: &Answer) -> Result<Said, AllocError>
         return checked_tree(alloc, tree);
     }
     // Without a tree the line says nothing of the document.
-    let text = answer.line(Program::Show, alloc, b"")?;
+    let text = answer.line(alloc)?;
     let status = answer.status();
     Ok(Said { text, status })
 }

@@ -1,22 +1,19 @@
 //! One run of the program.
 
-ghost use Rattle.std.specs.Prelude.{◌≡◌, ◌≤◌, [], List, ℕ, codes, IfOk, IfSome, IsSome, string_bytes};
+ghost use Rattle.std.specs.Prelude.{◌≡◌, ◌≤◌, List, ℕ, IfOk, IfSome, IsSome, string_bytes};
 ghost use Rattle.std.specs.Io.KnownBytes.{IsAtEnd, Appends};
 ghost use Rattle.command_line.specs.Programs.{memory_line};
-ghost use Rattle.command_line.specs.declared.program.Program.TheVariants as programs;
-ghost use Rattle.command_line.specs.declared.program.Units.TheVariants as units;
 ghost use Rattle.markdown_nodes.specs.declared.mdast.Node.{Node};
 ghost use Rattle.mdast_programs.specs.Run;
-ghost use Rattle.mdast_programs.specs.Run.{IsAnswer, IsCompiled, IsLineOf, IsRefusedWith, IsTextOf, Means, Prints, status_of};
+ghost use Rattle.mdast_programs.specs.Run.{IsAnswer, IsCompiled, IsLineOf, IsRefusedWith, Means, Prints, status_of};
 ghost use Rattle.mdast_programs.specs.declared.run.Answer.TheVariants as answers;
 ghost use Rattle.markdown_nodes.specs.View.{view};
 
 use character_references::decoder::Decoder;
 use command_line::input::{ReadError, read_all};
 use command_line::output::say;
-use command_line::program::{Program, Units};
+use command_line::program::{OUT_OF_MEMORY, UNREADABLE_EVENTS};
 use event_lines::lines::{LinesError, events};
-use markdown_json::{to_json, to_json_utf16};
 use markdown_nodes::event::Event;
 use markdown_nodes::mdast::Node;
 use markdown_nodes::message::{Fault, Message};
@@ -51,19 +48,15 @@ impl Answer {
         }
     }
 
-    /// What a program prints over a document.
-    pub fn line(&self, program: Program, alloc: Global, doc: &[u8]) -> Result<String, AllocError>
-        ensures { IfOk result (λ line. Prints program doc.now self.now (string_bytes line)) }
+    /// What the program prints.
+    pub fn line(&self, alloc: Global) -> Result<String, AllocError>
+        ensures { IfOk result (λ line. Prints self.now (string_bytes line)) }
     {
         match self {
-            Answer::Tree(tree) => tree_line(program, alloc, doc, tree),
+            Answer::Tree(tree) => tree_line(alloc, tree),
             Answer::Refused(message) => message_line(alloc, message),
-            Answer::UnreadLine(number) => unread_line(program, alloc, *number),
-            Answer::UnreadEvents => {
-                let mut line = String::from_str(alloc, program.name())?;
-                line.push_str(": cannot read the events\n")?;
-                Ok(line)
-            }
+            Answer::UnreadLine(number) => unread_line(alloc, *number),
+            Answer::UnreadEvents => String::from_str(alloc, UNREADABLE_EVENTS),
         }
     }
 }
@@ -81,7 +74,7 @@ impl Outcome {
     /// Gives the exit status, and forgets the answer: the tree is not given back node by node.
     ///
     /// It is for the last step of a program, whose memory ends with it. In `main`,
-    /// `run_as(..).forget()` is 0 where a tree was printed.
+    /// `run_whole(..).forget()` is 0 where a tree was printed.
     pub fn forget(self) -> u8
         ensures { result ≡ self.status }
     {
@@ -108,7 +101,7 @@ pub fn run<I: Read, O: Write>(alloc: Global, doc: &[u8], input: &mut I, output: 
 
     // They are events with a tree, and what is written is the line of that tree.
     ensures tree { result ≡ 0 → (tree : Node) × Means (I.remaining input.old) doc.now tree
-        × ((line : List ℕ) × IsLineOf programs.Show doc.now (view tree) line
+        × ((line : List ℕ) × IsLineOf (view tree) line
         × Appends (O.contents output.old) (O.contents output.new) line) }
 
     // They are events without one, and a message of the compiler is written.
@@ -116,47 +109,19 @@ pub fn run<I: Read, O: Write>(alloc: Global, doc: &[u8], input: &mut I, output: 
         → IsRefusedWith (I.remaining input.old) doc.now (Appends (O.contents output.old) (O.contents output.new)) }
 
     // The line says that memory ran out, and nothing else is written.
-    ensures memory { result ≡ 3 → Appends (O.contents output.old) (O.contents output.new) (codes "mdast_show: out of memory\n") }
+    ensures memory { result ≡ 3 → Appends (O.contents output.old) (O.contents output.new) memory_line }
 {
-    run_as(Program::Show, alloc, doc, input, output).status
+    run_whole(alloc, doc, input, output).status
 }
 
-/// Prints the tree that the events in `input` stand for over the bytes of a document, as JSON, or what
-/// is wrong, and gives the exit status.
-///
-/// The line of a tree is that of [`to_json`](markdown_json::to_json). The statuses, and all other
-/// lines, are those of [`run`], under the name of the program `mdast_json`.
-///
-/// Without events it prints the line of an empty root, which begins with
-/// `{"type":"root","children":[]`, and gives 0.
-pub fn run_json<I: Read, O: Write>(alloc: Global, doc: &[u8], input: &mut I, output: &mut O) -> u8
-    ensures bound { result ≤ 3 }
-
-    // The events were read to their end.
-    ensures end { result ≤ 1 → IsAtEnd (I.remaining input.new) }
-
-    // They are events with a tree, and what is written is the line of that tree as JSON.
-    ensures tree { result ≡ 0 → (tree : Node) × Means (I.remaining input.old) doc.now tree
-        × ((line : List ℕ) × IsLineOf (programs.Json units.Bytes) doc.now (view tree) line
-        × Appends (O.contents output.old) (O.contents output.new) line) }
-
-    // They are events without one, and a message of the compiler is written.
-    ensures refused { result ≡ 1
-        → IsRefusedWith (I.remaining input.old) doc.now (Appends (O.contents output.old) (O.contents output.new)) }
-
-    // The line says that memory ran out, and nothing else is written.
-    ensures memory { result ≡ 3 → Appends (O.contents output.old) (O.contents output.new) (codes "mdast_json: out of memory\n") }
-{
-    run_as(Program::Json(Units::Bytes), alloc, doc, input, output).status
-}
-
-/// One run of a program that prints the tree: as [`run`] or [`run_json`], and it hands the answer back.
-/// With [`Units::Utf16`] the line is that of [`to_json_utf16`].
+/// Does what [`run`] does, and hands the answer back.
 ///
 /// A library lets the outcome go, and the tree is dropped. A program that ends here may
 /// [`forget`](Outcome::forget) it.
-pub fn run_as<I: Read, O: Write>(
-    program: Program,
+///
+/// Over the document `Hi` and the four event lines of a paragraph with one data span the status is 0, and
+/// the answer a root.
+pub fn run_whole<I: Read, O: Write>(
     alloc: Global,
     doc: &[u8],
     input: &mut I,
@@ -165,26 +130,26 @@ pub fn run_as<I: Read, O: Write>(
     ensures bound { result.status ≤ 3 }
     ensures end { result.status ≤ 1 → IsAtEnd (I.remaining input.new) }
     ensures tree { result.status ≡ 0 → (tree : Node) × Means (I.remaining input.old) doc.now tree
-        × ((line : List ℕ) × IsLineOf program doc.now (view tree) line
+        × ((line : List ℕ) × IsLineOf (view tree) line
         × Appends (O.contents output.old) (O.contents output.new) line) }
     ensures refused { result.status ≡ 1
         → IsRefusedWith (I.remaining input.old) doc.now (Appends (O.contents output.old) (O.contents output.new)) }
-    ensures memory { result.status ≡ 3 → Appends (O.contents output.old) (O.contents output.new) (memory_line program) }
+    ensures memory { result.status ≡ 3 → Appends (O.contents output.old) (O.contents output.new) memory_line }
 
     // The answer is one of the events, and there is one where a tree or a refusal was written.
     ensures answer { IfSome result.answer (λ answer. IsAnswer answer (I.remaining input.old) (I.remaining input.new) doc.now) }
     ensures answered { result.status ≤ 1 → IsSome result.answer }
 {
     let Ok(answer) = answer_to(alloc, doc, input) else {
-        let status = say(output, program.out_of_memory(), 3);
+        let status = say(output, OUT_OF_MEMORY, 3);
         return Outcome {
             status,
             answer: None,
         };
     };
-    let status = match answer.line(program, alloc, doc) {
+    let status = match answer.line(alloc) {
         Ok(line) => say(output, line.as_str(), answer.status()),
-        Err(_) => say(output, program.out_of_memory(), 3),
+        Err(_) => say(output, OUT_OF_MEMORY, 3),
     };
     Outcome {
         status,
@@ -222,32 +187,20 @@ fn compiled(alloc: Global, events: &[Event], doc: &[u8]) -> Result<Answer, Alloc
     }
 }
 
-/// The line of a tree: its text, and a line feed.
-fn tree_line(program: Program, alloc: Global, doc: &[u8], tree: &Node) -> Result<String, AllocError>
-    ensures { IfOk result (λ line. IsLineOf program doc.now (view tree.now) (string_bytes line)) }
+/// The line of a tree: its text as Debug writes it, and a line feed.
+fn tree_line(alloc: Global, tree: &Node) -> Result<String, AllocError>
+    ensures { IfOk result (λ line. IsLineOf (view tree.now) (string_bytes line)) }
 {
-    let mut line = tree_text(program, alloc, doc, tree)?;
+    let mut line = tree.to_debug_string(alloc)?;
     line.push_str("\n")?;
     Ok(line)
 }
 
-/// The tree as Debug prints it, or as JSON.
-fn tree_text(program: Program, alloc: Global, doc: &[u8], tree: &Node) -> Result<String, AllocError>
-    ensures { IfOk result (λ text. IsTextOf program doc.now (view tree.now) (string_bytes text)) }
-{
-    match program {
-        Program::Show => tree.to_debug_string(alloc),
-        Program::Json(Units::Bytes) => to_json(alloc, tree),
-        Program::Json(Units::Utf16) => to_json_utf16(alloc, doc, tree),
-    }
-}
-
 /// `mdast_show: event line 2 cannot be read`
-fn unread_line(program: Program, alloc: Global, number: usize) -> Result<String, AllocError>
-    ensures { IfOk result (λ line. Prints program [] (answers.UnreadLine number) (string_bytes line)) }
+fn unread_line(alloc: Global, number: usize) -> Result<String, AllocError>
+    ensures { IfOk result (λ line. Prints (answers.UnreadLine number) (string_bytes line)) }
 {
-    let mut line = String::from_str(alloc, program.name())?;
-    line.push_str(": event line ")?;
+    let mut line = String::from_str(alloc, "mdast_show: event line ")?;
     line.push_str(number.to_string(alloc)?.as_str())?;
     line.push_str(" cannot be read\n")?;
     Ok(line)

@@ -8,10 +8,9 @@
 
 use command_line::document::{arguments, document};
 use command_line::output::say;
-use command_line::program::Program;
 use command_line::request::{DocumentError, Request};
 use mdast_programs::check::run_check;
-use mdast_programs::run::run_as;
+use mdast_programs::run::run_whole;
 use std::io::{self, Write};
 use std::process::ExitCode;
 
@@ -19,7 +18,7 @@ fn main(rt: HostRuntime) -> ExitCode {
     let mut output = io::writer(&rt);
     ExitCode::from(match answer(&rt, &mut output) {
         Ok(status) => status,
-        Err(error) => say(&mut output, error.line(Program::Show), error.status()),
+        Err(error) => say(&mut output, error.line(), error.status()),
     })
 }
 
@@ -28,13 +27,7 @@ fn answer<O: Write>(rt: &HostRuntime, output: &mut O) -> Result<u8, DocumentErro
     match request(rt)? {
         Request::Show(name) => {
             let doc = document(rt, name.as_str())?;
-            let outcome = run_as(
-                Program::Show,
-                rt.alloc(),
-                doc.as_slice(),
-                &mut rt.reader(),
-                output,
-            );
+            let outcome = run_whole(rt.alloc(), doc.as_slice(), &mut rt.reader(), output);
             Ok(outcome.forget())
         }
         Request::Check(name) => {

@@ -5,7 +5,7 @@ use crate::expect::{prints, same};
 use crate::trees::{add, alone, blockquote, own, quoted, root, text};
 use markdown_nodes::mdast;
 use markdown_nodes::mdast::{Node, ReferenceKind};
-use mdast_check::outline::headings;
+use mdast_check::outline::{depth, headings};
 use mdast_check::references::{Open, open_references};
 use std::alloc::{AllocError, Global};
 use std::process::Abort;
@@ -87,6 +87,15 @@ fn trees_of_one_node(rt: HostRuntime) -> Result<(), AllocError> {
         &reference,
         "[Open { kind: Footnote, identifier: \"a\", position: None }]",
     )
+}
+
+/// A heading has its depth, and no other node has one.
+#[test]
+fn depths(rt: HostRuntime) -> Result<(), AllocError> {
+    let second = heading(2, Vec::new(rt.alloc()));
+    same(&rt, depth(&second), Some(2));
+    same(&rt, depth(&text(rt.alloc(), "a")?), None);
+    Ok(())
 }
 
 /// A root of a link to `a` and a definition of `A`.

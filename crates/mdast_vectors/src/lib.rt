@@ -44,6 +44,10 @@ mod outline;
 #[cfg(test)]
 mod pairs;
 #[cfg(test)]
+mod parsed;
+#[cfg(test)]
+mod questions;
+#[cfg(test)]
 mod refusals;
 #[cfg(test)]
 mod replay;
@@ -59,6 +63,8 @@ mod texts;
 mod trees;
 #[cfg(test)]
 mod unbalanced;
+#[cfg(test)]
+mod warnings;
 #[cfg(test)]
 mod writer;
 

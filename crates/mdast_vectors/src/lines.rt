@@ -3,13 +3,12 @@
 ghost use Rattle.std.specs.Prelude.{◌<◌};
 
 use crate::expect::{prints, same, says};
-use command_line::program::{Program, Units};
-use command_line::request::{DocumentError, Request, json_request};
+use command_line::request::{DocumentError, Request};
 use event_lines::lines::events;
 use event_lines::written::lines_of;
 use markdown_nodes::event::{Event, Kind, Name, Point};
 use mdast_programs::check::run_check;
-use mdast_programs::run::{run, run_as, run_json};
+use mdast_programs::run::run;
 use std::alloc::{AllocError, Global};
 use std::io::{self, ErrorKind, Read, Write};
 use std::process::Abort;
@@ -97,29 +96,6 @@ fn prints_a_tree(rt: HostRuntime) {
     expect(&rt, &mut input, tree, 0);
 }
 
-/// Runs the program that prints JSON over the document `Hi`, and compares what it does.
-fn expect_json<R: Abort + AllocGlobal>(rt: &R, events: &[u8], line: &str, status: u8) {
-    let mut input = events;
-    let mut output = Vec::new(rt.alloc());
-    let found = run_json(rt.alloc(), b"Hi", &mut input, &mut output);
-    same(rt, str::from_utf8(&output), Ok(line));
-    same(rt, found, status);
-}
-
-#[test]
-fn prints_json(rt: HostRuntime) {
-    let tree =
-        "{\"type\":\"root\",\"children\":[{\"type\":\"thematicBreak\",\"position\":{\"start\":{\"line\":1,\"column\":1,\"offset\":0},\"end\":{\"line\":1,\"column\":3,\"offset\":2}}}],\"position\":{\"start\":{\"line\":1,\"column\":1,\"offset\":0},\"end\":{\"line\":1,\"column\":3,\"offset\":2}}}\n";
-    expect_json(
-        &rt,
-        b"+ThematicBreak 1:1:0\n-ThematicBreak 1:3:2\n",
-        tree,
-        0,
-    );
-    let unread = "mdast_json: event line 2 cannot be read\n";
-    expect_json(&rt, b"+Data 1:1:0\n+Data\n", unread, 2);
-}
-
 /// A copy of an argument.
 fn own(alloc: Global, argument: Option<&str>) -> Result<Option<String>, AllocError> {
     match argument {
@@ -135,64 +111,6 @@ fn owned(
 ) -> Result<(Option<String>, Option<String>, Option<String>), AllocError> {
     let [first, second, third] = arguments;
     Ok((own(alloc, first)?, own(alloc, second)?, own(alloc, third)?))
-}
-
-/// What arguments ask `mdast_json` for.
-fn expect_json_request<R: Abort + AllocGlobal>(
-    rt: &R,
-    arguments: [Option<&str>; 3],
-    request: &str,
-) -> Result<(), AllocError> {
-    let (first, second, third) = owned(rt.alloc(), arguments)?;
-    let found = json_request(first, second, third);
-    prints(rt, rt.alloc(), &found, request)
-}
-
-/// Arguments of `mdast_json`, and what they ask for.
-static JSON_REQUESTS: [(Option<&str>, Option<&str>, Option<&str>, &str); 6] = [
-    (Some("hi.md"), None, None, "Some((Json(Bytes), \"hi.md\"))"),
-    (
-        Some("--utf16"),
-        Some("hi.md"),
-        None,
-        "Some((Json(Utf16), \"hi.md\"))",
-    ),
-    (
-        Some("--utf16"),
-        None,
-        None,
-        "Some((Json(Bytes), \"--utf16\"))",
-    ),
-    (Some("hi.md"), Some("hi.md"), None, "None"),
-    (Some("--utf16"), Some("hi.md"), Some("hi.md"), "None"),
-    (None, None, None, "None"),
-];
-
-#[test]
-fn takes_a_document_and_an_option(rt: HostRuntime) -> Result<(), AllocError> {
-    for (first, second, third, request) in &JSON_REQUESTS {
-        expect_json_request(&rt, [*first, *second, *third], request)?;
-    }
-    Ok(())
-}
-
-/// In `é!` the text of the second character is at the byte offset 2, and at the offset 1 in units.
-#[test]
-fn prints_json_in_utf16_units(rt: HostRuntime) {
-    let mut input: &[u8] = b"+Data 1:3:2\n-Data 1:4:3\n";
-    let mut output = Vec::new(rt.alloc());
-    let doc = "\u{E9}!".as_bytes();
-    let found = run_as(
-        Program::Json(Units::Utf16),
-        rt.alloc(),
-        doc,
-        &mut input,
-        &mut output,
-    );
-    let line =
-        "{\"type\":\"root\",\"children\":[{\"type\":\"text\",\"value\":\"!\",\"position\":{\"start\":{\"line\":1,\"column\":2,\"offset\":1},\"end\":{\"line\":1,\"column\":3,\"offset\":2}}}],\"position\":{\"start\":{\"line\":1,\"column\":2,\"offset\":1},\"end\":{\"line\":1,\"column\":3,\"offset\":2}}}\n";
-    same(&rt, str::from_utf8(&output), Ok(line));
-    same(&rt, found.forget(), 0);
 }
 
 /// The events of `# Hi`, a line ending, and `[^A]`: a heading, and a paragraph with a call of a
@@ -311,17 +229,17 @@ fn tells_what_the_arguments_ask_for(rt: HostRuntime) -> Result<(), AllocError> {
 fn says_why_there_is_no_document(rt: HostRuntime) {
     same(
         &rt,
-        DocumentError::Usage.line(Program::Show),
+        DocumentError::Usage.line(),
         "usage: mdast_show [--check] DOC\n",
     );
     same(
         &rt,
-        DocumentError::Unreadable.line(Program::Json(Units::Bytes)),
-        "mdast_json: cannot read the document\n",
+        DocumentError::Unreadable.line(),
+        "mdast_show: cannot read the document\n",
     );
     same(
         &rt,
-        DocumentError::Memory.line(Program::Show),
+        DocumentError::Memory.line(),
         "mdast_show: out of memory\n",
     );
     same(&rt, DocumentError::Unreadable.status(), 2);

@@ -13,7 +13,7 @@ const COPY: &[u8] =
     b"+CharacterReference 1:1:0\n+CharacterReferenceMarker 1:1:0\n-CharacterReferenceMarker 1:2:1\n+CharacterReferenceValue 1:2:1\n-CharacterReferenceValue 1:6:5\n-CharacterReference 1:7:6\n";
 
 /// An outcome with this status that says nothing else.
-fn bare(status: u32) -> Outcome {
+pub fn bare(status: u32) -> Outcome {
     Outcome {
         status,
         text: b"",
@@ -25,10 +25,8 @@ fn bare(status: u32) -> Outcome {
     }
 }
 
-/// A call comes to an outcome with these fields.
-fn expect<R: Abort + AllocGlobal>(rt: &R, input: [&[u8]; 3], wanted: &Outcome) {
-    let [document, event_lines, references] = input;
-    let outcome = outcome_of(rt.alloc(), document, event_lines, references);
+/// An outcome has these fields.
+pub fn same_outcome(rt: &impl Abort, outcome: &Outcome, wanted: &Outcome) {
     same(rt, outcome.status, wanted.status);
     same(
         rt,
@@ -48,6 +46,13 @@ fn expect<R: Abort + AllocGlobal>(rt: &R, input: [&[u8]; 3], wanted: &Outcome) {
     same(rt, outcome.line, wanted.line);
     same(rt, outcome.column, wanted.column);
     same(rt, outcome.offset, wanted.offset);
+}
+
+/// A call comes to an outcome with these fields.
+fn expect<R: Abort + AllocGlobal>(rt: &R, input: [&[u8]; 3], wanted: &Outcome) {
+    let [document, event_lines, references] = input;
+    let outcome = outcome_of(rt.alloc(), document, event_lines, references);
+    same_outcome(rt, &outcome, wanted);
 }
 
 #[test]

@@ -3,6 +3,7 @@
 use crate::expect::holds;
 use markdown_nodes::mdast::{FootnoteReference, Heading, Node};
 use mdast_check::walk::Walk;
+use mdast_check::warnings::{Problem, warnings};
 use mdast_check::{Open, OpenKind, Title, headings, open_references};
 use std::alloc::{AllocError, Global};
 
@@ -44,6 +45,22 @@ fn a_reference_without_a_definition_is_open(rt: HostRuntime) -> Result<(), Alloc
     };
     let found = open_references(rt.alloc(), &footnote_reference(rt.alloc())?)?;
     holds(&rt, found.first() == Some(&open));
+    Ok(())
+}
+
+#[test]
+fn a_reference_without_a_definition_is_warned_of(rt: HostRuntime) -> Result<(), AllocError> {
+    let found = warnings(rt.alloc(), &footnote_reference(rt.alloc())?)?;
+    let problem = Problem::ReferenceUndefined {
+        kind: OpenKind::Footnote,
+        identifier: String::from_str(rt.alloc(), "a")?,
+    };
+    holds(
+        &rt,
+        found
+            .first()
+            .is_some_and(|warning| warning.problem == problem),
+    );
     Ok(())
 }
 

@@ -2,8 +2,11 @@
 
 use crate::expect::holds;
 use character_references::html::HtmlReferences;
-use markdown::{Constructs, ParseOptions, hidden_bytes, to_events, to_mdast};
-use markdown_nodes::mdast::Node;
+use markdown::mdast::Node;
+use markdown::{
+    Constructs, ParseOptions, Walk, compile_events, definition_of, hidden_bytes, node_at,
+    to_events, to_json, to_mdast,
+};
 use markdown_nodes::message::Fault;
 use markdown_tree::to_mdast::{Document, Steps, compile_document};
 use std::alloc::AllocError;
@@ -36,5 +39,29 @@ fn a_tree_is_made_without_hidden_bytes(rt: HostRuntime) -> Result<(), Fault> {
         &rt,
         tree == to_mdast(rt.alloc(), QUOTE, &ParseOptions::default())?,
     );
+    Ok(())
+}
+
+#[test]
+fn events_give_the_tree_of_their_document(rt: HostRuntime) -> Result<(), Fault> {
+    let options = ParseOptions::default();
+    let events = to_events(rt.alloc(), QUOTE, &options)?;
+    let tree = compile_events(rt.alloc(), QUOTE, &events)?;
+    holds(&rt, tree == to_mdast(rt.alloc(), QUOTE, &options)?);
+    Ok(())
+}
+
+#[test]
+fn a_tree_is_asked(rt: HostRuntime) -> Result<(), AllocError> {
+    let tree = to_mdast(rt.alloc(), QUOTE, &ParseOptions::default())?;
+    holds(&rt, matches!(node_at(&tree, 3), Some(Node::Text(_))));
+    let definition = definition_of(rt.alloc(), &tree, "a b")?;
+    holds(
+        &rt,
+        definition.is_some_and(|found| found.url.as_str() == "c"),
+    );
+    holds(&rt, Walk::new(rt.alloc(), &tree).next()? == Some(&tree));
+    let line = to_json(rt.alloc(), &tree)?;
+    holds(&rt, line.as_str().starts_with("{\"type\":\"root\""));
     Ok(())
 }

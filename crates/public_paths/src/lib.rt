@@ -24,6 +24,8 @@ mod order;
 #[cfg(test)]
 mod programs;
 #[cfg(test)]
+mod questions;
+#[cfg(test)]
 mod text;
 #[cfg(test)]
 mod to_mdast;

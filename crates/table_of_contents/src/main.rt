@@ -1,70 +1,28 @@
-//! A first program: it prints the table of contents of a document.
+//! A first program: `table_of_contents FILE..` prints the table of contents of each markdown file.
 //!
-//! The document and its events stand in the program, so that it needs no files. A line is printed for
-//! each heading among the children of the root, under the one that it belongs to.
+//! A line is printed for each heading, wherever it stands, under the one that it belongs to.
 #![tactic(auto)]
 
-use character_references::decoder::NoReferences;
-use event_lines::lines::events;
-use markdown_nodes::mdast::{Heading, Node};
-use markdown_tree::to_mdast::compile;
+use markdown::mdast::{Heading, Node};
+use markdown::{ParseOptions, Walk, to_mdast};
 use std::alloc::{AllocError, Global};
-use std::error::Error;
-use std::process::ExitCode;
+use std::{env, fs, io};
 
-/// The document.
-const DOCUMENT: &[u8] = b"# Ferns\n## Moss\n";
-
-/// Its events, as a tokenizer gives them: a line for each.
-const EVENTS: &[u8] = b"+HeadingAtx 1:1:0
-+HeadingAtxSequence 1:1:0
--HeadingAtxSequence 1:2:1
-+SpaceOrTab 1:2:1
--SpaceOrTab 1:3:2
-+HeadingAtxText 1:3:2
-+Data 1:3:2
--Data 1:8:7
--HeadingAtxText 1:8:7
--HeadingAtx 1:8:7
-+LineEnding 1:8:7
--LineEnding 2:1:8
-+HeadingAtx 2:1:8
-+HeadingAtxSequence 2:1:8
--HeadingAtxSequence 2:3:10
-+SpaceOrTab 2:3:10
--SpaceOrTab 2:4:11
-+HeadingAtxText 2:4:11
-+Data 2:4:11
--Data 2:8:15
--HeadingAtxText 2:8:15
--HeadingAtx 2:8:15
-+LineEnding 2:8:15
--LineEnding 3:1:16
-";
-
-fn main(rt: HostRuntime) -> ExitCode {
+fn main(rt: HostRuntime) -> io::Result<()> {
     let alloc = rt.alloc();
-    let events = match events(alloc, EVENTS) {
-        Ok(events) => events,
-        Err(error) => return failure(&rt, error),
-    };
-    let tree = match compile(alloc, &events, DOCUMENT, &NoReferences) {
-        Ok(tree) => tree,
-        Err(fault) => return failure(&rt, fault),
-    };
-    match table_of_contents(alloc, &tree) {
-        Ok(lines) => match rt.print(lines) {
-            Ok(()) => ExitCode::SUCCESS,
-            Err(error) => failure(&rt, error),
-        },
-        Err(error) => failure(&rt, error),
+    for name in env::args(&rt)?.skip(1) {
+        let text = fs::read_to_string(&rt, name.as_str())?;
+        let tree = to_mdast(alloc, text.as_str(), &ParseOptions::gfm())?;
+        rt.print(table_of_contents(alloc, &tree)?)?;
     }
+    Ok(())
 }
 
-/// A line for each heading among the children of a node.
-fn table_of_contents(alloc: Global, root: &Node) -> Result<String, AllocError> {
+/// A line for each heading of a tree.
+fn table_of_contents(alloc: Global, tree: &Node) -> Result<String, AllocError> {
     let mut lines = String::new(alloc);
-    for node in root.child_nodes() {
+    let mut walk = Walk::new(alloc, tree);
+    while let Some(node) = walk.next()? {
         if let Node::Heading(heading) = node {
             add_line(alloc, node, heading, &mut lines)?;
         }
@@ -85,10 +43,4 @@ fn add_line(
     lines.push_str("- ")?;
     lines.push_str(node.to_string(alloc)?.as_str())?;
     lines.push_str("\n")
-}
-
-/// Says what is wrong, if it can be said.
-fn failure<E: Error>(rt: &HostRuntime, error: E) -> ExitCode {
-    let _ = rt.eprintln(error);
-    ExitCode::FAILURE
 }

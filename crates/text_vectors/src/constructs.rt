@@ -1,6 +1,6 @@
 //! Each construct of a text can be switched off.
 
-use crate::reading::{all, has, holds};
+use crate::reading::{has, holds};
 use markdown::Constructs;
 use markdown_events::event::Name;
 use std::alloc::{AllocError, Global};
@@ -17,7 +17,11 @@ fn switches(
     constructs: Constructs,
     name: Name,
 ) -> Result<(), AllocError> {
-    holds(rt, has(alloc, DOCUMENT, all(), name)?, name.text());
+    holds(
+        rt,
+        has(alloc, DOCUMENT, Constructs::everything(), name)?,
+        name.text(),
+    );
     holds(rt, !has(alloc, DOCUMENT, constructs, name)?, name.text());
     Ok(())
 }
@@ -33,7 +37,7 @@ fn constructs_of_common_mark(rt: HostRuntime) -> Result<(), AllocError> {
         hard_break_escape: false,
         hard_break_trailing: false,
         html_text: false,
-        ..all()
+        ..Constructs::everything()
     };
     for name in [
         Name::Emphasis,
@@ -58,7 +62,7 @@ fn constructs_of_gfm_and_math(rt: HostRuntime) -> Result<(), AllocError> {
         gfm_strikethrough: false,
         gfm_task_list_item: false,
         math_text: false,
-        ..all()
+        ..Constructs::everything()
     };
     for name in [
         Name::GfmAutolinkLiteralWww,
@@ -77,17 +81,17 @@ fn starts_and_ends_of_labels(rt: HostRuntime) -> Result<(), AllocError> {
     let alloc = rt.alloc();
     let no_images = Constructs {
         label_start_image: false,
-        ..all()
+        ..Constructs::everything()
     };
     switches(&rt, alloc, no_images, Name::Image)?;
     let no_links = Constructs {
         label_start_link: false,
-        ..all()
+        ..Constructs::everything()
     };
     switches(&rt, alloc, no_links, Name::Link)?;
     let no_ends = Constructs {
         label_end: false,
-        ..all()
+        ..Constructs::everything()
     };
     switches(&rt, alloc, no_ends, Name::Link)?;
     switches(&rt, alloc, no_ends, Name::Image)?;

@@ -1,6 +1,7 @@
 //! Links, images, calls of footnotes, and the marks of tasks (micromark's spans).
 
-use crate::reading::shows;
+use crate::reading::{has_undefined, holds, shows};
+use markdown_events::event::Name;
 use std::alloc::AllocError;
 
 #[test]
@@ -55,6 +56,29 @@ fn calls_need_a_definition(rt: HostRuntime) -> Result<(), AllocError> {
         "[^a]\n\n[^a]: b",
         "(Paragraph (GfmFootnoteCall (Label (GfmFootnoteCallLabel LabelMarker:1 GfmFootnoteCallMarker:2 ) (LabelText Data:3 ) (LabelEnd LabelMarker:4 ) ) ) ) LineEnding:5 BlankLineEnding:6 (GfmFootnoteDefinition (GfmFootnoteDefinitionPrefix (GfmFootnoteDefinitionLabel GfmFootnoteDefinitionLabelMarker:7 GfmFootnoteDefinitionMarker:8 (GfmFootnoteDefinitionLabelString Data:9 ) GfmFootnoteDefinitionLabelMarker:10 ) DefinitionMarker:11 SpaceOrTab:12 ) (Paragraph Data:13 ) ) ",
     )
+}
+
+/// Documents without definitions, a name, and whether a span has it where references need no definition.
+static UNDEFINED: [(&str, Name, bool); 10] = [
+    ("[a][b]", Name::Link, true),
+    ("[a][]", Name::Link, true),
+    ("![a][b]", Name::Image, true),
+    ("![a][]", Name::Image, true),
+    ("[^a]", Name::GfmFootnoteCall, true),
+    ("[a]", Name::Link, false),
+    ("[ ][]", Name::Link, false),
+    ("[a [b] c][]", Name::Link, false),
+    ("[^ a]", Name::GfmFootnoteCall, false),
+    ("[^]", Name::GfmFootnoteCall, false),
+];
+
+#[test]
+fn references_that_nothing_defines(rt: HostRuntime) -> Result<(), AllocError> {
+    for (document, name, want) in &UNDEFINED {
+        let found = has_undefined(rt.alloc(), document, *name)?;
+        holds(&rt, found == *want, document);
+    }
+    Ok(())
 }
 
 #[test]

@@ -5,16 +5,6 @@ use markdown_events::event::{Event, Kind, Name};
 use std::alloc::{AllocError, Global};
 use std::process::Abort;
 
-/// All constructs.
-pub fn all() -> Constructs {
-    Constructs {
-        frontmatter: true,
-        math_flow: true,
-        math_text: true,
-        ..Constructs::gfm()
-    }
-}
-
 /// The events of a document with these constructs.
 pub fn events(
     alloc: Global,
@@ -39,10 +29,21 @@ pub fn has(
     Ok(events.iter().any(|event| event.name == name))
 }
 
+/// Whether a document has a span of a name, with all constructs, where references need no definition.
+pub fn has_undefined(alloc: Global, document: &str, name: Name) -> Result<bool, AllocError> {
+    let options = ParseOptions {
+        constructs: Constructs::everything(),
+        undefined_references: true,
+        ..ParseOptions::gfm()
+    };
+    let events = to_events(alloc, document, &options)?;
+    Ok(events.iter().any(|event| event.name == name))
+}
+
 /// The events of a document as a text, with all constructs. `(A` begins a span, `)` ends one, and `A:1` is a
 /// token up to offset 1.
 pub fn shown(alloc: Global, document: &str) -> Result<String, AllocError> {
-    let events = events(alloc, document, all())?;
+    let events = events(alloc, document, Constructs::everything())?;
     let mut text = String::new(alloc);
     let mut entered = None;
     for event in events.iter() {

@@ -5,9 +5,6 @@ use Rattle.mdast_programs.proofs.run.Answer.line.Goals as goal
 pub returns-in-Tree : goal.returns-in-Tree
 returns-in-Tree c = grind (arith, common_steps)
 
-pub returns-in_ok-push_str-in-UnreadEvents : goal.returns-in_ok-push_str-in-UnreadEvents
-returns-in_ok-push_str-in-UnreadEvents c = grind (arith, common_steps)
-
 pub returns-in-Refused : goal.returns-in-Refused
 returns-in-Refused c = grind (arith, common_steps)
 

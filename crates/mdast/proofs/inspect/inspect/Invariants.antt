@@ -1,0 +1,6 @@
+use Rattle.std.proofs.Common.{length}
+use Rattle.mdast_check.specs.Levels.{coming}
+use Rattle.mdast.proofs.inspect.inspect.Given as goal
+
+abbrev pub decreases-nodes : goal.decreases-nodes
+decreases-nodes l = length (coming l.walk)

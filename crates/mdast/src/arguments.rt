@@ -1,0 +1,251 @@
+//! What the arguments ask for.
+
+use crate::constructs::{NAMES, Switches, help};
+use crate::form::Form;
+use crate::source::Source;
+use clap::error::ErrorKind;
+use clap::{Arg, ArgAction, ArgMatches, Command, Error, value_parser};
+use markdown::{Constructs, ParseOptions};
+use std::alloc::{AllocError, Global};
+use std::io::IsTerminal;
+
+/// The version of the program, and the kit that proves it.
+const VERSION: &str = "0.1.0 (rattle-kit-13f logic dac8208d650f15bf)";
+
+/// How wide a terminal is that does not say it.
+const TERMINAL_WIDTH: usize = 80;
+
+/// The options that say what is printed: their names, the forms and the help.
+const FORMS: [(&str, Form, &str); 7] = [
+    (
+        "json",
+        Form::Json,
+        "Print the tree as JSON, with the names and fields of mdast [default]",
+    ),
+    (
+        "tree",
+        Form::Tree,
+        "Print an outline of the tree for people, a line for each node",
+    ),
+    (
+        "debug",
+        Form::Debug,
+        "Print the tree as Debug of Rust writes it",
+    ),
+    (
+        "events",
+        Form::Events,
+        "Print the events of the tokenizer, a line for each",
+    ),
+    (
+        "outline",
+        Form::Outline,
+        "Print the headings with their places",
+    ),
+    ("text", Form::Text, "Print the plain text"),
+    ("check", Form::Check, "Print warnings, as linters do"),
+];
+
+/// What the arguments ask for.
+#[derive(Drop)]
+pub struct Request {
+    /// What is printed of each document.
+    pub form: Form,
+    /// How many characters a line of the outline of a tree may have, if there is a limit.
+    pub width: Option<usize>,
+    /// How the documents are read.
+    pub options: ParseOptions,
+    /// Where the events come from, where they are not those of our tokenizer.
+    pub events: Option<Source>,
+    /// The documents, in order.
+    pub documents: Vec<Source>,
+}
+
+/// What the arguments ask for. The first of them is the name of the program.
+///
+/// The error says which argument is wrong, or it has the help or the version where that is asked for, or
+/// memory ran out.
+pub fn read_arguments(rt: &HostRuntime, words: &[String]) -> Result<Request, Error> {
+    let constructs = help(rt.alloc())?;
+    let mut command = command(rt.alloc(), constructs.as_str())?;
+    let matches = command.try_get_matches_from_mut(words)?;
+    let request = Request {
+        form: form(&matches),
+        width: width(rt, &matches),
+        options: options(&matches),
+        events: events(rt.alloc(), &matches)?,
+        documents: documents(rt.alloc(), &matches)?,
+    };
+    match request.fault() {
+        Some(fault) => Err(command.error(ErrorKind::ArgumentConflict, fault)?),
+        None => Ok(request),
+    }
+}
+
+impl Request {
+    /// Why nobody can do what is asked for, if that is so.
+    fn fault(&self) -> Option<&'static str> {
+        let events = self.events.as_ref()?;
+        match self.documents.as_slice() {
+            [document] if document == events => {
+                Some("the document and its events cannot be read from one place")
+            }
+            [_] => None,
+            _ => Some("the events of '--from-events' are those of one document"),
+        }
+    }
+}
+
+/// The status of a program whose arguments give this error: 0 after the help and the version, 3 where
+/// memory ran out, and else 2.
+pub fn status(error: &Error) -> u8 {
+    match error.kind() {
+        ErrorKind::OutOfMemory => 3,
+        _ if error.use_stderr() => 2,
+        _ => 0,
+    }
+}
+
+/// The arguments that the program takes. At the end of the help stands what it says of constructs.
+fn command<'a>(alloc: Global, constructs: &'a str) -> Result<Command<'a>, AllocError> {
+    let command = Command::new(alloc, "mdast")
+        .version(VERSION)
+        .about("Prints the syntax trees of markdown documents.")
+        .override_usage("mdast [OPTION]... [DOC]...")
+        .after_help(constructs);
+    let command = with_forms(alloc, command)?;
+    let command = with_readings(alloc, command)?;
+    let documents = Arg::new(alloc, "DOC")
+        .help("Documents; '-' is standard input [default: -]")
+        .action(ArgAction::Append)
+        .num_args(0..);
+    command.arg(documents)
+}
+
+/// The options that say what is printed.
+fn with_forms<'a>(alloc: Global, command: Command<'a>) -> Result<Command<'a>, AllocError> {
+    let mut command = command;
+    for (name, _, help) in FORMS {
+        command = command.arg(flag(alloc, name, help).group("form")?)?;
+    }
+    let width = Arg::new(alloc, "width")
+        .long("width")
+        .value_name("COLUMNS")
+        .help("Cut the lines of '--tree' to this width [default: 80 on a terminal, else none]")
+        .value_parser(value_parser!(usize))
+        .action(ArgAction::Set);
+    command.arg(utf16(alloc)?)?.arg(width)
+}
+
+/// The option for UTF-16 units, which goes with JSON alone.
+fn utf16<'a>(alloc: Global) -> Result<Arg<'a>, AllocError> {
+    let help = "Count columns and offsets in UTF-16 units, as JavaScript does";
+    let mut utf16 = flag(alloc, "utf16", help);
+    for (name, form, _) in FORMS {
+        if form != Form::Json {
+            utf16 = utf16.conflicts_with(name)?;
+        }
+    }
+    Ok(utf16)
+}
+
+/// The options that say how documents are read.
+fn with_readings<'a>(alloc: Global, command: Command<'a>) -> Result<Command<'a>, AllocError> {
+    let commonmark = flag(alloc, "commonmark", "Read CommonMark, without extensions");
+    let gfm = flag(alloc, "gfm", "Read GFM, without frontmatter and math").conflicts_with(
+        "commonmark",
+    )?;
+    let with = construct(alloc, "with", "Read a construct of markdown as well");
+    let without = construct(alloc, "without", "Do not read a construct of markdown");
+    let events = Arg::new(alloc, "from-events")
+        .long("from-events")
+        .value_name("FILE")
+        .help("Take the events of the document from a file, a line for each")
+        .action(ArgAction::Set);
+    command
+        .arg(commonmark)?
+        .arg(gfm)?
+        .arg(with)?
+        .arg(without)?
+        .arg(events)
+}
+
+/// An option without a value.
+fn flag<'a>(alloc: Global, name: &'a str, help: &'a str) -> Arg<'a> {
+    Arg::new(alloc, name)
+        .long(name)
+        .help(help)
+        .action(ArgAction::SetTrue)
+}
+
+/// An option that names a construct, and may be given more than once.
+fn construct<'a>(alloc: Global, name: &'a str, help: &'a str) -> Arg<'a> {
+    Arg::new(alloc, name)
+        .long(name)
+        .value_name("CONSTRUCT")
+        .help(help)
+        .value_parser(NAMES.as_slice())
+        .hide_possible_values(true)
+        .action(ArgAction::Append)
+}
+
+/// The form that is asked for, and JSON where none is.
+fn form(matches: &ArgMatches<'_>) -> Form {
+    if matches.get_flag("utf16") {
+        return Form::JsonUtf16;
+    }
+    for (name, form, _) in FORMS {
+        if matches.get_flag(name) {
+            return form;
+        }
+    }
+    Form::Json
+}
+
+/// How wide the lines of an outline of a tree may be.
+fn width(rt: &HostRuntime, matches: &ArgMatches<'_>) -> Option<usize> {
+    match matches.get_one::<usize>("width") {
+        Some(width) => Some(width),
+        None => rt.stdout().is_terminal().then_some(TERMINAL_WIDTH),
+    }
+}
+
+/// Where the events come from, where the option for it is given.
+fn events(alloc: Global, matches: &ArgMatches<'_>) -> Result<Option<Source>, AllocError> {
+    match matches.get_str("from-events") {
+        Some(name) => Ok(Some(Source::named(alloc, name)?)),
+        None => Ok(None),
+    }
+}
+
+/// How the documents are read: as GFM with frontmatter and math, unless something else is asked for.
+fn options(matches: &ArgMatches<'_>) -> ParseOptions {
+    let base = if matches.get_flag("commonmark") {
+        Constructs::default()
+    } else if matches.get_flag("gfm") {
+        Constructs::gfm()
+    } else {
+        Constructs::everything()
+    };
+    let switches = Switches {
+        on: matches.get_strs("with").unwrap_or(&[]),
+        off: matches.get_strs("without").unwrap_or(&[]),
+    };
+    ParseOptions {
+        constructs: switches.turned(&base),
+        undefined_references: matches.get_flag("check"),
+        ..ParseOptions::gfm()
+    }
+}
+
+/// The documents that are named, or standard input where none is.
+fn documents(alloc: Global, matches: &ArgMatches<'_>) -> Result<Vec<Source>, AllocError> {
+    let mut documents = Vec::new(alloc);
+    for name in matches.get_strs("DOC").unwrap_or(&[]) {
+        documents.push(Source::named(alloc, name)?)?;
+    }
+    if documents.is_empty() {
+        documents.push(Source::Input)?;
+    }
+    Ok(documents)
+}

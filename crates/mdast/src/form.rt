@@ -1,0 +1,117 @@
+//! What is printed of a document.
+
+use crate::arguments::Request;
+use crate::error::DocumentError;
+use crate::inspect::inspect;
+use crate::source::Source;
+use event_lines::lines::events;
+use event_lines::written::lines_of;
+use markdown::{compile_events, to_events, to_mdast};
+use markdown_events::event::Event;
+use markdown_json::{to_json, to_json_utf16};
+use markdown_nodes::mdast::Node;
+use mdast_check::warnings::warnings;
+use mdast_util::outline::outline;
+use mdast_util::plain_text::plain_text;
+use std::alloc::{AllocError, Global};
+
+/// What is printed of a document.
+#[derive(Clone, Copy, PartialEq, Eq, Debug)]
+pub enum Form {
+    /// The tree as JSON.
+    Json,
+    /// The tree as JSON, with columns and offsets in UTF-16 units.
+    JsonUtf16,
+    /// The tree as an outline for people, a line for each node.
+    Tree,
+    /// The tree as Debug writes it.
+    Debug,
+    /// The events, a line for each.
+    Events,
+    /// The headings, a line for each.
+    Outline,
+    /// The plain text.
+    Text,
+    /// What a linter warns of, a line for each warning.
+    Check,
+}
+
+/// What is printed of a document.
+#[derive(Drop)]
+pub struct Output {
+    /// The text.
+    pub text: String,
+    /// Whether it warns of something.
+    pub has_warnings: bool,
+}
+
+impl Output {
+    /// A text that warns of nothing.
+    fn plain(text: String) -> Output {
+        Output {
+            text,
+            has_warnings: false,
+        }
+    }
+
+    /// A line that warns of nothing.
+    fn line(text: String) -> Result<Output, AllocError> {
+        let mut text = text;
+        text.push_str("\n")?;
+        Ok(Output::plain(text))
+    }
+}
+
+/// What is printed of a document with this text.
+pub fn render(
+    rt: &HostRuntime,
+    request: &Request,
+    source: &Source,
+    text: &str,
+) -> Result<Output, DocumentError> {
+    let alloc = rt.alloc();
+    let tree = || tree_of(rt, request, text);
+    Ok(match request.form {
+        Form::Json => Output::line(to_json(alloc, &tree()?)?)?,
+        Form::JsonUtf16 => Output::line(to_json_utf16(alloc, text.as_bytes(), &tree()?)?)?,
+        Form::Tree => Output::plain(inspect(alloc, &tree()?, request.width)?),
+        Form::Debug => Output::line(tree()?.to_debug_string(alloc)?)?,
+        Form::Events => Output::plain(lines_of(alloc, &events_of(rt, request, text)?)?),
+        Form::Outline => Output::plain(outline(alloc, &tree()?)?),
+        Form::Text => Output::plain(plain_text(alloc, &tree()?)?),
+        Form::Check => checked(alloc, source, &tree()?)?,
+    })
+}
+
+/// The tree of a document, from the events that are asked for.
+fn tree_of(rt: &HostRuntime, request: &Request, text: &str) -> Result<Node, DocumentError> {
+    let alloc = rt.alloc();
+    match &request.events {
+        Some(_) => Ok(compile_events(alloc, text, &events_of(rt, request, text)?)?),
+        None => Ok(to_mdast(alloc, text, &request.options)?),
+    }
+}
+
+/// The events of a document: those of the file that is asked for, or those of the tokenizer.
+fn events_of(rt: &HostRuntime, request: &Request, text: &str) -> Result<Vec<Event>, DocumentError> {
+    let Some(source) = &request.events else {
+        return Ok(to_events(rt.alloc(), text, &request.options)?);
+    };
+    match source.read(rt) {
+        Ok(lines) => Ok(events(rt.alloc(), &lines)?),
+        Err(error) => Err(DocumentError::of_events(error)),
+    }
+}
+
+/// The warnings of a linter, a line for each, with the name of the document.
+fn checked(alloc: Global, source: &Source, tree: &Node) -> Result<Output, AllocError> {
+    let mut text = String::new(alloc);
+    let warnings = warnings(alloc, tree)?;
+    for warning in &warnings {
+        text.push_str(format!(in alloc; "{source}:{warning}\n")?.as_str())?;
+    }
+    Ok(Output {
+        text,
+        has_warnings: !warnings.is_empty(),
+    })
+}

@@ -1,0 +1,68 @@
+//! What the program does for each document.
+
+use crate::arguments::Request;
+use crate::error::DocumentError;
+use crate::form::{Output, render};
+use crate::progress::Progress;
+use crate::source::Source;
+use std::io::{self, ErrorKind, Write};
+
+/// Prints what is asked for of each document, and gives the status: the greatest of theirs.
+///
+/// A document that gives no output does not keep the others from being printed. Where the output cannot
+/// be written, nothing more is tried; that nobody reads it any more is no error.
+pub fn run(rt: &HostRuntime, request: &Request) -> u8 {
+    let mut progress = Progress::new(rt, request.documents.len());
+    let mut status = 0;
+    for source in &request.documents {
+        match print_document(rt, request, source, &mut progress) {
+            Ok(found) => status = status.max(found),
+            Err(kind) => return status.max(unwritten(rt, kind)),
+        }
+    }
+    status
+}
+
+/// Prints what is asked for of a document, or why there is nothing, and gives the status. The error is
+/// that the output cannot be written.
+fn print_document(
+    rt: &HostRuntime,
+    request: &Request,
+    source: &Source,
+    progress: &mut Progress,
+) -> Result<u8, ErrorKind> {
+    let output = output_of(rt, request, source, progress);
+    progress.clear(rt);
+    match output {
+        Ok(output) => match io::writer(rt).write_all(output.text.as_bytes()) {
+            Ok(()) => Ok(u8::from(output.has_warnings)),
+            Err(error) => Err(error.kind()),
+        },
+        Err(error) => {
+            let _ = rt.eprintln(format_args!("mdast: {source}: {error}"));
+            Ok(error.status())
+        }
+    }
+}
+
+/// What is printed of a document.
+fn output_of(
+    rt: &HostRuntime,
+    request: &Request,
+    source: &Source,
+    progress: &mut Progress,
+) -> Result<Output, DocumentError> {
+    progress.next();
+    let text = source.read_text(rt)?;
+    progress.show(rt, source, text.len());
+    render(rt, request, source, text.as_str())
+}
+
+/// Says why the output cannot be written, and gives the status.
+fn unwritten(rt: &HostRuntime, kind: ErrorKind) -> u8 {
+    if kind == ErrorKind::BrokenPipe {
+        return 0;
+    }
+    let _ = rt.eprintln(format_args!("mdast: cannot write the output: {kind}"));
+    2
+}

@@ -1,0 +1,97 @@
+//! What the rules ask about a node besides the node itself.
+
+ghost use Rattle.std.specs.Prelude.{◌≡◌, List, IfOk, OnOk, [], ◌∷◌, option_map};
+ghost use Rattle.markdown_nodes.specs.Access.{label_of};
+ghost use Rattle.markdown_nodes.specs.Tree.{Tree};
+ghost use Rattle.markdown_nodes.specs.View.{view};
+ghost use Rattle.mdast_check.specs.Surroundings.{AreUses, StandAround};
+ghost use Rattle.mdast_check.specs.Walk.{walk};
+ghost use Rattle.mdast_check.specs.Warnings.{call_identifier_of, link_identifier_of};
+
+use crate::outline::depth;
+use crate::references::{Known, definition_identifier, footnote_identifier, known_in, put};
+use crate::walk::Walk;
+use markdown_nodes::mdast::Node;
+use std::alloc::{AllocError, Global};
+use std::collections::BTreeSet;
+
+/// What the tree around a node says, and the nodes before it.
+#[derive(Drop)]
+pub(crate) struct Surroundings<'a> {
+    /// The depth of the last heading before the node.
+    pub depth: Option<u8>,
+    /// The identifiers that the tree defines.
+    pub defined: Known<'a>,
+    /// The identifiers to which the tree refers.
+    pub used: Known<'a>,
+    /// The identifiers that nodes before this one define.
+    pub before: Known<'a>,
+}
+
+impl<'a> Surroundings<'a> {
+    /// What stands around the first node of a tree, the tree itself.
+    pub fn new(alloc: Global, tree: &'a Node) -> Result<Surroundings<'a>, AllocError>
+        ensures { IfOk result (λ around. StandAround around (view tree.now) []) }
+    {
+        let defined = known_in(alloc, tree)?;
+        let used = uses_in(alloc, tree)?;
+        let before = Known {
+            definitions: BTreeSet::new(alloc),
+            footnotes: BTreeSet::new(alloc),
+        };
+        Ok(Surroundings {
+            depth: None,
+            defined,
+            used,
+            before,
+        })
+    }
+
+    /// Goes past a node: from now on it stands before.
+    pub fn pass(&mut self, node: &'a Node) -> Result<(), AllocError>
+        ensures { OnOk result ((tree : Tree) (before : List Tree) → StandAround self.old tree before → StandAround self.new tree (view node.now ∷ before)) }
+    {
+        put(&mut self.before.definitions, definition_identifier(node))?;
+        put(&mut self.before.footnotes, footnote_identifier(node))?;
+        self.depth = depth(node).or(self.depth);
+        Ok(())
+    }
+}
+
+/// The identifiers to which a tree refers, in one pass over it.
+fn uses_in<'a>(alloc: Global, tree: &'a Node) -> Result<Known<'a>, AllocError>
+    ensures { IfOk result (λ known. AreUses known (walk (view tree.now))) }
+{
+    let mut definitions = BTreeSet::new(alloc);
+    let mut footnotes = BTreeSet::new(alloc);
+    let mut walk = Walk::new(alloc, tree);
+    'nodes: while let Some(node) = walk.next()? {
+        put(&mut definitions, link_identifier(node))?;
+        put(&mut footnotes, call_identifier(node))?;
+    }
+    Ok(Known {
+        definitions,
+        footnotes,
+    })
+}
+
+/// The identifier to which a link or an image refers, and `None` for any other node.
+fn link_identifier(node: &Node) -> Option<&str>
+    ensures { option_map (λ text. text.now) result ≡ link_identifier_of (label_of node.now) }
+{
+    match node {
+        Node::LinkReference(node) => Some(node.identifier.as_str()),
+        Node::ImageReference(node) => Some(node.identifier.as_str()),
+        _ => None,
+    }
+}
+
+/// The identifier of the footnote that a node calls, and `None` for any other node.
+fn call_identifier(node: &Node) -> Option<&str>
+    ensures { option_map (λ text. text.now) result ≡ call_identifier_of (label_of node.now) }
+{
+    match node {
+        Node::FootnoteReference(node) => Some(node.identifier.as_str()),
+        _ => None,
+    }
+}

@@ -1,0 +1,123 @@
+//! What comes of a document alone: its tree as JSON, or another form of it.
+
+ghost use Rattle.std.specs.Prelude.{◌≡◌, [], IfOk, string_bytes};
+ghost use Rattle.markdown_nodes.specs.View.{view};
+ghost use Rattle.mdast_outcomes.specs.Parsed.{IsFormOf, IsParsed, form_of, written};
+
+use crate::constructs::constructs_of;
+use crate::{Outcome, bare, with_text};
+use markdown::{Constructs, ParseOptions, to_mdast};
+use markdown_json::{to_json, to_json_utf16};
+use markdown_nodes::mdast::Node;
+use mdast_util::outline::outline;
+use mdast_util::plain_text::plain_text;
+use std::alloc::{AllocError, Global};
+
+/// The status of a document that is not UTF-8.
+const NOT_UTF8: u32 = 5;
+
+/// The status of options that are none.
+const OPTIONS: u32 = 6;
+
+/// What is written of a tree.
+#[derive(Clone, Copy, PartialEq, Eq, Debug)]
+pub enum Form {
+    /// JSON, with its points in bytes: [`to_json`].
+    Json,
+    /// JSON, with columns and offsets in UTF-16 units: [`to_json_utf16`].
+    JsonUtf16,
+    /// The headings, a line each: [`outline`].
+    Outline,
+    /// The text without its markup: [`plain_text`].
+    PlainText,
+}
+
+/// Parses a document for a caller in another language, and gives a form of its tree.
+///
+/// `constructs` has a bit for each construct with which the document is read: the lowest is that of the
+/// first field of [`Constructs`], and each next one that of the next field. The other options are those
+/// of [`ParseOptions::gfm`]. `form` is 0 for JSON, 1 for JSON with columns and offsets in UTF-16 units, 2
+/// for the outline of headings, and 3 for the plain text. The statuses are these:
+///
+/// - 0: the form of the tree is in `text`;
+/// - 3: memory ran out;
+/// - 5: the document is not UTF-8; the byte at `offset`, which counts bytes from 0, is the first one that
+///   begins no character;
+/// - 6: `constructs` has a bit that is of no construct, or `form` is none of the four. Nothing else was
+///   looked at.
+///
+/// What a status does not say is an empty text or 0. The form of the outcome is ours.
+///
+/// For `# Hi`, the constructs `1 << 18`, which are headings with number signs alone, and the form 2 the
+/// status is 0, and `text` is `Hi (1:1)` and a line feed.
+pub fn parsed(alloc: Global, document: &[u8], constructs: u32, form: u32) -> Outcome
+    ensures { IsParsed result document.now constructs form }
+{
+    let Some(allowed) = constructs_of(constructs) else {
+        return bare(OPTIONS);
+    };
+    let Some(wanted) = form_of(form) else {
+        return bare(OPTIONS);
+    };
+    match str::from_utf8(document) {
+        Ok(text) => with_text(text_of(alloc, text, allowed, wanted)),
+        Err(error) => not_utf8(error.valid_up_to()),
+    }
+}
+
+/// The form with this number.
+fn form_of(number: u32) -> Option<Form>
+    ensures { result ≡ form_of number }
+{
+    match number {
+        0 => Some(Form::Json),
+        1 => Some(Form::JsonUtf16),
+        2 => Some(Form::Outline),
+        3 => Some(Form::PlainText),
+        _ => None,
+    }
+}
+
+/// The offset of the first byte that begins no character.
+fn not_utf8(offset: usize) -> Outcome
+    ensures status { result.status ≡ 5 }
+    ensures text { result.text.now ≡ [] }
+    ensures rule { result.rule.now ≡ [] }
+    ensures reason { result.reason.now ≡ [] }
+    ensures line { result.line ≡ 0 }
+    ensures column { result.column ≡ 0 }
+    ensures offset { result.offset ≡ offset }
+{
+    let mut outcome = bare(NOT_UTF8);
+    outcome.offset = offset;
+    outcome
+}
+
+/// A form of the tree of a document that is read with these constructs.
+fn text_of(
+    alloc: Global,
+    document: &str,
+    constructs: Constructs,
+    form: Form,
+) -> Result<String, AllocError>
+    ensures { IfOk result (λ text. IsFormOf (string_bytes text) form document.now constructs) }
+{
+    let options = ParseOptions {
+        constructs,
+        ..ParseOptions::gfm()
+    };
+    let tree = to_mdast(alloc, document, &options)?;
+    written(alloc, document.as_bytes(), &tree, form)
+}
+
+/// A form of the tree of a document.
+fn written(alloc: Global, document: &[u8], tree: &Node, form: Form) -> Result<String, AllocError>
+    ensures { IfOk result (λ text. string_bytes text ≡ written form document.now (view tree.now)) }
+{
+    match form {
+        Form::Json => to_json(alloc, tree),
+        Form::JsonUtf16 => to_json_utf16(alloc, document, tree),
+        Form::Outline => outline(alloc, tree),
+        Form::PlainText => plain_text(alloc, tree),
+    }
+}

@@ -1,0 +1,4 @@
+pub mod Places
+pub mod Definitions
+pub mod Outline
+pub mod PlainText
