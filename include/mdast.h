@@ -51,7 +51,7 @@ enum {
 
 /* What a call comes to. What a status does not say is an empty text or 0. */
 typedef struct mdast_outcome {
-    /* One of the statuses above. mdast_parse gives 0, 3, 5 and 6, and mdast_compile 0 to 4. */
+    /* One of the statuses above. mdast_parse and mdast_html give 0, 3, 5 and 6, and mdast_compile 0 to 4. */
     uint32_t status;
     /* With MDAST_TREE what was asked for, in UTF-8. It may be empty. It is the caller's, who gives it back by
      * mdast_outcome_free, or by free((void *)text.bytes), also where it is empty. */
@@ -130,7 +130,12 @@ enum {
     /* The headings, a line each: two blanks for each level below the first, the text, and line and column in parentheses. */
     MDAST_FORM_OUTLINE = 2,
     /* The text without its markup, each block on a line of its own. */
-    MDAST_FORM_PLAIN_TEXT = 3
+    MDAST_FORM_PLAIN_TEXT = 3,
+    /* HTML that is safe in a page, whoever wrote the document: docs/HTML.md says what that means. HTML of the document is left
+     * out, and so is an address whose scheme is not allowed. Each id begins with user-content-. */
+    MDAST_FORM_HTML = 4,
+    /* HTML with that of the document, and with addresses of any scheme: what the document says runs in the page. */
+    MDAST_FORM_UNSAFE_HTML = 5
 };
 
 /*
@@ -154,6 +159,11 @@ enum {
  */
 void mdast_parse(const uint8_t *document, size_t document_length, uint32_t constructs, uint32_t form,
                  mdast_outcome *outcome);
+
+/*
+ * Parses a document, and gives it as HTML that is safe in a page: the same as mdast_parse with MDAST_FORM_HTML.
+ */
+void mdast_html(const uint8_t *document, size_t document_length, uint32_t constructs, mdast_outcome *outcome);
 
 /*
  * Compiles the tree of a document from the events of another tokenizer, as JSON.

@@ -77,6 +77,10 @@ static struct example examples[] = {
      .status = MDAST_TREE},
     {.name = "plain text of nothing", .document = "", .constructs = MDAST_EVERYTHING, .form = MDAST_FORM_PLAIN_TEXT,
      .status = MDAST_TREE},
+    {.name = "HTML", .document = "*b* <i> [c](javascript:d)", .constructs = MDAST_EVERYTHING, .form = MDAST_FORM_HTML,
+     .status = MDAST_TREE, .text = "<p><em>b</em>  <a href=\"\">c</a></p>\n"},
+    {.name = "unsafe HTML", .document = "*b* <i>", .constructs = MDAST_EVERYTHING, .form = MDAST_FORM_UNSAFE_HTML,
+     .status = MDAST_TREE, .text = "<p><em>b</em> <i></p>\n"},
     {.name = "no constructs", .document = "Hi", .constructs = 0, .form = MDAST_FORM_JSON, .status = MDAST_TREE, .text = HI_TREE},
     {.name = "math", .document = "$a$", .constructs = MDAST_EVERYTHING, .form = MDAST_FORM_JSON, .status = MDAST_TREE,
      .text = DOLLARS_TREE("inlineMath", "a")},
@@ -92,7 +96,7 @@ static struct example examples[] = {
      .status = MDAST_OPTIONS},
     {.name = "the highest bit", .document = "Hi", .constructs = UINT32_C(1) << 31, .form = MDAST_FORM_JSON,
      .status = MDAST_OPTIONS},
-    {.name = "no form", .document = "\xff", .constructs = MDAST_EVERYTHING, .form = MDAST_FORM_PLAIN_TEXT + 1u,
+    {.name = "no form", .document = "\xff", .constructs = MDAST_EVERYTHING, .form = MDAST_FORM_UNSAFE_HTML + 1u,
      .status = MDAST_OPTIONS},
     {.name = "the last number", .document = "Hi", .constructs = MDAST_EVERYTHING, .form = UINT32_MAX, .status = MDAST_OPTIONS},
     {.name = "a tree of events", .document = "Hi", .event_lines = HI_EVENTS, .status = MDAST_TREE, .text = HI_TREE},
@@ -168,6 +172,15 @@ static int cuts(mdast_outcome *outcome) {
     return 0;
 }
 
+/* HTML by the function of its own. */
+static int html(mdast_outcome *outcome) {
+    mdast_html(bytes("# Hi"), 4, MDAST_COMMONMARK, outcome);
+    if (outcome->status != MDAST_TREE || !is(outcome->text, "<h1>Hi</h1>\n"))
+        return wrong("mdast_html", outcome);
+    mdast_outcome_free(outcome);
+    return 0;
+}
+
 /* Calls each example twice with one outcome, so that fields are seen to be set anew. */
 static int statuses(void) {
     mdast_outcome outcome = MDAST_OUTCOME_INIT;
@@ -188,7 +201,8 @@ static int statuses(void) {
     mdast_outcome_free(&outcome);
     if (outcome.status != MDAST_UNSET || !is(outcome.text, "") || outcome.text.bytes == NULL)
         return wrong("an outcome that was freed twice", &outcome);
-    return cuts(&outcome);
+    outcome = (mdast_outcome)MDAST_OUTCOME_INIT;
+    return html(&outcome) || cuts(&outcome);
 }
 
 /* So many calls, all examples in turn but for the document of the command line. */

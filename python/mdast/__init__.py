@@ -31,6 +31,7 @@ __all__ = [
     "UnreadLine",
     "Utf8Error",
     "compile",
+    "html",
     "outline",
     "parse",
     "plain_text",
@@ -86,6 +87,20 @@ def plain_text(text: Document, *, constructs: Constructs = "everything") -> str:
     'Hi Earth!\\nNext\\n'
     """
     return _library.parse(_utf8(text), bits_of(constructs), _library.PLAIN_TEXT)
+
+
+def html(text: Document, *, constructs: Constructs = "everything", unsafe: bool = False) -> str:
+    """A document as HTML that is safe in a page, whoever wrote it.
+
+    HTML of the document is left out, and so is an address whose scheme is not allowed: docs/HTML.md says what that means,
+    and what it asks of the page around. With ``unsafe`` both pass, and what the document says runs in the page. Raises
+    what ``parse`` raises, but for ``DepthError``.
+
+    >>> html("*Hi* <b>[a](javascript:b)")
+    '<p><em>Hi</em> <a href="">a</a></p>\\n'
+    """
+    form = _library.UNSAFE_HTML if unsafe else _library.HTML
+    return _library.parse(_utf8(text), bits_of(constructs), form)
 
 
 def walk(node: Node) -> Iterator[Node]:

@@ -232,6 +232,13 @@ class Texts(unittest.TestCase):
         self.assertEqual(mdast.plain_text("# Hi *Earth*!\n\n* `a`\n* b"), "Hi Earth!\na\nb\n")
         self.assertEqual(mdast.plain_text(""), "")
 
+    def test_html(self):
+        self.assertEqual(mdast.html("# Hi *Earth*!"), "<h1>Hi <em>Earth</em>!</h1>\n")
+        self.assertEqual(mdast.html(""), "")
+        self.assertEqual(mdast.html("<b>a</b> [c](data:d)"), '<p>a <a href="">c</a></p>\n')
+        self.assertEqual(mdast.html("<b>a</b> [c](data:d)", unsafe=True), '<p><b>a</b> <a href="data:d">c</a></p>\n')
+        self.assertEqual(mdast.html("~~a~~", constructs="commonmark"), "<p>~~a~~</p>\n")
+
     def test_constructs_count(self):
         self.assertEqual(mdast.outline("# a", constructs=[]), "")
         self.assertEqual(mdast.plain_text("~~a~~", constructs="commonmark"), "~~a~~\n")
@@ -251,7 +258,7 @@ class Walks(unittest.TestCase):
 
 class Faults(unittest.TestCase):
     def test_bytes_that_are_not_utf8(self):
-        for call in [mdast.parse, mdast.outline, mdast.plain_text]:
+        for call in [mdast.parse, mdast.outline, mdast.plain_text, mdast.html]:
             with self.subTest(call=call), self.assertRaises(mdast.Utf8Error) as raised:
                 call(b"a\xc3\xa9\xff")
             self.assertIsInstance(raised.exception, ValueError)
@@ -359,7 +366,7 @@ class Compiling(unittest.TestCase):
 class Threads(unittest.TestCase):
     def test_eight_threads(self):
         documents = ["# a\n\n> b", "| a |\n| - |", "$a$ *b* `c`", "é 😀", "", "* [x] a\n* b"]
-        calls = [(call, document) for document in documents for call in (mdast.parse, mdast.outline, mdast.plain_text)]
+        calls = [(call, document) for document in documents for call in (mdast.parse, mdast.outline, mdast.plain_text, mdast.html)]
         wanted = [call(document) for call, document in calls]
         faults = []
 

@@ -16,7 +16,7 @@ const VERSION: &str = "0.1.0 (rattle-kit-13f logic dac8208d650f15bf)";
 const TERMINAL_WIDTH: usize = 80;
 
 /// The options that say what is printed: their names, the forms and the help.
-const FORMS: [(&str, Form, &str); 7] = [
+const FORMS: [(&str, Form, &str); 8] = [
     (
         "json",
         Form::Json,
@@ -43,6 +43,11 @@ const FORMS: [(&str, Form, &str); 7] = [
         "Print the headings with their places",
     ),
     ("text", Form::Text, "Print the plain text"),
+    (
+        "html",
+        Form::Html,
+        "Print HTML that is safe in a page, without the HTML of the document",
+    ),
     ("check", Form::Check, "Print warnings, as linters do"),
 ];
 
@@ -55,6 +60,8 @@ pub struct Request {
     pub width: Option<usize>,
     /// How the documents are read.
     pub options: ParseOptions,
+    /// Whether HTML of the document, and addresses of any scheme, pass into the HTML that is printed.
+    pub is_unsafe: bool,
     /// Where the events come from, where they are not those of our tokenizer.
     pub events: Option<Source>,
     /// The documents, in order.
@@ -73,6 +80,7 @@ pub fn read_arguments(rt: &HostRuntime, words: &[String]) -> Result<Request, Err
         form: form(&matches),
         width: width(rt, &matches),
         options: options(&matches),
+        is_unsafe: matches.get_flag("unsafe"),
         events: events(rt.alloc(), &matches)?,
         documents: documents(rt.alloc(), &matches)?,
     };
@@ -85,6 +93,9 @@ pub fn read_arguments(rt: &HostRuntime, words: &[String]) -> Result<Request, Err
 impl Request {
     /// Why nobody can do what is asked for, if that is so.
     fn fault(&self) -> Option<&'static str> {
+        if self.is_unsafe && self.form != Form::Html {
+            return Some("'--unsafe' goes with '--html' alone");
+        }
         let events = self.events.as_ref()?;
         match self.documents.as_slice() {
             [document] if document == events => {
@@ -134,7 +145,12 @@ fn with_forms<'a>(alloc: Global, command: Command<'a>) -> Result<Command<'a>, Al
         .help("Cut the lines of '--tree' to this width [default: 80 on a terminal, else none]")
         .value_parser(value_parser!(usize))
         .action(ArgAction::Set);
-    command.arg(utf16(alloc)?)?.arg(width)
+    let passing = flag(
+        alloc,
+        "unsafe",
+        "With '--html', keep the HTML of the document, and addresses of any scheme",
+    );
+    command.arg(utf16(alloc)?)?.arg(passing)?.arg(width)
 }
 
 /// The option for UTF-16 units, which goes with JSON alone.

@@ -8,6 +8,7 @@ use event_lines::lines::events;
 use event_lines::written::lines_of;
 use markdown::{compile_events, to_events, to_mdast};
 use markdown_events::event::Event;
+use markdown_html::{HtmlOptions, to_html, to_unsafe_html};
 use markdown_json::{to_json, to_json_utf16};
 use markdown_nodes::mdast::Node;
 use mdast_check::warnings::warnings;
@@ -32,6 +33,8 @@ pub enum Form {
     Outline,
     /// The plain text.
     Text,
+    /// HTML.
+    Html,
     /// What a linter warns of, a line for each warning.
     Check,
 }
@@ -79,6 +82,7 @@ pub fn render(
         Form::Events => Output::plain(lines_of(alloc, &events_of(rt, request, text)?)?),
         Form::Outline => Output::plain(outline(alloc, &tree()?)?),
         Form::Text => Output::plain(plain_text(alloc, &tree()?)?),
+        Form::Html => Output::plain(page(alloc, request, &tree()?)?),
         Form::Check => checked(alloc, source, &tree()?)?,
     })
 }
@@ -100,6 +104,16 @@ fn events_of(rt: &HostRuntime, request: &Request, text: &str) -> Result<Vec<Even
     match source.read(rt) {
         Ok(lines) => Ok(events(rt.alloc(), &lines)?),
         Err(error) => Err(DocumentError::of_events(error)),
+    }
+}
+
+/// The HTML of a tree.
+fn page(alloc: Global, request: &Request, tree: &Node) -> Result<String, AllocError> {
+    let options = HtmlOptions::default();
+    if request.is_unsafe {
+        to_unsafe_html(alloc, tree, options.id_prefix)
+    } else {
+        to_html(alloc, tree, &options)
     }
 }
 

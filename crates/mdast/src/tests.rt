@@ -89,13 +89,14 @@ fn words(alloc: Global, arguments: &[&str]) -> Result<Vec<String>, AllocError> {
 }
 
 /// Arguments that end the program, and the status: the help and the version with 0, and mistakes with 2.
-static ENDING: [(&[&str], u8); 11] = [
+static ENDING: [(&[&str], u8); 12] = [
     (&["--help"], 0),
     (&["-h"], 0),
     (&["--version"], 0),
     (&["--nope"], 2),
     (&["--tree", "--text"], 2),
     (&["--tree", "--utf16"], 2),
+    (&["--tree", "--unsafe"], 2),
     (&["--gfm", "--commonmark"], 2),
     (&["--with", "nope"], 2),
     (&["--width", "x"], 2),
@@ -114,7 +115,7 @@ fn ends_with_a_status(rt: HostRuntime) {
 }
 
 /// Arguments, and the form that they ask for.
-static FORMS: [(&[&str], Form); 9] = [
+static FORMS: [(&[&str], Form); 11] = [
     (&[], Form::Json),
     (&["--json"], Form::Json),
     (&["--utf16"], Form::JsonUtf16),
@@ -122,6 +123,8 @@ static FORMS: [(&[&str], Form); 9] = [
     (&["--tree", "--width", "40"], Form::Tree),
     (&["--outline"], Form::Outline),
     (&["--text"], Form::Text),
+    (&["--html"], Form::Html),
+    (&["--html", "--unsafe"], Form::Html),
     (&["--check"], Form::Check),
     (&["--from-events", "a", "b", "--debug"], Form::Debug),
 ];

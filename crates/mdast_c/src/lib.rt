@@ -29,6 +29,20 @@ pub extern "C" fn mdast_parse(
     *outcome = parsed(alloc, document, constructs, form);
 }
 
+/// Parses a document for a caller in C, or in a language that calls C, and gives HTML that is safe in a
+/// page, without the HTML of the document.
+///
+/// The same as [`mdast_parse`] with the form 4. The form is ours.
+///
+/// For `# Hi`, the constructs `1 << 18`, which are headings with number signs alone, the status is 0, and
+/// `text` is `<h1>Hi</h1>` and a line feed.
+#[unsafe(no_mangle)]
+pub extern "C" fn mdast_html(alloc: Global, document: &[u8], constructs: u32, outcome: &mut Outcome)
+    ensures { IsParsed outcome.new document.now constructs 4 }
+{
+    *outcome = parsed(alloc, document, constructs, 4);
+}
+
 /// Compiles the tree of a document for a caller in C, or in a language that calls C.
 ///
 /// The outcome is set to what [`outcome_of`] gives for the same arguments: its statuses say when a

@@ -74,5 +74,5 @@ fn a_document_that_is_not_utf8(rt: HostRuntime) {
 #[test]
 fn options_that_are_none(rt: HostRuntime) {
     expect(&rt, b"\xFF", [EVERYTHING + 1, 0], &bare(6));
-    expect(&rt, b"\xFF", [EVERYTHING, 4], &bare(6));
+    expect(&rt, b"\xFF", [EVERYTHING, 6], &bare(6));
 }

@@ -1,0 +1,2 @@
+mod Fragments
+pub mod Reading

@@ -1,0 +1,3 @@
+pub mod Escapes
+pub mod Urls
+pub mod Safe

@@ -1,0 +1,150 @@
+//! The pages of trees that no document has.
+
+use crate::expect::writes;
+use markdown_nodes::mdast::{
+    AlignKind, Code, Emphasis, FootnoteReference, Heading, List, ListItem, Node, Paragraph, Table,
+    TableCell, TableRow, Text,
+};
+use std::alloc::{AllocError, Global};
+
+fn text(alloc: Global, value: &str) -> Result<Node, AllocError> {
+    Ok(Node::Text(Text {
+        value: String::from_str(alloc, value)?,
+        position: None,
+    }))
+}
+
+fn one(alloc: Global, node: Node) -> Result<Vec<Node>, AllocError> {
+    let mut nodes = Vec::new(alloc);
+    nodes.push(node)?;
+    Ok(nodes)
+}
+
+#[test]
+fn headings_of_any_depth(rt: HostRuntime) -> Result<(), AllocError> {
+    let alloc = rt.alloc();
+    for (depth, page) in [
+        (0, "<h1>a</h1>\n"),
+        (7, "<h6>a</h6>\n"),
+        (255, "<h6>a</h6>\n"),
+    ] {
+        let heading = Node::Heading(Heading {
+            children: one(alloc, text(alloc, "a")?)?,
+            position: None,
+            depth,
+        });
+        writes(&rt, alloc, &heading, page)?;
+    }
+    Ok(())
+}
+
+/// A row alone, and a table without alignments: there are as many columns as the row has cells.
+#[test]
+fn rows_without_columns(rt: HostRuntime) -> Result<(), AllocError> {
+    let alloc = rt.alloc();
+    let row = "<tr>\n<td>a</td>\n</tr>\n";
+    writes(&rt, alloc, &row_of(alloc, "a")?, row)?;
+    let table = Node::Table(Table {
+        children: one(alloc, row_of(alloc, "a")?)?,
+        position: None,
+        align: Vec::new(alloc),
+    });
+    let page = "<table>\n<thead>\n<tr>\n<th>a</th>\n</tr>\n</thead>\n</table>\n";
+    writes(&rt, alloc, &table, page)
+}
+
+/// A cell beyond the columns is not written.
+#[test]
+fn cells_beyond_the_columns(rt: HostRuntime) -> Result<(), AllocError> {
+    let alloc = rt.alloc();
+    let mut cells = one(alloc, cell(alloc, "a")?)?;
+    cells.push(cell(alloc, "b")?)?;
+    let row = Node::TableRow(TableRow {
+        children: cells,
+        position: None,
+    });
+    let mut align = Vec::new(alloc);
+    align.push(AlignKind::None)?;
+    let table = Node::Table(Table {
+        children: one(alloc, row)?,
+        position: None,
+        align,
+    });
+    let page = "<table>\n<thead>\n<tr>\n<th>a</th>\n</tr>\n</thead>\n</table>\n";
+    writes(&rt, alloc, &table, page)
+}
+
+fn cell(alloc: Global, value: &str) -> Result<Node, AllocError> {
+    Ok(Node::TableCell(TableCell {
+        children: one(alloc, text(alloc, value)?)?,
+        position: None,
+    }))
+}
+
+fn row_of(alloc: Global, value: &str) -> Result<Node, AllocError> {
+    Ok(Node::TableRow(TableRow {
+        children: one(alloc, cell(alloc, value)?)?,
+        position: None,
+    }))
+}
+
+/// An item alone is that of a loose list. A language of two words is no class.
+#[test]
+fn items_and_code(rt: HostRuntime) -> Result<(), AllocError> {
+    let alloc = rt.alloc();
+    let paragraph = Node::Paragraph(Paragraph {
+        children: one(alloc, text(alloc, "a")?)?,
+        position: None,
+    });
+    let item = Node::ListItem(ListItem {
+        children: one(alloc, paragraph)?,
+        position: None,
+        spread: false,
+        checked: None,
+    });
+    writes(&rt, alloc, &item, "<li>\n<p>a</p>\n</li>\n")?;
+    let code = Node::Code(Code {
+        value: String::from_str(alloc, "a")?,
+        position: None,
+        lang: Some(String::from_str(alloc, "b c")?),
+        meta: None,
+    });
+    writes(&rt, alloc, &code, "<pre><code>a\n</code></pre>\n")
+}
+
+/// A list of any start, and a call of a footnote that is not there.
+#[test]
+fn starts_and_calls(rt: HostRuntime) -> Result<(), AllocError> {
+    let alloc = rt.alloc();
+    let list = Node::List(List {
+        children: Vec::new(alloc),
+        position: None,
+        ordered: true,
+        start: Some(4_294_967_295),
+        spread: false,
+    });
+    writes(&rt, alloc, &list, "<ol start=\"4294967295\">\n</ol>\n")?;
+    let call = Node::FootnoteReference(FootnoteReference {
+        position: None,
+        identifier: String::from_str(alloc, "<")?,
+        label: None,
+    });
+    writes(&rt, alloc, &call, "[^&lt;]")
+}
+
+/// A hundred thousand emphases, each in the one before.
+#[test]
+fn deep(rt: HostRuntime) -> Result<(), AllocError> {
+    let alloc = rt.alloc();
+    let mut tree = text(alloc, "a")?;
+    for _ in 0..100_000 {
+        tree = Node::Emphasis(Emphasis {
+            children: one(alloc, tree)?,
+            position: None,
+        });
+    }
+    let mut page = "<em>".repeat(alloc, 100_000)?;
+    page.push_str("a")?;
+    page.push_str("</em>".repeat(alloc, 100_000)?.as_str())?;
+    writes(&rt, alloc, &tree, page.as_str())
+}

@@ -1,0 +1,7 @@
+pub mod Siblings
+pub mod Maps
+pub mod Indexes
+pub mod Levels
+pub mod Notes
+pub mod Tokens
+pub mod Safety

@@ -1,0 +1,20 @@
+use Rattle.std.proofs.Common.{◌≡◌, ℕ, List, Option, None, arith, sym, ap, ◌∙◌}
+use Rattle.std.proofs.lemmas.Grind.{common_steps}
+use Rattle.markdown_nodes.specs.declared.mdast.Node.{Node}
+use Rattle.markdown_nodes.specs.Access.{label_of}
+use Rattle.markdown_nodes.specs.Tree.{Tree}
+use Rattle.markdown_nodes.specs.View.{view}
+use Rattle.markdown_nodes.proofs.Views.{view-Definition}
+use Rattle.mdast_check.proofs.Steps.{label-is}
+use Rattle.markdown_html.specs.Html.{title_of}
+use Rattle.markdown_html.proofs.nodes.title.Goals as goal
+
+pub returns-in-Definition : goal.returns-in-Definition
+returns-in-Definition c =
+    c.as_deref.ensures.value
+    ∙ sym (ap (λ (n : Node). title_of (view n).label) c.in-Definition.is ∙ ap (λ (t : Tree). title_of t.label) (view-Definition c.in-Definition.node))
+
+pub returns-in_default : goal.returns-in_default
+returns-in_default c =
+    let here : None ≡ title_of (label_of c.args.node.now) = grind (arith, common_steps) in
+    here ∙ sym (ap title_of (label-is c.args.node.now))

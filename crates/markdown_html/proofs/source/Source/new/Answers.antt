@@ -1,0 +1,23 @@
+use Rattle.std.proofs.Common.{ℕ, List}
+use Rattle.std.specs.List.{find}
+use Rattle.markdown_nodes.specs.View.{view}
+use Rattle.mdast_check.specs.Levels.{coming}
+use Rattle.mdast_check.specs.References.{definition_identifier_of, footnote_identifier_of}
+use Rattle.mdast_check.specs.Walk.{walk}
+use Rattle.mdast_check.proofs.Steps.{next_is}
+use Rattle.mdast_util.specs.Definitions.{defines}
+use Rattle.markdown_html.specs.Gathered.{found}
+use Rattle.markdown_html.specs.Html.{is_footnote}
+use Rattle.markdown_html.proofs.Maps.{gathers}
+use Rattle.markdown_html.proofs.source.Source.new.Goals as goal
+
+pub nodes-preserved : goal.nodes-preserved
+nodes-preserved c =
+    let before = coming c.nodes.walk in
+    let after = coming c.next.new.self in
+    let all = walk (view c.args.tree.now) in
+    let next = next_is c.in_ok-node.field-0 c.in-Some.node before after c.in_ok-node.ensures.next c.in-Some.is in
+    record {
+      definitions = λ identifier. gathers definition_identifier_of c.in-Some.node.now c.definition_identifier.result before after identifier (found c.nodes.definitions identifier) (found c.put_first.new.map identifier) (find (defines identifier) all) next c.definition_identifier.ensures (c.in_ok-put_first.ensures identifier) (c.nodes.invariant.definitions identifier);
+      footnotes = λ identifier. gathers footnote_identifier_of c.in-Some.node.now c.footnote_identifier.result before after identifier (found c.nodes.footnotes identifier) (found c.put_first-in-Some.new.map identifier) (find (is_footnote identifier) all) next c.footnote_identifier.ensures (c.in_ok-put_first-2.ensures identifier) (c.nodes.invariant.footnotes identifier);
+    }

@@ -1,0 +1,208 @@
+-- The pieces of a page: tags, attributes, and the texts between them.
+use Rattle.std.specs.Prelude.{ℕ, zero, suc, ◌+◌, ◌-◌, ◌^◌, ◌≤◌, Bool, true, false, not, ◌||◌, ◌&&◌, List, [], ◌∷◌, ◌++◌, Option, Some, None, codes, if◌then◌else◌, ◌==◌, nat_le, min, unwrap_or}
+use Rattle.std.specs.Fmt.{decimal}
+use Rattle.std.specs.List.{list_any}
+use Rattle.html_text.specs.Escapes.{escaped}
+use Rattle.html_text.specs.Safe.{is_space}
+use Rattle.html_text.specs.Urls.{encoded, is_safe_link, is_safe_source}
+use Rattle.markdown_events.specs.declared.infer.AlignKind.{AlignKind}
+use Rattle.markdown_events.specs.declared.infer.AlignKind.TheVariants as align
+use Rattle.markdown_kinds.specs.declared.ReferenceKind.{ReferenceKind}
+use Rattle.markdown_kinds.specs.declared.ReferenceKind.TheVariants.{Shortcut, Collapsed, Full}
+use Rattle.markdown_html.specs.declared.source.Raw.{Raw}
+use Rattle.markdown_html.specs.declared.source.Raw.TheVariants.{Omit, Escape, Pass}
+
+-- an attribute
+unfoldable pub attribute : List ℕ → List ℕ → List ℕ
+attribute name value = codes " " ++ name ++ codes "=\"" ++ escaped value ++ codes "\""
+
+-- the attribute of a title, where there is one
+unfoldable pub title_attribute : Option (List ℕ) → List ℕ
+title_attribute None = []
+title_attribute (Some title) = attribute (codes "title") title
+
+-- whether addresses may have any scheme: where raw HTML passes
+abbrev pub passes : Raw → Bool
+passes Pass = true
+passes _ = false
+
+-- an address that may stand, encoded, and nothing in place of any other
+unfoldable pub link_url : Raw → List ℕ → List ℕ
+link_url raw url = if passes raw || is_safe_link (encoded url) then encoded url else []
+
+unfoldable pub image_url : Raw → List ℕ → List ℕ
+image_url raw url = if passes raw || is_safe_source (encoded url) then encoded url else []
+
+-- the start of a link
+unfoldable pub link_start : Raw → List ℕ → Option (List ℕ) → List ℕ
+link_start raw url title = codes "<a" ++ attribute (codes "href") (link_url raw url) ++ title_attribute title ++ codes ">"
+
+-- an image
+unfoldable pub image_tag : Raw → (alt url : List ℕ) → Option (List ℕ) → List ℕ
+image_tag raw alt url title = codes "<img" ++ attribute (codes "src") (image_url raw url) ++ attribute (codes "alt") alt ++ title_attribute title ++ codes " />"
+
+-- the end of a reference that nothing defines, as it is written in a document
+unfoldable pub reference_end : ReferenceKind → (identifier : List ℕ) → (label : Option (List ℕ)) → List ℕ
+reference_end Shortcut identifier label = codes "]"
+reference_end Collapsed identifier label = codes "][]"
+reference_end Full identifier label = codes "][" ++ unwrap_or label identifier ++ codes "]"
+
+-- the name of a heading of a depth
+unfoldable pub heading_name : ℕ → List ℕ
+heading_name depth =
+    if nat_le depth 1 then codes "h1"
+    else (if depth == 2 then codes "h2"
+    else (if depth == 3 then codes "h3"
+    else (if depth == 4 then codes "h4"
+    else (if depth == 5 then codes "h5"
+    else codes "h6"))))
+
+-- a number; none is greater than the greatest of 64 bits
+unfoldable pub numeral : ℕ → List ℕ
+numeral n = decimal (min n (2 ^ 64 - 1))
+
+-- the number that a list starts with, where it is not 1
+unfoldable pub start_attribute : Option ℕ → List ℕ
+start_attribute None = []
+start_attribute (Some start) = if start == 1 then [] else attribute (codes "start") (numeral start)
+
+-- the start of a list
+unfoldable pub list_start : Bool → Option ℕ → List ℕ
+list_start true start = codes "<ol" ++ start_attribute start ++ codes ">\n"
+list_start false start = codes "<ul>\n"
+
+-- its end
+unfoldable pub list_end : Bool → List ℕ
+list_end true = codes "</ol>\n"
+list_end false = codes "</ul>\n"
+
+-- the mark of a task
+unfoldable pub check_box : Option Bool → List ℕ
+check_box None = []
+check_box (Some true) = codes "<input type=\"checkbox\" checked=\"\" disabled=\"\" /> "
+check_box (Some false) = codes "<input type=\"checkbox\" disabled=\"\" /> "
+
+-- a text that can be one class
+abbrev pub is_class : List ℕ → Bool
+is_class [] = false
+is_class (b ∷ text) = not (list_any is_space (b ∷ text))
+
+-- the class of a block of code, where its language can be one
+unfoldable pub language_attribute : Option (List ℕ) → List ℕ
+language_attribute None = []
+language_attribute (Some language) = if is_class language then attribute (codes "class") (codes "language-" ++ language) else []
+
+-- the lines of a block of code
+unfoldable pub code_lines : List ℕ → List ℕ
+code_lines [] = []
+code_lines (b ∷ value) = escaped (b ∷ value) ++ codes "\n"
+
+-- a block of code
+unfoldable pub code_block : Option (List ℕ) → List ℕ → List ℕ
+code_block language value = codes "<pre><code" ++ language_attribute language ++ codes ">" ++ code_lines value ++ codes "</code></pre>\n"
+
+-- a block of math
+unfoldable pub math_block : List ℕ → List ℕ
+math_block value = codes "<pre><code" ++ attribute (codes "class") (codes "language-math math-display") ++ codes ">" ++ escaped value ++ codes "</code></pre>\n"
+
+-- math and code in a text
+unfoldable pub math_text : List ℕ → List ℕ
+math_text value = codes "<code" ++ attribute (codes "class") (codes "language-math math-inline") ++ codes ">" ++ escaped value ++ codes "</code>"
+
+unfoldable pub code_text : List ℕ → List ℕ
+code_text value = codes "<code>" ++ escaped value ++ codes "</code>"
+
+-- HTML of the document
+unfoldable pub raw_html : Raw → List ℕ → List ℕ
+raw_html Omit value = []
+raw_html Escape value = escaped value
+raw_html Pass value = value
+
+-- how a cell is aligned, by its column
+unfoldable pub align_attribute : AlignKind → List ℕ
+align_attribute align.Left = codes " align=\"left\""
+align_attribute align.Right = codes " align=\"right\""
+align_attribute align.Center = codes " align=\"center\""
+align_attribute align.None = []
+
+-- the start of a cell in the first of these columns, where there is one
+unfoldable pub cell_start : List ℕ → Option (List AlignKind) → List ℕ
+cell_start name None = codes "<" ++ name ++ codes ">"
+cell_start name (Some []) = []
+cell_start name (Some (first ∷ _)) = codes "<" ++ name ++ align_attribute first ++ codes ">"
+
+-- its end
+unfoldable pub cell_end : List ℕ → Option (List AlignKind) → List ℕ
+cell_end name (Some []) = []
+cell_end name _ = codes "</" ++ name ++ codes ">\n"
+
+-- a cell without a text, and one in each of these columns
+unfoldable pub empty_cell : List ℕ → AlignKind → List ℕ
+empty_cell name align = (codes "<" ++ name ++ align_attribute align ++ codes ">") ++ (codes "</" ++ name ++ codes ">\n")
+
+abbrev pub empty_cells : List ℕ → List AlignKind → List ℕ
+empty_cells name [] = []
+empty_cells name (first ∷ rest) = empty_cell name first ++ empty_cells name rest
+
+-- an arrow that points back (U+21A9)
+unfoldable pub arrow : List ℕ
+arrow = 226 ∷ 134 ∷ 169 ∷ []
+
+-- the number of a call or of a back reference, where it is not the first
+unfoldable pub repeat_text : ℕ → List ℕ
+repeat_text count = if count == 1 then [] else codes "-" ++ numeral count
+
+-- the same, for people
+unfoldable pub repeat_mark : ℕ → List ℕ
+repeat_mark count = if count == 1 then [] else codes "<sup>" ++ numeral count ++ codes "</sup>"
+
+-- what a reference from a footnote back to a call of it is called
+unfoldable pub back_label : (number count : ℕ) → List ℕ
+back_label number count = codes "Back to reference " ++ numeral number ++ repeat_text count
+
+module _ (prefix : List ℕ) where
+  -- the id of a footnote, and that of a call of it
+  abbrev pub note_id : List ℕ → List ℕ
+  note_id identifier = prefix ++ codes "fn-" ++ encoded identifier
+
+  abbrev pub call_id : List ℕ → ℕ → List ℕ
+  call_id identifier count = prefix ++ codes "fnref-" ++ encoded identifier ++ repeat_text count
+
+  -- the id of the heading of the footnotes
+  abbrev pub label_id : List ℕ
+  label_id = prefix ++ codes "footnote-label"
+
+  -- the heading of the footnotes
+  unfoldable pub section_heading : List ℕ
+  section_heading = codes "<h2" ++ attribute (codes "class") (codes "sr-only") ++ attribute (codes "id") label_id ++ codes ">Footnotes" ++ codes "</h2>\n<ol>\n"
+
+  -- the start of their section, and that of a footnote
+  unfoldable pub section_start : List ℕ
+  section_start = codes "<section" ++ attribute (codes "data-footnotes") [] ++ attribute (codes "class") (codes "footnotes") ++ codes ">" ++ section_heading
+
+  unfoldable pub note_start : (identifier : List ℕ) → List ℕ
+  note_start identifier = codes "<li" ++ attribute (codes "id") (note_id identifier) ++ codes ">\n"
+
+  -- a call of a footnote
+  unfoldable pub call_links : (identifier : List ℕ) → (count : ℕ) → List ℕ
+  call_links identifier count = attribute (codes "href") (codes "#" ++ note_id identifier) ++ attribute (codes "id") (call_id identifier count)
+
+  unfoldable pub call_attributes : (identifier : List ℕ) → (count : ℕ) → List ℕ
+  call_attributes identifier count = call_links identifier count ++ attribute (codes "data-footnote-ref") [] ++ attribute (codes "aria-describedby") label_id
+
+  unfoldable pub call_text : (identifier : List ℕ) → (number count : ℕ) → List ℕ
+  call_text identifier number count = codes "<sup><a" ++ call_attributes identifier count ++ codes ">" ++ numeral number ++ codes "</a></sup>"
+
+  -- a reference from a footnote back to a call of it
+  unfoldable pub back_attributes : (identifier : List ℕ) → (number count : ℕ) → List ℕ
+  back_attributes identifier number count =
+      attribute (codes "href") (codes "#" ++ call_id identifier count) ++ attribute (codes "data-footnote-backref") []
+      ++ attribute (codes "aria-label") (back_label number count) ++ attribute (codes "class") (codes "data-footnote-backref")
+
+  unfoldable pub back_reference : (identifier : List ℕ) → (number count : ℕ) → List ℕ
+  back_reference identifier number count = codes "<a" ++ back_attributes identifier number count ++ codes ">" ++ arrow ++ repeat_mark count ++ codes "</a>"
+
+  -- those to all calls from the first to this one, with a blank before each
+  abbrev pub back_references : (identifier : List ℕ) → (number count : ℕ) → List ℕ
+  back_references identifier number zero = []
+  back_references identifier number (suc count) = back_references identifier number count ++ codes " " ++ back_reference identifier number (suc count)

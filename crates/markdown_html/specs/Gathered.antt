@@ -1,0 +1,43 @@
+-- What the code keeps of a tree and of the calls in a page.
+use Rattle.std.specs.Prelude.{◌≡◌, ℕ, ◌+◌, List, [], ◌∷◌, Option, None, Some, filter, if◌then◌else◌, length, option_map}
+use Rattle.std.specs.BTreeMap.{BTreeMap, get_by}
+use Rattle.std.specs.Cmp.Lexicographic.{slice_cmp}
+use Rattle.std.specs.List.{find}
+use Rattle.std.specs.Ordering.{nat_cmp}
+use Rattle.std.specs.Str.{bytes_eq}
+use denote.Ref.{Bor}
+use Rattle.markdown_nodes.specs.declared.mdast.Node.{Node}
+use Rattle.markdown_nodes.specs.Tree.{Tree}
+use Rattle.markdown_nodes.specs.View.{view}
+use Rattle.mdast_check.specs.Walk.{walk}
+use Rattle.mdast_util.specs.Definitions.{defines}
+use Rattle.markdown_html.specs.declared.calls.Call.{Call as CallHere}
+use Rattle.markdown_html.specs.Html.{is_footnote}
+use Rattle.markdown_html.specs.Page.{Call, index_of}
+
+-- what a map has for a text
+abbrev pub held : {X : Type 0} → BTreeMap (Bor (List ℕ)) X → List ℕ → Option X
+held map text = get_by (λ key. slice_cmp nat_cmp text key.now) map
+
+-- the same, where the map has nodes
+abbrev pub found : BTreeMap (Bor (List ℕ)) (Bor Node) → List ℕ → Option Tree
+found map text = option_map (λ node. view node.now) (held map text)
+
+-- what was gathered is that of a tree
+pub record Gathers (links notes : BTreeMap (Bor (List ℕ)) (Bor Node)) (root : Node) : Type 0 where
+  pub definitions : (identifier : List ℕ) → found links identifier ≡ find (defines identifier) (walk (view root))
+  pub footnotes : (identifier : List ℕ) → found notes identifier ≡ find (is_footnote identifier) (walk (view root))
+
+-- a call as the code has it
+abbrev pub call_of : CallHere → Call
+call_of call = record { identifier = call.identifier.now; count = call.count }
+
+-- a map has these indexes
+abbrev pub AreIndexes : BTreeMap (Bor (List ℕ)) ℕ → List Call → Type 0
+AreIndexes indexes calls = (identifier : List ℕ) → held indexes identifier ≡ index_of identifier calls
+
+-- what a map has with a node more: the first one of an identifier stays
+abbrev pub with_first : Option (Bor (List ℕ)) → Tree → List ℕ → Option Tree → Option Tree
+with_first None tree text was = was
+with_first (Some identifier) tree text None = if bytes_eq identifier.now text then Some tree else None
+with_first (Some identifier) tree text (Some was) = Some was

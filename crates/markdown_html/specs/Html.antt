@@ -1,0 +1,281 @@
+-- A tree as HTML: the elements that mdast-util-to-hast makes, in the lines that the examples of CommonMark have.
+use Rattle.std.specs.Prelude.{ℕ, ◌+◌, ◌-◌, ◌^◌, zero, suc, ◌&&◌, Bool, List, [], ◌∷◌, ◌++◌, Option, Some, None, codes, if◌then◌else◌, drop, filter, length, nat_le, slice_get, unwrap_or, true, false}
+use Rattle.std.specs.List.{find}
+use Rattle.std.specs.Option.{option_eq}
+use Rattle.std.specs.Str.{bytes_eq}
+use Rattle.html_text.specs.Escapes.{escaped}
+use Rattle.html_text.specs.Safe.{Allowed}
+use Rattle.markdown_events.specs.declared.infer.AlignKind.{AlignKind}
+use Rattle.markdown_kinds.specs.declared.ReferenceKind.{ReferenceKind}
+use Rattle.markdown_nodes.specs.Tree.{Label, Tree, Trees, nothing, node, root, paragraph, blockquote, emphasis, strong, delete, table_row, table_cell, thematic_break, «break», text, html as raw, inline_code, inline_math, yaml, toml, heading, list, list_item, table, code, math, link, image, link_reference, image_reference, footnote_reference, footnote_definition, definition}
+use Rattle.mdast_check.specs.References.{footnote_identifier_of}
+use Rattle.mdast_check.specs.Walk.{walk}
+use Rattle.mdast_util.specs.Definitions.{definition_in}
+use Rattle.markdown_html.specs.declared.place.Kind.{Kind}
+use Rattle.markdown_html.specs.declared.place.Kind.TheVariants.{Text, Flow, Tight, Hidden, FirstRow, SecondRow, LaterRow, HeaderCell, Cell, Note, Tail}
+use Rattle.markdown_html.specs.declared.html.RawHtml.{RawHtml}
+use Rattle.markdown_html.specs.declared.html.RawHtml.TheVariants as raw_htmls
+use Rattle.markdown_html.specs.declared.source.Raw.{Raw}
+use Rattle.markdown_html.specs.declared.source.Raw.TheVariants as raws
+use Rattle.markdown_html.specs.Elements.{back_references, call_text, cell_end, cell_start, check_box, code_block, code_text, empty_cells, heading_name, image_tag, link_start, list_end, list_start, math_block, math_text, note_start, passes, raw_html, reference_end, section_start}
+use Rattle.markdown_html.specs.Page.{Call, Page, blank, block, count_of, fresh_line, more, number_of, on_new_line, put, say, with_call}
+use Rattle.markdown_html.specs.Places.{Place, after, followed, inside, place}
+
+-- what becomes of raw HTML that does not pass
+abbrev pub raw_of : RawHtml → Raw
+raw_of raw_htmls.Omit = raws.Omit
+raw_of raw_htmls.Escape = raws.Escape
+
+-- what is written: a whole tree, what becomes of raw HTML in it, and how each id begins
+pub record Source : Type 0 where
+  pub raw : Raw
+  pub id_prefix : List ℕ
+  pub tree : Tree
+
+-- whether a node is the footnote with an identifier
+abbrev pub is_footnote : List ℕ → Tree → Bool
+is_footnote identifier tree = option_eq bytes_eq (footnote_identifier_of tree.label) (Some identifier)
+
+-- the first footnote in a tree with an identifier
+abbrev pub footnote_in : Tree → List ℕ → Option Tree
+footnote_in tree identifier = find (is_footnote identifier) (walk tree)
+
+-- no page has more footnotes
+unfoldable pub most_notes : ℕ
+most_notes = 2 ^ 64 - 1
+
+-- where a link or an image leads by its definition, and the title that the definition has
+abbrev pub url_of : Label → List ℕ
+url_of (definition url _ _ _) = url
+url_of _ = []
+
+abbrev pub title_of : Label → Option (List ℕ)
+title_of (definition _ title _ _) = title
+title_of _ = None
+
+-- whether a node is a paragraph, and whether the last of some nodes is
+abbrev pub is_paragraph : Label → Bool
+is_paragraph paragraph = true
+is_paragraph _ = false
+
+abbrev pub ends_with_paragraph : Trees → Bool
+ends_with_paragraph nothing = false
+ends_with_paragraph (node label _ _ nothing) = is_paragraph label
+ends_with_paragraph (node _ _ _ (node label children here rest)) = ends_with_paragraph (node label children here rest)
+
+-- how many nodes these are
+abbrev pub count : Trees → ℕ
+count nothing = 0
+count (node _ _ _ rest) = count rest + 1
+
+-- the end of a table with these children
+abbrev pub table_end : Trees → List ℕ
+table_end children = if nat_le 2 (count children) then codes "</tbody>\n</table>\n" else codes "</table>\n"
+
+-- the name of the cells of a row
+abbrev pub cell_name : Kind → List ℕ
+cell_name FirstRow = codes "th"
+cell_name _ = codes "td"
+
+-- the end of a row with these cells, and a cell without a text in each column that they leave
+abbrev pub row_end : Place → Trees → List ℕ
+row_end at cells = empty_cells (cell_name at.kind) (drop (count cells) (unwrap_or at.columns [])) ++ codes "</tr>\n"
+
+-- the start of a paragraph
+abbrev pub paragraph_start : Kind → List ℕ → List ℕ
+paragraph_start Tight written = written
+paragraph_start _ written = fresh_line written ++ codes "<p>"
+
+-- raw HTML; among blocks it has lines of its own
+abbrev pub raw_text : Raw → Kind → List ℕ → List ℕ → List ℕ
+raw_text how Text value written = written ++ raw_html how value
+raw_text how _ value written = fresh_line (fresh_line written ++ raw_html how value)
+
+-- whether a node is no raw HTML; whether there is none in some nodes, and in a tree
+abbrev pub is_no_html : Label → Bool
+is_no_html (raw _) = false
+is_no_html _ = true
+
+abbrev pub is_free : Trees → Bool
+is_free nothing = true
+is_free (node label children _ rest) = is_no_html label && (is_free children && is_free rest)
+
+abbrev pub is_free_tree : Tree → Bool
+is_free_tree tree = is_no_html tree.label && is_free tree.children
+
+-- what a page may have, besides what each may: ids with the prefix, and any address where raw HTML passes
+abbrev pub allowed_of : Source → Allowed
+allowed_of it = record { id_prefix = it.id_prefix; any_url = passes it.raw }
+
+module _ (it : Source) where
+  -- a call of a footnote; where nothing defines it, its text
+  abbrev pub call_page : List ℕ → Option (List ℕ) → Page → Page
+  call_page identifier label page = elim (footnote_in it.tree identifier) [
+    | None ↦ say page (codes "[^" ++ escaped (unwrap_or label identifier) ++ codes "]")
+    | Some _ ↦ record {
+      text = page.text ++ call_text it.id_prefix identifier (number_of identifier page.calls) (more (count_of identifier page.calls));
+      calls = with_call identifier page.calls;
+    }
+  ]
+
+  -- a link by reference; where nothing defines it, its text
+  abbrev pub link_reference_start : List ℕ → List ℕ
+  link_reference_start identifier = elim (definition_in it.tree identifier) [
+    | None ↦ codes "["
+    | Some found ↦ link_start it.raw (url_of found.label) (title_of found.label)
+  ]
+
+  abbrev pub link_reference_end : ReferenceKind → List ℕ → Option (List ℕ) → List ℕ
+  link_reference_end kind identifier label = elim (definition_in it.tree identifier) [
+    | None ↦ escaped (reference_end kind identifier label)
+    | Some _ ↦ codes "</a>"
+  ]
+
+  -- an image by reference; where nothing defines it, its text
+  abbrev pub image_reference_text : (alt : List ℕ) → ReferenceKind → List ℕ → Option (List ℕ) → List ℕ
+  image_reference_text alt kind identifier label = elim (definition_in it.tree identifier) [
+    | None ↦ codes "![" ++ escaped alt ++ escaped (reference_end kind identifier label)
+    | Some found ↦ image_tag it.raw alt (url_of found.label) (title_of found.label)
+  ]
+
+  -- the start of a footnote, where it is written
+  abbrev pub footnote_start : Kind → Page → Page
+  footnote_start (Note number) page = say page (elim (slice_get page.calls number) [
+    | None ↦ codes "<li>\n"
+    | Some call ↦ note_start it.id_prefix call.identifier
+  ])
+  footnote_start _ page = page
+
+  -- the references from a footnote of a number, counted from 0, back to its calls
+  abbrev pub back_page : ℕ → Page → Page
+  back_page number page = elim (slice_get page.calls number) [
+    | None ↦ page
+    | Some call ↦ say page (back_references it.id_prefix call.identifier (number + 1) call.count)
+  ]
+
+  -- the end of a footnote, where it is written
+  abbrev pub footnote_end : Kind → Trees → Page → Page
+  footnote_end (Note number) children page =
+      say (if ends_with_paragraph children then page else say (back_page number (on_new_line page)) (codes "\n")) (codes "</li>\n")
+  footnote_end _ children page = page
+
+  -- the end of a paragraph
+  abbrev pub paragraph_end : Kind → Page → Page
+  paragraph_end Tight page = page
+  paragraph_end (Tail number) page = say (back_page number page) (codes "</p>\n")
+  paragraph_end _ page = say page (codes "</p>\n")
+
+  -- what stands before the children of a node
+  abbrev pub opened : Kind → Label → Page → Page
+  opened kind root page = page
+  opened kind paragraph page = put page (paragraph_start kind page.text)
+  opened kind blockquote page = block page (codes "<blockquote>\n")
+  opened kind emphasis page = say page (codes "<em>")
+  opened kind strong page = say page (codes "<strong>")
+  opened kind delete page = say page (codes "<del>")
+  opened kind table_row page = say page (codes "<tr>\n")
+  opened kind table_cell page = page
+  opened kind thematic_break page = block page (codes "<hr />\n")
+  opened kind «break» page = say page (codes "<br />\n")
+  opened kind (text value) page = say page (escaped value)
+  opened kind (raw value) page = put page (raw_text it.raw kind value page.text)
+  opened kind (inline_code value) page = say page (code_text value)
+  opened kind (inline_math value) page = say page (math_text value)
+  opened kind (yaml _) page = page
+  opened kind (toml _) page = page
+  opened kind (heading depth) page = block page (codes "<" ++ heading_name depth ++ codes ">")
+  opened kind (list ordered start _) page = block page (list_start ordered start)
+  opened kind (list_item _ checked) page = block page (codes "<li>" ++ check_box checked)
+  opened kind (table _) page = block page (codes "<table>\n")
+  opened kind (code value lang _) page = block page (code_block lang value)
+  opened kind (math value _) page = block page (math_block value)
+  opened kind (link url title) page = say page (link_start it.raw url title)
+  opened kind (image alt url title) page = say page (image_tag it.raw alt url title)
+  opened kind (link_reference _ identifier _) page = say page (link_reference_start identifier)
+  opened kind (image_reference alt reference_kind identifier label) page = say page (image_reference_text alt reference_kind identifier label)
+  opened kind (footnote_reference identifier label) page = call_page identifier label page
+  opened kind (footnote_definition _ _) page = footnote_start kind page
+  opened kind (definition _ _ _ _) page = page
+
+  -- what stands after them
+  abbrev pub closed : Place → Label → Trees → Page → Page
+  closed at paragraph children page = paragraph_end at.kind page
+  closed at blockquote children page = block page (codes "</blockquote>\n")
+  closed at emphasis children page = say page (codes "</em>")
+  closed at strong children page = say page (codes "</strong>")
+  closed at delete children page = say page (codes "</del>")
+  closed at (heading depth) children page = say page (codes "</" ++ heading_name depth ++ codes ">\n")
+  closed at (list ordered _ _) children page = say page (list_end ordered)
+  closed at (list_item _ _) children page = say page (codes "</li>\n")
+  closed at (table _) children page = say page (table_end children)
+  closed at table_row children page = say page (row_end at children)
+  closed at (link _ _) children page = say page (codes "</a>")
+  closed at (link_reference kind identifier label) children page = say page (link_reference_end kind identifier label)
+  closed at (footnote_definition _ _) children page = footnote_end at.kind children page
+  closed at _ children page = page
+
+  -- the same, with what the place adds: a cell for each child of a row, and the parts of a table around its rows
+  abbrev pub entered : Place → Label → Page → Page
+  entered at label page = elim at.kind [
+    | Hidden ↦ page
+    | HeaderCell ↦ say page (cell_start (codes "th") at.columns)
+    | Cell ↦ say page (cell_start (codes "td") at.columns)
+    | FirstRow ↦ opened at.kind label (say page (codes "<thead>\n"))
+    | SecondRow ↦ opened at.kind label (say page (codes "<tbody>\n"))
+    | _ ↦ opened at.kind label page
+  ]
+
+  abbrev pub left : Place → Label → Trees → Page → Page
+  left at label children page = elim at.kind [
+    | Hidden ↦ page
+    | HeaderCell ↦ say page (cell_end (codes "th") at.columns)
+    | Cell ↦ say page (cell_end (codes "td") at.columns)
+    | FirstRow ↦ say (closed at label children page) (codes "</thead>\n")
+    | _ ↦ closed at label children page
+  ]
+
+  -- nodes in order
+  abbrev pub nodes_page : Place → Trees → Page → Page
+  nodes_page at nothing page = page
+  nodes_page at (node label children _ rest) page =
+      let here = followed at rest in
+      nodes_page (after at) rest (left here label children (nodes_page (inside here label children) children (entered here label page)))
+
+  -- a node with all that is in it
+  abbrev pub tree_page : Place → Tree → Page → Page
+  tree_page at tree page = left at tree.label tree.children (nodes_page (inside at tree.label tree.children) tree.children (entered at tree.label page))
+
+  -- the footnotes that are called, from a number on, counted from 0, and at most so many. One that is called in another follows it
+  abbrev pub notes_page : (most number : ℕ) → Page → Page
+  notes_page zero number page = page
+  notes_page (suc most) number page = elim (slice_get page.calls number) [
+    | None ↦ page
+    | Some call ↦ elim (footnote_in it.tree call.identifier) [
+      | None ↦ page
+      | Some note ↦ notes_page most (number + 1) (tree_page (place (Note number)) note page)
+    ]
+  ]
+
+  -- the section of the footnotes, where one is called
+  abbrev pub section_page : Page → Page
+  section_page page = elim page.calls [
+    | [] ↦ page
+    | _ ∷ _ ↦
+        say (notes_page most_notes 0 (say (on_new_line page) (section_start it.id_prefix))) (codes "</ol>\n</section>\n")
+  ]
+
+  -- a whole tree
+  abbrev pub html : List ℕ
+  html = (section_page (tree_page (place Flow) it.tree blank)).text
+
+-- the page of a tree without raw HTML, by what becomes of that and with what each id begins
+abbrev pub safe_html : RawHtml → (id_prefix : List ℕ) → Tree → List ℕ
+safe_html raw_html id_prefix tree = html (record { raw = raw_of raw_html; id_prefix = id_prefix; tree = tree })
+
+-- the same, as mdast-util-to-hast has it
+abbrev pub default_html : Tree → List ℕ
+default_html tree = safe_html raw_htmls.Omit (codes "user-content-") tree
+
+-- the page of a tree with its raw HTML
+abbrev pub unsafe_html : (id_prefix : List ℕ) → Tree → List ℕ
+unsafe_html id_prefix tree = html (record { raw = raws.Pass; id_prefix = id_prefix; tree = tree })

@@ -1,0 +1,19 @@
+//! Trees of markdown as HTML that is safe in a page, whoever wrote the document.
+//!
+//! `specs/Html.antt` defines the page of a tree, and `IsSafe` of the crate `html_text` what is safe.
+#![tactic(auto)]
+
+mod attributes;
+mod calls;
+mod code;
+mod footnotes;
+mod html;
+mod links;
+mod lists;
+mod nodes;
+mod page;
+mod place;
+mod source;
+mod tables;
+
+pub use html::{HtmlOptions, ID_PREFIX, RawHtml, to_html, to_unsafe_html};

@@ -1,0 +1,78 @@
+//! Lists, their items, and headings.
+
+ghost use Rattle.std.specs.Prelude.{◌≡◌, ◌++◌, OnOk, string_bytes};
+ghost use Rattle.markdown_html.specs.Elements.{check_box, heading_name, list_end, list_start, start_attribute};
+
+use crate::attributes::{push_attribute, push_numeral};
+use std::alloc::AllocError;
+
+/// Appends the start of a list.
+#[tactic(auto, unfolding(crate::specs::Elements::list_start))]
+pub(crate) fn push_list_start(
+    out: &mut String,
+    ordered: bool,
+    start: Option<u32>,
+) -> Result<(), AllocError>
+    ensures { OnOk result (string_bytes out.new ≡ string_bytes out.old ++ list_start ordered start) }
+{
+    if ordered {
+        out.push_str("<ol")?;
+        push_start(out, start)?;
+        out.push_str(">\n")
+    } else {
+        out.push_str("<ul>\n")
+    }
+}
+
+/// Appends the number that a list starts with, where it is not 1.
+#[tactic(auto, unfolding(crate::specs::Elements::start_attribute))]
+fn push_start(out: &mut String, start: Option<u32>) -> Result<(), AllocError>
+    ensures { OnOk result (string_bytes out.new ≡ string_bytes out.old ++ start_attribute start) }
+{
+    match start {
+        None => Ok(()),
+        Some(start) => {
+            if start == 1 {
+                return Ok(());
+            }
+            let mut number = String::new(*out.allocator());
+            push_numeral(&mut number, start as usize)?;
+            push_attribute(out, "start", number.as_str())
+        }
+    }
+}
+
+/// The end of a list.
+#[tactic(auto, unfolding(crate::specs::Elements::list_end))]
+pub(crate) fn list_end(ordered: bool) -> &'static str
+    ensures { result.now ≡ list_end ordered }
+{
+    if ordered { "</ol>\n" } else { "</ul>\n" }
+}
+
+/// The mark of a task.
+#[tactic(auto, unfolding(crate::specs::Elements::check_box))]
+pub(crate) fn check_box(checked: Option<bool>) -> &'static str
+    ensures { result.now ≡ check_box checked }
+{
+    match checked {
+        None => "",
+        Some(true) => "<input type=\"checkbox\" checked=\"\" disabled=\"\" /> ",
+        Some(false) => "<input type=\"checkbox\" disabled=\"\" /> ",
+    }
+}
+
+/// The name of a heading.
+#[tactic(auto, unfolding(crate::specs::Elements::heading_name))]
+pub(crate) fn heading_name(depth: u8) -> &'static str
+    ensures { result.now ≡ heading_name depth }
+{
+    match depth {
+        0..=1 => "h1",
+        2 => "h2",
+        3 => "h3",
+        4 => "h4",
+        5 => "h5",
+        _ => "h6",
+    }
+}

@@ -1,0 +1,444 @@
+//! What stands before and after the children of each kind of node.
+
+ghost use Rattle.std.specs.Prelude.{◌≡◌, ◌++◌, [], OnOk, codes, drop, option_map, string_bytes, unwrap_or};
+ghost use Rattle.markdown_nodes.specs.Access.{label_of, nodes_in};
+ghost use Rattle.markdown_nodes.specs.View.{view, views};
+ghost use Rattle.html_text.specs.Escapes.{escaped};
+ghost use Rattle.markdown_html.specs.Elements.{heading_name};
+ghost use Rattle.markdown_html.specs.Html.{back_page, call_page, cell_name, closed, count, ends_with_paragraph, entered, footnote_end, footnote_start, image_reference_text, is_paragraph, left, link_reference_end, link_reference_start, opened, paragraph_end, paragraph_start, raw_text, row_end, table_end, title_of, url_of};
+ghost use Rattle.markdown_html.specs.Page.{fresh_line};
+ghost use Rattle.markdown_html.specs.Places.{place_of, seen};
+ghost use Rattle.markdown_html.specs.Pages.{page_of};
+ghost use Rattle.markdown_html.specs.Given.{source_of};
+
+use crate::code::{push_code_block, push_code_text, push_math_block, push_math_text, push_raw};
+use crate::footnotes::{push_back_references, push_call, push_note_start};
+use crate::links::{push_image, push_link_start, reference_end};
+use crate::lists::{check_box, heading_name, list_end, push_list_start};
+use crate::page::{Page, push_block, push_fresh};
+use crate::place::{Kind, Place};
+use crate::source::Source;
+use crate::tables::{push_cell_end, push_cell_start, push_empty_cells};
+use html_text::escapes::push_escaped;
+use markdown_nodes::mdast::{AlignKind, FootnoteReference, ImageReference, LinkReference, Node};
+use std::alloc::AllocError;
+
+impl<'a> Source<'a> {
+    /// Appends what stands before the children of a node.
+    pub fn enter(
+        &self,
+        page: &mut Page<'a>,
+        at: Place<'a>,
+        node: &'a Node,
+    ) -> Result<(), AllocError>
+        ensures { OnOk result (page_of page.new ≡ entered (source_of self.now) (place_of at.entry) (label_of node.now) (page_of page.old)) }
+    {
+        match at.kind {
+            Kind::Hidden => Ok(()),
+            Kind::HeaderCell => push_cell_start(&mut page.text, "th", at.columns),
+            Kind::Cell => push_cell_start(&mut page.text, "td", at.columns),
+            Kind::FirstRow => {
+                page.text.push_str("<thead>\n")?;
+                self.open(page, at.kind, node)
+            }
+            Kind::SecondRow => {
+                page.text.push_str("<tbody>\n")?;
+                self.open(page, at.kind, node)
+            }
+            _ => self.open(page, at.kind, node),
+        }
+    }
+
+    /// Appends what stands after them.
+    pub fn leave(
+        &self,
+        page: &mut Page<'a>,
+        at: Place<'a>,
+        node: &'a Node,
+    ) -> Result<(), AllocError>
+        ensures { OnOk result (page_of page.new ≡ left (source_of self.now) (place_of at.entry) (label_of node.now) (views (nodes_in node.now)) (page_of page.old)) }
+    {
+        match at.kind {
+            Kind::Hidden => Ok(()),
+            Kind::HeaderCell => push_cell_end(&mut page.text, "th", at.columns),
+            Kind::Cell => push_cell_end(&mut page.text, "td", at.columns),
+            Kind::FirstRow => {
+                self.close(page, at, node)?;
+                page.text.push_str("</thead>\n")
+            }
+            _ => self.close(page, at, node),
+        }
+    }
+
+    /// Appends the start of the element of a node, or all of a node that has no children.
+    fn open(&self, page: &mut Page<'a>, kind: Kind, node: &'a Node) -> Result<(), AllocError>
+        ensures { OnOk result (page_of page.new ≡ opened (source_of self.now) kind (label_of node.now) (page_of page.old)) }
+    {
+        let alloc = self.alloc;
+        let out = &mut page.text;
+        match node {
+            Node::Root(_) => Ok(()),
+            Node::Paragraph(_) => push_paragraph_start(out, kind),
+            Node::Blockquote(_) => push_block(out, "<blockquote>\n"),
+            Node::Emphasis(_) => out.push_str("<em>"),
+            Node::Strong(_) => out.push_str("<strong>"),
+            Node::Delete(_) => out.push_str("<del>"),
+            Node::TableRow(_) => out.push_str("<tr>\n"),
+            Node::TableCell(_) => Ok(()),
+            Node::ThematicBreak(_) => push_block(out, "<hr />\n"),
+            Node::Break(_) => out.push_str("<br />\n"),
+            Node::Text(node) => push_escaped(out, node.value.as_str()),
+            Node::Html(node) => self.push_html(out, kind, node.value.as_str()),
+            Node::InlineCode(node) => push_code_text(out, node.value.as_str()),
+            Node::InlineMath(node) => push_math_text(out, node.value.as_str()),
+            Node::Yaml(_) | Node::Toml(_) | Node::Definition(_) => Ok(()),
+            Node::Heading(node) => push_heading_start(out, node.depth),
+            Node::List(node) => {
+                push_fresh(out)?;
+                push_list_start(out, node.ordered, node.start)
+            }
+            Node::ListItem(node) => {
+                push_block(out, "<li>")?;
+                out.push_str(check_box(node.checked))
+            }
+            Node::Table(_) => push_block(out, "<table>\n"),
+            Node::Code(node) => {
+                push_fresh(out)?;
+                push_code_block(out, node.lang.as_deref(), node.value.as_str())
+            }
+            Node::Math(node) => {
+                push_fresh(out)?;
+                push_math_block(out, node.value.as_str())
+            }
+            Node::Link(node) => push_link_start(
+                alloc,
+                out,
+                self.raw,
+                node.url.as_str(),
+                node.title.as_deref(),
+            ),
+            Node::Image(node) => push_image(
+                alloc,
+                out,
+                self.raw,
+                node.alt.as_str(),
+                node.url.as_str(),
+                node.title.as_deref(),
+            ),
+            Node::LinkReference(node) => self.open_link_reference(out, node),
+            Node::ImageReference(node) => self.push_image_reference(out, node),
+            Node::FootnoteReference(node) => self.push_footnote_reference(page, node),
+            Node::FootnoteDefinition(_) => self.open_footnote(page, kind),
+        }
+    }
+
+    /// Appends raw HTML. Among blocks it has lines of its own.
+    fn push_html(&self, out: &mut String, kind: Kind, value: &str) -> Result<(), AllocError>
+        ensures { OnOk result (string_bytes out.new ≡ raw_text self.now.raw kind value.now (string_bytes out.old)) }
+    {
+        if kind == Kind::Text {
+            return push_raw(out, self.raw, value);
+        }
+        push_fresh(out)?;
+        push_raw(out, self.raw, value)?;
+        push_fresh(out)
+    }
+
+    /// Appends the start of a link by reference, or of its text where nothing defines it.
+    fn open_link_reference(
+        &self,
+        out: &mut String,
+        node: &'a LinkReference,
+    ) -> Result<(), AllocError>
+        ensures { OnOk result (string_bytes out.new ≡ string_bytes out.old ++ link_reference_start (source_of self.now) (string_bytes node.now.identifier)) }
+    {
+        match self.definition(node.identifier.as_str()) {
+            None => out.push_str("["),
+            Some(found) => push_link_start(self.alloc, out, self.raw, url(found), title(found)),
+        }
+    }
+
+    /// Appends its end.
+    fn close_link_reference(
+        &self,
+        out: &mut String,
+        node: &'a LinkReference,
+    ) -> Result<(), AllocError>
+        ensures { OnOk result (string_bytes out.new ≡ string_bytes out.old ++ link_reference_end (source_of self.now) node.now.reference_kind (string_bytes node.now.identifier) (option_map string_bytes node.now.label)) }
+    {
+        match self.definition(node.identifier.as_str()) {
+            None => {
+                let end = reference_end(
+                    self.alloc,
+                    node.reference_kind,
+                    node.identifier.as_str(),
+                    node.label.as_deref(),
+                )?;
+                push_escaped(out, end.as_str())
+            }
+            Some(_) => out.push_str("</a>"),
+        }
+    }
+
+    /// Appends an image by reference, or its text where nothing defines it.
+    fn push_image_reference(
+        &self,
+        out: &mut String,
+        node: &'a ImageReference,
+    ) -> Result<(), AllocError>
+        ensures { OnOk result (string_bytes out.new ≡ string_bytes out.old ++ image_reference_text (source_of self.now) (string_bytes node.now.alt) node.now.reference_kind (string_bytes node.now.identifier) (option_map string_bytes node.now.label)) }
+    {
+        match self.definition(node.identifier.as_str()) {
+            None => {
+                let end = reference_end(
+                    self.alloc,
+                    node.reference_kind,
+                    node.identifier.as_str(),
+                    node.label.as_deref(),
+                )?;
+                out.push_str("![")?;
+                push_escaped(out, node.alt.as_str())?;
+                push_escaped(out, end.as_str())
+            }
+            Some(found) => push_image(
+                self.alloc,
+                out,
+                self.raw,
+                node.alt.as_str(),
+                url(found),
+                title(found),
+            ),
+        }
+    }
+
+    /// Appends a call of a footnote, or its text where nothing defines it.
+    fn push_footnote_reference(
+        &self,
+        page: &mut Page<'a>,
+        node: &'a FootnoteReference,
+    ) -> Result<(), AllocError>
+        ensures { OnOk result (page_of page.new ≡ call_page (source_of self.now) (string_bytes node.now.identifier) (option_map string_bytes node.now.label) (page_of page.old)) }
+    {
+        let identifier = node.identifier.as_str();
+        if self.footnote(identifier).is_none() {
+            let label = node.label.as_deref().unwrap_or(identifier);
+            return push_undefined_call(&mut page.text, label);
+        }
+        let (number, count) = page.calls.add(identifier)?;
+        push_call(
+            self.alloc,
+            &mut page.text,
+            self.id_prefix,
+            identifier,
+            number,
+            count,
+        )
+    }
+
+    /// Appends the start of a footnote, where it is written.
+    fn open_footnote(&self, page: &mut Page<'a>, kind: Kind) -> Result<(), AllocError>
+        ensures { OnOk result (page_of page.new ≡ footnote_start (source_of self.now) kind (page_of page.old)) }
+    {
+        let Kind::Note(number) = kind else {
+            return Ok(());
+        };
+        match page.calls.get(number) {
+            None => page.text.push_str("<li>\n"),
+            Some(call) => push_note_start(
+                self.alloc,
+                &mut page.text,
+                self.id_prefix,
+                call.identifier,
+            ),
+        }
+    }
+
+    /// Appends the references from a footnote back to its calls.
+    fn push_back(&self, page: &mut Page<'a>, number: usize) -> Result<(), AllocError>
+        ensures { OnOk result (page_of page.new ≡ back_page (source_of self.now) number (page_of page.old)) }
+    {
+        match page.calls.get(number) {
+            None => Ok(()),
+            Some(call) => push_back_references(
+                self.alloc,
+                &mut page.text,
+                self.id_prefix,
+                call.identifier,
+                number + 1,
+                call.count,
+            ),
+        }
+    }
+
+    /// Appends the end of the element of a node.
+    fn close(&self, page: &mut Page<'a>, at: Place<'a>, node: &'a Node) -> Result<(), AllocError>
+        ensures { OnOk result (page_of page.new ≡ closed (source_of self.now) (place_of at.entry) (label_of node.now) (views (nodes_in node.now)) (page_of page.old)) }
+    {
+        let out = &mut page.text;
+        match node {
+            Node::Paragraph(_) => self.close_paragraph(page, at.kind),
+            Node::Blockquote(_) => push_block(out, "</blockquote>\n"),
+            Node::Emphasis(_) => out.push_str("</em>"),
+            Node::Strong(_) => out.push_str("</strong>"),
+            Node::Delete(_) => out.push_str("</del>"),
+            Node::Heading(node) => push_heading_end(out, node.depth),
+            Node::List(node) => out.push_str(list_end(node.ordered)),
+            Node::ListItem(_) => out.push_str("</li>\n"),
+            Node::Table(node) => out.push_str(table_end(&node.children)),
+            Node::TableRow(node) => push_row_end(out, at, &node.children),
+            Node::Link(_) => out.push_str("</a>"),
+            Node::LinkReference(node) => self.close_link_reference(out, node),
+            Node::FootnoteDefinition(node) => self.close_footnote(page, at.kind, &node.children),
+            _ => Ok(()),
+        }
+    }
+
+    /// Appends the end of a paragraph.
+    fn close_paragraph(&self, page: &mut Page<'a>, kind: Kind) -> Result<(), AllocError>
+        ensures { OnOk result (page_of page.new ≡ paragraph_end (source_of self.now) kind (page_of page.old)) }
+    {
+        match kind {
+            Kind::Tight => return Ok(()),
+            Kind::Tail(number) => self.push_back(page, number)?,
+            _ => {}
+        }
+        page.text.push_str("</p>\n")
+    }
+
+    /// Appends the end of a footnote, where it is written.
+    fn close_footnote(
+        &self,
+        page: &mut Page<'a>,
+        kind: Kind,
+        children: &[Node],
+    ) -> Result<(), AllocError>
+        ensures { OnOk result (page_of page.new ≡ footnote_end (source_of self.now) kind (views children.now) (page_of page.old)) }
+    {
+        let Kind::Note(number) = kind else {
+            return Ok(());
+        };
+        if !ends_with_paragraph(children) {
+            push_fresh(&mut page.text)?;
+            self.push_back(page, number)?;
+            page.text.push_str("\n")?;
+        }
+        page.text.push_str("</li>\n")
+    }
+}
+
+/// Appends the start of a paragraph.
+fn push_paragraph_start(out: &mut String, kind: Kind) -> Result<(), AllocError>
+    ensures { OnOk result (string_bytes out.new ≡ paragraph_start kind (string_bytes out.old)) }
+{
+    match kind {
+        Kind::Tight => Ok(()),
+        _ => push_block(out, "<p>"),
+    }
+}
+
+/// Appends the start of a heading.
+fn push_heading_start(out: &mut String, depth: u8) -> Result<(), AllocError>
+    ensures { OnOk result (string_bytes out.new ≡ fresh_line (string_bytes out.old) ++ (codes "<" ++ heading_name depth ++ codes ">")) }
+{
+    push_block(out, "<")?;
+    out.push_str(heading_name(depth))?;
+    out.push_str(">")
+}
+
+/// Appends the end of a heading.
+fn push_heading_end(out: &mut String, depth: u8) -> Result<(), AllocError>
+    ensures { OnOk result (string_bytes out.new ≡ string_bytes out.old ++ (codes "</" ++ heading_name depth ++ codes ">\n")) }
+{
+    out.push_str("</")?;
+    out.push_str(heading_name(depth))?;
+    out.push_str(">\n")
+}
+
+/// The end of a table with these children.
+fn table_end(children: &[Node]) -> &'static str
+    ensures { result.now ≡ table_end (views children.now) }
+{
+    if count(children) >= 2 {
+        "</tbody>\n</table>\n"
+    } else {
+        "</table>\n"
+    }
+}
+
+/// Appends the end of a row with these cells, and a cell without a text in each column that they leave.
+fn push_row_end(out: &mut String, at: Place<'_>, cells: &[Node]) -> Result<(), AllocError>
+    ensures { OnOk result (string_bytes out.new ≡ string_bytes out.old ++ row_end (place_of at.entry) (views cells.now)) }
+{
+    push_empty_cells(out, cell_name(at.kind), left_over(at.columns, count(cells)))?;
+    out.push_str("</tr>\n")
+}
+
+/// The name of the cells of a row.
+fn cell_name(kind: Kind) -> &'static str
+    ensures { result.now ≡ cell_name kind }
+{
+    match kind {
+        Kind::FirstRow => "th",
+        _ => "td",
+    }
+}
+
+/// How many nodes these are.
+fn count(nodes: &[Node]) -> usize
+    ensures { result ≡ count (views nodes.now) }
+{
+    nodes.len()
+}
+
+/// The columns after so many.
+fn left_over(columns: Option<&[AlignKind]>, count: usize) -> &[AlignKind]
+    ensures { result.now ≡ drop count (unwrap_or (seen columns.entry) []) }
+{
+    columns.unwrap_or(&[]).get(count..).unwrap_or(&[])
+}
+
+/// Appends a call of a footnote that nothing defines, as it is written in a document.
+fn push_undefined_call(out: &mut String, label: &str) -> Result<(), AllocError>
+    ensures { OnOk result (string_bytes out.new ≡ string_bytes out.old ++ (codes "[^" ++ escaped label.now ++ codes "]")) }
+{
+    out.push_str("[^")?;
+    push_escaped(out, label)?;
+    out.push_str("]")
+}
+
+/// Whether the last of some nodes is a paragraph.
+fn ends_with_paragraph(nodes: &[Node]) -> bool
+    ensures { result ≡ ends_with_paragraph (views nodes.now) }
+{
+    match nodes.last() {
+        Some(node) => is_paragraph(node),
+        None => false,
+    }
+}
+
+/// Whether a node is a paragraph.
+fn is_paragraph(node: &Node) -> bool
+    ensures { result ≡ is_paragraph (label_of node.now) }
+{
+    matches!(node, Node::Paragraph(_))
+}
+
+/// The address that a definition has.
+fn url(node: &Node) -> &str
+    ensures { result.now ≡ url_of (view node.now).label }
+{
+    match node {
+        Node::Definition(node) => node.url.as_str(),
+        _ => "",
+    }
+}
+
+/// The title that a definition has.
+fn title(node: &Node) -> Option<&str>
+    ensures { option_map (λ text. text.now) result ≡ title_of (view node.now).label }
+{
+    match node {
+        Node::Definition(node) => node.title.as_deref(),
+        _ => None,
+    }
+}

@@ -1,0 +1,132 @@
+//! What a page is written from.
+
+ghost use Rattle.std.specs.Prelude.{◌≡◌, ℕ, List, IfOk, OnOk, option_map};
+ghost use Rattle.markdown_nodes.specs.Access.{label_of};
+ghost use Rattle.markdown_nodes.specs.View.{view};
+ghost use Rattle.mdast_check.specs.References.{definition_identifier_of, footnote_identifier_of};
+ghost use Rattle.mdast_util.specs.Definitions.{definition_in};
+ghost use Rattle.markdown_html.specs.Html.{footnote_in};
+ghost use Rattle.markdown_html.specs.Gathered.{found, with_first};
+
+use markdown_nodes::mdast::Node;
+use mdast_check::walk::Walk;
+use std::alloc::{AllocError, Global};
+use std::collections::BTreeMap;
+use std::marker::Model;
+
+/// What becomes of HTML that stands in a document.
+#[derive(Clone, Copy, PartialEq, Eq)]
+pub(crate) enum Raw {
+    /// It is left out.
+    Omit,
+    /// It is shown as text.
+    Escape,
+    /// It passes, and so does each address.
+    Pass,
+}
+
+/// What a page is written from: a tree, what becomes of raw HTML in it, and how each id begins.
+#[derive(Drop)]
+pub(crate) struct Source<'a> {
+    pub alloc: Global,
+    pub raw: Raw,
+    pub id_prefix: &'a str,
+    pub tree: &'a Node,
+    /// The definitions by identifier. The first one of an identifier counts.
+    definitions: BTreeMap<&'a str, &'a Node>,
+    /// The footnotes, likewise.
+    footnotes: BTreeMap<&'a str, &'a Node>,
+}
+
+impl<'a> Model for Source<'a> {
+    ghost use Rattle.markdown_html.specs.Gathered.{Gathers};
+    ghost use Rattle.markdown_html.specs.Given.{Given};
+    ghost use Rattle.markdown_nodes.specs.contracts.mdast.Node as node;
+    ghost use Rattle.std.specs.Coded.{codes};
+
+    ghost Value = { Given };
+
+    ghost coded = { Prim.hlevel (codes, node.the_row.coded) };
+
+    ghost view = { λ it. record { raw = it.raw; id_prefix = it.id_prefix.now; root = it.tree.now } };
+
+    ghost invariant = { λ it. Gathers it.definitions it.footnotes it.tree.now };
+}
+
+impl<'a> Source<'a> {
+    /// What a page is written from. The tree is gone over once.
+    pub fn new(
+        alloc: Global,
+        raw: Raw,
+        id_prefix: &'a str,
+        tree: &'a Node,
+    ) -> Result<Source<'a>, AllocError>
+        ensures { IfOk result (λ it. it ≡ record { raw = raw; id_prefix = id_prefix.now; root = tree.now }) }
+    {
+        let mut definitions = BTreeMap::new(alloc);
+        let mut footnotes = BTreeMap::new(alloc);
+        let mut walk = Walk::new(alloc, tree);
+        'nodes: while let Some(node) = walk.next()? {
+            put_first(&mut definitions, definition_identifier(node), node)?;
+            put_first(&mut footnotes, footnote_identifier(node), node)?;
+        }
+        Ok(Source {
+            alloc,
+            raw,
+            id_prefix,
+            tree,
+            definitions,
+            footnotes,
+        })
+    }
+
+    /// The first definition with an identifier.
+    pub fn definition(&self, identifier: &'a str) -> Option<&'a Node>
+        ensures { option_map (λ node. view node.now) result ≡ definition_in (view self.now.root) identifier.now }
+    {
+        self.definitions.get(&identifier).copied()
+    }
+
+    /// The first footnote with an identifier.
+    pub fn footnote(&self, identifier: &'a str) -> Option<&'a Node>
+        ensures { option_map (λ node. view node.now) result ≡ footnote_in (view self.now.root) identifier.now }
+    {
+        self.footnotes.get(&identifier).copied()
+    }
+}
+
+/// Puts a node into a map, unless one is there already. Without an identifier nothing is put.
+fn put_first<'a>(
+    map: &mut BTreeMap<&'a str, &'a Node>,
+    identifier: Option<&'a str>,
+    node: &'a Node,
+) -> Result<(), AllocError>
+    ensures { OnOk result ((other : List ℕ) → found map.new other ≡ with_first identifier.entry (view node.now) other (found map.old other)) }
+{
+    if let Some(identifier) = identifier {
+        if !map.contains_key(&identifier) {
+            map.insert(identifier, node)?;
+        }
+    }
+    Ok(())
+}
+
+/// The identifier of a definition.
+fn definition_identifier(node: &Node) -> Option<&str>
+    ensures { option_map (λ text. text.now) result ≡ definition_identifier_of (label_of node.now) }
+{
+    match node {
+        Node::Definition(node) => Some(node.identifier.as_str()),
+        _ => None,
+    }
+}
+
+/// The identifier of a footnote.
+fn footnote_identifier(node: &Node) -> Option<&str>
+    ensures { option_map (λ text. text.now) result ≡ footnote_identifier_of (label_of node.now) }
+{
+    match node {
+        Node::FootnoteDefinition(node) => Some(node.identifier.as_str()),
+        _ => None,
+    }
+}

@@ -1,0 +1,86 @@
+//! The cells of tables.
+
+ghost use Rattle.std.specs.Prelude.{◌≡◌, ◌++◌, OnOk, string_bytes};
+ghost use Rattle.markdown_html.specs.Elements.{align_attribute, cell_end, cell_start, empty_cell, empty_cells};
+ghost use Rattle.markdown_html.specs.Places.{seen};
+
+use markdown_nodes::mdast::AlignKind;
+use std::alloc::AllocError;
+
+/// Appends the start of a cell in the first of these columns, where there is one.
+#[tactic(auto, unfolding(crate::specs::Elements::cell_start))]
+pub(crate) fn push_cell_start(
+    out: &mut String,
+    name: &str,
+    columns: Option<&[AlignKind]>,
+) -> Result<(), AllocError>
+    ensures { OnOk result (string_bytes out.new ≡ string_bytes out.old ++ cell_start name.now (seen columns.entry)) }
+{
+    let align = match columns {
+        None => "",
+        Some([]) => return Ok(()),
+        Some([first, ..]) => align_attribute(*first),
+    };
+    out.push_str("<")?;
+    out.push_str(name)?;
+    out.push_str(align)?;
+    out.push_str(">")
+}
+
+/// Appends the end of such a cell.
+#[tactic(auto, unfolding(crate::specs::Elements::cell_end))]
+pub(crate) fn push_cell_end(
+    out: &mut String,
+    name: &str,
+    columns: Option<&[AlignKind]>,
+) -> Result<(), AllocError>
+    ensures { OnOk result (string_bytes out.new ≡ string_bytes out.old ++ cell_end name.now (seen columns.entry)) }
+{
+    if let Some([]) = columns {
+        return Ok(());
+    }
+    out.push_str("</")?;
+    out.push_str(name)?;
+    out.push_str(">\n")
+}
+
+/// How a cell is aligned.
+#[tactic(auto, unfolding(crate::specs::Elements::align_attribute))]
+fn align_attribute(align: AlignKind) -> &'static str
+    ensures { result.now ≡ align_attribute align }
+{
+    match align {
+        AlignKind::Left => " align=\"left\"",
+        AlignKind::Right => " align=\"right\"",
+        AlignKind::Center => " align=\"center\"",
+        AlignKind::None => "",
+    }
+}
+
+/// Appends a cell without a text in each of these columns.
+pub(crate) fn push_empty_cells(
+    out: &mut String,
+    name: &str,
+    columns: &[AlignKind],
+) -> Result<(), AllocError>
+    ensures { OnOk result (string_bytes out.new ≡ string_bytes out.old ++ empty_cells name.now columns.now) }
+{
+    for align in columns {
+        push_empty_cell(out, name, *align)?;
+    }
+    Ok(())
+}
+
+/// Appends a cell without a text.
+#[tactic(auto, unfolding(crate::specs::Elements::empty_cell))]
+fn push_empty_cell(out: &mut String, name: &str, align: AlignKind) -> Result<(), AllocError>
+    ensures { OnOk result (string_bytes out.new ≡ string_bytes out.old ++ empty_cell name.now align) }
+{
+    out.push_str("<")?;
+    out.push_str(name)?;
+    out.push_str(align_attribute(align))?;
+    out.push_str(">")?;
+    out.push_str("</")?;
+    out.push_str(name)?;
+    out.push_str(">\n")
+}
