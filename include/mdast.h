@@ -135,7 +135,9 @@ enum {
      * out, and so is an address whose scheme is not allowed. Each id begins with user-content-. */
     MDAST_FORM_HTML = 4,
     /* HTML with that of the document, and with addresses of any scheme: what the document says runs in the page. */
-    MDAST_FORM_UNSAFE_HTML = 5
+    MDAST_FORM_UNSAFE_HTML = 5,
+    /* The same, with the tags that GFM disallows as text: script, style, iframe and six more. It is not safe either. */
+    MDAST_FORM_FILTERED_HTML = 6
 };
 
 /*

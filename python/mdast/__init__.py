@@ -89,17 +89,22 @@ def plain_text(text: Document, *, constructs: Constructs = "everything") -> str:
     return _library.parse(_utf8(text), bits_of(constructs), _library.PLAIN_TEXT)
 
 
-def html(text: Document, *, constructs: Constructs = "everything", unsafe: bool = False) -> str:
+def html(
+    text: Document, *, constructs: Constructs = "everything", unsafe: bool = False, tag_filter: bool = False
+) -> str:
     """A document as HTML that is safe in a page, whoever wrote it.
 
     HTML of the document is left out, and so is an address whose scheme is not allowed: docs/HTML.md says what that means,
-    and what it asks of the page around. With ``unsafe`` both pass, and what the document says runs in the page. Raises
-    what ``parse`` raises, but for ``DepthError``.
+    and what it asks of the page around. With ``unsafe`` both pass, and what the document says runs in the page.
+    ``tag_filter`` goes with ``unsafe``: the tags that GFM disallows are text, and the page is not safe either. Raises what
+    ``parse`` raises, but for ``DepthError``, and ``ValueError`` where ``tag_filter`` stands alone.
 
     >>> html("*Hi* <b>[a](javascript:b)")
     '<p><em>Hi</em> <a href="">a</a></p>\\n'
     """
-    form = _library.UNSAFE_HTML if unsafe else _library.HTML
+    if tag_filter and not unsafe:
+        raise ValueError("tag_filter goes with unsafe alone")
+    form = _library.FILTERED_HTML if tag_filter else _library.UNSAFE_HTML if unsafe else _library.HTML
     return _library.parse(_utf8(text), bits_of(constructs), form)
 
 

@@ -12,7 +12,7 @@ from typing import Callable, NamedTuple
 from ._errors import LibraryNotFound, OptionsError, Refused, UnreadLine, Utf8Error
 
 TREE, REFUSED, UNREAD, MEMORY, TABLE, TEXT, OPTIONS, UNSET = range(8)
-JSON, JSON_UTF16, OUTLINE, PLAIN_TEXT, HTML, UNSAFE_HTML = range(6)
+JSON, JSON_UTF16, OUTLINE, PLAIN_TEXT, HTML, UNSAFE_HTML, FILTERED_HTML = range(7)
 
 HELP = (
     "get libmdast.so by scripts/install PREFIX in the repository of mdast, and set MDAST_LIBRARY to "

@@ -237,6 +237,9 @@ class Texts(unittest.TestCase):
         self.assertEqual(mdast.html(""), "")
         self.assertEqual(mdast.html("<b>a</b> [c](data:d)"), '<p>a <a href="">c</a></p>\n')
         self.assertEqual(mdast.html("<b>a</b> [c](data:d)", unsafe=True), '<p><b>a</b> <a href="data:d">c</a></p>\n')
+        self.assertEqual(mdast.html("<b> <xmp>", unsafe=True, tag_filter=True), "<p><b> &lt;xmp></p>\n")
+        with self.assertRaises(ValueError):
+            mdast.html("a", tag_filter=True)
         self.assertEqual(mdast.html("~~a~~", constructs="commonmark"), "<p>~~a~~</p>\n")
 
     def test_constructs_count(self):

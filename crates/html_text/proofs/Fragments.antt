@@ -1,25 +1,16 @@
--- A text is written in fragments: what needs no escape, and an escape after it.
-use Rattle.std.proofs.Common.{◌≡◌, ℕ, ◌+◌, ◌-◌, ◌<◌, ◌≤◌, List, [], ◌∷◌, ◌++◌, length, take, drop, get_or, sym, ap, ◌∙◌, subst, arith, append-nil, append_assoc}
+-- A text is written in fragments: bytes that stand as they are, and then what stands for one byte.
+use Rattle.std.proofs.Common.{◌≡◌, ℕ, ◌+◌, ◌-◌, ◌<◌, ◌≤◌, List, [], ◌∷◌, ◌++◌, length, take, drop, get_or, sym, ap, ◌∙◌, subst, arith, append_assoc}
 use Rattle.std.specs.Str.{IsCharBoundary, IsUtf8}
 use Rattle.std.proofs.lemmas.List.{get_or-drop, length-drop, take_more}
 use Rattle.std.proofs.lemmas.Str.{IsCharBoundary-after_ascii}
-use Rattle.std.proofs.lemmas.Grind.{flat_map-append}
-use Rattle.html_text.specs.Escapes.{escape, escaped}
 
 -- the bytes that are still to be written as they are
 abbrev pub fragment : List ℕ → ℕ → ℕ → List ℕ
 fragment text start at = take (at - start) (drop start text)
 
--- what is written, and the fragment that is not yet written, stand for the bytes so far
-abbrev pub Fragments : List ℕ → List ℕ → List ℕ → ℕ → ℕ → Type 0
-Fragments initial out text start at = (start ≤ at) × IsCharBoundary text start × (out ++ fragment text start at ≡ initial ++ escaped (take at text))
-
--- one byte more stands for what its escape says
-one_more : (text : List ℕ) (at : ℕ) → at < length text → escaped (take (at + 1) text) ≡ escaped (take at text) ++ escape (get_or text at 0)
-one_more text at within =
-    ap (λ (t : List ℕ). escaped t) (take_more text at 0 within)
-    ∙ flat_map-append escape (take at text) (get_or text at 0 ∷ [])
-    ∙ ap (λ (s : List ℕ). escaped (take at text) ++ s) (append-nil (escape (get_or text at 0)))
+-- what is written, the fragment that is not yet written, and what stands for the rest of the text are the whole
+abbrev pub Fragments : (whole out text : List ℕ) → (start at : ℕ) → (rest : List ℕ) → Type 0
+Fragments whole out text start at rest = (start ≤ at) × IsCharBoundary text start × (out ++ (fragment text start at ++ rest) ≡ whole)
 
 -- a byte that stands as it is makes the fragment longer
 longer : (text : List ℕ) (start at : ℕ) → start ≤ at → at < length text → fragment text start (at + 1) ≡ fragment text start at ++ get_or text at 0 ∷ []
@@ -32,30 +23,26 @@ longer text start at low within =
     ∙ ap (λ (b : ℕ). fragment text start at ++ b ∷ []) byte
 
 -- a byte that stands as it is
-pub goes_on : (initial out text bytes : List ℕ) (start at : ℕ) → bytes ≡ text → Fragments initial out text start at → at < length text → escape (get_or bytes at 0) ≡ get_or bytes at 0 ∷ [] → Fragments initial out text start (at + 1)
-goes_on initial out text bytes start at same so_far within plain =
-    let stands : escape (get_or text at 0) ≡ get_or text at 0 ∷ [] = subst (λ (t : List ℕ). escape (get_or t at 0) ≡ get_or t at 0 ∷ []) same plain in (
-      omega (arith, so_far.0),
-      so_far.1,
-      ap (λ (s : List ℕ). out ++ s) (longer text start at so_far.0 within)
-          ∙ sym (append_assoc out (fragment text start at) (get_or text at 0 ∷ []))
-          ∙ ap (λ (s : List ℕ). s ++ get_or text at 0 ∷ []) so_far.2
-          ∙ append_assoc initial (escaped (take at text)) (get_or text at 0 ∷ [])
-          ∙ ap (λ (s : List ℕ). initial ++ s) (ap (λ (s : List ℕ). escaped (take at text) ++ s) (sym stands) ∙ sym (one_more text at within)),
-    )
+pub goes_on : (whole out text rest after : List ℕ) (b start at : ℕ) → Fragments whole out text start at rest → at < length text → get_or text at 0 ≡ b → rest ≡ (b ∷ []) ++ after → Fragments whole out text start (at + 1) after
+goes_on whole out text rest after b start at so_far within here is = (
+  omega (arith, so_far.0),
+  so_far.1,
+  ap (λ (s : List ℕ). out ++ (s ++ after)) (longer text start at so_far.0 within ∙ ap (λ (c : ℕ). fragment text start at ++ c ∷ []) here)
+      ∙ ap (λ (s : List ℕ). out ++ s) (append_assoc (fragment text start at) (b ∷ []) after ∙ ap (λ (s : List ℕ). fragment text start at ++ s) (sym is))
+      ∙ so_far.2,
+)
 
--- an escape after a fragment
-pub ends : (initial out part written text bytes : List ℕ) (start at : ℕ) → bytes ≡ text → Fragments initial out text start at → IsUtf8 text → at < length text → get_or bytes at 0 < 128 → part ≡ fragment text start at → written ≡ (out ++ part) ++ escape (get_or bytes at 0) → Fragments initial written text (at + 1) (at + 1)
-ends initial out part written text bytes start at same so_far utf8 within ascii cut is =
+-- what stands for an ASCII byte, after a fragment
+pub ends : (whole out part piece written text rest after : List ℕ) (b start at : ℕ) → Fragments whole out text start at rest → IsUtf8 text → at < length text → get_or text at 0 ≡ b → b < 128 → part ≡ fragment text start at → written ≡ (out ++ part) ++ piece → rest ≡ piece ++ after → Fragments whole written text (at + 1) (at + 1) after
+ends whole out part piece written text rest after b start at so_far utf8 within here ascii cut is stands =
     let none : fragment text (at + 1) (at + 1) ≡ [] = ap (λ (n : ℕ). take n (drop (at + 1) text)) (let e : (at + 1) - (at + 1) ≡ 0 = omega arith in e) in (
-      (let here : at + 1 ≤ at + 1 = omega arith in here),
-      IsCharBoundary-after_ascii text at utf8 within (subst (λ (t : List ℕ). get_or t at 0 < 128) same ascii),
-      ap (λ (s : List ℕ). written ++ s) none
-          ∙ append-nil written
-          ∙ is
-          ∙ ap (λ (t : List ℕ). (out ++ part) ++ escape (get_or t at 0)) same
-          ∙ ap (λ (s : List ℕ). (out ++ s) ++ escape (get_or text at 0)) cut
-          ∙ ap (λ (s : List ℕ). s ++ escape (get_or text at 0)) so_far.2
-          ∙ append_assoc initial (escaped (take at text)) (escape (get_or text at 0))
-          ∙ ap (λ (s : List ℕ). initial ++ s) (sym (one_more text at within)),
+      (let now : at + 1 ≤ at + 1 = omega arith in now),
+      IsCharBoundary-after_ascii text at utf8 within (subst (λ (c : ℕ). c < 128) (sym here) ascii),
+      ap (λ (s : List ℕ). written ++ (s ++ after)) none
+          ∙ ap (λ (s : List ℕ). s ++ after) is
+          ∙ append_assoc (out ++ part) piece after
+          ∙ append_assoc out part (piece ++ after)
+          ∙ ap (λ (s : List ℕ). out ++ (s ++ (piece ++ after))) cut
+          ∙ ap (λ (s : List ℕ). out ++ (fragment text start at ++ s)) (sym stands)
+          ∙ so_far.2,
     )

@@ -1,3 +1,4 @@
 pub mod Escapes
 pub mod Urls
 pub mod Safe
+pub mod Filter

@@ -5,4 +5,5 @@
 #![tactic(auto)]
 
 pub mod escapes;
+pub mod filter;
 pub mod urls;

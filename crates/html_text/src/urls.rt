@@ -137,7 +137,7 @@ fn is_taken_out(byte: u8) -> bool
 }
 
 /// A letter in lower case.
-fn lower(byte: u8) -> u8
+pub(crate) fn lower(byte: u8) -> u8
     ensures { result ≡ lower byte }
 {
     if b'A' <= byte && byte <= b'Z' {

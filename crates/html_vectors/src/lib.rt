@@ -9,6 +9,10 @@ mod expect;
 #[cfg(test)]
 mod footnotes;
 #[cfg(test)]
+mod random;
+#[cfg(test)]
 mod safety;
+#[cfg(test)]
+mod tags;
 #[cfg(test)]
 mod trees;

@@ -2,7 +2,7 @@
 
 use crate::expect::{same, shows};
 use markdown::{ParseOptions, to_mdast};
-use markdown_html::{HtmlOptions, RawHtml, to_html, to_unsafe_html};
+use markdown_html::{HtmlOptions, RawHtml, UnsafeHtmlOptions, to_html, to_unsafe_html};
 use std::alloc::AllocError;
 
 #[test]
@@ -21,8 +21,46 @@ fn raw_html(rt: HostRuntime) -> Result<(), AllocError> {
         shown.as_str(),
         "&lt;p onclick=x&gt;\n<p>a &lt;b&gt;</p>\n",
     );
-    let passing = to_unsafe_html(alloc, &tree, "")?;
+    let passing = to_unsafe_html(alloc, &tree, &UnsafeHtmlOptions::default())?;
     same(&rt, passing.as_str(), "<p onclick=x>\n<p>a <b></p>\n");
+    Ok(())
+}
+
+/// Documents, and their pages with GFM's filter of tags. Its own example (653) has some of its names in a
+/// block and some in a paragraph, as these have.
+static FILTERED: [(&str, &str); 6] = [
+    (
+        "<em> <title> <Style>\n",
+        "<p><em> &lt;title> &lt;Style></p>\n",
+    ),
+    (
+        "<div>\n<XMP a='<script>'></xmp><xmps>\n</div>",
+        "<div>\n&lt;XMP a='&lt;script>'>&lt;/xmp><xmps>\n</div>\n",
+    ),
+    (
+        "a <iframe/> <noframes\tb>",
+        "<p>a &lt;iframe/> &lt;noframes\tb></p>\n",
+    ),
+    ("<!-- <plaintext", "<!-- &lt;plaintext\n"),
+    ("<?xml <textarea >?>", "<?xml &lt;textarea >?>\n"),
+    (
+        "`<script>` [a](<script>)",
+        "<p><code>&lt;script&gt;</code> <a href=\"script\">a</a></p>\n",
+    ),
+];
+
+#[test]
+fn tag_filter(rt: HostRuntime) -> Result<(), AllocError> {
+    let alloc = rt.alloc();
+    let options = UnsafeHtmlOptions {
+        tag_filter: true,
+        id_prefix: "",
+    };
+    for (document, want) in &FILTERED {
+        let tree = to_mdast(alloc, document, &ParseOptions::gfm())?;
+        let page = to_unsafe_html(alloc, &tree, &options)?;
+        same(&rt, page.as_str(), want);
+    }
     Ok(())
 }
 

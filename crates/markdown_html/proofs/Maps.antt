@@ -15,7 +15,7 @@ use Rattle.markdown_nodes.specs.Access.{label_of}
 use Rattle.markdown_nodes.specs.Tree.{Label, Tree}
 use Rattle.markdown_nodes.specs.View.{view}
 use Rattle.mdast_check.proofs.Steps.{label-is}
-use Rattle.markdown_html.specs.Gathered.{found, held, with_first}
+use Rattle.markdown_html.specs.Gathered.{held, with_first}
 
 -- what a map has with a text more
 pub held-insert : {X : Type 0} (key : Bor (List ℕ)) (value : X) (old new : BTreeMap (Bor (List ℕ)) X) → Updates (λ x y. slice_cmp nat_cmp x.now y.now) old new key (Some value) → (text : List ℕ) → held new text ≡ cond (bytes_eq key.now text) (Some value) (held old text)

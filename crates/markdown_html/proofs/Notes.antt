@@ -1,5 +1,5 @@
 -- The footnotes of a page, one after the other.
-use Rattle.std.proofs.Common.{◌≡◌, ℕ, ◌+◌, ◌-◌, ◌<◌, suc, Option, None, Some, arith, refl, sym, ap, ◌∙◌, slice_get}
+use Rattle.std.proofs.Common.{◌≡◌, ℕ, ◌+◌, ◌-◌, ◌<◌, suc, Option, None, Some, arith, sym, ap, ◌∙◌, slice_get}
 use Rattle.markdown_nodes.specs.Tree.{Tree}
 use Rattle.markdown_html.specs.declared.place.Kind.TheVariants.{Note}
 use Rattle.markdown_html.specs.Html.{Source, footnote_in, most_notes, notes_page, tree_page}

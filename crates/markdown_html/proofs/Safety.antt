@@ -1,5 +1,5 @@
 -- A page whose raw HTML does not pass is safe.
-use Rattle.std.proofs.Common.{◌≡◌, ℕ, ◌+◌, ◌-◌, ◌==◌, ◌||◌, ◌&&◌, zero, suc, not, cond, Bool, true, false, nat_le, List, [], ◌∷◌, ◌++◌, Option, None, Some, if◌then◌else◌, codes, drop, length, arith, refl, sym, ap, subst, ◌∙◌, slice_get, unwrap_or}
+use Rattle.std.proofs.Common.{◌≡◌, ℕ, ◌+◌, ◌||◌, ◌&&◌, zero, suc, not, cond, Bool, true, false, nat_le, List, [], ◌∷◌, ◌++◌, Option, None, Some, if◌then◌else◌, codes, drop, arith, refl, sym, ap, subst, ◌∙◌, slice_get, unwrap_or}
 use Rattle.std.proofs.lemmas.Bool.{and_from, and_parts, cond_both, false≢true, le-leb}
 use Rattle.html_text.specs.Escapes.{escaped}
 use Rattle.html_text.specs.Safe.{IsSafe, State, content, run}
@@ -14,7 +14,7 @@ use Rattle.mdast_util.specs.Definitions.{definition_in}
 use Rattle.markdown_html.specs.declared.place.Kind.{Kind}
 use Rattle.markdown_html.specs.declared.place.Kind.TheVariants.{Text, Flow, Tight, Hidden, FirstRow, SecondRow, LaterRow, HeaderCell, Cell, Note, Tail}
 use Rattle.markdown_html.specs.Elements.{back_references, call_text, cell_end, cell_start, empty_cells, heading_name, image_tag, link_start, note_start, passes, raw_html, reference_end, section_start}
-use Rattle.markdown_html.specs.Html.{Source, allowed_of, back_page, call_page, cell_name, closed, count, ends_with_paragraph, entered, footnote_end, footnote_in, footnote_start, html, is_footnote, is_free, is_free_tree, is_no_html, image_reference_text, left, link_reference_end, link_reference_start, most_notes, nodes_page, notes_page, opened, paragraph_end, paragraph_start, raw_text, row_end, section_page, table_end, title_of, tree_page, url_of}
+use Rattle.markdown_html.specs.Html.{Source, allowed_of, back_page, cell_name, closed, count, ends_with_paragraph, entered, footnote_end, footnote_in, footnote_start, html, is_footnote, is_free, is_free_tree, is_no_html, left, most_notes, nodes_page, notes_page, opened, paragraph_end, paragraph_start, raw_text, row_end, table_end, title_of, tree_page, url_of}
 use Rattle.markdown_html.specs.Page.{Call, Page, blank, block, fresh_line, is_fresh, on_new_line, put, say}
 use Rattle.markdown_html.specs.Places.{Place, after, any_spread, below, followed, in_cell as cell_place, in_footnote, in_item, in_row, inside, place, unended}
 use Rattle.markdown_html.proofs.Tokens.{backs_read, call_reads, cell_ends, cell_reads, check_box_reads, code_reads, code_text_reads, empty_cells_read, heading_ends, heading_reads, image_reads, in_cell, link_reads, list_ends, list_name, list_reads, math_reads, math_text_reads, note_reads, raw_reads, section_reads, td_starts, th_starts}

@@ -1,8 +1,7 @@
 -- Lists of nodes, as the tree has them.
-use Rattle.std.proofs.Common.{add-one, suc, ◌≡◌, ℕ, ◌+◌, ◌-◌, ◌<◌, ◌≤◌, Bool, true, false, nat_le, List, [], ◌∷◌, Option, None, Some, length, refl, sym, ap, ◌∙◌, slice_get, arith}
+use Rattle.std.proofs.Common.{add-one, suc, ◌≡◌, ℕ, ◌+◌, ◌-◌, ◌≤◌, false, List, [], ◌∷◌, Option, None, Some, length, refl, sym, ap, ◌∙◌, slice_get, arith}
 use Rattle.std.proofs.lemmas.Option.{none-some}
 use Rattle.markdown_html.specs.Places.{followed, unended, Place}
-use Rattle.markdown_nodes.specs.Tree.{Trees}
 use Rattle.markdown_nodes.specs.declared.mdast.Node.{Node}
 use Rattle.markdown_nodes.specs.Access.{label_of}
 use Rattle.markdown_nodes.specs.View.{view, views}

@@ -1,15 +1,14 @@
 -- What the tokenizer reads in a page.
-use Rattle.std.proofs.Common.{◌≡◌, ℕ, ◌+◌, ◌-◌, ◌<◌, ◌^◌, ◌==◌, ◌||◌, zero, suc, Bool, true, false, not, nat_le, min, List, [], ◌∷◌, ◌++◌, Option, None, Some, if◌then◌else◌, codes, refl, sym, ap, ◌∙◌, arith, append_assoc}
+use Rattle.std.proofs.Common.{◌≡◌, ℕ, ◌-◌, ◌^◌, ◌==◌, ◌||◌, zero, suc, Bool, true, false, nat_le, min, List, [], ◌∷◌, ◌++◌, Option, None, Some, codes, refl, sym, ap, ◌∙◌, arith, append_assoc}
 use Rattle.std.proofs.lemmas.Bool.{cond_both, false≢true, not-true}
 use Rattle.std.specs.List.{list_any}
-use Rattle.html_text.specs.Escapes.{escaped}
-use Rattle.html_text.specs.Safe.{Allowed, State, after_value, attribute_name, content, in_value, is_space, may_be, start_tag, tag}
+use Rattle.html_text.specs.Safe.{Allowed, State, after_value, content, in_value, is_space, may_be, start_tag}
 use Rattle.html_text.specs.Urls.{encoded, is_safe_link, is_safe_source}
 use Rattle.html_text.proofs.Reading.{Reads, begins-append, both, digits_are, fixed, number_reads, text_reads, value_ends, value_reads}
 use Rattle.markdown_events.specs.declared.infer.AlignKind.{AlignKind}
 use Rattle.markdown_events.specs.declared.infer.AlignKind.TheVariants as align
 use Rattle.markdown_html.specs.declared.source.Raw.{Raw}
-use Rattle.markdown_html.specs.declared.source.Raw.TheVariants.{Omit, Escape, Pass}
+use Rattle.markdown_html.specs.declared.source.Raw.TheVariants.{Omit, Escape, Filter, Pass}
 use Rattle.markdown_html.specs.Elements.{align_attribute, arrow, attribute, back_attributes, back_label, back_reference, back_references, call_attributes, call_id, call_links, call_text, cell_end, cell_start, check_box, code_block, code_lines, code_text, empty_cell, empty_cells, heading_name, image_tag, image_url, is_class, label_id, language_attribute, link_start, link_url, list_end, list_start, math_block, math_text, note_id, note_start, numeral, passes, raw_html, repeat_mark, repeat_text, section_heading, section_start, start_attribute, title_attribute}
 
 module _ (raw : Raw) (prefix : List ℕ) where
@@ -165,6 +164,7 @@ module _ (raw : Raw) (prefix : List ℕ) where
   unfolding raw_html
   raw_reads up Omit value closed = fixed may (content up) []
   raw_reads up Escape value closed = text_reads may up value
+  raw_reads up Filter value closed = absurd (false≢true (sym closed))
   raw_reads up Pass value closed = absurd (false≢true (sym closed))
 
   -- tables: the cells of a kind

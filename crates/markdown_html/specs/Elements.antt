@@ -1,8 +1,9 @@
 -- The pieces of a page: tags, attributes, and the texts between them.
-use Rattle.std.specs.Prelude.{ℕ, zero, suc, ◌+◌, ◌-◌, ◌^◌, ◌≤◌, Bool, true, false, not, ◌||◌, ◌&&◌, List, [], ◌∷◌, ◌++◌, Option, Some, None, codes, if◌then◌else◌, ◌==◌, nat_le, min, unwrap_or}
+use Rattle.std.specs.Prelude.{ℕ, zero, suc, ◌-◌, ◌^◌, Bool, true, false, not, ◌||◌, List, [], ◌∷◌, ◌++◌, Option, Some, None, codes, if◌then◌else◌, ◌==◌, nat_le, min, unwrap_or}
 use Rattle.std.specs.Fmt.{decimal}
 use Rattle.std.specs.List.{list_any}
 use Rattle.html_text.specs.Escapes.{escaped}
+use Rattle.html_text.specs.Filter.{filtered}
 use Rattle.html_text.specs.Safe.{is_space}
 use Rattle.html_text.specs.Urls.{encoded, is_safe_link, is_safe_source}
 use Rattle.markdown_events.specs.declared.infer.AlignKind.{AlignKind}
@@ -10,7 +11,7 @@ use Rattle.markdown_events.specs.declared.infer.AlignKind.TheVariants as align
 use Rattle.markdown_kinds.specs.declared.ReferenceKind.{ReferenceKind}
 use Rattle.markdown_kinds.specs.declared.ReferenceKind.TheVariants.{Shortcut, Collapsed, Full}
 use Rattle.markdown_html.specs.declared.source.Raw.{Raw}
-use Rattle.markdown_html.specs.declared.source.Raw.TheVariants.{Omit, Escape, Pass}
+use Rattle.markdown_html.specs.declared.source.Raw.TheVariants.{Omit, Escape, Filter, Pass}
 
 -- an attribute
 unfoldable pub attribute : List ℕ → List ℕ → List ℕ
@@ -23,6 +24,7 @@ title_attribute (Some title) = attribute (codes "title") title
 
 -- whether addresses may have any scheme: where raw HTML passes
 abbrev pub passes : Raw → Bool
+passes Filter = true
 passes Pass = true
 passes _ = false
 
@@ -116,6 +118,7 @@ code_text value = codes "<code>" ++ escaped value ++ codes "</code>"
 unfoldable pub raw_html : Raw → List ℕ → List ℕ
 raw_html Omit value = []
 raw_html Escape value = escaped value
+raw_html Filter value = filtered value
 raw_html Pass value = value
 
 -- how a cell is aligned, by its column

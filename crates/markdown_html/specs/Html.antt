@@ -1,24 +1,23 @@
 -- A tree as HTML: the elements that mdast-util-to-hast makes, in the lines that the examples of CommonMark have.
-use Rattle.std.specs.Prelude.{ℕ, ◌+◌, ◌-◌, ◌^◌, zero, suc, ◌&&◌, Bool, List, [], ◌∷◌, ◌++◌, Option, Some, None, codes, if◌then◌else◌, drop, filter, length, nat_le, slice_get, unwrap_or, true, false}
+use Rattle.std.specs.Prelude.{ℕ, ◌+◌, ◌-◌, ◌^◌, zero, suc, ◌&&◌, Bool, List, [], ◌∷◌, ◌++◌, Option, Some, None, codes, if◌then◌else◌, drop, nat_le, slice_get, unwrap_or, true, false}
 use Rattle.std.specs.List.{find}
 use Rattle.std.specs.Option.{option_eq}
 use Rattle.std.specs.Str.{bytes_eq}
 use Rattle.html_text.specs.Escapes.{escaped}
 use Rattle.html_text.specs.Safe.{Allowed}
-use Rattle.markdown_events.specs.declared.infer.AlignKind.{AlignKind}
 use Rattle.markdown_kinds.specs.declared.ReferenceKind.{ReferenceKind}
 use Rattle.markdown_nodes.specs.Tree.{Label, Tree, Trees, nothing, node, root, paragraph, blockquote, emphasis, strong, delete, table_row, table_cell, thematic_break, «break», text, html as raw, inline_code, inline_math, yaml, toml, heading, list, list_item, table, code, math, link, image, link_reference, image_reference, footnote_reference, footnote_definition, definition}
 use Rattle.mdast_check.specs.References.{footnote_identifier_of}
 use Rattle.mdast_check.specs.Walk.{walk}
 use Rattle.mdast_util.specs.Definitions.{definition_in}
 use Rattle.markdown_html.specs.declared.place.Kind.{Kind}
-use Rattle.markdown_html.specs.declared.place.Kind.TheVariants.{Text, Flow, Tight, Hidden, FirstRow, SecondRow, LaterRow, HeaderCell, Cell, Note, Tail}
+use Rattle.markdown_html.specs.declared.place.Kind.TheVariants.{Text, Flow, Tight, Hidden, FirstRow, SecondRow, HeaderCell, Cell, Note, Tail}
 use Rattle.markdown_html.specs.declared.html.RawHtml.{RawHtml}
 use Rattle.markdown_html.specs.declared.html.RawHtml.TheVariants as raw_htmls
 use Rattle.markdown_html.specs.declared.source.Raw.{Raw}
 use Rattle.markdown_html.specs.declared.source.Raw.TheVariants as raws
 use Rattle.markdown_html.specs.Elements.{back_references, call_text, cell_end, cell_start, check_box, code_block, code_text, empty_cells, heading_name, image_tag, link_start, list_end, list_start, math_block, math_text, note_start, passes, raw_html, reference_end, section_start}
-use Rattle.markdown_html.specs.Page.{Call, Page, blank, block, count_of, fresh_line, more, number_of, on_new_line, put, say, with_call}
+use Rattle.markdown_html.specs.Page.{Page, blank, block, count_of, fresh_line, more, number_of, on_new_line, put, say, with_call}
 use Rattle.markdown_html.specs.Places.{Place, after, followed, inside, place}
 
 -- what becomes of raw HTML that does not pass
@@ -276,6 +275,10 @@ safe_html raw_html id_prefix tree = html (record { raw = raw_of raw_html; id_pre
 abbrev pub default_html : Tree → List ℕ
 default_html tree = safe_html raw_htmls.Omit (codes "user-content-") tree
 
+-- what becomes of raw HTML that passes, with GFM's filter of tags and without
+abbrev pub raw_passing : (tag_filter : Bool) → Raw
+raw_passing tag_filter = if tag_filter then raws.Filter else raws.Pass
+
 -- the page of a tree with its raw HTML
-abbrev pub unsafe_html : (id_prefix : List ℕ) → Tree → List ℕ
-unsafe_html id_prefix tree = html (record { raw = raws.Pass; id_prefix = id_prefix; tree = tree })
+abbrev pub unsafe_html : (tag_filter : Bool) → (id_prefix : List ℕ) → Tree → List ℕ
+unsafe_html tag_filter id_prefix tree = html (record { raw = raw_passing tag_filter; id_prefix = id_prefix; tree = tree })

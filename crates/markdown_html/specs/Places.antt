@@ -1,5 +1,5 @@
 -- Where a node stands, as far as its HTML depends on it.
-use Rattle.std.specs.Prelude.{ℕ, Bool, true, false, not, ◌||◌, List, [], ◌∷◌, Option, Some, None, if◌then◌else◌, option_map}
+use Rattle.std.specs.Prelude.{Bool, false, ◌||◌, List, [], ◌∷◌, Option, Some, None, if◌then◌else◌, option_map}
 use denote.Ref.{Bor}
 use Rattle.markdown_events.specs.declared.infer.AlignKind.{AlignKind}
 use Rattle.markdown_nodes.specs.Tree.{Label, Trees, nothing, node, root, blockquote, list, list_item, table, table_row, footnote_definition}

@@ -8,6 +8,7 @@ ghost use Rattle.std.specs.List.{list_any};
 use crate::attributes::push_attribute;
 use crate::source::Raw;
 use html_text::escapes::push_escaped;
+use html_text::filter::push_filtered;
 use std::alloc::AllocError;
 
 /// Appends a block of code.
@@ -124,6 +125,7 @@ pub(crate) fn push_raw(out: &mut String, raw: Raw, value: &str) -> Result<(), Al
     match raw {
         Raw::Omit => Ok(()),
         Raw::Escape => push_escaped(out, value),
+        Raw::Filter => push_filtered(out, value),
         Raw::Pass => out.push_str(value),
     }
 }

@@ -3,7 +3,7 @@
 ghost use Rattle.std.specs.Prelude.{IfOk, OnOk, ◌≡◌, codes, false, string_bytes, true};
 ghost use Rattle.markdown_html.specs.Pages.{page_of};
 ghost use Rattle.markdown_html.specs.Given.{source_of};
-ghost use Rattle.markdown_html.specs.Html.{html, is_free_tree, most_notes, notes_page, raw_of, safe_html, section_page, tree_page, unsafe_html};
+ghost use Rattle.markdown_html.specs.Html.{html, is_free_tree, most_notes, notes_page, raw_of, raw_passing, safe_html, section_page, tree_page, unsafe_html};
 ghost use Rattle.html_text.specs.Safe.{IsSafe};
 ghost use Rattle.markdown_html.specs.declared.html.RawHtml.TheVariants.{Omit};
 ghost use Rattle.markdown_html.specs.Places.{place_of};
@@ -51,6 +51,30 @@ impl<'a> Default for HtmlOptions<'a> {
     }
 }
 
+/// How a page with the HTML of its document is written.
+///
+/// `UnsafeHtmlOptions::default()` has no filter, as CommonMark has none, and each id begins with
+/// `user-content-`.
+#[derive(Clone, Copy, PartialEq, Eq, Debug)]
+pub struct UnsafeHtmlOptions<'a> {
+    /// Whether the `<` of the tags that GFM disallows stands as text (`html_text::filter`). What is left is
+    /// not safe: `<a onclick=..>` passes.
+    pub tag_filter: bool,
+    /// How each `id` of the page begins.
+    pub id_prefix: &'a str,
+}
+
+impl<'a> Default for UnsafeHtmlOptions<'a> {
+    ghost is_default = { λ options. (options.tag_filter ≡ false) × (options.id_prefix.now ≡ codes "user-content-") };
+
+    fn default() -> UnsafeHtmlOptions<'a> {
+        UnsafeHtmlOptions {
+            tag_filter: false,
+            id_prefix: ID_PREFIX,
+        }
+    }
+}
+
 /// How each `id` begins, where nothing else is said (mdast-util-to-hast).
 pub const ID_PREFIX: &str = "user-content-";
 
@@ -87,12 +111,17 @@ pub fn to_html(alloc: Global, tree: &Node, options: &HtmlOptions<'_>) -> Result<
 /// Only for documents whose writers you trust as you trust yourself: what they write runs in the page. All
 /// else is as in [`to_html`]. Where the tree has no `Html`, the output has our markup alone.
 ///
-/// The tree of `*a* <b>` gives `<p><em>a</em> <b></p>` and a line feed.
-pub fn to_unsafe_html(alloc: Global, tree: &Node, id_prefix: &str) -> Result<String, AllocError>
-    ensures exact { IfOk result (λ text. string_bytes text ≡ unsafe_html id_prefix.now (view tree.now)) }
-    ensures markup { IfOk result (λ text. is_free_tree (view tree.now) ≡ true → IsSafe (record { id_prefix = id_prefix.now; any_url = true }) (string_bytes text)) }
+/// The tree of `*a* <b>`, with `UnsafeHtmlOptions::default()`, gives `<p><em>a</em> <b></p>` and a line
+/// feed.
+pub fn to_unsafe_html(
+    alloc: Global,
+    tree: &Node,
+    options: &UnsafeHtmlOptions<'_>,
+) -> Result<String, AllocError>
+    ensures exact { IfOk result (λ text. string_bytes text ≡ unsafe_html options.now.tag_filter options.now.id_prefix.now (view tree.now)) }
+    ensures markup { IfOk result (λ text. is_free_tree (view tree.now) ≡ true → IsSafe (record { id_prefix = options.now.id_prefix.now; any_url = true }) (string_bytes text)) }
 {
-    let text = written(alloc, tree, Raw::Pass, id_prefix)?;
+    let text = written(alloc, tree, passing(options.tag_filter), options.id_prefix)?;
     Ok(text)
 }
 
@@ -104,6 +133,13 @@ fn raw(raw_html: RawHtml) -> Raw
         RawHtml::Omit => Raw::Omit,
         RawHtml::Escape => Raw::Escape,
     }
+}
+
+/// What becomes of raw HTML that passes.
+fn passing(tag_filter: bool) -> Raw
+    ensures { result ≡ raw_passing tag_filter }
+{
+    if tag_filter { Raw::Filter } else { Raw::Pass }
 }
 
 /// A tree as HTML.

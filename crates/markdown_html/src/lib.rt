@@ -16,4 +16,4 @@ mod place;
 mod source;
 mod tables;
 
-pub use html::{HtmlOptions, ID_PREFIX, RawHtml, to_html, to_unsafe_html};
+pub use html::{HtmlOptions, ID_PREFIX, RawHtml, UnsafeHtmlOptions, to_html, to_unsafe_html};

@@ -75,7 +75,7 @@ fn image_url(alloc: Global, raw: Raw, url: &str) -> Result<String, AllocError>
 fn passes(raw: Raw) -> bool
     ensures { result ≡ passes raw }
 {
-    matches!(raw, Raw::Pass)
+    matches!(raw, Raw::Filter | Raw::Pass)
 }
 
 /// The end of a reference that nothing defines, as it is written in a document.

@@ -21,6 +21,8 @@ pub(crate) enum Raw {
     Omit,
     /// It is shown as text.
     Escape,
+    /// It passes but for some tags, and so does each address.
+    Filter,
     /// It passes, and so does each address.
     Pass,
 }

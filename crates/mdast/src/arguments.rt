@@ -62,6 +62,8 @@ pub struct Request {
     pub options: ParseOptions,
     /// Whether HTML of the document, and addresses of any scheme, pass into the HTML that is printed.
     pub is_unsafe: bool,
+    /// Whether the tags that GFM disallows stand as text among HTML that passes.
+    pub tag_filter: bool,
     /// Where the events come from, where they are not those of our tokenizer.
     pub events: Option<Source>,
     /// The documents, in order.
@@ -81,6 +83,7 @@ pub fn read_arguments(rt: &HostRuntime, words: &[String]) -> Result<Request, Err
         width: width(rt, &matches),
         options: options(&matches),
         is_unsafe: matches.get_flag("unsafe"),
+        tag_filter: matches.get_flag("tag-filter"),
         events: events(rt.alloc(), &matches)?,
         documents: documents(rt.alloc(), &matches)?,
     };
@@ -95,6 +98,9 @@ impl Request {
     fn fault(&self) -> Option<&'static str> {
         if self.is_unsafe && self.form != Form::Html {
             return Some("'--unsafe' goes with '--html' alone");
+        }
+        if self.tag_filter && !self.is_unsafe {
+            return Some("'--tag-filter' goes with '--unsafe' alone");
         }
         let events = self.events.as_ref()?;
         match self.documents.as_slice() {
@@ -150,7 +156,16 @@ fn with_forms<'a>(alloc: Global, command: Command<'a>) -> Result<Command<'a>, Al
         "unsafe",
         "With '--html', keep the HTML of the document, and addresses of any scheme",
     );
-    command.arg(utf16(alloc)?)?.arg(passing)?.arg(width)
+    let filter = flag(
+        alloc,
+        "tag-filter",
+        "With '--unsafe', show the tags that GFM disallows as text: script, style, iframe and six more",
+    );
+    command
+        .arg(utf16(alloc)?)?
+        .arg(passing)?
+        .arg(filter)?
+        .arg(width)
 }
 
 /// The option for UTF-16 units, which goes with JSON alone.

@@ -8,7 +8,7 @@ use event_lines::lines::events;
 use event_lines::written::lines_of;
 use markdown::{compile_events, to_events, to_mdast};
 use markdown_events::event::Event;
-use markdown_html::{HtmlOptions, to_html, to_unsafe_html};
+use markdown_html::{HtmlOptions, UnsafeHtmlOptions, to_html, to_unsafe_html};
 use markdown_json::{to_json, to_json_utf16};
 use markdown_nodes::mdast::Node;
 use mdast_check::warnings::warnings;
@@ -109,11 +109,14 @@ fn events_of(rt: &HostRuntime, request: &Request, text: &str) -> Result<Vec<Even
 
 /// The HTML of a tree.
 fn page(alloc: Global, request: &Request, tree: &Node) -> Result<String, AllocError> {
-    let options = HtmlOptions::default();
     if request.is_unsafe {
-        to_unsafe_html(alloc, tree, options.id_prefix)
+        let options = UnsafeHtmlOptions {
+            tag_filter: request.tag_filter,
+            ..UnsafeHtmlOptions::default()
+        };
+        to_unsafe_html(alloc, tree, &options)
     } else {
-        to_html(alloc, tree, &options)
+        to_html(alloc, tree, &HtmlOptions::default())
     }
 }
 

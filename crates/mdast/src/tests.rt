@@ -89,7 +89,7 @@ fn words(alloc: Global, arguments: &[&str]) -> Result<Vec<String>, AllocError> {
 }
 
 /// Arguments that end the program, and the status: the help and the version with 0, and mistakes with 2.
-static ENDING: [(&[&str], u8); 12] = [
+static ENDING: [(&[&str], u8); 13] = [
     (&["--help"], 0),
     (&["-h"], 0),
     (&["--version"], 0),
@@ -97,6 +97,7 @@ static ENDING: [(&[&str], u8); 12] = [
     (&["--tree", "--text"], 2),
     (&["--tree", "--utf16"], 2),
     (&["--tree", "--unsafe"], 2),
+    (&["--html", "--tag-filter"], 2),
     (&["--gfm", "--commonmark"], 2),
     (&["--with", "nope"], 2),
     (&["--width", "x"], 2),
@@ -115,7 +116,7 @@ fn ends_with_a_status(rt: HostRuntime) {
 }
 
 /// Arguments, and the form that they ask for.
-static FORMS: [(&[&str], Form); 11] = [
+static FORMS: [(&[&str], Form); 12] = [
     (&[], Form::Json),
     (&["--json"], Form::Json),
     (&["--utf16"], Form::JsonUtf16),
@@ -125,6 +126,7 @@ static FORMS: [(&[&str], Form); 11] = [
     (&["--text"], Form::Text),
     (&["--html"], Form::Html),
     (&["--html", "--unsafe"], Form::Html),
+    (&["--html", "--unsafe", "--tag-filter"], Form::Html),
     (&["--check"], Form::Check),
     (&["--from-events", "a", "b", "--debug"], Form::Debug),
 ];

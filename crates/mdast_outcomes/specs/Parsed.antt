@@ -1,5 +1,5 @@
 -- What an outcome says of a document alone, of the constructs with which it is read, and of the form that is wanted of its tree.
-use Rattle.std.specs.Prelude.{◌≡◌, ◌≢◌, ◌⊎◌, ◌==◌, ◌^◌, ℕ, Bool, List, [], Option, None, Some, IsSome, IsSomeAnd, codes, if◌then◌else◌, nat_lt}
+use Rattle.std.specs.Prelude.{◌≡◌, ◌≢◌, ◌⊎◌, ◌==◌, ◌^◌, ℕ, Bool, List, [], Option, None, Some, IsSome, IsSomeAnd, codes, false, true, if◌then◌else◌, nat_lt}
 use Rattle.std.specs.Int.{bit_at}
 use Rattle.std.specs.Str.{IsUtf8, IsValidUpTo}
 use Rattle.character_references.specs.Html.{html}
@@ -19,7 +19,7 @@ use Rattle.markdown_options.specs.declared.Constructs.{Constructs}
 use Rattle.markdown_options.specs.Spans.{AreOn}
 use Rattle.mdast_outcomes.specs.declared.Outcome.{Outcome}
 use Rattle.mdast_outcomes.specs.declared.parsed.Form.{Form}
-use Rattle.mdast_outcomes.specs.declared.parsed.Form.TheVariants.{Json, JsonUtf16, Outline, PlainText, Html, UnsafeHtml}
+use Rattle.mdast_outcomes.specs.declared.parsed.Form.TheVariants.{Json, JsonUtf16, Outline, PlainText, Html, UnsafeHtml, FilteredHtml}
 use Rattle.mdast_util.specs.Outline.{outline_of}
 use Rattle.mdast_util.specs.PlainText.{text_in_lines}
 
@@ -67,7 +67,7 @@ constructs_in bits = if nat_lt bits (2 ^ 29) then Some (with_bits bits) else Non
 
 -- the form with a number
 abbrev pub form_of : ℕ → Option Form
-form_of number = if number == 0 then Some Json else if number == 1 then Some JsonUtf16 else if number == 2 then Some Outline else if number == 3 then Some PlainText else if number == 4 then Some Html else if number == 5 then Some UnsafeHtml else None
+form_of number = if number == 0 then Some Json else if number == 1 then Some JsonUtf16 else if number == 2 then Some Outline else if number == 3 then Some PlainText else if number == 4 then Some Html else if number == 5 then Some UnsafeHtml else if number == 6 then Some FilteredHtml else None
 
 -- the constructs and the form are such
 pub record AreOptions (constructs form : ℕ) : Type 0 where
@@ -91,7 +91,8 @@ written JsonUtf16 document tree = json_utf16 document tree
 written Outline document tree = outline_of tree
 written PlainText document tree = text_in_lines tree
 written Html document tree = default_html tree
-written UnsafeHtml document tree = unsafe_html (codes "user-content-") tree
+written UnsafeHtml document tree = unsafe_html false (codes "user-content-") tree
+written FilteredHtml document tree = unsafe_html true (codes "user-content-") tree
 
 -- a text is such a tree in a form
 pub record IsFormOf (text : List ℕ) (form : Form) (document : List ℕ) (constructs : Constructs) : Type 0 where

@@ -1,13 +1,13 @@
 //! What comes of a document alone: its tree as JSON, or another form of it.
 
-ghost use Rattle.std.specs.Prelude.{◌≡◌, [], IfOk, string_bytes};
+ghost use Rattle.std.specs.Prelude.{◌≡◌, [], IfOk, codes, string_bytes, true};
 ghost use Rattle.markdown_nodes.specs.View.{view};
 ghost use Rattle.mdast_outcomes.specs.Parsed.{IsFormOf, IsParsed, form_of, written};
 
 use crate::constructs::constructs_of;
 use crate::{Outcome, bare, with_text};
 use markdown::{Constructs, ParseOptions, to_mdast};
-use markdown_html::{HtmlOptions, ID_PREFIX, to_html, to_unsafe_html};
+use markdown_html::{HtmlOptions, UnsafeHtmlOptions, to_html, to_unsafe_html};
 use markdown_json::{to_json, to_json_utf16};
 use markdown_nodes::mdast::Node;
 use mdast_util::outline::outline;
@@ -35,6 +35,8 @@ pub enum Form {
     Html,
     /// HTML with that of the document, and with addresses of any scheme: [`to_unsafe_html`].
     UnsafeHtml,
+    /// The same, with the tags that GFM disallows as text.
+    FilteredHtml,
 }
 
 /// Parses a document for a caller in another language, and gives a form of its tree.
@@ -42,14 +44,14 @@ pub enum Form {
 /// `constructs` has a bit for each construct with which the document is read: the lowest is that of the
 /// first field of [`Constructs`], and each next one that of the next field. The other options are those
 /// of [`ParseOptions::gfm`]. `form` is 0 for JSON, 1 for JSON with columns and offsets in UTF-16 units, 2
-/// for the outline of headings, 3 for the plain text, 4 for HTML that is safe in a page, and 5 for HTML with
-/// that of the document. The statuses are these:
+/// for the outline of headings, 3 for the plain text, 4 for HTML that is safe in a page, 5 for HTML with that
+/// of the document, and 6 for the same with the tags that GFM disallows as text. The statuses are these:
 ///
 /// - 0: the form of the tree is in `text`;
 /// - 3: memory ran out;
 /// - 5: the document is not UTF-8; the byte at `offset`, which counts bytes from 0, is the first one that
 ///   begins no character;
-/// - 6: `constructs` has a bit that is of no construct, or `form` is none of the six. Nothing else was
+/// - 6: `constructs` has a bit that is of no construct, or `form` is none of the seven. Nothing else was
 ///   looked at.
 ///
 /// What a status does not say is an empty text or 0. The form of the outcome is ours.
@@ -82,6 +84,7 @@ fn form_of(number: u32) -> Option<Form>
         3 => Some(Form::PlainText),
         4 => Some(Form::Html),
         5 => Some(Form::UnsafeHtml),
+        6 => Some(Form::FilteredHtml),
         _ => None,
     }
 }
@@ -128,6 +131,18 @@ fn written(alloc: Global, document: &[u8], tree: &Node, form: Form) -> Result<St
         Form::Outline => outline(alloc, tree),
         Form::PlainText => plain_text(alloc, tree),
         Form::Html => to_html(alloc, tree, &HtmlOptions::default()),
-        Form::UnsafeHtml => to_unsafe_html(alloc, tree, ID_PREFIX),
+        Form::UnsafeHtml => to_unsafe_html(alloc, tree, &UnsafeHtmlOptions::default()),
+        Form::FilteredHtml => to_unsafe_html(alloc, tree, &filtering()),
+    }
+}
+
+/// The options of HTML with the tags that GFM disallows as text.
+fn filtering<'a>() -> UnsafeHtmlOptions<'a>
+    ensures filter { result.tag_filter ≡ true }
+    ensures prefix { result.id_prefix.now ≡ codes "user-content-" }
+{
+    UnsafeHtmlOptions {
+        tag_filter: true,
+        ..UnsafeHtmlOptions::default()
     }
 }

@@ -58,6 +58,19 @@ fn a_plain_text(rt: HostRuntime) {
     gives(&rt, "", [EVERYTHING, 3], b"");
 }
 
+/// A text, raw HTML in it, and a link whose scheme is not allowed.
+const MARKED: &str = "*a* <xmp> [b](c:d)";
+
+#[test]
+fn html(rt: HostRuntime) {
+    let safe = b"<p><em>a</em>  <a href=\"\">b</a></p>\n";
+    gives(&rt, MARKED, [EVERYTHING, 4], safe);
+    let passing = b"<p><em>a</em> <xmp> <a href=\"c:d\">b</a></p>\n";
+    gives(&rt, MARKED, [EVERYTHING, 5], passing);
+    let filtered = b"<p><em>a</em> &lt;xmp> <a href=\"c:d\">b</a></p>\n";
+    gives(&rt, MARKED, [EVERYTHING, 6], filtered);
+}
+
 #[test]
 fn struck_text_by_its_bit(rt: HostRuntime) {
     gives(&rt, "~~a~~", [1 << 13, 3], b"a\n");
@@ -74,5 +87,5 @@ fn a_document_that_is_not_utf8(rt: HostRuntime) {
 #[test]
 fn options_that_are_none(rt: HostRuntime) {
     expect(&rt, b"\xFF", [EVERYTHING + 1, 0], &bare(6));
-    expect(&rt, b"\xFF", [EVERYTHING, 6], &bare(6));
+    expect(&rt, b"\xFF", [EVERYTHING, 7], &bare(6));
 }

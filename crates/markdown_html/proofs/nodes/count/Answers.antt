@@ -1,4 +1,4 @@
-use Rattle.std.proofs.Common.{sym, ◌∙◌}
+use Rattle.std.proofs.Common.{sym}
 use Rattle.markdown_html.proofs.Siblings.{count-views}
 use Rattle.markdown_html.proofs.nodes.count.Goals as goal
 

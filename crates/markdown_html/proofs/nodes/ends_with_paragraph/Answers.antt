@@ -1,5 +1,4 @@
-use Rattle.std.proofs.Common.{sym, ap, ◌∙◌}
-use Rattle.std.proofs.Common.{◌≡◌}
+use Rattle.std.proofs.Common.{sym, ◌∙◌}
 use Rattle.markdown_html.proofs.Siblings.{last-views}
 use Rattle.markdown_html.proofs.nodes.ends_with_paragraph.Goals as goal
 

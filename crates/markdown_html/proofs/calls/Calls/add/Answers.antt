@@ -1,4 +1,4 @@
-use Rattle.std.proofs.Common.{◌≡◌, ℕ, Some, rules}
+use Rattle.std.proofs.Common.{◌≡◌, Some, rules}
 use Rattle.markdown_html.specs.Page.{index_of}
 use Rattle.markdown_html.proofs.Indexes.{index-within}
 use Rattle.markdown_html.proofs.calls.Calls.add.Goals as goal

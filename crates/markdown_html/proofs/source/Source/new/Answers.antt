@@ -1,4 +1,3 @@
-use Rattle.std.proofs.Common.{ℕ, List}
 use Rattle.std.specs.List.{find}
 use Rattle.markdown_nodes.specs.View.{view}
 use Rattle.mdast_check.specs.Levels.{coming}

@@ -1,6 +1,4 @@
-use Rattle.std.proofs.Common.{◌≡◌, Option, Some, rules, sym, ap, ◌∙◌, slice_get}
-use Rattle.std.specs.Prelude.{option_map}
-use Rattle.markdown_nodes.specs.declared.mdast.Node.{Node}
+use Rattle.std.proofs.Common.{◌≡◌, Some, rules, sym, ◌∙◌, slice_get}
 use Rattle.markdown_nodes.specs.View.{view}
 use Rattle.markdown_html.specs.Given.{source_of}
 use Rattle.markdown_html.specs.Gathered.{call_of}

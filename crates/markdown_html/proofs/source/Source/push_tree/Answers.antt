@@ -1,9 +1,9 @@
-use Rattle.std.proofs.Common.{refl, sym, ap, ◌∙◌}
+use Rattle.std.proofs.Common.{refl, sym, ◌∙◌}
 use Rattle.std.proofs.lemmas.List.{nil_from_length}
 use Rattle.markdown_nodes.proofs.Levels.{walks_down, walks_up}
 use Rattle.markdown_html.specs.Given.{source_of}
 use Rattle.markdown_html.specs.Pages.{page_of}
-use Rattle.markdown_html.specs.Places.{after, place_of}
+use Rattle.markdown_html.specs.Places.{place_of}
 use Rattle.markdown_html.proofs.Levels.{writes_all, writes_down, writes_first, writes_up}
 use Rattle.markdown_html.proofs.source.Source.push_tree.Goals as goal
 

@@ -1,0 +1,114 @@
+//! A reader of the tags of a page. It knows no reference to `html_text`.
+
+use std::alloc::Global;
+
+/// The elements that may stand in a page, and the attributes that each may have.
+static ELEMENTS: [(&str, &[&str]); 29] = [
+    ("p", &[]),
+    ("blockquote", &[]),
+    ("em", &[]),
+    ("strong", &[]),
+    ("del", &[]),
+    ("sup", &[]),
+    ("h1", &[]),
+    ("h2", &["class", "id"]),
+    ("h3", &[]),
+    ("h4", &[]),
+    ("h5", &[]),
+    ("h6", &[]),
+    ("ol", &["start"]),
+    ("ul", &[]),
+    ("li", &["id"]),
+    ("pre", &[]),
+    ("code", &["class"]),
+    (
+        "a",
+        &[
+            "href",
+            "title",
+            "id",
+            "class",
+            "data-footnote-ref",
+            "data-footnote-backref",
+            "aria-describedby",
+            "aria-label",
+        ],
+    ),
+    ("table", &[]),
+    ("thead", &[]),
+    ("tbody", &[]),
+    ("tr", &[]),
+    ("th", &["align"]),
+    ("td", &["align"]),
+    ("section", &["data-footnotes", "class"]),
+    ("hr", &[]),
+    ("br", &[]),
+    ("img", &["src", "alt", "title"]),
+    ("input", &["type", "checked", "disabled"]),
+];
+
+/// Reads a page to its end. Each `<` begins a tag and each `>` ends one; what may not stand is a fault.
+pub fn read(alloc: Global, page: &str) -> Result<(), &'static str> {
+    let mut pieces = page.split('<');
+    if pieces.next().is_some_and(|text| text.contains('>')) {
+        return Err("`>` in a text");
+    }
+    let mut up = Vec::new(alloc);
+    for piece in pieces {
+        let Some((tag, text)) = piece.split_once('>') else {
+            return Err("`<` without `>`");
+        };
+        if text.contains('>') {
+            return Err("`>` in a text");
+        }
+        read_tag(tag, &mut up)?;
+    }
+    if up.is_empty() {
+        Ok(())
+    } else {
+        Err("an element that stays open")
+    }
+}
+
+/// Reads a tag, where these elements are open.
+fn read_tag<'a>(tag: &'a str, up: &mut Vec<&'a str>) -> Result<(), &'static str> {
+    if let Some(name) = tag.strip_prefix("/") {
+        return match up.pop() {
+            Some(last) if last == name => Ok(()),
+            _ => Err("an end tag of another element"),
+        };
+    }
+    let (tag, is_void) = match tag.strip_suffix(" /") {
+        Some(tag) => (tag, true),
+        None => (tag, false),
+    };
+    let (name, attributes) = match tag.split_once(' ') {
+        Some((name, attributes)) => (name, attributes),
+        None => (tag, ""),
+    };
+    let Some((_, allowed)) = ELEMENTS.iter().find(|(element, _)| *element == name) else {
+        return Err("an element that is not listed");
+    };
+    read_attributes(attributes, allowed)?;
+    if !is_void && up.push(name).is_err() {
+        return Err("out of memory");
+    }
+    Ok(())
+}
+
+/// Reads attributes, of which only these may stand: a name, and a value in quotes.
+fn read_attributes(attributes: &str, allowed: &[&str]) -> Result<(), &'static str> {
+    let mut is_name = true;
+    for part in attributes.split('"') {
+        if is_name && !part.is_empty() {
+            let Some(name) = part.trim_start().strip_suffix("=") else {
+                return Err("an attribute without a value");
+            };
+            if !(&*allowed).contains(&name) {
+                return Err("an attribute that is not listed");
+            }
+        }
+        is_name = !is_name;
+    }
+    Ok(())
+}
