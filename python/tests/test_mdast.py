@@ -124,7 +124,7 @@ class Declarations(unittest.TestCase):
     def test_statuses_and_forms(self):
         header = dict(re.findall(r"MDAST_(\w+) = (\d+)\b(?! <<)", self.contents("include", "mdast.h")))
         statuses = ["TREE", "REFUSED", "UNREAD", "MEMORY", "TABLE", "TEXT", "OPTIONS", "UNSET"]
-        forms = ["JSON", "JSON_UTF16", "OUTLINE", "PLAIN_TEXT"]
+        forms = ["JSON", "JSON_UTF16", "OUTLINE", "PLAIN_TEXT", "HTML", "UNSAFE_HTML", "FILTERED_HTML"]
         wanted = {name: str(getattr(_library, name)) for name in statuses}
         wanted.update({f"FORM_{name}": str(getattr(_library, name)) for name in forms})
         self.assertEqual(header, wanted)
@@ -219,7 +219,7 @@ class Constructs(unittest.TestCase):
         with self.assertRaises(mdast.OptionsError):
             _library.parse(b"a", 1 << 29, _library.JSON)
         with self.assertRaises(mdast.OptionsError):
-            _library.parse(b"a", 0, 4)
+            _library.parse(b"a", 0, _library.FILTERED_HTML + 1)
 
 
 class Texts(unittest.TestCase):
