@@ -9,6 +9,10 @@ IsCut bytes i = 0 < i → i < length bytes → 128 ≤ slice_index bytes (i - 1)
 abbrev pub IsInLine : List ℕ → ℕ → Type 0
 IsInLine bytes n = (k : ℕ) → k < n → slice_index bytes k ≢ 10
 
+-- the first n bytes are all of ASCII
+abbrev pub IsAscii : List ℕ → ℕ → Type 0
+IsAscii bytes n = (k : ℕ) → k < n → slice_index bytes k < 128
+
 -- the first n bytes are all the same byte
 abbrev pub IsRunOf : List ℕ → ℕ → ℕ → Type 0
 IsRunOf bytes byte n = (k : ℕ) → k < n → slice_index bytes k ≡ byte

@@ -1,1 +1,15 @@
 pub mod Cuts
+pub mod Language
+pub mod Syntax
+pub mod Blocks
+pub mod Html
+pub mod Reading
+pub mod Parentheses
+pub mod Inlines
+pub mod Strings
+pub mod Resources
+pub mod Definitions
+pub mod HtmlTags
+pub mod InfoStrings
+pub mod ExtendedAutolinks
+pub mod EmailLiterals

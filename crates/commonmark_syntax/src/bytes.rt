@@ -1,7 +1,10 @@
 //! Bytes of a text: which are alike, and how many of them come one after another.
 
-ghost use Rattle.std.specs.Prelude.{◌≡◌, ◌≢◌, ◌≤◌, ◌<◌, ◌-◌, ◌==◌, ◌||◌, ◌&&◌, ◌+◌, ℕ, true, false, nat_le, drop, length, slice_index, IfSome, IsTrue};
+ghost use Rattle.std.specs.Prelude.{◌≡◌, ◌≢◌, ◌≤◌, ◌<◌, ◌-◌, ◌==◌, ◌||◌, ◌&&◌, ◌+◌, ℕ, true, false, nat_le, drop, length, slice_index, IfSome, IsTrue, Some};
+ghost use Rattle.commonmark_syntax.specs.Blocks.{has, has_more};
 ghost use Rattle.commonmark_syntax.specs.Cuts.{IsCut, IsInLine, IsRunOf, IsOfAscii, IsOfLine, is_white_space};
+ghost use Rattle.commonmark_syntax.specs.Reading.{read};
+ghost use Rattle.commonmark_syntax.specs.Syntax.{blanks};
 
 /// How many bytes at the start of a text are such.
 ///
@@ -60,6 +63,7 @@ pub fn run_length(text: &[u8], of: u8) -> usize
 ///
 /// It is 2 in a line feed, a space and an `a`.
 pub fn white_space_length(text: &[u8]) -> usize
+    ensures exact { read blanks text.now ≡ Some (drop result text.now) }
     ensures most { result ≤ length text.now }
     ensures white { (k : ℕ) → k < result → is_white_space (slice_index text.now k) ≡ true }
     ensures feeds { (j : ℕ) → (k : ℕ) → j < k → k < result → slice_index text.now j ≡ 10 → slice_index text.now k ≢ 10 }
@@ -144,4 +148,22 @@ pub fn is_continuation(byte: u8) -> bool
     ensures { result ≡ (nat_le 128 byte && nat_le byte 191) }
 {
     matches!(byte, 0x80..=0xBF)
+}
+
+/// Whether there is more in a text than spaces and tabs.
+///
+/// It is false of a tab.
+pub fn has_more(text: &[u8]) -> bool
+    ensures { result ≡ has_more text.now }
+{
+    text.iter().any(|byte| !is_space_or_tab(*byte))
+}
+
+/// Whether a byte is in a text.
+///
+/// The letter `b` is in `ab`.
+pub fn has_byte(text: &[u8], of: u8) -> bool
+    ensures { result ≡ has of text.now }
+{
+    text.iter().any(|byte| *byte == of)
 }

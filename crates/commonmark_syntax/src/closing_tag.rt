@@ -1,21 +1,30 @@
 //! Closing tags of HTML (CommonMark).
 
-ghost use Rattle.std.specs.Prelude.{◌≤◌, ◌<◌, length, IfSome};
+ghost use Rattle.std.specs.Prelude.{◌≤◌, ◌<◌, MatchOption, drop, length, IfSome};
 ghost use Rattle.commonmark_syntax.specs.Cuts.{IsCut};
+ghost use Rattle.commonmark_syntax.specs.Language.{IsNotAt, Leaves};
+ghost use Rattle.commonmark_syntax.specs.Reading.{Reading};
+ghost use Rattle.commonmark_syntax.specs.Syntax.{closing_tag};
 
-use crate::bytes::{after, white_space_length};
+use crate::reading::{past_blanks, past_byte, past_word};
 use crate::tag_name;
 
 /// The length of the closing tag that a text begins with (CommonMark): `</`, a name, white space and `>`.
 ///
 /// In `</a > b` it is 5.
 pub fn scan(text: &[u8]) -> Option<usize>
+    ensures exact { MatchOption result (IsNotAt closing_tag text.now) (λ size. Leaves closing_tag text.now (drop size text.now)) }
     ensures most { IfSome result (λ size. size ≤ length text.now) }
     ensures least { IfSome result (λ size. 3 < size) }
     ensures cut { IfSome result (λ size. IsCut text.now size) }
 {
-    let name = text.strip_prefix(b"</")?;
-    let name_size = tag_name::scan(name)?;
-    let size = name_size + white_space_length(after(name, name_size));
-    (*name.get(size)? == b'>').then_some(size + 3)
+    Some(text.len() - past(text)?.len())
+}
+
+/// After a closing tag.
+pub(crate) fn past(text: &[u8]) -> Option<&[u8]>
+    ensures { Reading closing_tag text.now (λ rest. rest.now) result }
+{
+    let rest = tag_name::past(past_word(text, b"</")?)?;
+    past_byte(past_blanks(rest), b'>')
 }

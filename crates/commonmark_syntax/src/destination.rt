@@ -1,19 +1,42 @@
 //! Destinations of links, images and definitions (CommonMark).
 
-ghost use Rattle.std.specs.Prelude.{◌≡◌, ◌≢◌, ◌≤◌, ◌<◌, ◌-◌, length, slice_index, IfSome};
+ghost use Rattle.std.specs.Prelude.{◌≡◌, ◌≢◌, ◌≤◌, ◌<◌, ◌-◌, false, MatchOption, drop, length, slice_index, IfSome, None, Some};
 ghost use Rattle.commonmark_syntax.specs.Cuts.{IsCut, IsInLine};
+ghost use Rattle.commonmark_syntax.specs.Language.{IsNotAt, Leaves};
+ghost use Rattle.commonmark_syntax.specs.Parentheses.{IsNoDestination, LeavesDestination, ends, kind, kind_in};
+ghost use Rattle.commonmark_syntax.specs.Reading.{Reading};
+ghost use Rattle.commonmark_syntax.specs.Syntax.{angle_destination};
 
-use crate::bytes::{after, is_control};
+use crate::bytes::is_control;
+use crate::class::{InAngleBrackets, InLine};
+use crate::reading::{past_byte, past_characters};
 
 /// How deep parentheses may be nested in a destination without angle brackets. CommonMark asks for three
 /// at least; cmark and micromark allow this many.
 const DEPTH_MOST: usize = 32;
 
+/// What a byte is to a destination without angle brackets.
+#[derive(Clone, Copy)]
+enum Kind {
+    /// It stands for itself.
+    Plain,
+    /// It takes with it what comes after it.
+    Escapes,
+    /// It opens a pair.
+    Opens,
+    /// It closes a pair.
+    Closes,
+    /// It ends the destination.
+    Stops,
+}
+
 /// The length of the destination that a text begins with, with its angle brackets where it has them
 /// (CommonMark).
 ///
 /// In `<a b> c` it is 5, and in `a(b) c` it is 4.
+#[tactic(auto, using(crate::proofs::Destinations::angle_exact))]
 pub fn scan(text: &[u8]) -> Option<usize>
+    ensures exact { MatchOption result (IsNoDestination text.now) (λ size. LeavesDestination text.now (drop size text.now)) }
     ensures most { IfSome result (λ size. size ≤ length text.now) }
     ensures least { IfSome result (λ size. 0 < size) }
     ensures cut { IfSome result (λ size. IsCut text.now size) }
@@ -23,66 +46,79 @@ pub fn scan(text: &[u8]) -> Option<usize>
     ensures raw { slice_index text.now 0 ≢ 60 → IfSome result (λ size. size < length text.now → slice_index text.now size < 128) }
 {
     match text.first()? {
-        b'<' => Some(inside_length(after(text, 1))? + 2),
-        _ => raw_length(text),
+        b'<' => scan_angle(text),
+        _ => scan_raw(text),
     }
 }
 
-/// How many bytes come before the angle bracket that closes a destination: no line ending is among them,
-/// and no other angle bracket without a backslash before it.
-fn inside_length(inside: &[u8]) -> Option<usize>
-    ensures within { IfSome result (λ size. size < length inside.now) }
-    ensures end { IfSome result (λ size. slice_index inside.now size ≡ 62) }
-    ensures in_line { IfSome result (λ size. IsInLine inside.now size) }
-{
-    let mut is_escaped = false;
-    for (size, byte) in inside.iter().enumerate() {
-        if *byte == b'\n' {
-            return None;
-        }
-        match *byte {
-            _ if is_escaped => is_escaped = false,
-            b'\\' => is_escaped = true,
-            b'<' => return None,
-            b'>' => return Some(size),
-            _ => {}
-        }
-    }
-    None
-}
-
-/// The length of a destination without angle brackets, which ends before a space, a control character or
-/// a parenthesis that closes none in it.
-fn raw_length(text: &[u8]) -> Option<usize>
+/// The length of the destination in angle brackets that a text begins with.
+fn scan_angle(text: &[u8]) -> Option<usize>
+    ensures exact { MatchOption result (IsNotAt angle_destination text.now) (λ size. Leaves angle_destination text.now (drop size text.now)) }
     ensures most { IfSome result (λ size. size ≤ length text.now) }
-    ensures least { IfSome result (λ size. 0 < size) }
-    ensures next { IfSome result (λ size. size < length text.now → slice_index text.now size < 128) }
+    ensures least { IfSome result (λ size. 1 < size) }
+    ensures last { IfSome result (λ size. slice_index text.now (size - 1) ≡ 62) }
+    ensures cut { IfSome result (λ size. IsCut text.now size) }
+    ensures inside { IfSome result (λ size. IsCut text.now 1 × IsCut text.now (size - 1)) }
     ensures in_line { IfSome result (λ size. IsInLine text.now size) }
 {
-    let mut depth = 0;
-    let mut is_escaped = false;
-    for (size, byte) in text.iter().enumerate() {
-        if *byte == b' ' || is_control(*byte) {
-            return whole(size, depth);
-        }
-        match *byte {
-            _ if is_escaped => is_escaped = false,
-            b'\\' => is_escaped = true,
-            b'(' if depth >= DEPTH_MOST => return None,
-            b'(' => depth += 1,
-            b')' if depth == 0 => return whole(size, depth),
-            b')' => depth -= 1,
-            _ => {}
-        }
-    }
-    whole(text.len(), depth)
+    Some(text.len() - past_angle(text)?.len())
 }
 
-/// The length of a destination without angle brackets, where so many parentheses are still open: it is
-/// not empty, and its parentheses are balanced.
-fn whole(size: usize, depth: usize) -> Option<usize>
-    ensures same { IfSome result (λ whole. whole ≡ size) }
-    ensures least { IfSome result (λ whole. 0 < whole) }
+/// After a destination in angle brackets.
+fn past_angle(text: &[u8]) -> Option<&[u8]>
+    ensures { Reading angle_destination text.now (λ rest. rest.now) result }
 {
-    (size > 0 && depth == 0).then_some(size)
+    let inside = past_byte(text, b'<')?;
+    past_byte(past_characters::<InLine, InAngleBrackets>(inside), b'>')
+}
+
+/// The length of the destination without angle brackets that a text begins with.
+fn scan_raw(text: &[u8]) -> Option<usize>
+    requires { slice_index text.now 0 ≢ 60 }
+    ensures exact { MatchOption result (IsNoDestination text.now) (λ size. LeavesDestination text.now (drop size text.now)) }
+    ensures most { IfSome result (λ size. size ≤ length text.now) }
+    ensures least { IfSome result (λ size. 0 < size) }
+    ensures in_line { IfSome result (λ size. IsInLine text.now size) }
+    ensures next { IfSome result (λ size. size < length text.now → slice_index text.now size < 128) }
+{
+    let size = text.len() - past_raw(text)?.len();
+    if size > 0 { Some(size) } else { None }
+}
+
+/// After the longest text that has parentheses only escaped or in pairs, and that ends where a destination
+/// ends. It may be empty.
+fn past_raw(text: &[u8]) -> Option<&[u8]>
+    ensures { MatchOption result (ends text.now false 0 ≡ None) (λ rest. ends text.now false 0 ≡ Some rest.now) }
+{
+    let mut rest = text;
+    let mut depth: usize = 0;
+    let mut is_escaped = false;
+    'bytes: while let [first, tail @ ..] = rest {
+        match kind_of(*first) {
+            Kind::Stops => break,
+            _ if is_escaped => is_escaped = false,
+            Kind::Escapes => is_escaped = true,
+            Kind::Opens if depth >= DEPTH_MOST => return None,
+            Kind::Opens => depth += 1,
+            Kind::Closes if depth == 0 => return Some(rest),
+            Kind::Closes => depth -= 1,
+            Kind::Plain => {}
+        }
+        rest = tail;
+    }
+    if depth == 0 { Some(rest) } else { None }
+}
+
+/// What a byte is to a destination without angle brackets.
+fn kind_of(byte: u8) -> Kind
+    ensures { kind_in result ≡ kind byte }
+{
+    match byte {
+        b' ' => Kind::Stops,
+        _ if is_control(byte) => Kind::Stops,
+        b'\\' => Kind::Escapes,
+        b'(' => Kind::Opens,
+        b')' => Kind::Closes,
+        _ => Kind::Plain,
+    }
 }

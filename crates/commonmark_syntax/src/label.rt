@@ -1,15 +1,18 @@
 //! Labels of definitions and references (CommonMark).
 
-ghost use Rattle.std.specs.Prelude.{◌≡◌, ◌≤◌, ◌<◌, ◌-◌, length, slice_index, IfSome, IsSome};
+ghost use Rattle.std.specs.Prelude.{◌≡◌, ◌≤◌, ◌<◌, ◌-◌, MatchOption, drop, filter, length, not, slice_index, IfSome, IsSome};
+ghost use Rattle.std.specs.List.{list_any};
 ghost use Rattle.commonmark_syntax.specs.Cuts.{IsCut};
+ghost use Rattle.commonmark_syntax.specs.Language.{IsNotAt, Leaves, many, tested};
+ghost use Rattle.commonmark_syntax.specs.Reading.{Reading};
+ghost use Rattle.commonmark_syntax.specs.Syntax.{begins_character, character, in_brackets, is_any, is_label_text, is_white_space, link_label};
 
 use crate::bytes::{is_continuation, is_space_or_line_ending};
+use crate::class::{AnyByte, InBrackets};
+use crate::reading::{past_byte, past_characters};
 
 /// The most characters that a label may have between its brackets (CommonMark).
 pub const CHARACTERS_MOST: usize = 999;
-
-/// The most bytes that a character of UTF-8 has.
-const BYTES_MOST: usize = 4;
 
 /// The length of the label that a text begins with, with its brackets (CommonMark).
 ///
@@ -18,6 +21,7 @@ const BYTES_MOST: usize = 4;
 ///
 /// In `[a]: b` it is 3; `[a[b]]` begins with no label.
 pub fn scan(text: &[u8]) -> Option<usize>
+    ensures exact { MatchOption result (IsNotAt link_label text.now) (λ size. Leaves link_label text.now (drop size text.now)) }
     ensures most { IfSome result (λ size. size ≤ length text.now) }
     ensures least { IfSome result (λ size. 2 < size) }
     ensures first { IsSome result → slice_index text.now 0 ≡ 91 }
@@ -25,42 +29,64 @@ pub fn scan(text: &[u8]) -> Option<usize>
     ensures cut { IfSome result (λ size. IsCut text.now size) }
     ensures inside { IfSome result (λ size. IsCut text.now 1 × IsCut text.now (size - 1)) }
 {
-    let inside = text.strip_prefix(b"[")?;
-    let size = inside_length(inside)?;
-    (size > 0 && is_text(inside.get(..size)?)).then_some(size + 2)
+    Some(text.len() - past(text)?.len())
 }
 
-/// How many bytes come before the bracket that closes a label.
-fn inside_length(inside: &[u8]) -> Option<usize>
-    ensures within { IfSome result (λ size. size < length inside.now) }
-    ensures end { IfSome result (λ size. slice_index inside.now size ≡ 93) }
+/// After a label.
+fn past(text: &[u8]) -> Option<&[u8]>
+    ensures { Reading link_label text.now (λ rest. rest.now) result }
 {
-    let mut is_escaped = false;
-    for (size, byte) in inside
-        .iter()
-        .enumerate()
-        .take(CHARACTERS_MOST * BYTES_MOST + 1)
-    {
-        match *byte {
-            _ if is_escaped => is_escaped = false,
-            b'\\' => is_escaped = true,
-            b'[' => return None,
-            b']' => return Some(size),
-            _ => {}
-        }
+    past_byte(past_text(past_byte(text, b'[')?)?, b']')
+}
+
+/// After the text of a label.
+fn past_text(text: &[u8]) -> Option<&[u8]>
+    ensures { Reading (tested is_label_text (many (character is_any in_brackets))) text.now (λ rest. rest.now) result }
+{
+    let rest = past_characters::<AnyByte, InBrackets>(text);
+    let size = text.len() - rest.len();
+    if is_text(&text[..size]) {
+        Some(rest)
+    } else {
+        None
     }
-    None
 }
 
 /// Whether a label may have this text between its brackets: more than white space, and at most
 /// [`CHARACTERS_MOST`] characters (CommonMark).
 ///
 /// ` a ` is such a text, and ` ` is none.
-pub fn is_text(inside: &[u8]) -> bool {
-    let is_blank = inside.iter().all(|byte| is_space_or_line_ending(*byte));
-    let characters = inside
-        .iter()
-        .filter(|byte| !is_continuation(**byte))
-        .count();
-    !is_blank && characters <= CHARACTERS_MOST
+pub fn is_text(inside: &[u8]) -> bool
+    ensures { result ≡ is_label_text inside.now }
+{
+    has_more_than_white_space(inside) && character_count(inside) <= CHARACTERS_MOST
+}
+
+/// Whether a text holds more than white space.
+fn has_more_than_white_space(text: &[u8]) -> bool
+    ensures { result ≡ list_any (λ c. not (is_white_space c)) text.now }
+{
+    text.iter().any(|byte| !is_space_or_line_ending(*byte))
+}
+
+/// The number of characters of a text.
+pub(crate) fn character_count(text: &[u8]) -> usize
+    ensures { result ≡ length (filter begins_character text.now) }
+{
+    let mut count = 0;
+    let mut rest = text;
+    'bytes: while let [first, tail @ ..] = rest {
+        if begins_character(*first) {
+            count += 1;
+        }
+        rest = tail;
+    }
+    count
+}
+
+/// Whether a byte begins a character of UTF-8.
+fn begins_character(byte: u8) -> bool
+    ensures { result ≡ begins_character byte }
+{
+    !is_continuation(byte)
 }

@@ -1,32 +1,40 @@
 //! Names of tags of HTML (CommonMark).
 
-ghost use Rattle.std.specs.Prelude.{◌≡◌, ◌≢◌, ◌≤◌, ◌<◌, length, IfSome, IsTrue, true};
-ghost use Rattle.std.specs.Char.{is_ascii_alphabetic};
+ghost use Rattle.std.specs.Prelude.{◌≡◌, ◌≤◌, ◌<◌, MatchOption, drop, length, IfSome};
 ghost use Rattle.commonmark_syntax.specs.Cuts.{IsCut, IsInLine};
+ghost use Rattle.commonmark_syntax.specs.Language.{IsNotAt, Leaves};
+ghost use Rattle.commonmark_syntax.specs.Reading.{Reading};
+ghost use Rattle.commonmark_syntax.specs.Syntax.{tag_name, whole_tag_name};
 
-use crate::bytes::count_while;
+use crate::class::{Letter, OfTagName};
+use crate::reading::{past_all, past_one};
 
 /// The length of the name of a tag that a text begins with: a letter, and then letters, digits and
 /// hyphens, all of ASCII (CommonMark).
 ///
 /// In `h1>` it is 2.
 pub fn scan(text: &[u8]) -> Option<usize>
+    ensures exact { MatchOption result (IsNotAt whole_tag_name text.now) (λ size. Leaves whole_tag_name text.now (drop size text.now)) }
     ensures most { IfSome result (λ size. size ≤ length text.now) }
     ensures least { IfSome result (λ size. 0 < size) }
     ensures cut { IfSome result (λ size. IsCut text.now size) }
     ensures in_line { IfSome result (λ size. IsInLine text.now size) }
 {
-    if !text.first()?.is_ascii_alphabetic() {
-        return None;
-    }
-    Some(count_while(text, is_of_tag_name))
+    Some(text.len() - past_whole(text)?.len())
 }
 
-/// Whether a byte may stand in the name of a tag, after its first.
-fn is_of_tag_name(byte: u8) -> bool
-    ensures ascii { IsTrue result → byte < 128 }
-    ensures line { IsTrue result → byte ≢ 10 }
-    ensures letter { is_ascii_alphabetic byte ≡ true → IsTrue result }
+/// After the name of a tag, as far as it goes.
+#[tactic(auto, using(crate::proofs::Names::whole_name))]
+pub(crate) fn past_whole(text: &[u8]) -> Option<&[u8]>
+    ensures { Reading whole_tag_name text.now (λ rest. rest.now) result }
 {
-    byte.is_ascii_alphanumeric() || byte == b'-'
+    past(text)
+}
+
+/// After the name of a tag.
+pub(crate) fn past(text: &[u8]) -> Option<&[u8]>
+    ensures { Reading tag_name text.now (λ rest. rest.now) result }
+{
+    let rest = past_one::<Letter>(text)?;
+    Some(past_all::<OfTagName>(rest))
 }

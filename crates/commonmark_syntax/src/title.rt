@@ -1,9 +1,13 @@
 //! Titles of links, images and definitions (CommonMark).
 
-ghost use Rattle.std.specs.Prelude.{◌≡◌, ◌≤◌, ◌<◌, ◌-◌, length, slice_index, IfSome, Some};
+ghost use Rattle.std.specs.Prelude.{◌≡◌, ◌≤◌, ◌<◌, ◌-◌, MatchOption, drop, length, slice_index, IfSome, Some};
 ghost use Rattle.commonmark_syntax.specs.Cuts.{IsCut, closing_mark};
+ghost use Rattle.commonmark_syntax.specs.Language.{IsNotAt, Leaves};
+ghost use Rattle.commonmark_syntax.specs.Reading.{Reading};
+ghost use Rattle.commonmark_syntax.specs.Syntax as page;
 
-use crate::bytes::after;
+use crate::class::{AnyByte, Class, InDoubleQuotes, InParentheses, InSingleQuotes};
+use crate::reading::{past_byte, past_characters};
 
 /// The length of the title that a text begins with, with its markers: two quotation marks, two apostrophes,
 /// or two parentheses (CommonMark).
@@ -12,61 +16,63 @@ use crate::bytes::after;
 ///
 /// In `"a" b` it is 3, and in `(a) b` too.
 pub fn scan(text: &[u8]) -> Option<usize>
+    ensures exact { MatchOption result (IsNotAt page.title text.now) (λ size. Leaves page.title text.now (drop size text.now)) }
     ensures most { IfSome result (λ size. size ≤ length text.now) }
     ensures least { IfSome result (λ size. 1 < size) }
     ensures marks { IfSome result (λ size. closing_mark (slice_index text.now 0) ≡ Some (slice_index text.now (size - 1))) }
     ensures cut { IfSome result (λ size. IsCut text.now size) }
     ensures inside { IfSome result (λ size. IsCut text.now 1 × IsCut text.now (size - 1)) }
 {
-    let opening = *text.first()?;
-    let closing = closing_mark(opening)?;
-    let inside = after(text, 1);
-    let size = inside_length(inside, opening, closing)?;
-    (!has_blank_line(inside.get(..size)?)).then_some(size + 2)
+    Some(text.len() - past(text)?.len())
 }
 
-/// The marker that closes a title after the one that opens it.
-fn closing_mark(opening: u8) -> Option<u8>
-    ensures same { result ≡ closing_mark opening }
-    ensures ascii { IfSome result (λ closing. (opening < 128) × (closing < 128)) }
+/// After a title.
+fn past(text: &[u8]) -> Option<&[u8]>
+    ensures { Reading page.title text.now (λ rest. rest.now) result }
 {
-    match opening {
-        b'"' | b'\'' => Some(opening),
-        b'(' => Some(b')'),
-        _ => None,
+    if let Some(rest) = past_titled::<InDoubleQuotes>(text, b'"', b'"') {
+        return Some(rest);
     }
+    if let Some(rest) = past_titled::<InSingleQuotes>(text, b'\'', b'\'') {
+        return Some(rest);
+    }
+    past_titled::<InParentheses>(text, b'(', b')')
 }
 
-/// How many bytes come before the marker that closes a title.
-fn inside_length(inside: &[u8], opening: u8, closing: u8) -> Option<usize>
-    ensures within { IfSome result (λ size. size < length inside.now) }
-    ensures end { IfSome result (λ size. slice_index inside.now size ≡ closing) }
+/// After a title between two markers.
+fn past_titled<C: Class>(text: &[u8], opening: u8, closing: u8) -> Option<&[u8]>
+    ensures { Reading (page.titled opening C.class closing) text.now (λ rest. rest.now) result }
 {
-    let mut is_escaped = false;
-    for (size, byte) in inside.iter().enumerate() {
-        if is_escaped {
-            is_escaped = false;
-        } else if *byte == closing {
-            return Some(size);
-        } else if *byte == opening {
-            return None;
-        } else {
-            is_escaped = *byte == b'\\';
-        }
+    let inside = past_byte(text, opening)?;
+    past_byte(past_text::<C>(inside)?, closing)
+}
+
+/// After the text of a title.
+fn past_text<C: Class>(text: &[u8]) -> Option<&[u8]>
+    ensures { Reading (page.title_text C.class) text.now (λ rest. rest.now) result }
+{
+    let rest = past_characters::<AnyByte, C>(text);
+    let size = text.len() - rest.len();
+    if has_blank_line(&text[..size]) {
+        return None;
     }
-    None
+    Some(rest)
 }
 
 /// Whether there is a blank line between two line endings.
-fn has_blank_line(inside: &[u8]) -> bool {
+fn has_blank_line(inside: &[u8]) -> bool
+    ensures { result ≡ page.has_blank_line inside.now }
+{
     let mut is_blank = false;
-    for byte in inside {
-        match *byte {
+    let mut rest = inside;
+    'bytes: while let [first, tail @ ..] = rest {
+        match *first {
             b'\n' if is_blank => return true,
             b'\n' => is_blank = true,
             b' ' | b'\t' => {}
             _ => is_blank = false,
         }
+        rest = tail;
     }
     false
 }

@@ -1,5 +1,5 @@
 -- Texts of ASCII.
-use Rattle.std.proofs.Common.{◌≡◌, ◌<◌, ◌≤◌, ◌+◌, ◌-◌, ◌∙◌, ◌⊎◌, List, ap, arith, drop, inl, inr, length, subst, sym, take, ℕ}
+use Rattle.std.proofs.Common.{◌≡◌, ◌<◌, ◌≤◌, ◌-◌, ◌⊎◌, List, arith, drop, inl, inr, length, subst, sym, take, ℕ}
 use Rattle.std.proofs.lemmas.Bool.{cases_lt}
 use Rattle.std.proofs.lemmas.Grind.{common_steps}
 use Rattle.std.proofs.lemmas.List.{take-append-drop}
@@ -8,8 +8,8 @@ use Rattle.std.proofs.Math.Seq.{get_or-take}
 use Rattle.std.specs.Prelude.{slice_index}
 use Rattle.std.specs.Str.{IsAscii}
 use Rattle.commonmark_syntax.specs.Cuts.{IsCut}
-use Rattle.markdown_flow.proofs.Cuts.{after_spaces-drop, slice_at, spaces_ascii}
-use Rattle.markdown_flow.specs.Lines.{IsAsciiBetween, IsBefore, after_spaces}
+use Rattle.markdown_flow.proofs.Cuts.{after_spaces-drop, spaces_ascii}
+use Rattle.markdown_flow.specs.Lines.{after_spaces}
 
 -- a text of ASCII may be cut anywhere
 pub ascii_cut : (text : List ℕ) (i : ℕ) → IsAscii text → IsCut text i
@@ -55,23 +55,3 @@ ascii_later old new n is ascii = subst IsAscii (sym is) (IsAscii-drop old n asci
 -- and of what comes after the white space
 pub ascii_black : (old new : List ℕ) → new ≡ after_spaces old → IsAscii old → IsAscii new
 ascii_black old new is ascii = subst IsAscii (sym is) (ascii_after old ascii)
-
--- ---- The tail of a line
-
--- so many bytes before the end of a line are those at the end of its text
-pub tail_in : (bytes text : List ℕ) (end tail : ℕ) → IsBefore bytes end text → length text ≤ end → tail ≤ length text → IsAsciiBetween text (length text - tail) (length text) → IsAsciiBetween bytes (end - tail) end
-tail_in bytes text end tail before fits most ascii = λ k least less.
-    let start = end - length text in
-    let same : start + (k - start) ≡ k = omega arith in
-    let there : slice_index bytes (start + (k - start)) ≡ slice_index bytes k = ap (slice_index bytes) same in
-    let here : slice_index text (k - start) ≡ slice_index bytes (start + (k - start)) = ap (λ (xs : List ℕ). slice_index xs (k - start)) before ∙ slice_at bytes start end (k - start) (omega arith) in
-    let low = ascii (k - start) (omega arith) (omega arith) in
-    omega (arith, low, here, there)
-
--- a text that is no longer is ASCII
-pub in_tail : (bytes text : List ℕ) (end tail : ℕ) → IsBefore bytes end text → length text ≤ end → length text ≤ tail → IsAsciiBetween bytes (end - tail) end → IsAscii text
-in_tail bytes text end tail before fits less ascii = within_ascii text (λ k within.
-    let start = end - length text in
-    let here : slice_index text k ≡ slice_index bytes (start + k) = ap (λ (xs : List ℕ). slice_index xs k) before ∙ slice_at bytes start end k (omega arith) in
-    let low = ascii (start + k) (omega arith) (omega arith) in
-    omega (arith, low, here))

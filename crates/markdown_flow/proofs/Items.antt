@@ -17,6 +17,13 @@ use Rattle.markdown_flow.specs.declared.output.Cursor.{Cursor}
 use Rattle.markdown_grammar.specs.Document.{is_item_number}
 use Rattle.markdown_pieces.specs.Tilings.{HasValue, Spot}
 
+-- the front of a text
+taken : (xs : List ℕ) (n : ℕ) → n ≤ length xs → length (take n xs) ≡ n
+taken xs n less = grind (arith, common_steps)
+
+front : (xs : List ℕ) (i j n : ℕ) → n ≤ j - i → slice_range xs i (i + n) ≡ take n (slice_range xs i j)
+front xs i j n less = grind (arith, common_steps)
+
 -- the number of an item can be read
 pub item_value : (cursor : Cursor) (old new : Line) (digits : ℕ) → IsAt cursor old → HasMoved old new → HasMarker old.text.now digits → 0 < digits → old.indent ≡ 0 → new.rest.now ≡ drop digits old.text.now → new.virtual_spaces ≡ 0
     → HasValue (cursor.extent).source.document.now ListItemValue (spot cursor) (spot_in new)
@@ -32,7 +39,7 @@ item_value cursor old new digits at moved marker some none rest whole = (ap (λ 
     filled = omega (arith, size, marker.within)
 
     number : length (take digits old.text.now) ≡ digits
-    number = let within = marker.within in grind (arith, common_steps)
+    number = taken old.text.now digits (omega (arith, marker.within))
 
     fits : is_item_number (Some (take digits old.text.now)) ≡ true
     fits = number_fits (take digits old.text.now) (omega (arith, number, some)) (omega (arith, number, marker.most)) marker.number
@@ -45,9 +52,6 @@ item_value cursor old new digits at moved marker some none rest whole = (ap (λ 
 
     end : new.end - length new.rest.now ≡ offset + digits
     end = let left : length new.rest.now ≡ length old.text.now - digits = ap (λ (xs : List ℕ). length xs) rest ∙ length-drop digits old.text.now in omega (arith, left, size, moved.end, old.rest_fits, marker.within)
-
-    front : (xs : List ℕ) (i j n : ℕ) → n ≤ j - i → slice_range xs i (i + n) ≡ take n (slice_range xs i j)
-    front xs i j n less = grind (arith, common_steps)
 
     text : slice_range (cursor.extent).source.document.now cursor.offset (new.end - length new.rest.now) ≡ take digits old.text.now
     text =

@@ -15,3 +15,6 @@ pub mod Numbers
 pub mod Items
 pub mod Marks
 pub mod Definitions
+pub mod Tails
+pub mod Scanned
+mod CodeExamples

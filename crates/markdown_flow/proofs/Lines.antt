@@ -1,6 +1,7 @@
 -- Lines of a document, and how the cursor of one moves.
-use Rattle.std.proofs.Common.{◌≡◌, ◌<◌, ◌≤◌, ◌+◌, ◌-◌, ◌*◌, ◌%◌, ◌≢◌, ◌⊎◌, inl, inr, Bool, true, false, cond, List, [], ◌∷◌, ◌++◌, length, take, drop, get_or, ℕ, suc, zero, refl, sym, ap, subst, ◌∙◌, arith, nat_eq, drop-cons, add-zero, zero-add, length-drop, length-take-le, get_or-drop, Option, None, Some}
-use Rattle.std.specs.Prelude.{slice_get}
+use Rattle.std.proofs.Common.{◌≡◌, ◌<◌, ◌≤◌, ◌+◌, ◌-◌, ◌*◌, ◌%◌, ◌≢◌, ◌⊎◌, inl, inr, Bool, true, false, cond, List, [], ◌∷◌, ◌++◌, length, take, drop, get_or, ℕ, suc, zero, refl, sym, ap, subst, ◌∙◌, arith, nat_eq, ◌==◌, drop-cons, add-zero, zero-add, length-drop, length-take-le, get_or-drop, Option, None, Some}
+use Rattle.std.specs.Prelude.{nat_le, not, slice_get, ◌&&◌, ◌||◌}
+use Rattle.commonmark_syntax.specs.Blocks.{has_more}
 use Rattle.std.proofs.Math.Nat.{sub-zero}
 use Rattle.std.proofs.lemmas.Bool.{cases_lt}
 use Rattle.std.proofs.lemmas.Bool.Decides.{nat_tests}
@@ -10,7 +11,7 @@ use Rattle.event_writer.specs.Calls.{EndsLine, is_byte_at, line_ending_length}
 use Rattle.markdown_events.specs.declared.event.Point.{Point}
 use Rattle.event_writer.specs.Places.{IsPlace, after_tab, column_at, line_at, walk}
 use Rattle.event_writer.proofs.Walks.{column-bound, place-after-ending, plain, tab-below}
-use Rattle.markdown_flow.specs.Lines.{HasColumns, IsBefore, IsInLine, IsRest, after_spaces, columns_after, indentation, is_space_or_tab, width}
+use Rattle.markdown_flow.specs.Lines.{HasColumns, IsBefore, IsInLine, IsRest, after_spaces, begins_indented_code, columns_after, indentation, is_space_or_tab, width}
 
 -- ---- Widths
 
@@ -58,6 +59,25 @@ after_spaces-twice (b ∷ bs) = by (is_space_or_tab b) refl (after_spaces-twice 
         → after_spaces (cond t (after_spaces bs) (b ∷ bs)) ≡ cond t (after_spaces bs) (b ∷ bs)
     by true e r = r
     by false e r = ap (λ (t : Bool). cond t (after_spaces bs) (b ∷ bs)) e
+
+filled : (n : ℕ) → not (suc n == 0) ≡ true
+filled n = grind (arith, nat_tests)
+
+-- something else than white space is left exactly where there is more
+pub more_after_spaces : (text : List ℕ) → not (length (after_spaces text) == 0) ≡ has_more text
+unfolding after_spaces
+more_after_spaces [] = refl
+more_after_spaces (b ∷ bs) = by (is_space_or_tab b) (more_after_spaces bs)
+  where
+    by : (t : Bool) → not (length (after_spaces bs) == 0) ≡ has_more bs → not (length (cond t (after_spaces bs) (b ∷ bs)) == 0) ≡ (not t || has_more bs)
+    by true same = same
+    by false same = filled (length bs)
+
+-- indented code, where the white space is counted
+pub code_begins : (on indented empty : Bool) (indent columns : ℕ) (rest text : List ℕ) → on ≡ true → indented ≡ (on && nat_le 4 indent) → indented ≡ true → indent ≡ indentation columns rest → text ≡ after_spaces rest → empty ≡ (length text == 0) → not empty ≡ begins_indented_code columns rest
+code_begins on indented empty indent columns rest text is_on same is counted left none =
+    let deep : nat_le 4 (indentation columns rest) ≡ true = ap (nat_le 4) (sym counted) ∙ sym (ap (λ (b : Bool). b && nat_le 4 indent) is_on) ∙ sym same ∙ is in
+    ap not none ∙ ap (λ (x : List ℕ). not (length x == 0)) left ∙ more_after_spaces rest ∙ sym (ap (λ (b : Bool). b && has_more rest) deep)
 
 -- so there are no columns of it
 pub indentation-none : (columns : ℕ) (text : List ℕ) → indentation columns (after_spaces text) ≡ 0

@@ -8,7 +8,6 @@ use Rattle.std.specs.Prelude.{slice_index}
 use Rattle.std.specs.Str.{IsAscii}
 use Rattle.commonmark_syntax.proofs.Cuts.{cut_take}
 use Rattle.commonmark_syntax.specs.Cuts.{IsCut}
-use Rattle.markdown_flow.proofs.Ascii.{ascii_parts, ascii_spaces}
 use Rattle.markdown_flow.proofs.Cuts.{after_ascii, before_ascii, past_end}
 use Rattle.markdown_flow.proofs.Lines.{after_spaces-twice}
 use Rattle.markdown_flow.specs.Lines.{after_spaces, is_space_or_tab}
@@ -121,12 +120,3 @@ next_after row cell rest first more is =
     by (inr last) = absurd (omega (arith, more, ap (λ (xs : List ℕ). length xs) last.0))
 
 -- ---- Rows of ASCII
-
--- a row is ASCII if the text of its first cell and the next cell are
-pub row_ascii : (row : List ℕ) (cell : Cell) → IsFirst row cell → IsAscii cell.text.now → IsAscii cell.next.now → IsAscii row
-row_ascii row cell first text next =
-    ascii_parts row cell.divider_size first.divider (ascii_spaces (drop cell.divider_size row) (ascii_parts (from_text row cell) (length cell.text.now) (subst IsAscii first.text text) (ascii_spaces (drop (length cell.text.now) (from_text row cell)) (by first.next))))
-  where
-    by : (after_text row cell ≡ cell.next.now) ⊎ ((cell.next.now ≡ []) × IsAscii (after_text row cell)) → IsAscii (after_text row cell)
-    by (inl same) = subst IsAscii (sym same) next
-    by (inr last) = last.1

@@ -1,8 +1,9 @@
 -- Lines of a document, and the columns of their white space (CommonMark).
-use Rattle.std.specs.Prelude.{Bool, List, Some, [], if◌then◌else◌, length, slice_get, slice_index, slice_range, ℕ, ◌%◌, ◌+◌, ◌-◌, ◌<◌, ◌==◌, ◌||◌, ◌∷◌, ◌≡◌, ◌≢◌, ◌≤◌, ◌⊎◌}
+use Rattle.std.specs.Prelude.{Bool, List, Some, [], if◌then◌else◌, length, nat_le, slice_get, slice_index, slice_range, ℕ, ◌%◌, ◌+◌, ◌-◌, ◌<◌, ◌==◌, ◌&&◌, ◌||◌, ◌∷◌, ◌≡◌, ◌≢◌, ◌≤◌, ◌⊎◌}
 use Rattle.std.proofs.Common.{ap, arith, inl, inr, sym, ◌∙◌}
 use Rattle.std.proofs.Props.{props}
 use Rattle.std.proofs.lemmas.Option.{same_Some, slice_get_within}
+use Rattle.commonmark_syntax.specs.Blocks.{has_more, has_one_sign}
 use Rattle.event_writer.specs.Calls.{EndsLine, line_ending_length}
 use Rattle.event_writer.specs.Places.{after_tab, column_at}
 
@@ -44,6 +45,10 @@ IsRest-prop bytes from end next = hlevel (ending-prop bytes end next, props)
 abbrev pub IsAsciiBetween : List ℕ → ℕ → ℕ → Type 0
 IsAsciiBetween bytes from to = (k : ℕ) → from ≤ k → k < to → slice_index bytes k < 128
 
+-- so many bytes before the end of a line, and no more, are only white space and one sign of thematic breaks
+pub record IsTail (bytes : List ℕ) (start end tail : ℕ) : Type 0 where
+  pub exact : (n : ℕ) → start + n ≤ end → has_one_sign (slice_range bytes (end - n) end) ≡ nat_le n tail
+
 -- a text is the bytes of the document before an offset
 abbrev pub IsBefore : List ℕ → ℕ → List ℕ → Type 0
 IsBefore bytes end text = text ≡ slice_range bytes (end - length text) end
@@ -65,6 +70,11 @@ is_space_or_tab b = (b == 32) || (b == 9)
 unfoldable pub indentation : ℕ → List ℕ → ℕ
 indentation columns [] = 0
 indentation columns (b ∷ bs) = if is_space_or_tab b then width b columns + indentation (columns + width b columns) bs else 0
+
+-- Indented code: a line with four columns of white space or more, and something after them. (Where a paragraph is open, the line goes
+-- on with that.)
+abbrev pub begins_indented_code : ℕ → List ℕ → Bool
+begins_indented_code columns rest = nat_le 4 (indentation columns rest) && has_more rest
 
 -- what comes after the white space that a text begins with
 unfoldable pub after_spaces : List ℕ → List ℕ

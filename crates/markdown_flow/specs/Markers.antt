@@ -1,7 +1,9 @@
 -- The markers of blocks: what a text begins with.
-use Rattle.std.specs.Prelude.{Bool, List, false, length, slice_index, take, true, ℕ, ◌+◌, ◌<◌, ◌==◌, ◌||◌, ◌≡◌, ◌≤◌}
+use Rattle.std.specs.Prelude.{Bool, List, false, length, slice_index, take, true, ℕ, ◌+◌, ◌<◌, ◌==◌, ◌||◌, ◌≡◌, ◌≤◌, ◌⊎◌}
 use Rattle.std.specs.Str.{all_ascii_digits}
+use Rattle.commonmark_syntax.specs.Blocks.{interrupting_list_marker, list_marker, thematic_break}
 use Rattle.commonmark_syntax.specs.Cuts.{IsCut}
+use Rattle.commonmark_syntax.specs.Language.{IsNotAt, Matches}
 use Rattle.markdown_flow.specs.Lines.{is_space_or_tab}
 
 -- items with this marker have numbers
@@ -30,3 +32,7 @@ pub record HasLabel (text : List ℕ) (size : ℕ) : Type 0 where
   pub caret : slice_index text 1 < 128
   pub closing : slice_index text (size + 2) < 128
   pub colon : slice_index text (size + 3) < 128
+
+-- No item begins with a text: it is a thematic break, or begins with no marker, or with none that may interrupt a paragraph.
+abbrev pub IsNoItem : (interrupts : Bool) → List ℕ → Type 0
+IsNoItem interrupts text = Matches thematic_break text ⊎ (IsNotAt list_marker text ⊎ ((interrupts ≡ true) × IsNotAt interrupting_list_marker text))

@@ -1,5 +1,5 @@
 -- What is written so far, and what is read of a line.
-use Rattle.std.specs.Prelude.{Bool, List, OnOk, Result, Some, [], drop, length, slice_get, slice_range, ℕ, ◌+◌, ◌++◌, ◌-◌, ◌<◌, ◌≡◌, ◌≢◌, ◌≤◌, ◌⊎◌}
+use Rattle.std.specs.Prelude.{Bool, List, nat_le, ◌&&◌, OnOk, Result, Some, [], drop, length, slice_get, slice_range, ℕ, ◌+◌, ◌++◌, ◌-◌, ◌<◌, ◌≡◌, ◌≢◌, ◌≤◌, ◌⊎◌}
 use Rattle.commonmark_syntax.specs.Cuts.{IsCut}
 use Rattle.event_writer.specs.Places.{after_tab, column_at}
 use Rattle.event_writer.specs.Stages.{Enclosing, Stage, flow}
@@ -21,6 +21,10 @@ spot cursor = record { offset = cursor.offset; virtual_spaces = cursor.virtual_s
 -- which constructs a line is read with
 abbrev pub constructs_in : Line → Constructs
 constructs_in line = (line.source).constructs.now
+
+-- the text of a line is indented like code
+abbrev pub is_indented : Line → Bool
+is_indented line = (constructs_in line).code_indented && nat_le 4 line.indent
 
 -- where the cursor of a line is
 abbrev pub spot_in : Line → Spot

@@ -1,9 +1,11 @@
 //! Block quotes (CommonMark).
 
-ghost use Rattle.std.specs.Prelude.{Bool, List, [], OnOk, false, length, slice_index, true, ◌≡◌, ◌<◌};
+ghost use Rattle.std.specs.Prelude.{Bool, List, [], OnOk, drop, false, length, slice_index, true, ◌≡◌, ◌<◌};
+ghost use Rattle.commonmark_syntax.specs.Blocks.{block_quote_marker};
+ghost use Rattle.commonmark_syntax.specs.Language.{IsNotAt, Leaves};
 ghost use Rattle.event_writer.specs.Stages.{Enclosing, flow};
 ghost use Rattle.markdown_events.specs.declared.event.Name.TheVariants.{BlockQuote};
-ghost use Rattle.markdown_flow.specs.Outputs.{IsAt, Opens, Writes, Reads, constructs_in, constructs_of};
+ghost use Rattle.markdown_flow.specs.Outputs.{IsAt, Opens, Writes, Reads, constructs_in, constructs_of, is_indented};
 ghost use Rattle.markdown_flow.specs.Moves.{HasMoved};
 ghost use Rattle.markdown_flow.specs.declared.line.Source.{Source};
 ghost use Rattle.markdown_pieces.specs.Tilings.{Spot};
@@ -12,12 +14,15 @@ ghost use Rattle.markdown_pieces.specs.Walks.{at, inside};
 use crate::input::Input;
 use crate::line::Line;
 use crate::output::Output;
+use commonmark_syntax::block_quote_marker;
 use markdown_events::event::Name;
 use std::alloc::AllocError;
 
 /// Whether a block quote begins at the cursor of a line (CommonMark). Never, with `block_quote` off.
 pub fn begins(line: &Line<'_>) -> bool
-    ensures { result ≡ true → (constructs_in line.now).block_quote ≡ true }
+    ensures on { result ≡ true → (constructs_in line.now).block_quote ≡ true }
+    ensures yes { result ≡ true → Leaves block_quote_marker line.now.text.now (drop 1 line.now.text.now) }
+    ensures no { result ≡ false → (constructs_in line.now).block_quote ≡ true → is_indented line.now ≡ false → IsNotAt block_quote_marker line.now.text.now }
 {
     line.constructs().block_quote && has_marker(line)
 }
@@ -26,8 +31,10 @@ pub fn begins(line: &Line<'_>) -> bool
 fn has_marker(line: &Line<'_>) -> bool
     ensures some { result ≡ true → 0 < length line.now.text.now }
     ensures ascii { result ≡ true → slice_index line.now.text.now 0 < 128 }
+    ensures yes { result ≡ true → Leaves block_quote_marker line.now.text.now (drop 1 line.now.text.now) }
+    ensures no { result ≡ false → is_indented line.now ≡ false → IsNotAt block_quote_marker line.now.text.now }
 {
-    !line.is_indented() && line.text().first() == Some(&b'>')
+    !line.is_indented() && block_quote_marker::is_at(line.text())
 }
 
 /// Whether a block quote goes on in a line (CommonMark). If it does, its prefix is read.

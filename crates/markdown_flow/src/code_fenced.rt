@@ -1,7 +1,9 @@
 //! Fenced code (CommonMark).
 
-ghost use Rattle.std.specs.Prelude.{Bool, IfSome, List, OnOk, true, ◌≡◌, ◌<◌};
+ghost use Rattle.std.specs.Prelude.{Bool, IfSome, List, MatchOption, OnOk, drop, true, ◌≡◌, ◌<◌};
+ghost use Rattle.commonmark_syntax.specs.Blocks as blocks;
 ghost use Rattle.commonmark_syntax.specs.Cuts.{IsCut};
+ghost use Rattle.commonmark_syntax.specs.Language.{IsNotAt, Leaves};
 ghost use Rattle.event_writer.specs.Stages.{Enclosing, code_fence, nothing};
 ghost use Rattle.markdown_flow.specs.Leaves.{in_flow, in_raw, raw_name};
 ghost use Rattle.markdown_flow.specs.Outputs.{Opens, Writes, WritesOut, constructs_in, constructs_of, rest_of, text_of};
@@ -12,12 +14,10 @@ ghost use Rattle.markdown_pieces.specs.Walks.{at};
 use crate::line::Line;
 use crate::output::Output;
 use crate::raw_flow::{Fence, RawFlow, write_closing, write_meta};
-use commonmark_syntax::bytes::{after, count_while, is_space_or_tab, run_length};
+use commonmark_syntax::code_fence;
+use commonmark_syntax::info_string::language_size;
 use markdown_events::event::Name;
 use std::alloc::AllocError;
-
-/// How many signs a fence has at least (CommonMark).
-const SIGNS_LEAST: usize = 3;
 
 /// The fence of code that a line opens, if it opens one: backticks with none after them, or tildes
 /// (CommonMark). Always `None` with `code_fenced` off.
@@ -26,29 +26,19 @@ const SIGNS_LEAST: usize = 3;
 pub fn begins(line: &Line<'_>) -> Option<Fence>
     ensures cut { IfSome result (λ fence. IsCut line.now.text.now fence.size) }
     ensures on { IfSome result (λ fence. is_on (constructs_in line.now) (raw_name fence.content) ≡ true) }
+    ensures exact { (constructs_in line.now).code_fenced ≡ true → MatchOption result (IsNotAt blocks.code_fence line.now.text.now) (λ fence. Leaves blocks.code_fence line.now.text.now (drop fence.size line.now.text.now)) }
 {
+    if !line.constructs().code_fenced {
+        return None;
+    }
+    let size = code_fence::scan(line.text())?;
     let sign = *line.text().first()?;
-    if !line.constructs().code_fenced || !is_sign(sign) {
-        return None;
-    }
-    let size = run_length(line.text(), sign);
-    let info = after(line.text(), size);
-    if size < SIGNS_LEAST || (sign == b'`' && info.contains(&b'`')) {
-        return None;
-    }
     Some(Fence {
         content: RawFlow::Code,
         sign,
         size,
         indent: line.indent(),
     })
-}
-
-/// Whether a byte is the sign of a fence.
-fn is_sign(byte: u8) -> bool
-    ensures { result ≡ true → byte < 128 }
-{
-    matches!(byte, b'`' | b'~')
 }
 
 /// Writes the line of a fence of so many signs, after the white space that it begins with.
@@ -80,13 +70,13 @@ pub fn close(size: usize, output: &mut Output<'_>) -> Result<(), AllocError>
     output.exit(Name::CodeFenced)
 }
 
-/// Writes the info and the meta of a fence, with which the line ends (micromark).
+/// Writes the language and the meta of the info string of a fence, with which the line ends (micromark).
 pub fn write_info(output: &mut Output<'_>) -> Result<(), AllocError>
     requires { Writes output.old }
     ensures written { OnOk result (WritesOut output.old output.new) }
     ensures opens { (outer : List Enclosing) → Opens output.old (at code_fence outer) → OnOk result (Opens output.new (at nothing outer)) }
 {
-    let size = count_while(output.rest(), |byte| !is_space_or_tab(byte));
+    let size = language_size(output.rest());
     output.string(Name::CodeFencedFenceInfo, size)?;
     output.white_space()?;
     write_meta(Name::CodeFencedFenceMeta, output)

@@ -3,7 +3,8 @@
 ghost use Rattle.std.specs.Prelude.{Bool, List, OnOk, false, true, ◌≡◌};
 ghost use Rattle.event_writer.specs.Stages.{Enclosing, flow, inlines};
 ghost use Rattle.markdown_events.specs.declared.event.Name.TheVariants.{CodeIndented};
-ghost use Rattle.markdown_flow.specs.Outputs.{IsAt, Keeps, Opens, Stands, Writes, WritesOut, constructs_of, next_of, source_of, spot};
+ghost use Rattle.markdown_flow.specs.Lines.{begins_indented_code};
+ghost use Rattle.markdown_flow.specs.Outputs.{IsAt, Keeps, Opens, Stands, Writes, WritesOut, constructs_in, constructs_of, next_of, source_of, spot};
 ghost use Rattle.markdown_flow.specs.Contents.{AreKept, Kept, after_lines};
 ghost use Rattle.markdown_flow.specs.Moves.{HasMoved};
 ghost use Rattle.markdown_pieces.specs.Walks.{at, inside};
@@ -13,6 +14,15 @@ use crate::line::{Line, TAB_SIZE};
 use crate::output::Output;
 use markdown_events::event::Name;
 use std::alloc::AllocError;
+
+/// Whether a line begins indented code: it has four columns of white space or more, and something after them
+/// (CommonMark). Never, with `code_indented` off.
+pub fn begins(line: &Line<'_>) -> bool
+    ensures exact { (constructs_in line.now).code_indented ≡ true → result ≡ begins_indented_code line.now.columns line.now.rest.now }
+    ensures on { result ≡ true → (constructs_in line.now).code_indented ≡ true }
+{
+    line.is_indented() && !line.text().is_empty()
+}
 
 /// Writes the first line of indented code.
 pub fn open<'d>(line: &mut Line<'d>, output: &mut Output<'d>) -> Result<(), AllocError>

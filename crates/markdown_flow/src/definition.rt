@@ -1,10 +1,15 @@
 //! Definitions of links: how they are found (CommonMark).
 
-ghost use Rattle.std.specs.Prelude.{IfSome, length, ◌≡◌, ◌≤◌, ◌<◌, ◌+◌, ◌^◌};
+ghost use Rattle.std.specs.Prelude.{IfSome, MatchOption, drop, length, ◌≡◌, ◌≤◌, ◌<◌, ◌+◌, ◌^◌};
 ghost use Rattle.commonmark_syntax.specs.Cuts.{IsCut};
+ghost use Rattle.commonmark_syntax.specs.Definitions as page;
+ghost use Rattle.commonmark_syntax.specs.Language.{IsAt, IsNotAt};
+ghost use Rattle.commonmark_syntax.specs.Parentheses.{IsNoDestination, LeavesDestination};
+ghost use Rattle.commonmark_syntax.specs.Reading.{Reading, read};
 ghost use Rattle.markdown_flow.specs.Parts.{AreCuts};
 
 use commonmark_syntax::bytes::{after, count_while, is_space_or_tab, white_space_length};
+use commonmark_syntax::reading::past_byte;
 use commonmark_syntax::{destination, label, title};
 
 /// A part of a definition. Its fields are offsets in the text.
@@ -93,6 +98,7 @@ impl Part {
 ///
 /// In `[a]: b "c"` and a line feed it begins at 0 and ends at 10.
 pub fn scan(text: &[u8], start: usize) -> Option<Definition>
+    ensures exact { MatchOption result (page.IsNoDefinition (drop start text.now)) (λ found. page.LeavesDefinition (drop start text.now) (drop (found.end + 1) text.now)) }
     ensures most { IfSome result (λ found. found.end < length text.now) }
     ensures least { IfSome result (λ found. start < found.end) }
     ensures title { IfSome result (λ found. IfSome found.title (λ title. title.end ≤ found.end)) }
@@ -105,11 +111,9 @@ pub fn scan(text: &[u8], start: usize) -> Option<Definition>
 {
     let size = label::scan(after(text, start))?;
     let label = Part::marked(start, size);
-    if *text.get(label.end)? != b':' {
-        return None;
-    }
+    let rest = past_byte(after(text, label.end), b':')?;
     let marker_end = label.end + 1;
-    let space = white_space_length(after(text, marker_end));
+    let space = white_space_length(rest);
     let destination = scan_destination(text, marker_end + space)?;
     let title = scan_title(text, destination.end);
     let end = match title {
@@ -128,6 +132,7 @@ pub fn scan(text: &[u8], start: usize) -> Option<Definition>
 /// The destination that begins at an offset of a text.
 fn scan_destination(text: &[u8], start: usize) -> Option<Part>
     requires { IsCut text.now start }
+    ensures exact { MatchOption result (IsNoDestination (drop start text.now)) (λ found. LeavesDestination (drop start text.now) (drop found.end text.now)) }
     ensures most { IfSome result (λ found. found.end ≤ length text.now) }
     ensures least { IfSome result (λ found. start < found.end) }
     ensures cuts { IfSome result (λ found. AreCuts text.now found.start found.string_start found.string_end found.end) }
@@ -143,6 +148,8 @@ fn scan_destination(text: &[u8], start: usize) -> Option<Part>
 /// The title that comes after white space at an offset of a text. Only spaces and tabs may come after it in
 /// its last line (CommonMark).
 fn scan_title(text: &[u8], offset: usize) -> Option<Part>
+    ensures exact { MatchOption result (IsNotAt page.titled_end (drop offset text.now)) (λ found. read page.titled_end (drop offset text.now) ≡ read page.line_end (drop found.end text.now)) }
+    ensures closed { IfSome result (λ found. IsAt page.line_end (drop found.end text.now)) }
     ensures most { IfSome result (λ found. found.end ≤ length text.now) }
     ensures least { IfSome result (λ found. offset < found.end) }
     ensures cuts { IfSome result (λ found. AreCuts text.now found.start found.string_start found.string_end found.end) }
@@ -160,12 +167,13 @@ fn scan_title(text: &[u8], offset: usize) -> Option<Part>
 
 /// The offset of the line feed that ends a line, if only spaces and tabs come before it from an offset on.
 fn line_end(text: &[u8], offset: usize) -> Option<usize>
+    ensures exact { Reading page.line_end (drop offset text.now) (λ end. drop (end + 1) text.now) result }
     ensures most { IfSome result (λ end. end < length text.now) }
     ensures least { IfSome result (λ end. offset ≤ end) }
 {
     let rest = after(text, offset);
     let size = count_while(rest, is_space_or_tab);
-    if *rest.get(size)? != b'\n' {
+    if rest.get(size) != Some(&b'\n') {
         return None;
     }
     Some(offset + size)

@@ -1,7 +1,9 @@
 //! Frontmatter: YAML or TOML at the start of a document (micromark).
 
-ghost use Rattle.std.specs.Prelude.{Bool, List, OnOk, IfOk, IfSome, false, length, true, ◌≡◌, ◌<◌};
+ghost use Rattle.std.specs.Prelude.{Bool, List, OnOk, IfOk, IfSome, drop, false, length, true, ◌≡◌, ◌<◌};
+ghost use Rattle.commonmark_syntax.specs.Blocks.{frontmatter_fence};
 ghost use Rattle.commonmark_syntax.specs.Cuts.{IsCut};
+ghost use Rattle.commonmark_syntax.specs.Language.{IsNotAt, Leaves};
 ghost use Rattle.event_writer.specs.Stages.{Enclosing, flow, inlines};
 ghost use Rattle.markdown_events.specs.declared.event.Name.TheVariants.{Frontmatter};
 ghost use Rattle.markdown_flow.specs.Outputs.{Keeps, KeepsFlow, Opens, Stands, Writes, WritesOut, constructs_in, constructs_of, line_after, next_of, rest_of, source_of, spot, spot_in};
@@ -9,8 +11,7 @@ ghost use Rattle.markdown_pieces.specs.Walks.{at, inside};
 
 use crate::line::Line;
 use crate::output::Output;
-use crate::space_or_tab::is_blank;
-use commonmark_syntax::bytes::{after, run_length};
+use commonmark_syntax::frontmatter_fence;
 use markdown_events::event::Name;
 use std::alloc::AllocError;
 
@@ -33,10 +34,11 @@ pub fn begins(first: &Line<'_>) -> Option<u8>
 
 /// Whether a line is a fence.
 fn is_fence(line: &Line<'_>, sign: u8) -> bool
-    ensures { result ≡ true → sign < 128 → IsCut line.now.rest.now 3 }
+    ensures cut { result ≡ true → sign < 128 → IsCut line.now.rest.now 3 }
+    ensures yes { result ≡ true → Leaves (frontmatter_fence sign) line.now.rest.now (drop 3 line.now.rest.now) }
+    ensures no { result ≡ false → IsNotAt (frontmatter_fence sign) line.now.rest.now }
 {
-    let size = run_length(line.rest(), sign);
-    size == SIGNS && is_blank(after(line.rest(), size))
+    frontmatter_fence::scan(line.rest(), sign).is_some()
 }
 
 /// Whether a fence comes after a line.

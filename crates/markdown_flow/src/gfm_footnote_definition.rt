@@ -1,6 +1,8 @@
 //! Footnote definitions (GFM).
 
-ghost use Rattle.std.specs.Prelude.{Bool, List, OnOk, IfSome, false, length, true, ◌≡◌, ◌≤◌, ◌+◌};
+ghost use Rattle.std.specs.Prelude.{Bool, List, MatchOption, OnOk, IfSome, drop, false, true, ◌≡◌, ◌≤◌, ◌+◌};
+ghost use Rattle.commonmark_syntax.specs.Blocks.{footnote_label};
+ghost use Rattle.commonmark_syntax.specs.Language.{IsNotAt, Leaves};
 ghost use Rattle.event_writer.specs.Stages.{Enclosing, flow, footnote_definition};
 ghost use Rattle.markdown_events.specs.declared.event.Name.TheVariants.{GfmFootnoteDefinition};
 ghost use Rattle.markdown_flow.specs.Outputs.{IsAt, Opens, Writes, WritesOn, Reads, constructs_in, constructs_of, rest_of};
@@ -13,8 +15,7 @@ ghost use Rattle.markdown_pieces.specs.Walks.{at, inside};
 use crate::input::Input;
 use crate::line::{Line, TAB_SIZE};
 use crate::output::Output;
-use commonmark_syntax::bytes::{after, is_continuation, is_space_or_tab};
-use commonmark_syntax::label::CHARACTERS_MOST;
+use commonmark_syntax::footnote_label;
 use markdown_events::event::Name;
 use std::alloc::AllocError;
 
@@ -25,32 +26,13 @@ use std::alloc::AllocError;
 pub fn begins(line: &Line<'_>) -> Option<usize>
     ensures label { IfSome result (λ size. HasLabel line.now.text.now size) }
     ensures on { IfSome result (λ _. (constructs_in line.now).gfm_footnote_definition ≡ true) }
+    ensures exact { (constructs_in line.now).gfm_footnote_definition ≡ true → MatchOption result (IsNotAt footnote_label line.now.text.now) (λ size. Leaves footnote_label line.now.text.now (drop (size + 4) line.now.text.now)) }
 {
-    let inside = line.text().strip_prefix(b"[^")?;
-    let size = label_size(inside)?;
-    let label = inside.get(..size)?;
-    let characters = label.iter().filter(|byte| !is_continuation(**byte)).count();
-    let fits = 0 < characters && characters <= CHARACTERS_MOST;
-    let is_definition = fits && after(inside, size).starts_with(b"]:");
-    (line.constructs().gfm_footnote_definition && is_definition).then_some(size)
-}
-
-/// The number of bytes before the bracket that ends a label. A label has no white space in it, and no other
-/// bracket without a backslash before it (GFM).
-fn label_size(inside: &[u8]) -> Option<usize>
-    ensures { IfSome result (λ size. size ≤ length inside.now) }
-{
-    let mut is_escaped = false;
-    for (size, byte) in inside.iter().enumerate() {
-        match *byte {
-            byte if is_space_or_tab(byte) => return None,
-            b'[' | b']' | b'\\' if is_escaped => is_escaped = false,
-            b'[' => return None,
-            b']' => return Some(size),
-            byte => is_escaped = byte == b'\\',
-        }
+    if !line.constructs().gfm_footnote_definition {
+        return None;
     }
-    None
+    let size = footnote_label::scan(line.text())?;
+    Some(size - 4)
 }
 
 /// Whether a footnote definition goes on in a line: one that is blank, or indented by four columns (GFM). If

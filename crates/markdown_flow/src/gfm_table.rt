@@ -2,6 +2,8 @@
 
 ghost use Rattle.std.specs.Prelude.{Bool, List, [], OnOk, Some, false, length, true, ◌≡◌, ◌<◌};
 ghost use Rattle.std.specs.Str.{IsAscii};
+ghost use Rattle.commonmark_syntax.specs.Blocks as blocks;
+ghost use Rattle.commonmark_syntax.specs.Language.{Matches};
 ghost use Rattle.event_writer.specs.Stages.{Enclosing, Stage, delimiter_row, inlines};
 ghost use Rattle.markdown_flow.specs.Leaves.{in_flow, in_table};
 ghost use Rattle.markdown_flow.specs.Outputs.{HasLine, Keeps, Opens, Stands, Writes, WritesOn, WritesOut, Reads, constructs_in, constructs_of, next_of, rest_of, source_of, spot, text_of};
@@ -17,7 +19,8 @@ use crate::input::Input;
 use crate::line::Line;
 use crate::output::Output;
 use crate::space_or_tab::{after_spaces, trimmed_size};
-use commonmark_syntax::bytes::{after, run_length};
+use commonmark_syntax::bytes::run_length;
+use commonmark_syntax::delimiter_row;
 use markdown_events::event::Name;
 use std::alloc::AllocError;
 
@@ -26,11 +29,12 @@ use std::alloc::AllocError;
 pub fn begins(header: &Line<'_>, line: &Line<'_>) -> bool
     ensures ascii { result ≡ true → IsAscii line.now.text.now }
     ensures on { result ≡ true → (constructs_in line.now).gfm_table ≡ true }
+    ensures row { result ≡ true → Matches blocks.delimiter_row line.now.text.now }
 {
     if !line.constructs().gfm_table || line.is_indented() || header.is_indented() {
         return false;
     }
-    is_delimiter_row(line.text())
+    delimiter_row::is_row(line.text())
         && !is_bare_divider(header.text())
         && gfm_table_row::count(header.text()) == gfm_table_row::count(line.text())
 }
@@ -38,44 +42,6 @@ pub fn begins(header: &Line<'_>, line: &Line<'_>) -> bool
 /// Whether a row is a lone divider, which heads no table (micromark).
 fn is_bare_divider(row: &[u8]) -> bool {
     row.starts_with(b"|") && trimmed_size(row) == 1
-}
-
-/// Whether a text is a delimiter row (GFM). Hyphens alone are none, since they are an underline.
-#[tactic(auto, using(crate::proofs::Rows::row_ascii))]
-fn is_delimiter_row(text: &[u8]) -> bool
-    ensures { result ≡ true → IsAscii text.now }
-{
-    if !text.iter().any(|byte| matches!(*byte, b':' | b'|')) {
-        return false;
-    }
-    let mut rest = text;
-    'cells: while !rest.is_empty() {
-        let cell = Cell::first(rest);
-        if !is_delimiter(cell.text) {
-            return false;
-        }
-        rest = cell.next;
-    }
-    true
-}
-
-/// Whether the text of a cell says how its column is aligned: hyphens, and maybe a colon before or after
-/// them (GFM).
-fn is_delimiter(text: &[u8]) -> bool
-    ensures { result ≡ true → IsAscii text.now }
-{
-    match text {
-        [b':', rest @ ..] => is_hyphens(rest),
-        _ => is_hyphens(text),
-    }
-}
-
-/// Whether a text is hyphens, and maybe a colon after them.
-fn is_hyphens(text: &[u8]) -> bool
-    ensures { result ≡ true → IsAscii text.now }
-{
-    let hyphens = run_length(text, b'-');
-    hyphens > 0 && matches!(after(text, hyphens), [] | [b':'])
 }
 
 /// Writes the head of a table: the last line of a paragraph, and the line after it.

@@ -1,19 +1,17 @@
 //! Headings with number signs (CommonMark).
 
-ghost use Rattle.std.specs.Prelude.{OnOk, IfSome, length, true, ◌≡◌, ◌≤◌};
-ghost use Rattle.commonmark_syntax.specs.Cuts.{IsCut};
+ghost use Rattle.std.specs.Prelude.{MatchOption, OnOk, IfSome, drop, true, ◌≡◌};
+ghost use Rattle.commonmark_syntax.specs.Blocks.{atx_opening};
+ghost use Rattle.commonmark_syntax.specs.Language.{IsNotAt, Leaves};
 ghost use Rattle.markdown_flow.specs.Outputs.{KeepsFlow, Writes, WritesOut, constructs_in, constructs_of, text_of};
 ghost use Rattle.markdown_flow.specs.Markers.{HasSigns};
 
 use crate::line::Line;
 use crate::output::Output;
-use crate::space_or_tab::{is_at_space_or_end, trimmed_size};
-use commonmark_syntax::bytes::{after, count_back, is_space_or_tab, run_length};
+use crate::space_or_tab::trimmed_size;
+use commonmark_syntax::{atx_closing, atx_opening};
 use markdown_events::event::Name;
 use std::alloc::AllocError;
-
-/// How many number signs a heading may begin with (CommonMark).
-const SIGNS_MOST: usize = 6;
 
 /// The number of signs that the heading in a line begins with, if there is one (CommonMark). Always `None`
 /// with `heading_atx` off.
@@ -22,11 +20,12 @@ const SIGNS_MOST: usize = 6;
 pub fn begins(line: &Line<'_>) -> Option<usize>
     ensures signs { IfSome result (λ size. HasSigns line.now.text.now size) }
     ensures on { IfSome result (λ _. (constructs_in line.now).heading_atx ≡ true) }
+    ensures exact { (constructs_in line.now).heading_atx ≡ true → MatchOption result (IsNotAt atx_opening line.now.text.now) (λ size. Leaves atx_opening line.now.text.now (drop size line.now.text.now)) }
 {
-    let size = run_length(line.text(), b'#');
-    let fits = 0 < size && size <= SIGNS_MOST;
-    let is_heading = fits && is_at_space_or_end(after(line.text(), size));
-    (line.constructs().heading_atx && is_heading).then_some(size)
+    if !line.constructs().heading_atx {
+        return None;
+    }
+    atx_opening::scan(line.text())
 }
 
 /// Writes the heading in a line, which begins with so many signs.
@@ -41,27 +40,11 @@ pub fn write(size: usize, output: &mut Output<'_>) -> Result<(), AllocError>
     output.white_space()?;
     output.opening_sequence(size)?;
     output.white_space()?;
-    let text_size = text_size(output.rest());
+    let text_size = atx_closing::text_size(output.rest());
     output.string(Name::HeadingAtxText, text_size)?;
     output.white_space()?;
     let closing_size = trimmed_size(output.rest());
     output.token(Name::HeadingAtxSequence, closing_size)?;
     output.token_of_rest(Name::SpaceOrTab)?;
     output.exit(Name::HeadingAtx)
-}
-
-/// The size of the text of a heading: without the signs that close it and the white space around them.
-/// Signs close a heading where white space comes before them (CommonMark).
-fn text_size(inside: &[u8]) -> usize
-    ensures within { result ≤ length inside.now }
-    ensures cut { IsCut inside.now result }
-{
-    let trimmed = trimmed_size(inside);
-    let text = &inside[..trimmed];
-    let unsigned = text.len() - count_back(text, |byte| byte == b'#');
-    let before_signs = &text[..unsigned];
-    match before_signs.last() {
-        Some(byte) if !is_space_or_tab(*byte) => trimmed,
-        _ => trimmed_size(before_signs),
-    }
 }

@@ -1,9 +1,11 @@
 //! Headings with an underline (CommonMark).
 
-ghost use Rattle.std.specs.Prelude.{List, [], OnOk, IfSome, length, true, ◌≡◌, ◌<◌};
+ghost use Rattle.std.specs.Prelude.{List, [], MatchOption, OnOk, IfSome, drop, false, length, true, ◌≡◌, ◌<◌};
+ghost use Rattle.commonmark_syntax.specs.Blocks.{setext_underline};
 ghost use Rattle.commonmark_syntax.specs.Cuts.{IsCut};
+ghost use Rattle.commonmark_syntax.specs.Language.{IsNotAt, Leaves};
 ghost use Rattle.event_writer.specs.Stages.{Enclosing, heading_setext_underline, nothing};
-ghost use Rattle.markdown_flow.specs.Outputs.{HasLine, KeepsFlow, Opens, Stands, Writes, WritesOut, Reads, constructs_in, constructs_of, next_of, source_of, spot, text_of};
+ghost use Rattle.markdown_flow.specs.Outputs.{HasLine, KeepsFlow, Opens, Stands, Writes, WritesOut, Reads, constructs_in, constructs_of, is_indented, next_of, source_of, spot, text_of};
 ghost use Rattle.markdown_flow.specs.Contents.{Kept, AreKept, after_lines};
 ghost use Rattle.markdown_pieces.specs.Walks.{at};
 
@@ -11,8 +13,7 @@ use crate::content::{Content, KeptLine};
 use crate::input::Input;
 use crate::line::Line;
 use crate::output::Output;
-use crate::space_or_tab::is_blank;
-use commonmark_syntax::bytes::{after, run_length};
+use commonmark_syntax::setext_underline;
 use markdown_events::event::Name;
 use std::alloc::AllocError;
 
@@ -22,6 +23,7 @@ use std::alloc::AllocError;
 /// It is 3 in `===`.
 pub fn underline(line: &Line<'_>) -> Option<usize>
     ensures on { IfSome result (λ _. (constructs_in line.now).heading_setext ≡ true) }
+    ensures exact { (constructs_in line.now).heading_setext ≡ true → is_indented line.now ≡ false → MatchOption result (IsNotAt setext_underline line.now.text.now) (λ size. Leaves setext_underline line.now.text.now (drop size line.now.text.now)) }
     ensures least { IfSome result (λ size. 0 < size) }
     ensures text { IfSome result (λ _. 0 < length line.now.text.now) }
     ensures cut { IfSome result (λ size. IsCut line.now.text.now size) }
@@ -29,12 +31,7 @@ pub fn underline(line: &Line<'_>) -> Option<usize>
     if !line.constructs().heading_setext || line.is_indented() {
         return None;
     }
-    let size = match line.text() {
-        [b'=', rest @ ..] => 1 + run_length(rest, b'='),
-        [b'-', rest @ ..] => 1 + run_length(rest, b'-'),
-        _ => return None,
-    };
-    is_blank(after(line.text(), size)).then_some(size)
+    setext_underline::scan(line.text())
 }
 
 /// Writes a heading of lines of a content, with an underline of so many signs.

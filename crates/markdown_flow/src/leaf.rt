@@ -5,7 +5,7 @@ ghost use Rattle.std.specs.Prelude.{IfSome};
 use crate::html_flow::Html;
 use crate::line::Line;
 use crate::raw_flow::Fence;
-use crate::{heading_atx, thematic_break};
+use crate::{code_indented, heading_atx, thematic_break};
 
 /// The leaf that is open.
 #[derive(Clone, Copy)]
@@ -56,7 +56,7 @@ impl LeafStart {
     pub fn find(line: &Line<'_>, interrupts: bool) -> Option<LeafStart>
         ensures { IfSome result (λ start. IsStart start line.now) }
     {
-        if line.is_indented() {
+        if code_indented::begins(line) {
             return (!interrupts).then_some(LeafStart::CodeIndented);
         }
         match line.text().first()? {

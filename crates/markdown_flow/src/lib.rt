@@ -23,7 +23,6 @@ mod gfm_table_row;
 mod heading_atx;
 mod heading_setext;
 mod html_flow;
-mod html_names;
 mod input;
 mod leaf;
 mod line;

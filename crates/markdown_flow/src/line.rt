@@ -20,11 +20,11 @@ ghost use Rattle.std.proofs.Props.{props};
 ghost use Rattle.event_writer.specs.Calls.{EndsLine, line_ending_length};
 ghost use Rattle.markdown_flow.specs.Lines.{
   HasColumns,
-  IsAsciiBetween,
   IsBefore,
   IsInLine,
   IsRest,
   IsRest-prop,
+  IsTail,
   after_spaces,
   columns_after,
   indentation,
@@ -32,8 +32,8 @@ ghost use Rattle.markdown_flow.specs.Lines.{
 };
 
 use crate::space_or_tab::after_spaces;
-use crate::thematic_break;
 use commonmark_syntax::bytes::{after, is_space_or_tab};
+use commonmark_syntax::thematic_break;
 use markdown_options::Constructs;
 
 /// How many columns lie between two tab stops (CommonMark).
@@ -81,13 +81,14 @@ pub struct Line<'d> {
     ghost text_rests: { text.now ≡ after_spaces rest.now },
     ghost has_columns: { HasColumns source.document.now (end - length rest.now) virtual_spaces columns } by { Prim.hlevel props },
     ghost has_indent: { indent ≡ indentation columns rest.now },
-    ghost tail_ascii: { IsAsciiBetween source.document.now (end - tail) end } by { Prim.hlevel props },
+    ghost tail_exact: { IsTail source.document.now start end tail } by { Prim.hlevel props },
 }
 
 impl<'d> Line<'d> {
+    ghost use Rattle.commonmark_syntax.specs.Blocks.{has_one_sign};
     ghost use Rattle.commonmark_syntax.specs.Cuts.{IsCut};
     ghost use Rattle.markdown_flow.specs.Moves.{HasMoved};
-    ghost use Rattle.markdown_flow.specs.Outputs.{ComesToCut, constructs_in};
+    ghost use Rattle.markdown_flow.specs.Outputs.{ComesToCut, constructs_in, is_indented};
 
     /// The line that begins at an offset, or `None` at the end of the document.
     pub fn new(source: Source<'d>, start: usize) -> Option<Line<'d>>
@@ -217,7 +218,8 @@ impl<'d> Line<'d> {
     /// Whether the text is indented like code, so that it is no other block (CommonMark). Never, with
     /// `code_indented` off (micromark).
     pub fn is_indented(&self) -> bool
-        ensures { result ≡ true → (constructs_in self.now).code_indented ≡ true }
+        ensures on { result ≡ true → (constructs_in self.now).code_indented ≡ true }
+        ensures exact { result ≡ is_indented self.now }
     {
         self.source.constructs.code_indented && self.indent >= TAB_SIZE
     }
@@ -226,7 +228,8 @@ impl<'d> Line<'d> {
     ///
     /// This is found once for a line, since each of many nested markers may ask for it.
     pub fn is_in_tail(&self) -> bool
-        ensures { result ≡ true → IsAscii self.now.text.now }
+        ensures ascii { result ≡ true → IsAscii self.now.text.now }
+        ensures exact { result ≡ has_one_sign self.now.text.now }
     {
         self.text.len() <= self.tail
     }

@@ -1,12 +1,12 @@
 //! Items, and the lists that they make (CommonMark).
 
-ghost use Rattle.std.specs.Prelude.{List, OnOk, IfOk, IfSome, false, nat_lt, slice_index, true, ◌≡◌, ◌<◌, ◌≤◌};
-ghost use Rattle.std.specs.Char.{is_ascii_digit};
+ghost use Rattle.std.specs.Prelude.{List, OnOk, IfNone, IfOk, IfSome, drop, false, nat_lt, slice_index, true, ◌≡◌, ◌<◌, ◌+◌};
+ghost use Rattle.commonmark_syntax.specs.Blocks as blocks;
+ghost use Rattle.commonmark_syntax.specs.Language as syntax;
 ghost use Rattle.event_writer.specs.Stages.{Enclosing, flow, item};
 ghost use Rattle.markdown_events.specs.declared.event.Name.TheVariants.{ListItem};
 ghost use Rattle.markdown_flow.specs.Containers.{after_item, before_number, in_list, list_name};
-ghost use Rattle.markdown_flow.specs.Lines.{is_space_or_tab};
-ghost use Rattle.markdown_flow.specs.Markers.{HasMarker, is_ordered};
+ghost use Rattle.markdown_flow.specs.Markers.{HasMarker, IsNoItem, is_ordered};
 ghost use Rattle.markdown_flow.specs.Outputs.{IsAt, Opens, Stands, Writes, Reads, constructs_in, constructs_of};
 ghost use Rattle.markdown_flow.specs.Moves.{HasMoved};
 ghost use Rattle.markdown_flow.specs.declared.line.Source.{Source};
@@ -16,14 +16,10 @@ ghost use Rattle.markdown_pieces.specs.Walks.{at, inside};
 use crate::input::Input;
 use crate::line::{Line, TAB_SIZE};
 use crate::output::Output;
-use crate::space_or_tab::{is_at_space_or_end, is_blank};
 use crate::thematic_break;
-use commonmark_syntax::bytes::{after, count_while};
+use commonmark_syntax::list_marker;
 use markdown_events::event::Name;
 use std::alloc::AllocError;
-
-/// How many digits the number of an item may have (CommonMark).
-const DIGITS_MOST: usize = 9;
 
 /// How far an item has come.
 #[derive(Clone, Copy, PartialEq, Eq)]
@@ -74,48 +70,29 @@ pub fn list_name(marker: u8) -> Name
 pub fn begins(line: &Line<'_>, interrupts: bool) -> Option<ItemStart>
     ensures marker { IfSome result (λ start. HasMarker line.now.text.now start.digits) }
     ensures on { IfSome result (λ _. (constructs_in line.now).list_item ≡ true) }
+    ensures exact { IfSome result (λ start. syntax.Leaves blocks.list_marker line.now.text.now (drop (start.digits + 1) line.now.text.now)) }
+    ensures none { (constructs_in line.now).list_item ≡ true → IfNone result (IsNoItem interrupts line.now.text.now) }
+    ensures interrupting { interrupts ≡ true → IfSome result (λ _. syntax.IsAt blocks.interrupting_list_marker line.now.text.now) }
 {
     if !line.constructs().list_item || thematic_break::begins(line) {
         return None;
     }
     let text = line.text();
-    let digits = count_while(text, is_digit);
-    let marker = *text.get(digits)?;
-    let rest = after(text, digits + 1);
-    let may_interrupt = !is_blank(rest) && (digits == 0 || is_one(&text[..digits]));
-    if !is_marker(marker, digits) || !is_at_space_or_end(rest) || (interrupts && !may_interrupt) {
+    if !may_begin(text, interrupts) {
         return None;
     }
+    let size = list_marker::scan(text)?;
+    let digits = size - 1;
+    let marker = text[digits];
     Some(ItemStart { marker, digits })
 }
 
-/// Whether a byte is a decimal digit.
-fn is_digit(byte: u8) -> bool
-    ensures { result ≡ is_ascii_digit byte }
+/// Whether the item that a text begins with may begin, where it interrupts a paragraph or not.
+fn may_begin(text: &[u8], interrupts: bool) -> bool
+    ensures yes { result ≡ true → interrupts ≡ true → syntax.IsAt blocks.interrupting_list_marker text.now }
+    ensures no { result ≡ false → (interrupts ≡ true) × syntax.IsNotAt blocks.interrupting_list_marker text.now }
 {
-    byte.is_ascii_digit()
-}
-
-/// Whether a byte is the marker of an item after so many digits (CommonMark).
-fn is_marker(byte: u8, digits: usize) -> bool
-    ensures ordered { result ≡ true → is_ordered byte ≡ nat_lt 0 digits }
-    ensures most { result ≡ true → digits ≤ 9 }
-    ensures ascii { result ≡ true → byte < 128 }
-    ensures not_white { result ≡ true → is_space_or_tab byte ≡ false }
-{
-    match byte {
-        b'*' | b'-' | b'+' => digits == 0,
-        b'.' | b')' => 0 < digits && digits <= DIGITS_MOST,
-        _ => false,
-    }
-}
-
-/// Whether digits say the number 1.
-fn is_one(digits: &[u8]) -> bool {
-    match digits {
-        [zeros @ .., b'1'] => zeros.iter().all(|digit| *digit == b'0'),
-        _ => false,
-    }
+    !interrupts || list_marker::may_interrupt(text)
 }
 
 impl Item {

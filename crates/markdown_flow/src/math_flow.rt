@@ -1,7 +1,9 @@
 //! Math between fences (micromark).
 
-ghost use Rattle.std.specs.Prelude.{Bool, IfSome, List, OnOk, true, ◌≡◌};
+ghost use Rattle.std.specs.Prelude.{Bool, IfSome, List, MatchOption, OnOk, drop, true, ◌≡◌};
+ghost use Rattle.commonmark_syntax.specs.Blocks.{math_fence};
 ghost use Rattle.commonmark_syntax.specs.Cuts.{IsCut};
+ghost use Rattle.commonmark_syntax.specs.Language.{IsNotAt, Leaves};
 ghost use Rattle.event_writer.specs.Stages.{Enclosing};
 ghost use Rattle.markdown_flow.specs.Leaves.{in_flow, in_raw, raw_name};
 ghost use Rattle.markdown_flow.specs.Outputs.{Opens, Writes, WritesOut, constructs_in, constructs_of, rest_of, text_of};
@@ -11,15 +13,12 @@ ghost use Rattle.markdown_flow.specs.declared.raw_flow.RawFlow.TheVariants.{Math
 use crate::line::Line;
 use crate::output::Output;
 use crate::raw_flow::{Fence, RawFlow, write_closing, write_meta};
-use commonmark_syntax::bytes::{after, run_length};
+use commonmark_syntax::math_fence;
 use markdown_events::event::Name;
 use std::alloc::AllocError;
 
 /// The sign of a fence.
 const SIGN: u8 = b'$';
-
-/// How many signs a fence has at least (micromark).
-const SIGNS_LEAST: usize = 2;
 
 /// The fence of math that a line opens, if it opens one: dollars with none after them (micromark). Always
 /// `None` with `math_flow` off.
@@ -28,10 +27,13 @@ const SIGNS_LEAST: usize = 2;
 pub fn begins(line: &Line<'_>) -> Option<Fence>
     ensures cut { IfSome result (λ fence. IsCut line.now.text.now fence.size) }
     ensures on { IfSome result (λ fence. is_on (constructs_in line.now) (raw_name fence.content) ≡ true) }
+    ensures exact { (constructs_in line.now).math_flow ≡ true → MatchOption result (IsNotAt math_fence line.now.text.now) (λ fence. Leaves math_fence line.now.text.now (drop fence.size line.now.text.now)) }
 {
-    let size = run_length(line.text(), SIGN);
-    let is_fence = size >= SIGNS_LEAST && !after(line.text(), size).contains(&SIGN);
-    (line.constructs().math_flow && is_fence).then_some(Fence {
+    if !line.constructs().math_flow {
+        return None;
+    }
+    let size = math_fence::scan(line.text())?;
+    Some(Fence {
         content: RawFlow::Math,
         sign: SIGN,
         size,

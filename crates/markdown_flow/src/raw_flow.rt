@@ -1,9 +1,11 @@
 //! Code and math between fences (micromark, raw flow).
 
-ghost use Rattle.std.specs.Prelude.{Bool, List, OnOk, IfOk, IfSome, Some, true, ◌≡◌, ◌<◌};
+ghost use Rattle.std.specs.Prelude.{Bool, List, MatchOption, OnOk, IfOk, IfSome, Some, drop, false, true, ◌≡◌, ◌<◌};
+ghost use Rattle.commonmark_syntax.specs.Blocks.{closing_fence};
 ghost use Rattle.commonmark_syntax.specs.Cuts.{IsCut};
+ghost use Rattle.commonmark_syntax.specs.Language.{IsNotAt, Leaves};
 ghost use Rattle.event_writer.specs.Stages.{Enclosing, Stage, skips};
-ghost use Rattle.markdown_flow.specs.Outputs.{IsAt, Keeps, Opens, Stands, Writes, WritesOut, constructs_in, constructs_of, document_of, spot, text_of};
+ghost use Rattle.markdown_flow.specs.Outputs.{IsAt, Keeps, Opens, Stands, Writes, WritesOut, constructs_in, constructs_of, document_of, is_indented, spot, text_of};
 ghost use Rattle.markdown_pieces.specs.Spans.{IsAlwaysOn};
 ghost use Rattle.markdown_pieces.specs.declared.piece.PieceKind.TheVariants.{Enter, Token};
 ghost use Rattle.markdown_pieces.specs.Tilings.{IsPlain, MayBegin};
@@ -11,9 +13,9 @@ ghost use Rattle.markdown_pieces.specs.Walks.{after_token, at, stage_after_strin
 
 use crate::line::Line;
 use crate::output::Output;
-use crate::space_or_tab::{is_blank, trimmed_size};
+use crate::space_or_tab::trimmed_size;
 use crate::{code_fenced, math_flow};
-use commonmark_syntax::bytes::{after, run_length};
+use commonmark_syntax::closing_fence;
 use markdown_events::event::Name;
 use std::alloc::AllocError;
 
@@ -120,11 +122,13 @@ impl Fence {
 
     /// The number of signs of the fence that closes, if the line has it (CommonMark).
     fn closing(self, line: &Line<'_>) -> Option<usize>
-        ensures { IfSome result (λ size. IsCut line.now.text.now size) }
+        ensures cut { IfSome result (λ size. IsCut line.now.text.now size) }
+        ensures exact { is_indented line.now ≡ false → MatchOption result (IsNotAt (closing_fence self.sign self.size) line.now.text.now) (λ size. Leaves (closing_fence self.sign self.size) line.now.text.now (drop size line.now.text.now)) }
     {
-        let size = run_length(line.text(), self.sign);
-        let is_closing = size >= self.size && is_blank(after(line.text(), size));
-        (is_closing && !line.is_indented()).then_some(size)
+        if line.is_indented() {
+            return None;
+        }
+        closing_fence::scan(line.text(), self.sign, self.size)
     }
 
     /// Writes the line of a fence of so many signs, which closes.

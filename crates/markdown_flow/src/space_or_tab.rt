@@ -1,8 +1,10 @@
 //! Spaces and tabs (micromark).
 
-ghost use Rattle.std.specs.Prelude.{[], ◌≡◌, ◌≤◌, drop, length, true};
+ghost use Rattle.std.specs.Prelude.{[], ◌≡◌, ◌≤◌, drop, length, take, true};
 ghost use Rattle.std.specs.Str.{IsAscii};
+ghost use Rattle.commonmark_syntax.specs.Blocks.{without_last};
 ghost use Rattle.commonmark_syntax.specs.Cuts.{IsCut};
+ghost use Rattle.commonmark_syntax.specs.Syntax.{is_blank};
 ghost use Rattle.markdown_flow.specs.Lines.{after_spaces};
 
 use commonmark_syntax::bytes::{after, count_back, count_while, is_space_or_tab};
@@ -29,6 +31,7 @@ pub fn trimmed_size(text: &[u8]) -> usize
     ensures within { result ≤ length text.now }
     ensures cut { IsCut text.now result }
     ensures blank { after_spaces (drop result text.now) ≡ [] }
+    ensures exact { take result text.now ≡ without_last is_blank text.now }
 {
     text.len() - count_back(text, is_space_or_tab)
 }
@@ -40,11 +43,4 @@ pub fn is_blank(text: &[u8]) -> bool
     ensures { result ≡ true → IsAscii text.now }
 {
     count_while(text, is_space_or_tab) == text.len()
-}
-
-/// Whether a text is empty, or begins with a space or a tab.
-///
-/// It is false of `a`.
-pub fn is_at_space_or_end(text: &[u8]) -> bool {
-    text.first().is_none_or(|byte| is_space_or_tab(*byte))
 }

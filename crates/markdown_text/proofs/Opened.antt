@@ -13,8 +13,8 @@ use Rattle.markdown_text.proofs.Steps.{at_some}
 use Rattle.markdown_text.specs.Opens.{HasOpen, flag_of, group_name, label_end_stage, label_stage, label_start_name, labelled_name, opened, outer_of, sequence_name, text_name}
 use Rattle.markdown_text.specs.Outputs.{MayPut, after_plain}
 use Rattle.markdown_text.specs.Standings.{HasFront, IsAt, MayEnter, MayExit}
-use Rattle.markdown_text.specs.declared.attention.AttentionKind.{AttentionKind}
-use Rattle.markdown_text.specs.declared.attention.AttentionKind.TheVariants.{DoubleStrikethrough, Emphasis, Strikethrough, Strong}
+use Rattle.markdown_attention.specs.declared.delimiter.AttentionKind.{AttentionKind}
+use Rattle.markdown_attention.specs.declared.delimiter.AttentionKind.TheVariants.{DoubleStrikethrough, Emphasis, Strikethrough, Strong}
 use Rattle.markdown_text.specs.declared.output.Output.{Output}
 use Rattle.markdown_text.specs.declared.text.Open.{Open}
 use Rattle.markdown_text.specs.declared.token.Labelled.{Labelled}

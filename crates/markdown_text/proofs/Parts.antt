@@ -1,10 +1,8 @@
 -- Cuts and parts of texts, and those of a text in another.
-use Rattle.std.proofs.Common.{◌≡◌, ◌≢◌, ◌≤◌, ◌<◌, ◌+◌, ◌-◌, ◌^◌, ◌∙◌, ◌⊎◌, ◌++◌, ◌∷◌, [], Bool, List, Some, ℕ, ap, arith, drop, get_or, inl, inr, length, length-drop, map, refl, slice_get, slice_index, slice_range, subst, sym, take, true}
+use Rattle.std.proofs.Common.{◌≡◌, ◌≢◌, ◌≤◌, ◌<◌, ◌+◌, ◌-◌, ◌^◌, ◌∙◌, ◌⊎◌, Bool, List, Some, ℕ, ap, arith, drop, get_or, inl, inr, length, length-drop, refl, slice_get, slice_index, slice_range, subst, sym, true}
 use Rattle.std.proofs.Math.Nat.{eq-or-lt_of_le}
 use Rattle.std.proofs.lemmas.Bool.{cases_lt}
-use Rattle.std.proofs.lemmas.Bool.Decides.{nat_tests}
-use Rattle.std.specs.Char.{to_ascii_lowercase}
-use Rattle.std.proofs.lemmas.List.{drop-drop, get_or-drop, get_or-map, get_or-take, get_or_at, length-map, length-take-le, take-take, take_at, take_rest}
+use Rattle.std.proofs.lemmas.List.{drop-drop, get_or-drop, get_or-take, length-take-le, take_rest}
 use Rattle.std.proofs.lemmas.Option.{get_or_from_slice_get, slice_get-get_or, slice_get_within}
 use Rattle.commonmark_syntax.specs.Cuts.{IsCut, IsInLine, IsOfAscii, IsOfLine, IsRunOf}
 use Rattle.commonmark_syntax.proofs.Cuts.{cut_between, line_drop}
@@ -103,15 +101,18 @@ run_part bytes a b byte some within ascii other run =
     ascii_run bytes a b some within (λ k from to. let same = run k from to in omega (arith, same, ascii)) (λ k from to feed. other (sym (run k from to) ∙ feed))
 
 -- a byte and a run of it after it
-pub run_from : (bytes rest : List ℕ) (at size byte : ℕ) → at + (1 + size) ≤ length bytes → byte ≡ slice_index bytes at → slice_index bytes at < 128 → slice_index bytes at ≢ 10 → ((k : ℕ) → slice_index rest k ≡ slice_index bytes (at + 1 + k)) → IsRunOf rest byte size → IsAsciiPart bytes at (at + (1 + size))
-run_from bytes rest at size byte within is ascii other after run =
-    run_part bytes at (at + (1 + size)) (slice_index bytes at) (omega arith) within ascii other (λ k from to. by k from to (eq-or-lt_of_le from))
+pub run_from : (bytes rest : List ℕ) (at size : ℕ) → 0 < size → at + size ≤ length bytes → rest ≡ drop at bytes → slice_index bytes at < 128 → slice_index bytes at ≢ 10 → IsRunOf rest (slice_index rest 0) size → IsAsciiPart bytes at (at + size)
+run_from bytes rest at size some within is ascii other run =
+    run_part bytes at (at + size) (slice_index bytes at) (omega (arith, some)) within ascii other (λ k from to. by k from to)
   where
-    by : (k : ℕ) → at ≤ k → k < at + (1 + size) → (at ≡ k) ⊎ (at < k) → slice_index bytes k ≡ slice_index bytes at
-    by k from to (inl same) = ap (slice_index bytes) (sym same)
-    by k from to (inr more) =
-        let e : at + 1 + (k - at - 1) ≡ k = omega (arith, more) in
-        ap (slice_index bytes) (sym e) ∙ sym (after (k - at - 1)) ∙ run (k - at - 1) (omega (arith, more, to)) ∙ is
+    place : (k : ℕ) → slice_index rest k ≡ slice_index bytes (at + k)
+    place k = ap (λ (x : List ℕ). slice_index x k) is ∙ get_or-drop at bytes k 0
+
+    by : (k : ℕ) → at ≤ k → k < at + size → slice_index bytes k ≡ slice_index bytes at
+    by k from to =
+        let e : at + (k - at) ≡ k = omega (arith, from) in
+        let f : at + 0 ≡ at = omega arith in
+        ap (slice_index bytes) (sym e) ∙ sym (place (k - at)) ∙ run (k - at) (omega (arith, from, to)) ∙ place 0 ∙ ap (slice_index bytes) f
 
 -- bytes that a test tells, and one byte of ASCII after them
 pub tested_part : (P : ℕ → Bool → Type 0) (text front : List ℕ) (size : ℕ) → size ≤ length front → ((k : ℕ) → k < length front → slice_index front k ≡ slice_index text k) → ((k : ℕ) → k < size → P (slice_index front k) true) → ((k : ℕ) → slice_index text k < 2 ^ 8) → IsOfAscii P true → IsOfLine P true → size < length text → slice_index text size ≡ 59 → IsAsciiPart text 0 (size + 1)
@@ -141,23 +142,6 @@ line_more bytes n line other k less = by (eq-or-lt_of_le (below less))
     by : (k ≡ n) ⊎ (k < n) → slice_index bytes k ≢ 10
     by (inl same) = λ feed. other (ap (slice_index bytes) (sym same) ∙ feed)
     by (inr before) = line k before
-
--- fewer bytes of a line
-pub line_less : (bytes : List ℕ) (n m : ℕ) → m ≤ n → IsInLine bytes n → IsInLine bytes m
-line_less bytes n m order line k less = line k (omega (arith, less, order))
-
--- a byte that is a line feed in lower case is one
-feed_lower : (b : ℕ) → to_ascii_lowercase b ≡ 10 → b ≡ 10
-feed_lower b feed = grind (arith, nat_tests)
-
--- bytes that are those of a line but for the case of letters
-pub line_same_case : (text front start : List ℕ) → front ≡ take (length start) text → map to_ascii_lowercase front ≡ map to_ascii_lowercase start → IsInLine start (length start) → IsInLine text (length start)
-line_same_case text front start is same line k less feed =
-    let size : length front ≡ length start = sym (length-map front to_ascii_lowercase) ∙ ap (λ (xs : List ℕ). length xs) same ∙ length-map start to_ascii_lowercase in
-    let here : get_or front k 0 ≡ 10 = ap (λ (xs : List ℕ). get_or xs k 0) is ∙ get_or-take (length start) text k 0 less ∙ feed in
-    let low : to_ascii_lowercase (get_or start k 0) ≡ 10 =
-    sym (get_or-map to_ascii_lowercase start k 0 0 less) ∙ sym (ap (λ (xs : List ℕ). get_or xs k 0) same) ∙ get_or-map to_ascii_lowercase front k 0 0 (omega (arith, size, less)) ∙ ap to_ascii_lowercase here in
-    line k less (feed_lower (get_or start k 0) low)
 
 -- bytes of a line, from a cut to another
 pub part_line : (bytes : List ℕ) (size : ℕ) → size ≤ length bytes → IsInLine bytes size → IsCut bytes size → IsPart bytes 0 size
@@ -292,20 +276,3 @@ line_first bytes at other k less feed =
     let e : k ≡ 0 = omega (arith, less) in
     let f : at + k ≡ at = omega (arith, e) in
     other (ap (slice_index bytes) (sym f) ∙ sym (get_or-drop at bytes k 0) ∙ feed)
-
--- ---- Fronts of texts
-
--- all but the last byte of a front
-pub front_step : (path rest front : List ℕ) (last : ℕ) → rest ≡ take (length rest) path → rest ≡ front ++ last ∷ [] → length front + 1 ≡ length rest → last < 128 → (front ≡ take (length front) path) × (slice_index path (length front) < 128)
-front_step path rest front last is parts size ascii =
-    let same : front ≡ take (length front) rest = sym (ap (take (length front)) parts ∙ take_at front (last ∷ []) (length front) refl) in
-    let byte : slice_index path (length front) ≡ last =
-    sym (get_or-take (length rest) path (length front) 0 (omega (arith, size))) ∙ ap (λ (xs : List ℕ). get_or xs (length front) 0) (sym is ∙ parts) ∙ get_or_at front last [] 0 (length front) refl in
-    (same ∙ ap (take (length front)) is ∙ take-take (length front) (length rest) path (omega (arith, size)), omega (arith, byte, ascii))
-
--- a front of a front
-pub front_less : (path front less : List ℕ) → front ≡ take (length front) path → length less < length front → less ≡ take (length less) front → slice_index front (length less) < 128 → (less ≡ take (length less) path) × (slice_index path (length less) < 128)
-front_less path front less is order same ascii =
-    let byte : slice_index path (length less) ≡ slice_index front (length less) =
-    sym (get_or-take (length front) path (length less) 0 order) ∙ ap (λ (xs : List ℕ). get_or xs (length less) 0) (sym is) in
-    (same ∙ ap (take (length less)) is ∙ take-take (length less) (length front) path (omega (arith, order)), omega (arith, byte, ascii))

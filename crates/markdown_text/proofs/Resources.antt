@@ -1,9 +1,10 @@
 -- The parts of a resource.
-use Rattle.std.proofs.Common.{◌≡◌, ◌≢◌, ◌≤◌, ◌<◌, ◌+◌, ◌-◌, ◌∙◌, List, ap, arith, drop, length, length-drop, refl, slice_index, subst, sym, ℕ}
+use Rattle.std.proofs.Common.{None, Option, Some, ◌≡◌, ◌≢◌, ◌≤◌, ◌<◌, ◌+◌, ◌-◌, ◌∙◌, List, ap, arith, drop, length, length-drop, refl, slice_index, subst, sym, ℕ}
 use Rattle.std.proofs.lemmas.List.{get_or-drop}
-use Rattle.commonmark_syntax.specs.Cuts.{IsCut}
+use Rattle.std.specs.Prelude.{IfSome}
+use Rattle.commonmark_syntax.specs.Cuts.{IsCut, IsInLine}
 use Rattle.commonmark_syntax.proofs.Cuts.{cut_drop}
-use Rattle.markdown_text.proofs.Parts.{ascii_byte, range_rest, rest_range}
+use Rattle.markdown_text.proofs.Parts.{ascii_byte, cut_start, range_rest, rest_range}
 use Rattle.markdown_text.proofs.Tokens.{destination_in, enclosed_in}
 use Rattle.markdown_text.specs.Contents.{IsPart}
 use Rattle.markdown_text.specs.Tokens.{IsDestination, IsEnclosed, IsResource}
@@ -21,6 +22,18 @@ marks_enclose bytes size first last some within opening closing low other high m
   opening = byte_part bytes 0 1 first (omega arith) (omega (arith, some, within)) opening low other;
   closing = byte_part bytes (size - 1) size last (omega (arith, some)) (omega (arith, some, within)) closing high more;
 }
+
+-- the destination that a text begins with
+destination_found : (text : List ℕ) (size : ℕ) → size ≤ length text → IsCut text size → IsInLine text size → (slice_index text 0 ≡ 60 → (1 < size) × (slice_index text (size - 1) ≡ 62)) → IsDestination text 0 size
+destination_found text size most cut line marks = record {
+  part = record { order = omega arith; within = most; line = λ k from less. line k less; start = cut_start text; end = cut };
+  enclosed = λ some angle. (let m : (1 < size) × (slice_index text (size - 1) ≡ 62) = marks angle in
+      marks_enclose text size 60 62 m.0 most angle m.1 (omega arith) (λ e. absurd (cc e)) (omega arith) (λ e. absurd (cc e)));
+}
+
+pub destination_scanned : (text : List ℕ) (o : Option ℕ) → IfSome o (λ size. size ≤ length text) → IfSome o (λ size. IsCut text size) → IfSome o (λ size. IsInLine text size) → (slice_index text 0 ≡ 60 → IfSome o (λ size. (1 < size) × (slice_index text (size - 1) ≡ 62))) → IfSome o (λ size. IsDestination text 0 size)
+destination_scanned text None most cut line marks = tt
+destination_scanned text (Some size) most cut line marks = destination_found text size most cut line marks
 
 -- a resource, by what its parts begin
 pub resource_is : (text r1 r2 r3 r5 : List ℕ) (r : Resource) → slice_index text 0 ≡ 40 → r1 ≡ drop (1 + r.before) text → r2 ≡ drop (1 + r.before + r.destination) text → r3 ≡ drop (1 + r.before + r.destination + r.between) text → r5 ≡ drop (1 + r.before + r.destination + r.between + r.title + r.after) text → 0 < length r5 → slice_index r5 0 ≡ 41 → IsCut text (1 + r.before) → IsDestination r1 0 r.destination → IsCut r2 r.between → (0 < r.title → IsEnclosed r3 1 0 r.title) → 1 + r.before + r.destination + r.between + r.title + r.after + 1 ≡ r.size → IsResource text r 0 r.size

@@ -1,6 +1,6 @@
 -- What is found is of constructs that are on.
-use Rattle.std.proofs.Common.{Bool, List, [], drop, false, if◌then◌else◌, refl, subst, suc, sym, take, true, zero, ℕ, ◌++◌, ◌∷◌, ◌≡◌}
-use Rattle.std.proofs.lemmas.List.Elements.{All-drop, All-head, All-nil, All-push, All-rest, All-same, All-take}
+use Rattle.std.proofs.Common.{Bool, ap, arith, inl, inr, ◌≤◌, ◌∙◌, List, [], drop, false, if◌then◌else◌, refl, subst, suc, sym, take, true, zero, ℕ, ◌++◌, ◌∷◌, ◌≡◌}
+use Rattle.std.proofs.lemmas.List.Elements.{All-drop, All-head, All-push, All-rest, All-set, All-take}
 use Rattle.event_writer.specs.Standing.{ShowsFrames}
 use Rattle.event_writer.specs.Stages.{Stage}
 use Rattle.event_writer.specs.Written.{Written}
@@ -10,11 +10,21 @@ use Rattle.markdown_options.specs.Spans.{AreOn}
 use Rattle.markdown_options.specs.declared.Constructs.{Constructs}
 use Rattle.markdown_pieces.specs.Spans.{AreOn as ArePiecesOn}
 use Rattle.markdown_pieces.specs.declared.piece.Piece.{Piece}
-use Rattle.markdown_text.specs.Constructs.{AreTokensOn, is_kind_on, is_marker_on}
-use Rattle.markdown_text.specs.Runs.{AreRunsOn}
+use Rattle.markdown_text.specs.Constructs.{AreDelimitersOn, AreTokensOn, is_delimiter_on, is_kind_on, is_marker_on}
+use Rattle.markdown_text.specs.Opens.{group_name}
+use Rattle.markdown_text.specs.Runs.{AreRunsOn, room}
 use Rattle.markdown_text.specs.Spans.{AreOpenOn, IsWithin}
 use Rattle.markdown_text.specs.Standings.{HasBegun, IsAt}
-use Rattle.markdown_text.specs.declared.attention.Run.{Run}
+use Rattle.std.specs.List.{All}
+use Rattle.std.specs.Prelude.{length, slice_set}
+use Rattle.markdown_options.specs.Spans.{is_on}
+use Rattle.markdown_attention.specs.Emphasis.{Pair, done}
+use Rattle.markdown_attention.specs.Runs.{AreMarked, AreResolved, HasMarkerOf, is_struck, marked, view, views}
+use Rattle.markdown_attention.specs.declared.delimiter.AttentionKind.{AttentionKind}
+use Rattle.markdown_attention.specs.declared.delimiter.AttentionKind.TheVariants.{DoubleStrikethrough, Emphasis, Strikethrough, Strong}
+use Rattle.markdown_attention.specs.declared.delimiter.Delimiter.{Delimiter}
+use Rattle.markdown_attention.specs.declared.delimiter.Delimiter.TheVariants.{Closing, Opening}
+use Rattle.markdown_attention.specs.declared.run.Run.{Run}
 use Rattle.markdown_text.specs.declared.token.Token.{Token}
 
 -- ---- Tokens
@@ -33,20 +43,56 @@ later_on c ts us t is on = All-rest (λ (t : Token). is_kind_on c t.kind ≡ tru
 
 -- ---- Runs of delimiters
 
--- none
-pub none_on : (c : Constructs) (runs : List Run) → runs ≡ [] → AreRunsOn c runs
-none_on c runs is = All-same (λ (r : Run). is_marker_on c r.marker ≡ true) runs [] is (All-nil (λ (r : Run). is_marker_on c r.marker ≡ true))
+-- some of the first
+pub front_on : (c : Constructs) (n : ℕ) (runs : List Run) → AreRunsOn c runs → AreRunsOn c (take n runs)
+front_on c n runs on = All-take (λ (r : Run). is_marker_on c (view r).marker ≡ true) n runs on
 
--- the first of others, and some of those after them
-pub taken_on : (c : Constructs) (n : ℕ) (runs taken : List Run) → taken ≡ take n runs → AreRunsOn c runs → AreRunsOn c taken
-taken_on c n runs taken is on = subst (AreRunsOn c) (sym is) (All-take (λ (r : Run). is_marker_on c r.marker ≡ true) n runs on)
+-- those from one on
+rest_on : (c : Constructs) (n : ℕ) (runs : List Run) → AreRunsOn c runs → AreRunsOn c (drop n runs)
+rest_on c n runs on = All-drop (λ (r : Run). is_marker_on c (view r).marker ≡ true) n runs on
 
-pub after_on : (c : Constructs) (from size : ℕ) (runs same : List Run) → same ≡ runs → AreRunsOn c runs → AreRunsOn c (take size (drop from same))
-after_on c from size runs same is on = taken_on c size (drop from same) (take size (drop from same)) refl (All-drop (λ (r : Run). is_marker_on c r.marker ≡ true) from same (subst (AreRunsOn c) (sym is) on))
+-- what runs can make is on
+is_made_on : (c : Constructs) (kind : AttentionKind) → is_on c (group_name kind) ≡ (if is_struck kind then c.gfm_strikethrough else c.attention)
+is_made_on c Emphasis = refl
+is_made_on c Strong = refl
+is_made_on c Strikethrough = refl
+is_made_on c DoubleStrikethrough = refl
 
--- one more
-pub run_on : (c : Constructs) (old new : List Run) (r : Run) → new ≡ old ++ r ∷ [] → AreRunsOn c old → is_marker_on c r.marker ≡ true → AreRunsOn c new
-run_on c old new r is on marker-on = subst (AreRunsOn c) (sym is) (All-push (λ (r : Run). is_marker_on c r.marker ≡ true) old r on marker-on)
+pub kind_on : (c : Constructs) (runs : List Run) (kind : AttentionKind) → AreRunsOn c runs → HasMarkerOf (views runs) kind → is_on c (group_name kind) ≡ true
+kind_on c [] kind on has = absurd has
+kind_on c (r ∷ runs) kind on (inl same) =
+    is_made_on c kind ∙ ap (λ (b : Bool). if b then c.gfm_strikethrough else c.attention) (sym same) ∙ All-head (λ (r : Run). is_marker_on c (view r).marker ≡ true) r runs on
+kind_on c (r ∷ runs) kind on (inr has) = kind_on c runs kind (All-rest (λ (r : Run). is_marker_on c (view r).marker ≡ true) r runs (r ∷ runs) refl on) has
+
+-- and so are the delimiters of it
+pair_on : (c : Constructs) (pair : Pair) (delimiters : List Delimiter) → is_on c (group_name pair.kind) ≡ true → AreDelimitersOn c delimiters
+    → AreDelimitersOn c (slice_set (slice_set delimiters pair.opening (Opening pair.kind)) pair.closing (Closing pair.kind))
+pair_on c pair delimiters made on =
+    All-set (λ d. is_delimiter_on c d ≡ true) (slice_set delimiters pair.opening (Opening pair.kind)) pair.closing (Closing pair.kind) refl
+    (All-set (λ d. is_delimiter_on c d ≡ true) delimiters pair.opening (Opening pair.kind) made on)
+
+pairs_on : (c : Constructs) (runs : List Run) (pairs : List Pair) (delimiters : List Delimiter) → AreRunsOn c runs → All (λ (pair : Pair). HasMarkerOf (views runs) pair.kind) pairs → AreDelimitersOn c delimiters
+    → AreDelimitersOn c (marked pairs delimiters)
+pairs_on c runs [] delimiters on made delimiters-on = delimiters-on
+pairs_on c runs (pair ∷ pairs) delimiters on made delimiters-on =
+    pairs_on c runs pairs (slice_set (slice_set delimiters pair.opening (Opening pair.kind)) pair.closing (Closing pair.kind)) on (All-rest (λ (pair : Pair). HasMarkerOf (views runs) pair.kind) pair pairs (pair ∷ pairs) refl made)
+    (pair_on c pair delimiters (kind_on c runs pair.kind on (All-head (λ (pair : Pair). HasMarkerOf (views runs) pair.kind) pair pairs made)) delimiters-on)
+
+marked_on : (c : Constructs) (runs : List Run) (old new : List Delimiter) → AreRunsOn c runs → AreMarked (views runs) old new → AreDelimitersOn c old → AreDelimitersOn c new
+marked_on c runs old new on made old-on = subst (AreDelimitersOn c) (sym made.delimiters_are) (pairs_on c runs made.pairs old on made.kinds old-on)
+
+pub resolved_on : (c : Constructs) (from size : ℕ) (same runs : List Run) (old new : List Delimiter) → same ≡ runs → AreRunsOn c runs → AreMarked (views (take size (drop from same))) old new → AreDelimitersOn c old → AreDelimitersOn c new
+resolved_on c from size same runs old new is on made old-on =
+    marked_on c (take size (drop from same)) old new (front_on c size (drop from same) (rest_on c from same (subst (AreRunsOn c) (sym is) on))) made old-on
+
+-- ---- The runs that wait
+
+-- no runs make nothing
+pub none_wait : (n size : ℕ) (runs : List Run) (delimiters : List Delimiter) → length runs ≤ n → AreResolved (views (drop n runs)) (room (drop n runs) size delimiters) delimiters
+none_wait zero size [] delimiters le = record { pairs = []; resolves = done [] tt; delimiters_are = refl }
+none_wait (suc n) size [] delimiters le = record { pairs = []; resolves = done [] tt; delimiters_are = refl }
+none_wait zero size (r ∷ runs) delimiters le = absurd (omega (arith, le))
+none_wait (suc n) size (r ∷ runs) delimiters le = none_wait n size runs delimiters (omega (arith, le))
 
 -- ---- Pieces
 

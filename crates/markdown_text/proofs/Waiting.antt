@@ -1,11 +1,9 @@
 -- Data that waits, and the white space at its ends.
-use Rattle.std.proofs.Common.{Bool, List, Some, ap, arith, inl, inr, length, length-take-le, refl, slice_range, take, ◌<◌, subst, sym, ℕ, ◌+◌, ◌-◌, ◌≡◌, ◌≤◌}
+use Rattle.std.proofs.Common.{Bool, List, Some, ap, arith, inl, inr, length, refl, slice_range, ◌<◌, subst, sym, ℕ, ◌+◌, ◌-◌, ◌≡◌, ◌≤◌}
 use Rattle.commonmark_syntax.specs.Cuts.{IsCut}
-use Rattle.std.specs.Prelude.{slice_index}
-use Rattle.commonmark_syntax.proofs.Cuts.{cut_take}
 use Rattle.event_writer.specs.Stages.{inlines}
 use Rattle.markdown_events.specs.declared.event.Name.{Name}
-use Rattle.markdown_text.proofs.Parts.{cut_before, cut_in, length_in, range_of}
+use Rattle.markdown_text.proofs.Parts.{cut_in, length_in, range_of}
 use Rattle.markdown_text.proofs.Ranges.{part_of}
 use Rattle.markdown_text.specs.Addresses.{IsAddress, IsAddressName}
 use Rattle.markdown_text.specs.Contents.{IsPart}
@@ -77,12 +75,3 @@ pub address_plain : (name : Name) (h : Bool) → IsAddressName name → after_pl
 address_plain name h (inl is) = ap (after_plain (inlines h)) is
 address_plain name h (inr (inl is)) = ap (after_plain (inlines h)) is
 address_plain name h (inr (inr is)) = ap (after_plain (inlines h)) is
-
--- the local part of an address begins where a character does
-pub local_cut : (text : List ℕ) (at local start : ℕ) → at < length text → slice_index text at ≡ 64 → local ≤ at → IsCut (take at text) (length (take at text) - local) → start ≤ at - local → IsCut (take (at - local) (take at text)) start → IsCut text start
-local_cut text at local start within sign most cut order first =
-    let size = length-take-le at text (omega (arith, within)) in
-    let e : length (take at text) - local ≡ at - local = omega (arith, size) in
-    let here : IsCut text at = cut_before text at (let low = sign in omega (arith, low)) in
-    let middle : IsCut (take at text) (at - local) = subst (IsCut (take at text)) e cut in
-    cut_take text at start (omega (arith, order)) here (cut_take (take at text) (at - local) start order middle first)

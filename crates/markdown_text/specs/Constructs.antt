@@ -1,11 +1,11 @@
 -- What is found in a text, and the constructs that are on.
-use Rattle.std.specs.Prelude.{Bool, List, None, Option, Some, if◌then◌else◌, true, ℕ, ◌==◌, ◌≡◌}
+use Rattle.std.specs.Prelude.{Bool, List, None, Option, Some, if◌then◌else◌, true, ℕ, ◌==◌, ◌≡◌, ◌⊎◌}
 use Rattle.std.specs.List.{All}
 use Rattle.markdown_options.specs.Spans.{is_on}
 use Rattle.markdown_options.specs.declared.Constructs.{Constructs}
 use Rattle.markdown_text.specs.Opens.{group_name, labelled_name}
-use Rattle.markdown_text.specs.declared.attention.Delimiter.{Delimiter}
-use Rattle.markdown_text.specs.declared.attention.Delimiter.TheVariants.{Opening}
+use Rattle.markdown_attention.specs.declared.delimiter.Delimiter.{Delimiter}
+use Rattle.markdown_attention.specs.declared.delimiter.Delimiter.TheVariants.{Opening}
 use Rattle.markdown_text.specs.declared.brackets.Bracket.{Bracket}
 use Rattle.markdown_text.specs.declared.brackets.LabelForm.{LabelForm}
 use Rattle.markdown_text.specs.declared.brackets.LabelForm.TheVariants.{Footnote, Image, Link}
@@ -45,6 +45,10 @@ abbrev pub AreTokensOn : Constructs → List Token → Type 0
 AreTokensOn c tokens = All (λ t. is_kind_on c t.kind ≡ true) tokens
 
 -- ---- Attention
+
+-- the markers of runs of delimiters: a star, an underscore, a tilde
+abbrev pub IsMarker : ℕ → Type 0
+IsMarker byte = (byte ≡ 42) ⊎ ((byte ≡ 95) ⊎ (byte ≡ 126))
 
 -- the construct is on of which a run of these markers is: tildes strike a text
 abbrev pub is_marker_on : Constructs → ℕ → Bool

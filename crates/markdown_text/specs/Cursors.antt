@@ -1,5 +1,6 @@
 -- A byte of a content, and the bytes around it.
-use Rattle.std.specs.Prelude.{List, drop, length, slice_index, ℕ, ◌-◌}
+use Rattle.std.specs.Prelude.{List, drop, length, slice_index, take, ℕ, ◌+◌, ◌-◌}
+use Rattle.markdown_text.specs.declared.brackets.Bracket.{Bracket}
 use Rattle.markdown_text.specs.declared.cursor.Cursor.{Cursor}
 
 -- how many bytes of the content come from this one on
@@ -10,6 +11,18 @@ bytes_from cursor = length cursor.content.now - cursor.at
 abbrev pub byte_at : Cursor → ℕ
 byte_at cursor = slice_index cursor.content.now cursor.at
 
+-- the bytes before it
+abbrev pub before_of : Cursor → List ℕ
+before_of cursor = take cursor.at cursor.content.now
+
 -- the bytes from it on
 abbrev pub rest_of : Cursor → List ℕ
 rest_of cursor = drop cursor.at cursor.content.now
+
+-- the bytes up to it, and the byte itself
+abbrev pub through : Cursor → List ℕ
+through cursor = take (cursor.at + 1) cursor.content.now
+
+-- what stands from a bracket on, up to the byte and with it
+abbrev pub bracketed : Cursor → Bracket → List ℕ
+bracketed cursor bracket = drop bracket.start (through cursor)

@@ -1,11 +1,11 @@
 -- The constructs of a text that are open, and the spans around what comes next.
-use Rattle.std.specs.Prelude.{Bool, List, OnOk, Result, [], false, ℕ, ◌∷◌}
+use Rattle.std.specs.Prelude.{Bool, List, OnOk, Result, [], false, ◌∷◌}
 use Rattle.event_writer.specs.Stages.{Enclosing, Stage, footnote_call, inlines, media, media_target, nothing}
 use Rattle.markdown_events.specs.declared.event.Name.{Name}
 use Rattle.markdown_events.specs.declared.event.Name.TheVariants as names
 use Rattle.markdown_pieces.specs.Walks.{inside}
-use Rattle.markdown_text.specs.declared.attention.AttentionKind.{AttentionKind}
-use Rattle.markdown_text.specs.declared.attention.AttentionKind.TheVariants.{DoubleStrikethrough, Emphasis, Strikethrough, Strong}
+use Rattle.markdown_attention.specs.declared.delimiter.AttentionKind.{AttentionKind}
+use Rattle.markdown_attention.specs.declared.delimiter.AttentionKind.TheVariants.{DoubleStrikethrough, Emphasis, Strikethrough, Strong}
 use Rattle.markdown_text.specs.Standings.{IsAt}
 use Rattle.markdown_text.specs.declared.output.Output.{Output}
 use Rattle.markdown_text.specs.declared.text.Open.{Open}
@@ -31,13 +31,6 @@ sequence_name Emphasis = names.EmphasisSequence
 sequence_name Strong = names.StrongSequence
 sequence_name Strikethrough = names.GfmStrikethroughSequence
 sequence_name DoubleStrikethrough = names.GfmStrikethroughSequence
-
--- how many markers each of its sequences has
-abbrev pub attention_size : AttentionKind → ℕ
-attention_size Emphasis = 1
-attention_size Strong = 2
-attention_size Strikethrough = 1
-attention_size DoubleStrikethrough = 2
 
 -- the names of the span that a label belongs to, and of the span of the signs that begin the label
 abbrev pub labelled_name : Labelled → Name

@@ -1,6 +1,8 @@
 -- What the second pass over a text asks of what the first one finds.
 use Rattle.std.specs.Prelude.{Bool, List, None, Option, Some, [], false, is_some, length, slice_get, slice_index, slice_range, true, ℕ, ◌+◌, ◌-◌, ◌<◌, ◌∷◌, ◌≡◌, ◌≤◌, ◌⊎◌}
 use Rattle.commonmark_syntax.specs.Cuts.{IsCut}
+use Rattle.commonmark_syntax.specs.Inlines.{email_autolink, uri_autolink}
+use Rattle.commonmark_syntax.specs.Language.{IsNotAt, Leaves}
 use Rattle.markdown_events.specs.declared.event.Name.{Name}
 use Rattle.markdown_events.specs.declared.event.Name.TheVariants.{AutolinkEmail, AutolinkProtocol, GfmAutolinkLiteralProtocol, GfmAutolinkLiteralWww}
 use Rattle.markdown_text.specs.Contents.{IsAsciiPart, IsPart, IsRange}
@@ -55,6 +57,12 @@ pub record IsReference (text : Text) (kind : ReferenceKind) (from to : ℕ) : Ty
   pub ascii : IsAsciiPart text.bytes from to
   pub filled : from + markers kind + 1 < to
   pub known : is_some (text.decode (slice_range text.bytes (from + markers kind) (to - 1)) (marker kind)) ≡ true
+
+-- an autolink that a text begins with, by the kind of its address, and what is left after it
+abbrev pub LeavesAutolink : List ℕ → Option TokenKind → List ℕ → Type 0
+LeavesAutolink s kind t =
+    ((kind ≡ Some (Autolink AutolinkProtocol)) × Leaves uri_autolink s t)
+    ⊎ ((kind ≡ Some (Autolink AutolinkEmail)) × IsNotAt uri_autolink s × Leaves email_autolink s t)
 
 -- an autolink: an address that is not empty between two brackets
 pub record IsAutolink (bytes : List ℕ) (name : Name) (from to : ℕ) : Type 0 where

@@ -1,24 +1,25 @@
 //! Character escapes (CommonMark).
 
-ghost use Rattle.std.specs.Prelude.{◌≡◌, ◌+◌, IfSome, OnOk, ◌<◌, length, true};
+ghost use Rattle.std.specs.Prelude.{◌≡◌, ◌+◌, IfSome, MatchOption, OnOk, ◌<◌, drop, length, true};
+ghost use Rattle.commonmark_syntax.specs.Inlines.{backslash_escape};
+ghost use Rattle.commonmark_syntax.specs.Language.{IsNotAt, Leaves};
 ghost use Rattle.markdown_text.specs.Contents.{IsAsciiPart};
 ghost use Rattle.markdown_text.specs.Outputs.{Stands, WritesTo, bytes_of, AtInlines, KeepsInlines, constructs_of};
 
 use crate::output::{Next, Output};
 use character_references::references::References;
+use commonmark_syntax::backslash_escape;
 use markdown_events::event::Name;
 use std::alloc::AllocError;
 
 /// The length of the character escape that a text begins with: a backslash and a mark of punctuation of
 /// ASCII.
 pub fn scan(text: &[u8]) -> Option<usize>
+    ensures exact { MatchOption result (IsNotAt backslash_escape text.now) (λ size. Leaves backslash_escape text.now (drop size text.now)) }
     ensures size { IfSome result (λ size. size ≡ 2) }
     ensures ascii { IfSome result (λ size. IsAsciiPart text.now 0 size) }
 {
-    match text {
-        [b'\\', escaped, ..] if escaped.is_ascii_punctuation() => Some(2),
-        _ => None,
-    }
+    backslash_escape::scan(text)
 }
 
 /// Writes a character escape.

@@ -1,7 +1,8 @@
 //! Character references (CommonMark): a character by its name or its number.
 
-ghost use Rattle.std.specs.Prelude.{◌≡◌, ◌≢◌, ◌≤◌, ◌<◌, ◌+◌, ◌-◌, ℕ, false, length, slice_index, slice_range, true, IfOk, IfSome, IsTrue, OnOk, List};
-ghost use Rattle.commonmark_syntax.specs.Cuts.{IsOfAscii, IsOfLine};
+ghost use Rattle.std.specs.Prelude.{◌≡◌, ◌≤◌, ◌<◌, ◌+◌, ◌-◌, drop, false, length, slice_range, true, IfOk, IfSome, MatchOption, OnOk, List};
+ghost use Rattle.commonmark_syntax.specs.Inlines as page;
+ghost use Rattle.commonmark_syntax.specs.Language.{IsNotAt, Leaves};
 ghost use Rattle.markdown_options.specs.declared.Constructs.{Constructs};
 ghost use Rattle.markdown_text.specs.Constructs.{is_found_on};
 ghost use Rattle.markdown_text.specs.Contents.{IsAsciiPart};
@@ -14,19 +15,10 @@ ghost use Rattle.markdown_text.specs.Standings.{IsAt};
 use crate::output::{Next, Output};
 use crate::token::{Found, TokenKind};
 use character_references::references::References;
-use commonmark_syntax::bytes::{after, count_while};
+use commonmark_syntax::{decimal_reference, entity_reference, hexadecimal_reference};
 use markdown_events::event::Name;
 use std::alloc::{AllocError, Global};
 use std::str;
-
-/// The most bytes of a name, which no other value exceeds (micromark).
-const NAME_MOST: usize = 31;
-
-/// The most decimal digits (CommonMark).
-const DECIMAL_MOST: usize = 7;
-
-/// The most hexadecimal digits (CommonMark).
-const HEXADECIMAL_MOST: usize = 6;
 
 /// How a character reference says which character it is.
 #[derive(Clone, Copy, PartialEq, Eq, Debug)]
@@ -75,90 +67,37 @@ struct Form<'c> {
 }
 
 impl<'c> Form<'c> {
-    /// The form of a reference of this kind that a text begins with, whose value has so many bytes.
+    /// The form of a reference of this kind and length that a text begins with.
     fn new(text: &'c [u8], kind: ReferenceKind, size: usize) -> Form<'c>
-        requires { markers kind + size < length text.now }
+        requires least { markers kind < size }
+        requires most { size ≤ length text.now }
         ensures kind { result.kind ≡ kind }
-        ensures size { result.size ≡ markers kind + size + 1 }
-        ensures value { result.value.now ≡ slice_range text.now (markers kind) (markers kind + size) }
+        ensures size { result.size ≡ size }
+        ensures value { result.value.now ≡ slice_range text.now (markers kind) (size - 1) }
     {
-        let start = kind.markers();
-        let end = start + size;
         Form {
             kind,
-            value: &text[start..end],
-            size: end + 1,
+            value: &text[kind.markers()..size - 1],
+            size,
         }
     }
 }
 
 /// The form of the character reference that a text may begin with.
 fn form_of(text: &[u8]) -> Option<Form<'_>>
+    ensures exact { MatchOption result (IsNotAt page.character_reference text.now) (λ form. Leaves page.character_reference text.now (drop form.size text.now)) }
     ensures ascii { IfSome result (λ form. IsAsciiPart text.now 0 form.size) }
     ensures filled { IfSome result (λ form. markers form.kind + 1 < form.size) }
     ensures value { IfSome result (λ form. form.value.now ≡ slice_range text.now (markers form.kind) (form.size - 1)) }
 {
-    match text {
-        [b'&', b'#', b'x' | b'X', rest @ ..] => {
-            let size = value_length(rest, HEXADECIMAL_MOST, is_hexadecimal)?;
-            Some(Form::new(text, ReferenceKind::Hexadecimal, size))
-        }
-        [b'&', b'#', rest @ ..] => {
-            let size = value_length(rest, DECIMAL_MOST, is_decimal)?;
-            Some(Form::new(text, ReferenceKind::Decimal, size))
-        }
-        [b'&', rest @ ..] => {
-            let size = value_length(rest, NAME_MOST, is_of_name)?;
-            Some(Form::new(text, ReferenceKind::Named, size))
-        }
-        _ => None,
+    if let Some(size) = entity_reference::scan(text) {
+        return Some(Form::new(text, ReferenceKind::Named, size));
     }
-}
-
-/// The length of the value that a text begins with: at least one such byte and at most so many, before a
-/// semicolon.
-fn value_length<F: Fn(u8) -> bool + Drop>(text: &[u8], most: usize, is_such: F) -> Option<usize>
-    requires { F.IsAlwaysCallable is_such }
-    ensures least { IfSome result (λ size. 0 < size) }
-    ensures ascii { IsOfAscii (F.post is_such) true → IsOfLine (F.post is_such) true → IfSome result (λ size. IsAsciiPart text.now 0 (size + 1)) }
-{
-    let size = count_while(longest(text), is_such);
-    if size == 0 || size > most || text.get(size) != Some(&b';') {
-        return None;
+    if let Some(size) = decimal_reference::scan(text) {
+        return Some(Form::new(text, ReferenceKind::Decimal, size));
     }
-    Some(size)
-}
-
-/// The bytes of a text that may be a value, with the byte after the longest one.
-fn longest(text: &[u8]) -> &[u8]
-    ensures most { length result.now ≤ length text.now }
-    ensures byte { (k : ℕ) → k < length result.now → slice_index result.now k ≡ slice_index text.now k }
-{
-    &text[..text.len().min(NAME_MOST + 1)]
-}
-
-/// Whether a byte is a decimal digit.
-fn is_decimal(byte: u8) -> bool
-    ensures ascii { IsTrue result → byte < 128 }
-    ensures line { IsTrue result → byte ≢ 10 }
-{
-    byte.is_ascii_digit()
-}
-
-/// Whether a byte is a hexadecimal digit.
-fn is_hexadecimal(byte: u8) -> bool
-    ensures ascii { IsTrue result → byte < 128 }
-    ensures line { IsTrue result → byte ≢ 10 }
-{
-    byte.is_ascii_hexdigit()
-}
-
-/// Whether a byte may stand in a name.
-fn is_of_name(byte: u8) -> bool
-    ensures ascii { IsTrue result → byte < 128 }
-    ensures line { IsTrue result → byte ≢ 10 }
-{
-    byte.is_ascii_alphanumeric()
+    let size = hexadecimal_reference::scan(text)?;
+    Some(Form::new(text, ReferenceKind::Hexadecimal, size))
 }
 
 /// The character reference that a text begins with, if the decoder knows it. The only error is that

@@ -1,10 +1,13 @@
 //! A cursor in a content.
 
-ghost use Rattle.std.specs.Prelude.{◌≡◌, ◌≢◌, ◌≤◌, ◌<◌, ◌+◌, ◌-◌, length};
+ghost use Rattle.std.specs.Prelude.{◌≡◌, ◌≢◌, ◌≤◌, ◌<◌, ◌+◌, ◌-◌, drop, length, slice_index};
 ghost use Rattle.commonmark_syntax.specs.Cuts.{IsCut};
+ghost use Rattle.commonmark_syntax.specs.Inlines.{delimiter_run};
+ghost use Rattle.commonmark_syntax.specs.Language.{Leaves};
 ghost use Rattle.markdown_text.specs.Contents.{IsAsciiPart};
 
-use commonmark_syntax::bytes::{after, run_length};
+use commonmark_syntax::bytes::after;
+use commonmark_syntax::delimiter_run;
 
 /// A byte of a content, and the bytes around it. No character goes over its start.
 #[derive(Clone, Copy)]
@@ -18,7 +21,7 @@ pub struct Cursor<'c> {
 }
 
 impl<'c> Cursor<'c> {
-    ghost use Rattle.markdown_text.specs.Cursors.{byte_at, bytes_from, rest_of};
+    ghost use Rattle.markdown_text.specs.Cursors.{before_of, byte_at, bytes_from, rest_of, through};
 
     /// The byte.
     pub fn byte(&self) -> u8
@@ -28,8 +31,17 @@ impl<'c> Cursor<'c> {
     }
 
     /// The bytes before it.
-    pub fn before(&self) -> &'c [u8] {
+    pub fn before(&self) -> &'c [u8]
+        ensures { result.now ≡ before_of self.now }
+    {
         &self.content[..self.at]
+    }
+
+    /// The bytes up to it, and the byte itself.
+    pub fn through(&self) -> &'c [u8]
+        ensures { result.now ≡ through self.now }
+    {
+        &self.content[..self.at + 1]
     }
 
     /// The bytes from it on.
@@ -40,12 +52,14 @@ impl<'c> Cursor<'c> {
         after(self.content, self.at)
     }
 
-    /// The length of the run of the byte.
+    /// The length of the run that the byte begins: all bytes that stand there and are like it.
     pub fn run_length(&self) -> usize
+        ensures exact { Leaves (delimiter_run (byte_at self.now)) (rest_of self.now) (drop result (rest_of self.now)) }
         ensures most { result ≤ bytes_from self.now }
         ensures least { 0 < result }
+        ensures next { self.now.at + result < length self.now.content.now → slice_index self.now.content.now (self.now.at + result) ≢ byte_at self.now }
         ensures part { byte_at self.now < 128 → byte_at self.now ≢ 10 → IsAsciiPart self.now.content.now self.now.at (self.now.at + result) }
     {
-        1 + run_length(after(self.content, self.at + 1), self.byte())
+        delimiter_run::size(self.rest())
     }
 }

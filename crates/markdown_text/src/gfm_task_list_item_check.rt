@@ -1,6 +1,8 @@
 //! The mark of a task (GFM), at the start of the first paragraph of an item.
 
-ghost use Rattle.std.specs.Prelude.{◌≡◌, ◌+◌, IfSome, OnOk, true, ◌⊎◌, false};
+ghost use Rattle.std.specs.Prelude.{◌≡◌, ◌+◌, IfSome, MatchOption, OnOk, drop, true, ◌⊎◌, false};
+ghost use Rattle.commonmark_syntax.specs.Inlines.{task_mark};
+ghost use Rattle.commonmark_syntax.specs.Language.{IsNotAt, Leaves};
 ghost use Rattle.markdown_options.specs.declared.Constructs.{Constructs};
 ghost use Rattle.markdown_text.specs.Constructs.{is_found_on};
 ghost use Rattle.markdown_text.specs.Outputs.{Stands, WritesTo, bytes_of, AtStage, Leads, constructs_of};
@@ -12,25 +14,20 @@ ghost use Rattle.markdown_text.specs.Tokens.{IsEnclosed, IsFound};
 
 use crate::output::Output;
 use crate::token::{Found, TokenKind};
-use crate::whitespace::is_white_space;
 use character_references::references::References;
-use commonmark_syntax::bytes::count_while;
+use commonmark_syntax::task_mark;
 use markdown_events::event::Name;
 use std::alloc::AllocError;
 
 /// The mark of a task that a text begins with. White space comes after it, and then more of the text.
 pub fn scan(text: &[u8]) -> Option<Found>
+    ensures exact { MatchOption result (IsNotAt task_mark text.now) (λ found. Leaves task_mark text.now (drop found.size text.now)) }
     ensures found { IfSome result (λ found. IsFound (text_of text.now no_values true) found.kind 0 found.size) }
     ensures on { IfSome result (λ found. (c : Constructs) → c.gfm_task_list_item ≡ true → is_found_on c found.kind ≡ true) }
 {
-    let [b'[', value, b']', rest @ ..] = text else {
-        return None;
-    };
-    let is_checked = matches!(*value, b'x' | b'X');
-    let is_value = is_checked || is_white_space(*value);
-    let space = count_while(rest, is_white_space);
-    let is_mark = is_value && space > 0 && space < rest.len();
-    is_mark.then_some(Found::token(TokenKind::TaskListItemCheck(is_checked), 3))
+    let size = task_mark::scan(text)?;
+    let is_checked = matches!(text.get(1), Some(b'x' | b'X'));
+    Some(Found::token(TokenKind::TaskListItemCheck(is_checked), size))
 }
 
 /// Writes the mark of a task, which may be checked.

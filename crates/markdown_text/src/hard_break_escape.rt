@@ -1,24 +1,25 @@
 //! Hard breaks by a backslash (CommonMark).
 
-ghost use Rattle.std.specs.Prelude.{Some, slice_get, ◌≡◌, ◌≤◌, ◌<◌, ◌+◌, length, IfSome, OnOk, true};
+ghost use Rattle.std.specs.Prelude.{Some, slice_get, ◌≡◌, ◌≤◌, ◌<◌, ◌+◌, drop, length, IfSome, MatchOption, OnOk, true};
+ghost use Rattle.commonmark_syntax.specs.Inlines.{backslash_break};
+ghost use Rattle.commonmark_syntax.specs.Language.{IsNotAt, Leaves};
 ghost use Rattle.markdown_text.specs.Contents.{IsAsciiPart};
 ghost use Rattle.markdown_text.specs.Outputs.{AtInlines, KeepsInlines, Stands, WritesTo, bytes_of, constructs_of};
 
 use crate::output::{Next, Output};
 use character_references::references::References;
+use commonmark_syntax::backslash_break;
 use markdown_events::event::Name;
 use std::alloc::AllocError;
 
 /// The length of the hard break that a text begins with: a backslash and a line ending.
 pub fn scan(text: &[u8]) -> Option<usize>
+    ensures exact { MatchOption result (IsNotAt backslash_break text.now) (λ size. Leaves backslash_break text.now (drop size text.now)) }
     ensures size { IfSome result (λ size. size ≡ 2) }
     ensures backslash { IfSome result (λ size. IsAsciiPart text.now 0 1) }
     ensures feed { IfSome result (λ size. slice_get text.now 1 ≡ Some 10) }
 {
-    match text {
-        [b'\\', b'\n', ..] => Some(2),
-        _ => None,
-    }
+    backslash_break::scan(text)
 }
 
 /// Writes a hard break, with its line ending.

@@ -1,80 +1,29 @@
 //! HTML in a text (CommonMark): tags, comments, instructions, declarations and CDATA sections.
 
-ghost use Rattle.std.specs.Prelude.{◌≡◌, ◌<◌, IfSome, OnOk, length, true};
+ghost use Rattle.std.specs.Prelude.{◌≡◌, ◌<◌, IfSome, MatchOption, OnOk, drop, true};
+ghost use Rattle.commonmark_syntax.specs.HtmlTags.{AreMissing};
+ghost use Rattle.commonmark_syntax.specs.Language.{IsNotAt, Leaves};
+ghost use Rattle.commonmark_syntax.specs.Syntax.{html_tag};
 ghost use Rattle.markdown_text.specs.Contents.{IsRange};
+ghost use Rattle.markdown_text.specs.Cursors.{rest_of};
 ghost use Rattle.markdown_text.specs.Outputs.{Stands, WritesTo, bytes_of, AtInlines, KeepsInlines, constructs_of};
 
+use crate::cursor::Cursor;
 use crate::output::{Next, Output};
 use character_references::references::References;
-use commonmark_syntax::{cdata, closing_tag, comment, declaration, instruction, opening_tag};
+use commonmark_syntax::html_tag::{self, MissingEnds};
 use markdown_events::event::Name;
 use std::alloc::AllocError;
 
-/// Which kinds of HTML are known to have no end in the rest of a content.
-///
-/// A search for an end that failed is not made again, so that all searches together are linear.
-#[derive(Clone, Copy, PartialEq, Eq, Debug)]
-pub struct MissingEnds {
-    /// Whether no `-->` comes any more.
-    comment: bool,
-    /// Whether no `?>` comes any more.
-    instruction: bool,
-    /// Whether no `>` comes any more.
-    declaration: bool,
-    /// Whether no `]]>` comes any more.
-    cdata: bool,
-}
-
-impl MissingEnds {
-    /// Nothing is known.
-    pub fn new() -> MissingEnds {
-        MissingEnds {
-            comment: false,
-            instruction: false,
-            declaration: false,
-            cdata: false,
-        }
-    }
-}
-
-/// The length of the HTML that a text begins with.
-pub fn scan(text: &[u8], missing: &mut MissingEnds) -> Option<usize>
+/// The length of the HTML tag that begins at the cursor.
+pub fn scan(cursor: Cursor<'_>, missing: &mut MissingEnds) -> Option<usize>
+    requires missing { AreMissing cursor.content.now missing.old }
+    ensures missing { AreMissing cursor.entry.content.now missing.new }
+    ensures exact { MatchOption result (IsNotAt html_tag (rest_of cursor.entry)) (λ size. Leaves html_tag (rest_of cursor.entry) (drop size (rest_of cursor.entry))) }
     ensures least { IfSome result (λ size. 0 < size) }
-    ensures range { IfSome result (λ size. IsRange text.now 0 size) }
+    ensures range { IfSome result (λ size. IsRange (rest_of cursor.entry) 0 size) }
 {
-    match text {
-        [b'<', b'/', ..] => closing_tag::scan(text),
-        [b'<', b'?', ..] if !missing.instruction => {
-            let found = instruction::scan(text);
-            missing.instruction = found.is_none();
-            found
-        }
-        [b'<', b'!', b'-', b'-', ..] if !missing.comment => {
-            let found = comment::scan(text);
-            missing.comment = found.is_none();
-            found
-        }
-        [b'<', b'!', b'[', ..] => scan_cdata(text, missing),
-        [b'<', b'!', letter, ..] if letter.is_ascii_alphabetic() && !missing.declaration => {
-            let found = declaration::scan(text);
-            missing.declaration = found.is_none();
-            found
-        }
-        _ => opening_tag::scan(text),
-    }
-}
-
-/// The length of the CDATA section that a text begins with.
-fn scan_cdata(text: &[u8], missing: &mut MissingEnds) -> Option<usize>
-    ensures least { IfSome result (λ size. 0 < size) }
-    ensures range { IfSome result (λ size. IsRange text.now 0 size) }
-{
-    if missing.cdata || !text.starts_with(b"<![CDATA[") {
-        return None;
-    }
-    let found = cdata::scan(text);
-    missing.cdata = found.is_none();
-    found
+    html_tag::scan(cursor.content, cursor.at, missing)
 }
 
 /// Writes HTML that ends at an offset.

@@ -1,9 +1,12 @@
 //! The end of a label (micromark), and what comes after it: a resource or a reference.
 
-ghost use Rattle.std.specs.Prelude.{◌≡◌, ◌≢◌, ◌≤◌, ◌<◌, ◌+◌, ◌-◌, IfOk, IfSome, OnOk, length, true};
+ghost use Rattle.std.specs.Prelude.{◌≡◌, ◌≢◌, ◌≤◌, ◌<◌, ◌+◌, ◌-◌, IfOk, IfSome, OnOk, length, true, false};
+ghost use Rattle.commonmark_syntax.specs.Inlines.{footnote_call};
+ghost use Rattle.commonmark_syntax.specs.Language.{Matches};
 ghost use Rattle.markdown_text.specs.Constructs.{is_form_on, is_label_on};
 ghost use Rattle.markdown_text.specs.Contents.{IsPart, IsRange};
-ghost use Rattle.markdown_text.specs.Cursors.{byte_at};
+ghost use Rattle.markdown_text.specs.Cursors.{bracketed, byte_at};
+ghost use Rattle.markdown_text.specs.declared.brackets.LabelForm.TheVariants.{Footnote};
 ghost use Rattle.markdown_text.specs.Outputs.{Stands, WritesTo, bytes_of, AtStage, Leads};
 ghost use Rattle.markdown_text.specs.Reached.{form_size};
 ghost use Rattle.markdown_text.specs.Texts.{bare};
@@ -21,8 +24,8 @@ use crate::source::Source;
 use crate::token::{Labelled, Target};
 use crate::{reference, resource};
 use character_references::references::References;
-use commonmark_syntax::bytes::{after, is_space_or_line_ending};
-use commonmark_syntax::label;
+use commonmark_syntax::bytes::after;
+use commonmark_syntax::{footnote_call, label};
 use markdown_events::event::Name;
 use markdown_options::Constructs;
 use std::alloc::AllocError;
@@ -52,12 +55,10 @@ pub fn scan<R: References>(
     ensures labelled { IfOk result (λ found. IfSome found (λ found. label_start found.labelled ≤ form_size bracket.now.form)) }
     ensures found { IfOk result (λ found. IfSome found (λ found. IsToken (bare cursor.entry.content.now) (LabelEnd found.labelled found.target) cursor.entry.at (cursor.entry.at + found.size))) }
     ensures on { IfOk result (λ found. IfSome found (λ found. is_label_on source.now.reading.now.options.constructs found.labelled ≡ true)) }
+    ensures call { IfOk result (λ found. IfSome found (λ found. found.labelled ≡ FootnoteCall → Matches footnote_call (bracketed cursor.entry bracket.now))) }
 {
     let label = after(after(cursor.before(), bracket.start), bracket.form.prefix());
-    let is_footnote = bracket.form == LabelForm::Footnote
-        && !bracket.has_bracket
-        && !has_white_space(label);
-    if is_footnote && source.calls_footnote(after(label, 1))? {
+    if is_call(cursor, bracket) && source.calls_footnote(after(label, 1))? {
         return Ok(Some(Match {
             labelled: Labelled::FootnoteCall,
             target: Target::Shortcut,
@@ -90,9 +91,16 @@ fn labelled(form: LabelForm, constructs: &Constructs) -> Option<Labelled>
     }
 }
 
-/// Whether there is white space in a label. No label of a footnote has any (micromark).
-fn has_white_space(label: &[u8]) -> bool {
-    label.iter().any(|byte| is_space_or_line_ending(*byte))
+/// Whether a bracket and the end of its label at the cursor are a footnote call (GFM). Whether a footnote has that
+/// label is another question.
+fn is_call(cursor: Cursor<'_>, bracket: &Bracket) -> bool
+    ensures form { result ≡ true → bracket.now.form ≡ Footnote }
+    ensures yes { result ≡ true → Matches footnote_call (bracketed cursor.entry bracket.now) }
+    ensures no { result ≡ false → bracket.now.form ≡ Footnote → bracket.now.has_bracket ≡ false → Matches footnote_call (bracketed cursor.entry bracket.now) → ⊥ }
+{
+    bracket.form == LabelForm::Footnote
+        && !bracket.has_bracket
+        && footnote_call::is_call(after(cursor.through(), bracket.start))
 }
 
 /// What a label makes with what comes after it. Its own text counts where it may be defined. The only

@@ -7,19 +7,19 @@
 #![tactic(auto)]
 
 mod attention;
+mod attention_names;
 mod autolink;
 mod brackets;
 mod calls;
 mod character_escape;
-mod character_kind;
 mod character_reference;
 mod content;
 mod cursor;
 mod data;
+mod delimiter_run;
 mod destination;
 pub mod document;
 mod gfm_autolink_literal;
-mod gfm_autolink_literal_address;
 mod gfm_autolink_literal_email;
 mod gfm_label_start_footnote;
 mod gfm_task_list_item_check;

@@ -1,6 +1,11 @@
 //! The resource of a link or an image (CommonMark): a destination and a title in parentheses.
 
-ghost use Rattle.std.specs.Prelude.{◌≡◌, ◌<◌, ◌+◌, IfSome, OnOk, length};
+ghost use Rattle.std.specs.Prelude.{◌≡◌, ◌≢◌, ◌≤◌, ◌<◌, ◌+◌, IfSome, MatchOption, OnOk, Some, drop, length, slice_index, true};
+ghost use Rattle.commonmark_syntax.specs.Language.{IsNotAt};
+ghost use Rattle.commonmark_syntax.specs.Reading.{read};
+ghost use Rattle.commonmark_syntax.specs.Resources.{BeginsWithEither, BeginsWithNeither, HasTitle, IsNoResource, LeavesResource};
+ghost use Rattle.commonmark_syntax.specs.Syntax as page;
+ghost use Rattle.commonmark_syntax.specs.Syntax.{blanks};
 ghost use Rattle.markdown_text.specs.Contents.{IsRange};
 ghost use Rattle.markdown_text.specs.Outputs.{Stands, WritesTo, bytes_of, AtStage, Leads};
 ghost use Rattle.markdown_text.specs.Tokens.{IsDestination, IsEnclosed, IsResource};
@@ -10,6 +15,7 @@ use crate::output::Output;
 use crate::{destination as destination_span, title as title_span};
 use character_references::references::References;
 use commonmark_syntax::bytes::{after, white_space_length};
+use commonmark_syntax::reading::past_byte;
 use commonmark_syntax::{destination, title};
 use markdown_events::event::Name;
 use std::alloc::AllocError;
@@ -25,7 +31,7 @@ pub struct Resource {
     between: usize,
     /// The title. It is 0 where there is none.
     title: usize,
-    /// The white space after the title.
+    /// The white space after the title. It is 0 where there is no title.
     after: usize,
     /// All of it, with the parentheses.
     pub size: usize,
@@ -33,21 +39,20 @@ pub struct Resource {
 
 /// The resource that a text begins with.
 pub fn scan(text: &[u8]) -> Option<Resource>
-    ensures { IfSome result (λ resource. IsResource text.now resource 0 resource.size) }
+    ensures exact { MatchOption result (IsNoResource text.now) (λ resource. LeavesResource text.now (drop resource.size text.now)) }
+    ensures parts { IfSome result (λ resource. IsResource text.now resource 0 resource.size) }
 {
-    let inside = text.strip_prefix(b"(")?;
+    let inside = past_byte(text, b'(')?;
     let before = white_space_length(inside);
     let rest = after(inside, before);
     let destination = destination_length(rest)?;
     let rest = after(rest, destination);
     let between = white_space_length(rest);
     let rest = after(rest, between);
-    let title = title_length(rest, destination > 0 && between > 0)?;
+    let title = title_length(rest, destination, between)?;
     let rest = after(rest, title);
-    let space = white_space_length(rest);
-    let [b')', rest @ ..] = after(rest, space) else {
-        return None;
-    };
+    let space = space_length(rest, title);
+    let rest = past_byte(after(rest, space), b')')?;
     Some(Resource {
         before,
         destination,
@@ -60,7 +65,8 @@ pub fn scan(text: &[u8]) -> Option<Resource>
 
 /// The length of the destination that a text begins with, or 0 where the resource ends.
 fn destination_length(text: &[u8]) -> Option<usize>
-    ensures { IfSome result (λ size. IsDestination text.now 0 size) }
+    ensures exact { MatchOption result (BeginsWithNeither text.now) (BeginsWithEither text.now) }
+    ensures part { IfSome result (λ size. IsDestination text.now 0 size) }
 {
     match text.first()? {
         b')' => Some(0),
@@ -68,18 +74,35 @@ fn destination_length(text: &[u8]) -> Option<usize>
     }
 }
 
-/// The length of the title that a text begins with, or 0 where none may stand there or it begins with no
-/// marker of one.
-fn title_length(text: &[u8], may_stand: bool) -> Option<usize>
+/// The length of the title that a text begins with, after a destination and white space of these lengths. It is 0
+/// where none may stand there, or the text begins with no marker of one.
+fn title_length(text: &[u8], destination: usize, between: usize) -> Option<usize>
+    ensures exact { 0 < destination → 0 < between → MatchOption result (IsNotAt page.title text.now × (slice_index text.now 0 ≢ 41)) (HasTitle text.now) }
+    ensures closed { destination ≡ 0 → result ≡ Some 0 }
+    ensures close { between ≡ 0 → result ≡ Some 0 }
     ensures range { IfSome result (λ size. IsRange text.now 0 size) }
     ensures enclosed { IfSome result (λ size. 0 < size → IsEnclosed text.now 1 0 size) }
 {
-    if !may_stand {
+    if destination == 0 || between == 0 {
         return Some(0);
     }
     match text.first()? {
         b'"' | b'\'' | b'(' => title::scan(text),
         _ => Some(0),
+    }
+}
+
+/// The length of the white space that a text begins with, after a title of this length. Without a title it is 0: the
+/// white space after the destination has been read.
+fn space_length(text: &[u8], title: usize) -> usize
+    ensures bare { title ≡ 0 → result ≡ 0 }
+    ensures exact { 0 < title → read blanks text.now ≡ Some (drop result text.now) }
+    ensures most { result ≤ length text.now }
+{
+    if title == 0 {
+        0
+    } else {
+        white_space_length(text)
     }
 }
 

@@ -6,19 +6,20 @@ ghost use Rattle.markdown_options.specs.Spans.{is_on};
 ghost use Rattle.markdown_pieces.specs.Tilings.{Tiles, end_from};
 ghost use Rattle.markdown_text.specs.Constructs.{AreDelimitersOn, AreTokensOn, is_delimiter_on, is_kind_on, is_label_on};
 ghost use Rattle.markdown_text.specs.Contents.{IsAsciiPart, IsContent, IsPart, joined, spot};
-ghost use Rattle.markdown_text.specs.Opens.{AtOpen, AtOpened, KeepsOpen, attention_size, opened, group_name};
+ghost use Rattle.markdown_text.specs.Opens.{AtOpen, AtOpened, KeepsOpen, group_name, opened};
 ghost use Rattle.markdown_text.specs.Outputs.{AtInlines, BeginsText, GoesOn, IsAtText, KeepsInlines, Stands, WritesTo, bytes_of, as_text, references_of, constructs_of};
 ghost use Rattle.markdown_text.specs.Spans.{IsWithin};
 ghost use Rattle.markdown_text.specs.Standings.{IsAt};
 ghost use Rattle.markdown_text.specs.Tokens.{AreTokens, IsToken, label_start};
 ghost use Rattle.markdown_events.specs.declared.event.Name.TheVariants.{GfmAutolinkLiteralProtocol, GfmAutolinkLiteralWww};
-ghost use Rattle.markdown_text.specs.declared.attention.AttentionKind.{AttentionKind};
+ghost use Rattle.markdown_attention.specs.Emphasis.{kind_size};
+ghost use Rattle.markdown_attention.specs.declared.delimiter.AttentionKind.{AttentionKind};
 ghost use Rattle.markdown_text.specs.declared.text.Open.{Open};
 ghost use Rattle.markdown_text.specs.declared.text.Open.TheVariants.{Attention, Label};
 ghost use Rattle.markdown_text.specs.declared.token.Labelled.{Labelled};
 ghost use Rattle.markdown_text.specs.declared.token.TokenKind.TheVariants.{LabelEnd, LabelStart};
 
-use crate::attention::{AttentionKind, Delimiter};
+use crate::attention_names::{group_name, sequence_name, text_name};
 use crate::output::{ContentKind, Next, Output};
 use crate::raw_text::{self, RawText};
 use crate::source::Source;
@@ -30,6 +31,7 @@ use crate::{
 };
 use character_references::references::References;
 use event_writer::writer::Writer;
+use markdown_attention::delimiter::{AttentionKind, Delimiter};
 use markdown_events::event::Name;
 use markdown_pieces::piece::Piece;
 use std::alloc::AllocError;
@@ -348,20 +350,20 @@ fn open_attention<R: References>(
     open: &mut Vec<Open>,
 ) -> Result<usize, AllocError>
     requires stands { Stands output.old }
-    requires ascii { IsAsciiPart (bytes_of output.old) output.old.data (output.old.data + attention_size kind) }
+    requires ascii { IsAsciiPart (bytes_of output.old) output.old.data (output.old.data + kind_size kind) }
     requires at { AtOpen output.old open.old.items }
     requires on { is_on (constructs_of output.old) (group_name kind) ≡ true }
-    ensures size { IfOk result (λ size. size ≡ attention_size kind) }
+    ensures size { IfOk result (λ size. size ≡ kind_size kind) }
     ensures given { output.new.writer.given ≡ output.old.writer.given }
     ensures goes_on { OnOk result (GoesOn output.old output.new) }
-    ensures data_end { OnOk result (output.new.data ≡ output.old.data + attention_size kind) }
+    ensures data_end { OnOk result (output.new.data ≡ output.old.data + kind_size kind) }
     ensures at { KeepsOpen result output.old output.new open.old.items open.new.items }
 {
     open.push(Open::Attention(kind))?;
     output.flush(Next::Span)?;
-    output.enter(kind.group())?;
-    output.token(kind.sequence(), kind.size())?;
-    output.enter(kind.text())?;
+    output.enter(group_name(kind))?;
+    output.token(sequence_name(kind), kind.size())?;
+    output.enter(text_name(kind))?;
     Ok(kind.size())
 }
 
@@ -372,19 +374,19 @@ fn close_attention<R: References>(
     open: &mut Vec<Open>,
 ) -> Result<usize, AllocError>
     requires stands { Stands output.old }
-    requires ascii { IsAsciiPart (bytes_of output.old) output.old.data (output.old.data + attention_size kind) }
+    requires ascii { IsAsciiPart (bytes_of output.old) output.old.data (output.old.data + kind_size kind) }
     requires at { AtOpen output.old open.old.items }
     requires last { (os : List Open) × (open.old.items ≡ os ++ Attention kind ∷ []) }
-    ensures size { IfOk result (λ size. size ≡ attention_size kind) }
+    ensures size { IfOk result (λ size. size ≡ kind_size kind) }
     ensures given { output.new.writer.given ≡ output.old.writer.given }
     ensures goes_on { OnOk result (GoesOn output.old output.new) }
-    ensures data_end { OnOk result (output.new.data ≡ output.old.data + attention_size kind) }
+    ensures data_end { OnOk result (output.new.data ≡ output.old.data + kind_size kind) }
     ensures at { KeepsOpen result output.old output.new open.old.items open.new.items }
 {
     open.pop();
     output.flush(Next::Span)?;
     output.exit()?;
-    output.token(kind.sequence(), kind.size())?;
+    output.token(sequence_name(kind), kind.size())?;
     output.exit()?;
     Ok(kind.size())
 }

@@ -1,9 +1,11 @@
 //! The first pass over a text: the constructs in it, in order.
 
-ghost use Rattle.std.specs.Prelude.{List, None, Some, [], false, true, ◌≡◌, ◌≢◌, ◌<◌, ◌≤◌, ◌+◌, ◌-◌, length, IfOk, IsFalse, IsTrue, OnOk};
+ghost use Rattle.std.specs.Prelude.{List, None, Some, [], false, true, ◌≡◌, ◌≢◌, ◌<◌, ◌≤◌, ◌+◌, ◌-◌, length, IfOk, IfSome, IsFalse, IsTrue, OnOk};
 ghost use Rattle.std.proofs.Props.{props};
+ghost use Rattle.commonmark_syntax.specs.HtmlTags.{AreMissing};
+ghost use Rattle.commonmark_syntax.specs.Strings.{AreLast};
 ghost use Rattle.markdown_options.specs.declared.Constructs.{Constructs};
-ghost use Rattle.markdown_text.specs.Constructs.{AreBracketsOn, AreDelimitersOn, AreTokensOn, is_form_on, is_found_on, is_label_on};
+ghost use Rattle.markdown_text.specs.Constructs.{AreBracketsOn, AreDelimitersOn, AreTokensOn, IsMarker, is_form_on, is_found_on, is_label_on};
 ghost use Rattle.markdown_text.specs.Cursors.{byte_at, bytes_from};
 ghost use Rattle.markdown_text.specs.Reached.{AreOpen, AreOpenWith, IsOpen, IsWith, ReachAsFar, form_size};
 ghost use Rattle.markdown_text.specs.Runs.{IsAttentionOn};
@@ -12,21 +14,23 @@ ghost use Rattle.markdown_text.specs.Tokens.{AreTokens, IsFound, label_start};
 ghost use Rattle.markdown_text.specs.declared.brackets.Bracket.{Bracket};
 ghost use Rattle.markdown_text.specs.declared.token.TokenKind.TheVariants.{LabelEnd, LabelStart};
 
-use crate::attention::{Attention, Delimiter, Run, is_delimiter_run};
+use crate::attention::Attention;
 use crate::brackets::{Bracket, Brackets, LabelForm};
 use crate::cursor::Cursor;
-use crate::html_text::{self, MissingEnds};
+use crate::delimiter_run::{is_delimiter_run, run_at};
 use crate::label_end::{self, Match};
-use crate::raw_text::{self, LastRuns};
 use crate::source::Source;
 use crate::token::{Found, Labelled, Token, TokenKind};
 use crate::{
     autolink, character_escape, character_reference, gfm_autolink_literal,
-    gfm_label_start_footnote, gfm_task_list_item_check, hard_break_escape, label_start_image,
-    label_start_link,
+    gfm_label_start_footnote, gfm_task_list_item_check, hard_break_escape, html_text,
+    label_start_image, label_start_link, raw_text,
 };
 use character_references::references::References;
 use commonmark_syntax::bytes::{after, count_while};
+use commonmark_syntax::code_span::LastStrings;
+use commonmark_syntax::html_tag::MissingEnds;
+use markdown_attention::delimiter::Delimiter;
 use markdown_options::Constructs;
 use std::alloc::AllocError;
 
@@ -76,17 +80,20 @@ struct Tokenizer<'c, R> {
     attention: Attention,
     /// The brackets that are open.
     brackets: Brackets,
-    /// What is known of the runs of backticks.
-    backtick_runs: Option<LastRuns>,
-    /// What is known of the runs of dollars.
-    dollar_runs: Option<LastRuns>,
-    /// What is known of the ends of HTML.
+    /// What is known of the strings of backticks.
+    backtick_strings: Option<LastStrings>,
+    /// What is known of the strings of dollars.
+    dollar_strings: Option<LastStrings>,
+    /// What is known of the ends of HTML tags.
     missing: MissingEnds,
     /// The offset before which no domain of an autolink literal begins.
     barred: usize,
     ghost tokens_on: { AreTokensOn source.now.reading.now.options.constructs tokens.items } by { Prim.hlevel props },
     ghost brackets_on: { AreBracketsOn source.now.reading.now.options.constructs brackets.stack.items } by { Prim.hlevel props },
     ghost attention_on: { IsAttentionOn source.now.reading.now.options.constructs attention } by { Prim.hlevel props },
+    ghost backticks_known: { IfSome backtick_strings (AreLast 96 source.now.bytes.now) } by { Prim.hlevel props },
+    ghost dollars_known: { IfSome dollar_strings (AreLast 36 source.now.bytes.now) } by { Prim.hlevel props },
+    ghost missing_known: { AreMissing source.now.bytes.now missing } by { Prim.hlevel props },
 }
 
 impl<'c, R: References> Tokenizer<'c, R> {
@@ -102,9 +109,9 @@ impl<'c, R: References> Tokenizer<'c, R> {
             tokens: Vec::new(alloc),
             attention: Attention::new(alloc),
             brackets: Brackets::new(alloc),
-            backtick_runs: None,
-            dollar_runs: None,
-            missing: MissingEnds::new(),
+            backtick_strings: None,
+            dollar_strings: None,
+            missing: MissingEnds::new(source.bytes.len()),
             barred: 0,
         }
     }
@@ -137,6 +144,7 @@ impl<'c, R: References> Tokenizer<'c, R> {
     /// What begins at the cursor. With `is_task` the text may begin with the mark of a task. The only error is
     /// that memory ran out.
     fn find(&mut self, cursor: Cursor<'_>, is_task: bool) -> Result<Found, AllocError>
+        requires content { cursor.content.now ≡ self.old.source.now.bytes.now }
         requires opened { AreOpen self.old.tokens.items self.old.brackets.stack.items }
         requires task { is_task ≡ true → self.old.source.now.reading.now.options.constructs.gfm_task_list_item ≡ true }
         ensures found { IfOk result (λ found. IsFound (text_of cursor.entry.content.now (R.text self.old.source.now.reading.now.references.now) is_task) found.kind cursor.entry.at (cursor.entry.at + found.size)) }
@@ -154,6 +162,7 @@ impl<'c, R: References> Tokenizer<'c, R> {
     /// The mark of a task, or what else stands at the start of a text that may begin with one. The only error
     /// is that memory ran out.
     fn task(&mut self, cursor: Cursor<'_>) -> Result<Found, AllocError>
+        requires content { cursor.content.now ≡ self.old.source.now.bytes.now }
         requires start { cursor.at ≡ 0 }
         requires opened { AreOpen self.old.tokens.items self.old.brackets.stack.items }
         requires on { self.old.source.now.reading.now.options.constructs.gfm_task_list_item ≡ true }
@@ -171,6 +180,7 @@ impl<'c, R: References> Tokenizer<'c, R> {
 
     /// What begins at the cursor, but for the mark of a task. The only error is that memory ran out.
     fn scan(&mut self, cursor: Cursor<'_>) -> Result<Found, AllocError>
+        requires content { cursor.content.now ≡ self.old.source.now.bytes.now }
         requires opened { AreOpen self.old.tokens.items self.old.brackets.stack.items }
         ensures found { IfOk result (λ found. IsFound (text_of cursor.entry.content.now (R.text self.old.source.now.reading.now.references.now) false) found.kind cursor.entry.at (cursor.entry.at + found.size)) }
         ensures source { self.new.source.now ≡ self.old.source.now }
@@ -187,6 +197,7 @@ impl<'c, R: References> Tokenizer<'c, R> {
 
     /// The construct that begins at the cursor, but for labels. The only error is that memory ran out.
     fn construct(&mut self, cursor: Cursor<'_>) -> Result<Found, AllocError>
+        requires content { cursor.content.now ≡ self.old.source.now.bytes.now }
         ensures found { IfOk result (λ found. IsFound (text_of cursor.entry.content.now (R.text self.old.source.now.reading.now.references.now) false) found.kind cursor.entry.at (cursor.entry.at + found.size)) }
         ensures source { self.new.source.now ≡ self.old.source.now }
         ensures tokens { self.new.tokens ≡ self.old.tokens }
@@ -249,7 +260,8 @@ impl<'c, R: References> Tokenizer<'c, R> {
 
     /// What a run of backticks begins. The only error is that memory ran out.
     fn code_text(&mut self, cursor: Cursor<'_>) -> Result<Found, AllocError>
-        requires { byte_at cursor ≡ 96 }
+        requires content { cursor.content.now ≡ self.old.source.now.bytes.now }
+        requires byte { byte_at cursor ≡ 96 }
         ensures found { IfOk result (λ found. IsFound (bare cursor.entry.content.now) found.kind cursor.entry.at (cursor.entry.at + found.size)) }
         ensures source { self.new.source.now ≡ self.old.source.now }
         ensures tokens { self.new.tokens ≡ self.old.tokens }
@@ -261,7 +273,7 @@ impl<'c, R: References> Tokenizer<'c, R> {
             return Ok(Found::data(sequence));
         }
         let alloc = self.source.reading.alloc;
-        match raw_text::scan(alloc, cursor, sequence, &mut self.backtick_runs)? {
+        match raw_text::scan(alloc, cursor, sequence, &mut self.backtick_strings)? {
             Some(size) => Ok(Found::token(TokenKind::CodeText(sequence), size)),
             None => Ok(Found::data(sequence)),
         }
@@ -269,7 +281,8 @@ impl<'c, R: References> Tokenizer<'c, R> {
 
     /// What a run of dollars begins. The only error is that memory ran out.
     fn math_text(&mut self, cursor: Cursor<'_>) -> Result<Found, AllocError>
-        requires { byte_at cursor ≡ 36 }
+        requires content { cursor.content.now ≡ self.old.source.now.bytes.now }
+        requires byte { byte_at cursor ≡ 36 }
         ensures found { IfOk result (λ found. IsFound (bare cursor.entry.content.now) found.kind cursor.entry.at (cursor.entry.at + found.size)) }
         ensures source { self.new.source.now ≡ self.old.source.now }
         ensures tokens { self.new.tokens ≡ self.old.tokens }
@@ -282,7 +295,7 @@ impl<'c, R: References> Tokenizer<'c, R> {
             return Ok(Found::data(sequence));
         }
         let alloc = self.source.reading.alloc;
-        match raw_text::scan(alloc, cursor, sequence, &mut self.dollar_runs)? {
+        match raw_text::scan(alloc, cursor, sequence, &mut self.dollar_strings)? {
             Some(size) => Ok(Found::token(TokenKind::MathText(sequence), size)),
             None => Ok(Found::data(sequence)),
         }
@@ -290,6 +303,7 @@ impl<'c, R: References> Tokenizer<'c, R> {
 
     /// What a run of delimiters is. The only error is that memory ran out.
     fn attention(&mut self, cursor: Cursor<'_>) -> Result<Found, AllocError>
+        requires marker { IsMarker (byte_at cursor) }
         requires ascii { byte_at cursor < 128 }
         requires line { byte_at cursor ≢ 10 }
         ensures found { IfOk result (λ found. IsFound (bare cursor.entry.content.now) found.kind cursor.entry.at (cursor.entry.at + found.size)) }
@@ -302,13 +316,14 @@ impl<'c, R: References> Tokenizer<'c, R> {
         if !is_delimiter_run(cursor.byte(), size, &self.source.reading.options) {
             return Ok(Found::data(size));
         }
-        self.attention.push(Run::new(cursor, size))?;
+        self.attention.push(run_at(cursor, size))?;
         Ok(Found::token(TokenKind::Attention, size))
     }
 
     /// What an angle bracket begins.
     fn angle_bracket(&mut self, cursor: Cursor<'_>) -> Found
-        requires { byte_at cursor ≡ 60 }
+        requires content { cursor.content.now ≡ self.old.source.now.bytes.now }
+        requires byte { byte_at cursor ≡ 60 }
         ensures found { IsFound (bare cursor.entry.content.now) result.kind cursor.entry.at (cursor.entry.at + result.size) }
         ensures source { self.new.source.now ≡ self.old.source.now }
         ensures tokens { self.new.tokens ≡ self.old.tokens }
@@ -321,7 +336,7 @@ impl<'c, R: References> Tokenizer<'c, R> {
             return found;
         }
         if self.constructs().html_text
-            && let Some(size) = html_text::scan(cursor.rest(), &mut self.missing)
+            && let Some(size) = html_text::scan(cursor, &mut self.missing)
         {
             return Found::token(TokenKind::HtmlText, size);
         }

@@ -1,15 +1,16 @@
 //! White space: which bytes are (GFM), and what stands at the ends of data (micromark), where it begins or
 //! ends a line, or the text.
 
-ghost use Rattle.std.specs.Prelude.{IsFalse, IsTrue, length, ◌≡◌, ◌≢◌, ◌≤◌, ◌<◌, ◌+◌, ◌-◌, true};
+ghost use Rattle.std.specs.Prelude.{IsFalse, IsTrue, length, ◌≡◌, ◌≢◌, ◌≤◌, ◌<◌, ◌+◌, ◌-◌, drop, reverse, true};
+ghost use Rattle.commonmark_syntax.specs.Inlines.{spaces_break};
+ghost use Rattle.commonmark_syntax.specs.Language.{IsNotAt, Leaves};
 ghost use Rattle.commonmark_syntax.specs.Cuts.{IsCut};
 ghost use Rattle.markdown_text.specs.declared.output.Next.TheVariants.{LineEnding};
 
 use crate::output::{ContentKind, Next};
 use commonmark_syntax::bytes::{after, count_back, count_while, is_space_or_tab};
-
-/// So many spaces before a line ending are a hard break, or more (CommonMark).
-const HARD_BREAK: usize = 2;
+use commonmark_syntax::class::{Class, WhiteSpace};
+use commonmark_syntax::spaces_break;
 
 /// The white space at the ends of data that is written apart.
 #[derive(Clone, Copy, PartialEq, Eq, Debug)]
@@ -28,7 +29,7 @@ pub fn is_white_space(byte: u8) -> bool
     ensures ascii { IsTrue result → byte < 128 }
     ensures other { IsFalse result → byte ≢ 10 }
 {
-    matches!(byte, b'\t'..=b'\r' | b' ')
+    WhiteSpace::has(byte)
 }
 
 /// The white space at the ends of data, by where it begins and what comes next.
@@ -92,14 +93,15 @@ fn break_size(text: &[u8], kind: ContentKind, next: Next, has_breaks: bool) -> u
 
 /// How many spaces at the end of a text are a hard break, where a line ending comes next.
 fn hard_break(text: &[u8]) -> usize
+    ensures some { 0 < result → Leaves spaces_break (reverse text.now) (drop result (reverse text.now)) }
+    ensures none { result ≡ 0 → IsNotAt spaces_break (reverse text.now) }
     ensures most { result ≤ length text.now }
     ensures cut { IsCut text.now (length text.now - result) }
 {
-    let spaces = count_back(text, |byte| byte == b' ');
-    if spaces < HARD_BREAK {
-        return 0;
+    match spaces_break::scan_back(text) {
+        Some(size) => size,
+        None => 0,
     }
-    spaces
 }
 
 /// Whether white space at the end of data is written apart.

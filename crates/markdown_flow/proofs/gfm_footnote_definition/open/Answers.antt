@@ -1,6 +1,11 @@
-use Rattle.std.proofs.Common.{◌≡◌, ◌≤◌, ◌<◌, ◌+◌, ◌-◌, ◌∙◌, ◌⊎◌, ap, arith, inl, inr, length, min, subst, sym, ℕ, Bor, List}
+use Rattle.std.proofs.Common.{◌≡◌, ◌≤◌, ◌<◌, ◌+◌, ◌-◌, ◌∙◌, ◌⊎◌, ap, arith, false, inl, inr, length, min, refl, subst, sym, ℕ, Bor, List}
 use Rattle.std.proofs.lemmas.Bool.{cases_lt}
 use Rattle.std.proofs.lemmas.Grind.{common_steps}
+use Rattle.std.proofs.lemmas.Result.{on_ok_weaker}
+use Rattle.event_writer.specs.Stages.{flow, footnote_definition}
+use Rattle.markdown_events.specs.declared.event.Name.TheVariants.{GfmFootnoteDefinition, GfmFootnoteDefinitionPrefix}
+use Rattle.markdown_flow.specs.Outputs.{IsAt}
+use Rattle.markdown_pieces.specs.Walks.{inside}
 use Rattle.markdown_flow.proofs.Lines.{after_spaces-length, end-within}
 use Rattle.commonmark_syntax.specs.Cuts.{IsCut}
 use Rattle.markdown_flow.proofs.Cuts.{rest_is_text}
@@ -48,6 +53,22 @@ pub returns-clause-moved : goal.returns-clause-moved
 returns-clause-moved c =
     let line = c.args.line.now in
     moved_on line c.skip.new.self c.columns-2.new.line (moved_on line c.columns.new.line c.skip.new.self c.columns.ensures.moved c.skip.ensures.moved) c.columns-2.ensures.moved
+
+pub returns-in_err-token_to-clause-moved : goal.returns-in_err-token_to-clause-moved
+returns-in_err-token_to-clause-moved c = moved_on c.args.line.now c.columns.new.line c.skip.new.self c.columns.ensures.moved c.skip.ensures.moved
+
+pub returns-clause-at : goal.returns-clause-at
+returns-clause-at c =
+    on_ok_weaker c.exit.result (λ _. subst (λ (cursor : Cursor). IsAt cursor c.columns-2.new.line) (sym c.exit.ensures.cursor) c.in_ok-columns-2.ensures.at) c.exit.ensures.writes
+
+pub returns-clause-opens : goal.returns-clause-opens
+returns-clause-opens c n outer opens =
+    let around = inside GfmFootnoteDefinition (flow n) outer in
+    let begun = c.in_ok-columns.ensures.same footnote_definition around (c.in_ok-enter.ensures.opens (flow n) outer opens) in
+    let labelled = c.in_ok-write_label.ensures.opens (inside GfmFootnoteDefinitionPrefix footnote_definition around) (c.in_ok-enter-2.ensures.opens footnote_definition around begun) in
+    let marked = c.in_ok-token_to.ensures.same (flow false) refl (inside GfmFootnoteDefinitionPrefix footnote_definition around) labelled in
+    let padded = c.in_ok-columns-2.ensures.same (flow false) (inside GfmFootnoteDefinitionPrefix footnote_definition around) marked in
+    c.exit.ensures.opens (flow false) footnote_definition around padded
 
 pub token_to-requires-clause-same : goal.token_to-requires-clause-same
 token_to-requires-clause-same c =

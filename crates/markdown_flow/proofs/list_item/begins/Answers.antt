@@ -1,22 +1,29 @@
-use Rattle.std.proofs.Common.{◌≡◌, ◌∙◌, List, ap, arith, subst, sym, ℕ}
-use Rattle.std.specs.Prelude.{slice_index}
-use Rattle.markdown_flow.proofs.Numbers.{all_digits}
-use Rattle.markdown_flow.specs.Lines.{is_space_or_tab}
-use Rattle.markdown_flow.specs.Markers.{HasMarker}
+use Rattle.std.proofs.Common.{List, Option, arith, inl, inr, subst, sym, ◌-◌, ℕ}
+use Rattle.std.specs.Prelude.{IfNone}
+use Rattle.markdown_flow.specs.declared.list_item.ItemStart.{ItemStart}
+use Rattle.commonmark_syntax.specs.Blocks.{interrupting_list_marker}
+use Rattle.commonmark_syntax.specs.Language.{IsAt}
+use Rattle.markdown_flow.specs.Markers.{HasMarker, IsNoItem}
 use Rattle.markdown_flow.proofs.list_item.begins.Goals as goal
 
 pub returns-clause-marker : goal.returns-clause-marker
 returns-clause-marker c =
-    let text = c.text-text.result.now in
-    let digits = c.count_while-digits.result in
-    let found = c.in_ok-marker.ensures.lookup.3 in
-    let byte : c.in_ok-marker.field-0.now ≡ slice_index text digits = found.1 0 in
-    let test = c.is_marker.ensures in
-    let is = c.if-not-is_marker.false in
-    subst (λ (xs : List ℕ). HasMarker xs digits) c.text-text.ensures (record {
-      within = found.0;
-      most = test.most is;
-      number = all_digits text digits c.count_while-digits.ensures.most (λ k less. sym (c.count_while-digits.ensures.counted k less));
-      marker = omega (arith, byte, test.ascii is);
-      not_white = ap is_space_or_tab (sym byte) ∙ test.not_white is;
+    let said = c.in_ok-size.ensures in
+    subst (λ (xs : List ℕ). HasMarker xs (c.in_ok-size.size - 1)) c.text-text.ensures (record {
+      within = omega (arith, said.least, said.most);
+      most = said.digits.0;
+      number = said.digits.1;
+      marker = said.mark.0;
+      not_white = said.mark.1;
     })
+
+pub returns-clause-interrupting : goal.returns-clause-interrupting
+returns-clause-interrupting c interrupts = subst (IsAt interrupting_list_marker) c.text-text.ensures (c.may_begin.ensures.yes c.if-not-may_begin.false interrupts)
+
+pub returns-then-not-may_begin-clause-none : goal.returns-then-not-may_begin-clause-none
+returns-then-not-may_begin-clause-none c on = subst (IsNoItem c.args.interrupts) c.text-text.ensures (inr (inr (c.may_begin.ensures.no c.if-not-may_begin.true)))
+
+pub returns-in_err-size-clause-none : goal.returns-in_err-size-clause-none
+returns-in_err-size-clause-none c on =
+    subst (λ (o : Option ItemStart). IfNone o (IsNoItem c.args.interrupts c.args.line.now.text.now)) (sym c.from_residual.ensures)
+    (subst (IsNoItem c.args.interrupts) c.text-text.ensures (inr (inl c.in_err-size.ensures.exact)))

@@ -28,7 +28,7 @@ token-requires-clause-may g c =
     let within = has_innermost c.args.output.now c.args.«open».now.items os (Attention k) c.requires.at.in_heading c.requires.at.outer c.requires.last.1 c.requires.at.at in
     let flushed = c.in_ok-flush.ensures.stage false text within in
     let ended = has_exited c.exit.new.self.writer (inlines false) (inlines false) (inlines false) (text_name k) group (text_exits k) (c.in_ok-exit.ensures.stage (inlines false) (inlines false) (text_name k) group flushed) in
-    named_may_put c.exit.new.self c.sequence.result (sequence_name k) (inlines false) (inlines false) group c.sequence.ensures (sequence_stands k) ended
+    named_may_put c.exit.new.self c.sequence_name.result (sequence_name k) (inlines false) (inlines false) group c.sequence_name.ensures (sequence_stands k) ended
 
 pub exit-requires-2-clause-may : goal.exit-requires-2-clause-may
 exit-requires-2-clause-may g c =
@@ -41,7 +41,7 @@ exit-requires-2-clause-may g c =
     let within = has_innermost c.args.output.now c.args.«open».now.items os (Attention k) c.requires.at.in_heading c.requires.at.outer c.requires.last.1 c.requires.at.at in
     let flushed = c.in_ok-flush.ensures.stage false text within in
     let ended = has_exited c.exit.new.self.writer (inlines false) (inlines false) (inlines false) (text_name k) group (text_exits k) (c.in_ok-exit.ensures.stage (inlines false) (inlines false) (text_name k) group flushed) in
-    let put = named_put c.token.new.self.writer c.sequence.result (sequence_name k) (inlines false) (inlines false) group c.sequence.ensures (sequence_stands k) (c.in_ok-token.ensures.stage (inlines false) group ended) in
+    let put = named_put c.token.new.self.writer c.sequence_name.result (sequence_name k) (inlines false) (inlines false) group c.sequence_name.ensures (sequence_stands k) (c.in_ok-token.ensures.stage (inlines false) group ended) in
     may_exit c.token.new.self.writer (inlines false) (inlines h) (inlines h) (group_name k) outer (group_exits k h) put
 
 pub returns-clause-at : goal.returns-clause-at
@@ -55,6 +55,6 @@ returns-clause-at g c = λ in_heading around at.
     let within = has_innermost c.args.output.now c.args.«open».now.items os (Attention k) in_heading around c.requires.last.1 at in
     let flushed = c.in_ok-flush.ensures.stage false text within in
     let ended = has_exited c.exit.new.self.writer (inlines false) (inlines false) (inlines false) (text_name k) group (text_exits k) (c.in_ok-exit.ensures.stage (inlines false) (inlines false) (text_name k) group flushed) in
-    let put = named_put c.token.new.self.writer c.sequence.result (sequence_name k) (inlines false) (inlines false) group c.sequence.ensures (sequence_stands k) (c.in_ok-token.ensures.stage (inlines false) group ended) in
+    let put = named_put c.token.new.self.writer c.sequence_name.result (sequence_name k) (inlines false) (inlines false) group c.sequence_name.ensures (sequence_stands k) (c.in_ok-token.ensures.stage (inlines false) group ended) in
     let out = has_exited c.exit-2.new.self.writer (inlines false) (inlines h) (inlines h) (group_name k) outer (group_exits k h) (c.in_ok-exit-2.ensures.stage (inlines false) (inlines h) (group_name k) outer put) in
     same_open c.exit-2.new.self c.pop.new.self.items os in_heading around (without_innermost c.args.«open».now.items os c.pop.new.self.items (Attention k) (vec_len c.args.«open».now) c.requires.last.1 (omega (arith, c.args.«open».now.ok.0)) c.pop.ensures.rest) out

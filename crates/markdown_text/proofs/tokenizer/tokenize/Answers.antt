@@ -41,3 +41,13 @@ returns-clause-found g c =
     let within = c.tokens.invariant.within in
     let end = c.tokens-test.false in
     are_tokens (text_of source.bytes.now (g.R.References.text source.reading.now.references.now) c.args.is_task) 0 c.tokens.tokenizer.tokens.items c.tokens.at (omega (arith, within, end)) c.tokens.invariant.reach
+
+pub invariant_of-tokenizer-in_err-resolve : goal.invariant_of-tokenizer-in_err-resolve
+invariant_of-tokenizer-in_err-resolve g c =
+    let t = c.tokens.tokenizer in
+    record { tokens_on = t.tokens_on; brackets_on = t.brackets_on; attention_on = c.resolve.ensures.on t.source.now.reading.now.options.constructs t.attention_on; backticks_known = t.backticks_known; dollars_known = t.dollars_known; missing_known = t.missing_known }
+
+pub invariant_of-tokenizer-2 : goal.invariant_of-tokenizer-2
+invariant_of-tokenizer-2 g c =
+    let t = c.tokens.tokenizer in
+    record { tokens_on = t.tokens_on; brackets_on = t.brackets_on; attention_on = c.resolve.ensures.on t.source.now.reading.now.options.constructs t.attention_on; backticks_known = t.backticks_known; dollars_known = t.dollars_known; missing_known = t.missing_known }

@@ -4,7 +4,7 @@ use Rattle.std.proofs.lemmas.List.{drop-drop}
 use Rattle.event_writer.specs.Calls.{EndsLine, line_ending_length}
 use Rattle.event_writer.proofs.Walks.{column-bound}
 use Rattle.markdown_flow.specs.Lines.{IsInLine, IsRest}
-use Rattle.markdown_flow.proofs.Ascii.{tail_in}
+use Rattle.markdown_flow.proofs.Tails.{tail_is}
 use Rattle.markdown_flow.proofs.Lines.{Begins, Stands, begins, ends-drop, line_ending-drop}
 use Rattle.markdown_flow.proofs.line.Line.new.Goals as goal
 use Rattle.markdown_flow.proofs.line.Line.new.Goals.{After-after_line_ending}
@@ -54,5 +54,5 @@ invariant_of-result c =
       text_rests = c.after_spaces.ensures.value;
       has_columns = stands.place;
       has_indent = c.indent_of.ensures;
-      tail_ascii = tail_in bytes c.split_at.result.0.now (length bytes - length c.split_at.result.1.now) c.tail_size.result stands.before (omega (arith, stands.fits)) c.tail_size.ensures.within c.tail_size.ensures.ascii;
+      tail_exact = tail_is bytes c.split_at.result.0.now c.args.start (length bytes - length c.split_at.result.1.now) c.tail_size.result stands.before (omega (arith, stands.fits)) (omega (arith, end, c.split_at.ensures.front_len)) c.tail_size.ensures.exact;
     }

@@ -33,7 +33,7 @@ invariant_of-self c =
       text_rests = c.after_spaces-self.ensures.value;
       has_columns = subst (λ (n : ℕ). HasColumns line.source.document.now (line.end - length c.split_at.result.1.now) n c.columns_after-self.result) (sym c.skip_white_space.ensures.whole) place;
       has_indent = c.indent_of-self.ensures;
-      tail_ascii = line.tail_ascii;
+      tail_exact = line.tail_exact;
     }
 
 pub returns-clause-moved : goal.returns-clause-moved

@@ -84,5 +84,5 @@ invariant_of-self c =
       text_rests = i.text;
       has_columns = l.0.place;
       has_indent = omega (arith, l.1, i.indent, c.min-moved.ensures);
-      tail_ascii = line.tail_ascii;
+      tail_exact = line.tail_exact;
     }

@@ -19,7 +19,7 @@ invariant_of-self c =
       text_rests = text-again line;
       has_columns = at.place;
       has_indent = text-indentation line (line.columns + line.indent);
-      tail_ascii = line.tail_ascii;
+      tail_exact = line.tail_exact;
     }
 
 pub returns-clause-moved : goal.returns-clause-moved

@@ -1,4 +1,4 @@
-use Rattle.std.proofs.Common.{[], true, ◌≡◌}
+use Rattle.std.proofs.Common.{[], refl, true, ◌≡◌}
 use Rattle.std.proofs.lemmas.List.Elements.{All-nil, All-same}
 use Rattle.markdown_text.specs.Constructs.{is_form_on, is_kind_on}
 use Rattle.markdown_text.specs.declared.brackets.Bracket.{Bracket}
@@ -14,4 +14,7 @@ invariant_of-result g c =
       tokens_on = All-same is_token_on c.new.result.items [] c.new.ensures.items (All-nil is_token_on);
       brackets_on = All-same is_bracket_on c.new-3.result.stack.items [] c.new-3.ensures (All-nil is_bracket_on);
       attention_on = c.new-2.ensures cs;
+      backticks_known = tt;
+      dollars_known = tt;
+      missing_known = c.new-4.ensures c.args.source.now.bytes.now refl;
     }

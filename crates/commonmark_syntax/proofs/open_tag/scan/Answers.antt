@@ -1,0 +1,22 @@
+use Rattle.std.proofs.Common.{arith, lit<, refl}
+use Rattle.commonmark_syntax.specs.Syntax.{open_tag}
+use Rattle.commonmark_syntax.proofs.Goes.{goes_read}
+use Rattle.commonmark_syntax.proofs.OpenTag.{open_tag_goes}
+use Rattle.commonmark_syntax.proofs.Fronts.{bytes_of}
+use Rattle.commonmark_syntax.proofs.Scans.{none_exact, size_cut, size_exact, size_least, size_most}
+use Rattle.commonmark_syntax.proofs.open_tag.scan.Goals as goal
+
+pub returns-in_err-past-clause-exact : goal.returns-in_err-past-clause-exact
+returns-in_err-past-clause-exact c = none_exact open_tag _ _ (λ t reads. goes_read open_tag open_tag_goes _ t (bytes_of _ (λ i. omega (arith, c.type_inv.text i))) reads) c.in_err-past.ensures c.from_residual.ensures
+
+pub overflow_sub-result : goal.overflow_sub-result
+overflow_sub-result c = size_most open_tag _ _ c.in_ok-past.ensures
+
+pub returns-clause-exact : goal.returns-clause-exact
+returns-clause-exact c = size_exact open_tag _ _ (λ t reads. goes_read open_tag open_tag_goes _ t (bytes_of _ (λ i. omega (arith, c.type_inv.text i))) reads) c.in_ok-past.ensures
+
+pub returns-clause-least : goal.returns-clause-least
+returns-clause-least c = size_least open_tag _ _ 2 c.in_ok-past.ensures (lit< tt)
+
+pub returns-clause-cut : goal.returns-clause-cut
+returns-clause-cut c = size_cut open_tag _ _ refl (bytes_of _ (λ i. omega (arith, c.type_inv.text i))) c.in_ok-past.ensures

@@ -1,0 +1,13 @@
+use Rattle.std.proofs.Common.{arith, refl, ◌∙◌}
+use Rattle.commonmark_syntax.specs.Syntax.{character}
+use Rattle.commonmark_syntax.proofs.Loops.{many_on, read_smaller}
+use Rattle.commonmark_syntax.proofs.reading.past_characters.Goals as goal
+
+pub characters-smaller : goal.characters-smaller
+characters-smaller g c = read_smaller (character g.T.Class.class g.C.Class.class) _ _ refl c.in-Some.ensures
+
+pub characters-preserved : goal.characters-preserved
+characters-preserved g c = (
+  omega (arith, read_smaller (character g.T.Class.class g.C.Class.class) c.characters.rest.now c.in-Some.tail.now refl c.in-Some.ensures, c.characters.invariant.0),
+  many_on (character g.T.Class.class g.C.Class.class) c.characters.rest.now c.in-Some.tail.now refl c.in-Some.ensures ∙ c.characters.invariant.1,
+)

@@ -1,0 +1,153 @@
+//! Code spans, and math, which has dollars where code has backticks (CommonMark).
+
+ghost use Rattle.std.specs.Prelude.{◌≡◌, ◌≢◌, ◌≤◌, ◌<◌, ◌+◌, ◌-◌, ◌^◌, IfOk, IfSome, MatchOption, OnOk, drop, false, length, nat_lt, slice_index, ℕ};
+ghost use Rattle.commonmark_syntax.specs.Strings.{AreLast, FirstStringEnds, HasNoString, IsKept};
+
+use crate::bytes::after;
+use std::alloc::{AllocError, Global};
+
+/// Where the last string of each size ends, of one mark in a text.
+///
+/// With it, the string that closes a code span is looked for only where there is one, so that all searches
+/// together are linear.
+#[derive(Drop)]
+pub struct LastStrings {
+    /// The offset at which the last string of a size ends, by the size. It is 0 where there is none.
+    ends: Vec<usize>,
+}
+
+impl LastStrings {
+    /// The last strings of a mark in a text. The only error is that memory ran out.
+    fn new(alloc: Global, text: &[u8], mark: u8) -> Result<LastStrings, AllocError>
+        ensures { IfOk result (AreLast mark text.now) }
+    {
+        let mut last = LastStrings {
+            ends: Vec::new(alloc),
+        };
+        let mut run: usize = 0;
+        for (at, byte) in text.iter().enumerate() {
+            if *byte == mark {
+                run += 1;
+            } else {
+                last.keep(run, at)?;
+                run = 0;
+            }
+        }
+        last.keep(run, text.len())?;
+        Ok(last)
+    }
+
+    /// Keeps that a string ends at an offset. One of no marks is none. The only error is that memory ran out.
+    fn keep(&mut self, size: usize, end: usize) -> Result<(), AllocError>
+        requires order { size ≤ end }
+        requires fits { end < 2 ^ 63 }
+        ensures { OnOk result (IsKept size end self.old.ends.items self.new.ends.items) }
+    {
+        if size == 0 {
+            return Ok(());
+        }
+        self.reach(size)?;
+        self.ends[size] = end;
+        Ok(())
+    }
+
+    /// Makes room for a size. The only error is that memory ran out.
+    fn reach(&mut self, size: usize) -> Result<(), AllocError>
+        requires { size < 2 ^ 63 }
+        ensures room { OnOk result (size < length self.new.ends.items) }
+        ensures same { OnOk result ((n : ℕ) → slice_index self.new.ends.items n ≡ slice_index self.old.ends.items n) }
+    {
+        if self.ends.len() <= size {
+            self.ends.resize(size + 1, 0)?;
+        }
+        Ok(())
+    }
+
+    /// Whether a string of this size ends after an offset, as far as is known.
+    fn has_after(&self, size: usize, at: usize) -> bool
+        ensures { result ≡ nat_lt at (slice_index self.now.ends.items size) }
+    {
+        match self.ends.get(size) {
+            Some(end) => at < *end,
+            None => false,
+        }
+    }
+}
+
+/// The length of the code span that begins with a string of so many marks at an offset, if one does (CommonMark).
+///
+/// `last` is what is known of the strings of the mark in the content; it is found once. The only error is that
+/// memory ran out.
+pub fn scan(
+    alloc: Global,
+    content: &[u8],
+    mark: u8,
+    at: usize,
+    size: usize,
+    last: &mut Option<LastStrings>,
+) -> Result<Option<usize>, AllocError>
+    requires some { 0 < size }
+    requires within { at + size ≤ length content.now }
+    requires next { at + size < length content.now → slice_index content.now (at + size) ≢ mark }
+    requires last { IfSome last.old (AreLast mark content.now) }
+    ensures last { IfSome last.new (AreLast mark content.now) }
+    ensures exact { IfOk result (λ found. MatchOption found (HasNoString mark (drop (at + size) content.now) size) (λ whole. (size ≤ whole) × FirstStringEnds mark (drop (at + size) content.now) size (whole - size))) }
+    ensures most { IfOk result (λ found. IfSome found (λ whole. at + whole ≤ length content.now)) }
+{
+    if !may_close(alloc, content, mark, at + size, size, last)? {
+        return Ok(None);
+    }
+    match length_through_string(after(content, at + size), mark, size) {
+        Some(end) => Ok(Some(size + end)),
+        None => Ok(None),
+    }
+}
+
+/// Whether a string of so many marks may come after an offset, by what is known of the strings of the mark. The only
+/// error is that memory ran out.
+fn may_close(
+    alloc: Global,
+    content: &[u8],
+    mark: u8,
+    at: usize,
+    size: usize,
+    last: &mut Option<LastStrings>,
+) -> Result<bool, AllocError>
+    requires some { 0 < size }
+    requires within { at ≤ length content.now }
+    requires next { at < length content.now → slice_index content.now at ≢ mark }
+    requires last { IfSome last.old (AreLast mark content.now) }
+    ensures last { IfSome last.new (AreLast mark content.now) }
+    ensures none { IfOk result (λ may. may ≡ false → HasNoString mark (drop at content.now) size) }
+{
+    if last.is_none() {
+        *last = Some(LastStrings::new(alloc, content, mark)?);
+    }
+    match last {
+        Some(last) => Ok(last.has_after(size, at)),
+        None => Ok(true),
+    }
+}
+
+/// The length of a text through the first string of so many marks in it, which is what a code span has after the
+/// string of as many marks that opens it (CommonMark).
+///
+/// In `a$$b$c` it is 5 for one dollar.
+fn length_through_string(text: &[u8], mark: u8, size: usize) -> Option<usize>
+    requires { 0 < size }
+    ensures exact { MatchOption result (HasNoString mark text.now size) (FirstStringEnds mark text.now size) }
+    ensures most { IfSome result (λ end. end ≤ length text.now) }
+    ensures least { IfSome result (λ end. size ≤ end) }
+{
+    let mut run: usize = 0;
+    for (at, byte) in text.iter().enumerate() {
+        if *byte == mark {
+            run += 1;
+        } else if run == size {
+            return Some(at);
+        } else {
+            run = 0;
+        }
+    }
+    if run == size { Some(text.len()) } else { None }
+}

@@ -1,0 +1,14 @@
+pub mod Characters
+pub mod Classes
+pub mod Ends
+mod FlankingExamples
+pub mod Domains
+pub mod Segments
+pub mod Barred
+mod AddressExamples
+pub mod Marks
+pub mod Pairs
+pub mod Stack
+pub mod Taking
+pub mod Unique
+pub mod Nesting

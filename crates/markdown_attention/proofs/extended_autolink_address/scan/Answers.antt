@@ -1,0 +1,52 @@
+use Rattle.std.proofs.Common.{List, Some, ap, arith, drop, length, refl, slice_index, subst, sym, take, true, ℕ, ◌+◌, ◌<◌, ◌∙◌, ◌≡◌, ◌≤◌}
+use Rattle.std.specs.Str.{encode_utf8_all}
+use Rattle.commonmark_syntax.specs.Blocks.{has}
+use Rattle.commonmark_syntax.specs.Cuts.{IsInLine}
+use Rattle.commonmark_syntax.specs.ExtendedAutolinks.{path, trimmed}
+use Rattle.commonmark_syntax.proofs.Cuts.{line_drop}
+use Rattle.markdown_attention.specs.ExtendedAddresses.{address, domain, last_two_segments, segments}
+use Rattle.markdown_attention.proofs.Barred.{kept}
+use Rattle.markdown_attention.proofs.Domains.{address_of, line_less}
+use Rattle.markdown_attention.proofs.extended_autolink_address.scan.Goals as goal
+
+pub returns-clause-exact : goal.returns-clause-exact
+returns-clause-exact c = λ characters ok e.
+    let b = c.args.in_bracket in
+    let text = c.after-text.result.now in
+    let n = c.domain_size-size.result in
+    let r = c.scan.result in
+    let whole : List ℕ = encode_utf8_all (segments characters) in
+    let segs : take c.size-whole.result text ≡ whole = c.size-whole.ensures.exact characters ok (c.after-text.ensures.rest ∙ e) in
+    let is : take n text ≡ domain b text whole = c.domain_size-size.ensures.exact ∙ ap (domain b text) segs in
+    let w_most = c.size-whole.ensures.most in
+    let n_most = c.domain_size-size.ensures.most in
+    let rest = c.after.ensures.rest in
+    let behind = ap (take r) (sym rest) ∙ c.scan.ensures.exact ∙ ap (λ x. trimmed (path b x)) rest in
+    subst (λ t. address b t whole ≡ Some (take (n + r) t)) c.after-text.ensures.rest
+    (address_of b text whole n r (omega (arith, w_most, n_most)) is c.in_default.ensures (sym c.has_byte.ensures ∙ c.if-not-has_byte.false) behind)
+
+pub returns-clause-in_line : goal.returns-clause-in_line
+returns-clause-in_line c =
+    let text = c.after-text.result.now in
+    let n = c.domain_size-size.result in
+    let r = c.scan.result in
+    let first : IsInLine text n = line_less text c.size-whole.result n c.domain_size-size.ensures.most c.size-whole.ensures.in_line in
+    let later : IsInLine (drop n text) r = subst (λ (x : List ℕ). IsInLine x r) c.after.ensures.rest c.scan.ensures.in_line in
+    subst (λ (x : List ℕ). IsInLine x (n + r)) c.after-text.ensures.rest (line_drop text n r (n + r) refl first later)
+
+pub returns-in-Some-clause-barred : goal.returns-in-Some-clause-barred
+returns-in-Some-clause-barred c = λ characters ok e barred.
+    let b = c.args.in_bracket in
+    let text = c.after-text.result.now in
+    let n = c.domain_size-size.result in
+    let p = c.in-Some.place in
+    let there = c.after-text.ensures.rest in
+    let whole : List ℕ = encode_utf8_all (segments characters) in
+    let segs : take c.size-whole.result text ≡ whole = c.size-whole.ensures.exact characters ok (there ∙ e) in
+    let is : take n text ≡ domain b text whole = c.domain_size-size.ensures.exact ∙ ap (domain b text) segs in
+    let w_most = c.size-whole.ensures.most in
+    let n_most = c.domain_size-size.ensures.most in
+    let most : n ≤ length text = omega (arith, w_most, n_most) in
+    let found = c.in-Some.ensures in
+    kept b c.args.content.now characters c.args.at n p ok e (subst (λ (x : List ℕ). take n x ≡ domain b x whole) there is) (subst (λ (x : List ℕ). n ≤ length x) there most)
+    (subst (λ (x : List ℕ). p < length (take n x)) there found.0) (subst (λ (x : List ℕ). slice_index (take n x) p ≡ 95) there found.1) (subst (λ (x : List ℕ). has 95 (last_two_segments (take n x)) ≡ true) there found.2)

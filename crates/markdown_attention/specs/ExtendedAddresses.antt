@@ -1,0 +1,65 @@
+-- Addresses of extended autolinks (GFM), after www. or a scheme: a domain, and a path. Each rule stands here in our words.
+use Rattle.std.specs.Prelude.{◌≡◌, ◌<◌, ◌≤◌, ℕ, Bool, true, false, cond, not, ◌&&◌, ◌||◌, ◌==◌, nat_le, ◌++◌, List, [], ◌∷◌, Option, Some, None, codes, drop, length}
+use Rattle.std.specs.Str.{all_scalars, encode_utf8_all}
+use Rattle.commonmark_syntax.specs.Blocks.{has, without_last}
+use Rattle.commonmark_syntax.specs.ExtendedAutolinks.{how_many, is_trail, path, trimmed}
+use Rattle.commonmark_syntax.specs.Inlines.{begins_with, is_gfm_white_space}
+use Rattle.commonmark_syntax.specs.Syntax.{is_one_of}
+use Rattle.markdown_attention.specs.Flanking.{kind_of}
+use Rattle.markdown_attention.specs.declared.character_kind.CharacterKind.{CharacterKind}
+use Rattle.markdown_attention.specs.declared.character_kind.CharacterKind.TheVariants.{Other}
+
+-- The characters of a segment: letters, digits, hyphens and underscores. As a letter counts any character that is neither
+-- white space nor punctuation (micromark).
+abbrev pub is_other : CharacterKind → Bool
+is_other Other = true
+is_other _ = false
+
+abbrev pub is_of_segment : ℕ → Bool
+is_of_segment c = is_one_of (codes "-_") c || (not (is_gfm_white_space c) && is_other (kind_of c))
+
+-- The segments that the characters of a text begin with, and single periods between them: a period goes on where a
+-- segment begins after it.
+abbrev pub goes_on : ℕ → List ℕ → Bool
+goes_on c u = is_of_segment c || ((c == 46) && begins_with is_of_segment u)
+
+abbrev pub later_segments : List ℕ → List ℕ
+later_segments [] = []
+later_segments (c ∷ u) = cond (goes_on c u) (c ∷ later_segments u) []
+
+abbrev pub segments : List ℕ → List ℕ
+segments s = cond (begins_with is_of_segment s) (later_segments s) []
+
+-- The domain is these, but the underscores at its end, and the periods between them, are no part of it where the address
+-- would end with them, since only what may not end an autolink comes after it (micromark).
+abbrev pub is_period_or_underscore : ℕ → Bool
+is_period_or_underscore c = is_one_of (codes "._") c
+
+abbrev pub stem : List ℕ → List ℕ
+stem whole = without_last is_period_or_underscore whole
+
+abbrev pub domain : (in_bracket : Bool) → (text whole : List ℕ) → List ℕ
+domain in_bracket text whole = cond (is_trail (path in_bracket (drop (length (stem whole)) text))) (stem whole) whole
+
+-- A domain has one period at least, and no underscore in its last two segments.
+abbrev pub last_two_segments : List ℕ → List ℕ
+last_two_segments [] = []
+last_two_segments (c ∷ u) = cond (nat_le (how_many 46 (c ∷ u)) 1) (c ∷ u) (last_two_segments u)
+
+abbrev pub is_domain : List ℕ → Bool
+is_domain w = has 46 w && not (has 95 (last_two_segments w))
+
+-- The address at the start of a text, of which the segments that it begins with are given: its domain, if it is one, and
+-- the path after that without the punctuation at its end.
+abbrev pub with_path : (in_bracket : Bool) → (text domain : List ℕ) → List ℕ
+with_path in_bracket text domain = domain ++ trimmed (path in_bracket (drop (length domain) text))
+
+abbrev pub address : (in_bracket : Bool) → (text whole : List ℕ) → Option (List ℕ)
+address in_bracket text whole =
+    cond (is_domain (domain in_bracket text whole)) (Some (with_path in_bracket text (domain in_bracket text whole))) None
+
+-- What is remembered of a domain that is refused for an underscore: up to that underscore no address begins, from an offset
+-- of the content on.
+abbrev pub IsBarred : (in_bracket : Bool) → (content : List ℕ) → (from to : ℕ) → Type 0
+IsBarred in_bracket content from to = (i : ℕ) (characters : List ℕ) → from ≤ i → i < to → all_scalars characters ≡ true → drop i content ≡ encode_utf8_all characters
+    → address in_bracket (drop i content) (encode_utf8_all (segments characters)) ≡ None

@@ -1,0 +1,97 @@
+//! Addresses of extended autolinks: a domain, a path, and no punctuation at their end (GFM).
+
+ghost use Rattle.std.specs.Prelude.{◌≡◌, ◌≤◌, ◌<◌, ◌+◌, ◌-◌, ℕ, IfSome, List, MatchOption, None, Some, drop, false, length, slice_index, take, true};
+ghost use Rattle.std.specs.Str.{all_scalars, encode_utf8_all};
+ghost use Rattle.commonmark_syntax.specs.Blocks.{has};
+ghost use Rattle.commonmark_syntax.specs.Cuts.{IsInLine};
+ghost use Rattle.markdown_attention.specs.ExtendedAddresses as page;
+
+use crate::extended_autolink_segments;
+use commonmark_syntax::bytes::{after, count_back, has_byte};
+use commonmark_syntax::extended_autolink_path;
+
+/// The length of the address that begins at an offset of a content. With `in_bracket` a bracket is open
+/// before it.
+///
+/// Where its domain is refused for an underscore, `barred` becomes the offset of that. A domain that begins
+/// before it is refused, too, and is not read again, so that all searches together are linear. At first
+/// `barred` is 0.
+pub fn scan(content: &[u8], at: usize, in_bracket: bool, barred: &mut usize) -> Option<usize>
+    requires { at ≤ length content.now }
+    ensures exact { (characters : List ℕ) → all_scalars characters ≡ true → drop at content.now ≡ encode_utf8_all characters → MatchOption result (page.IsBarred in_bracket content.now at barred.old → page.address in_bracket (drop at content.now) (encode_utf8_all (page.segments characters)) ≡ None) (λ size. page.address in_bracket (drop at content.now) (encode_utf8_all (page.segments characters)) ≡ Some (take size (drop at content.now))) }
+    ensures barred { (characters : List ℕ) → all_scalars characters ≡ true → drop at content.now ≡ encode_utf8_all characters → page.IsBarred in_bracket content.now at barred.old → page.IsBarred in_bracket content.now at barred.new }
+    ensures most { IfSome result (λ size. size ≤ length content.now - at) }
+    ensures in_line { IfSome result (λ size. IsInLine (drop at content.now) size) }
+    ensures next { IfSome result (λ size. at + size < length content.now → slice_index content.now (at + size) < 128) }
+{
+    if at < *barred {
+        return None;
+    }
+    let text = after(content, at);
+    let whole = extended_autolink_segments::size(text);
+    let size = domain_size(text, whole, in_bracket);
+    let domain = &text[..size];
+    if let Some(place) = last_underscore(domain) {
+        *barred = at + place;
+        return None;
+    }
+    if !has_byte(domain, b'.') {
+        return None;
+    }
+    Some(size + extended_autolink_path::scan(after(text, size), in_bracket))
+}
+
+/// The size of the domain that a text begins with, with segments of this size. Underscores at its end are no
+/// part of it where the address would end with them (micromark), nor are the periods between them.
+fn domain_size(text: &[u8], whole: usize, in_bracket: bool) -> usize
+    requires { whole ≤ length text.now }
+    ensures exact { take result text.now ≡ page.domain in_bracket text.now (take whole text.now) }
+    ensures most { result ≤ whole }
+{
+    let stem = stem_size(&text[..whole]);
+    if extended_autolink_path::is_trail(after(text, stem), in_bracket) {
+        stem
+    } else {
+        whole
+    }
+}
+
+/// The size of segments without the periods and underscores at their end.
+fn stem_size(segments: &[u8]) -> usize
+    ensures exact { take result segments.now ≡ page.stem segments.now }
+    ensures most { result ≤ length segments.now }
+{
+    segments.len() - count_back(segments, is_period_or_underscore)
+}
+
+/// Whether a byte is a period or an underscore.
+fn is_period_or_underscore(byte: u8) -> bool
+    ensures { result ≡ page.is_period_or_underscore byte }
+{
+    byte == b'.' || byte == b'_'
+}
+
+/// The offset of the last underscore in the last two segments of a domain.
+fn last_underscore(domain: &[u8]) -> Option<usize>
+    ensures { MatchOption result (has 95 (page.last_two_segments domain.now) ≡ false) (λ place. (place < length domain.now) × (slice_index domain.now place ≡ 95) × (has 95 (page.last_two_segments domain.now) ≡ true)) }
+{
+    let clean = count_back(domain, |byte| byte != b'_');
+    if clean < last_two_size(domain) {
+        Some(domain.len() - clean - 1)
+    } else {
+        None
+    }
+}
+
+/// The size of the last two segments of a domain.
+fn last_two_size(domain: &[u8]) -> usize
+    ensures exact { drop (length domain.now - result) domain.now ≡ page.last_two_segments domain.now }
+    ensures most { result ≤ length domain.now }
+{
+    let last = count_back(domain, |byte| byte != b'.');
+    if last == domain.len() {
+        return last;
+    }
+    let front = &domain[..domain.len() - last - 1];
+    last + 1 + count_back(front, |byte| byte != b'.')
+}

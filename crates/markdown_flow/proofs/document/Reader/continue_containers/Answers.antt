@@ -1,0 +1,15 @@
+use Rattle.std.proofs.Common.{◌∙◌}
+use Rattle.markdown_flow.proofs.Moves.{moved_on}
+use Rattle.markdown_flow.proofs.document.Reader.continue_containers.Goals as goal
+
+pub loop-number-preserved : goal.loop-number-preserved
+loop-number-preserved c =
+    let before = c.loop-number.invariant in
+    let step = c.in_ok-continue_container.ensures in record {
+      output = step.output ∙ before.output;
+      flow = step.flow ∙ before.flow;
+      number = step.number ∙ before.number;
+      opens = step.opens;
+      reads = λ source from reads. step.reads source from (before.reads source from reads);
+      moved = moved_on _ _ _ before.moved step.moved;
+    }
