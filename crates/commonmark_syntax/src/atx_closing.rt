@@ -3,9 +3,8 @@
 ghost use Rattle.std.specs.Prelude.{◌≡◌, ◌≤◌, ◌-◌, length, take};
 ghost use Rattle.commonmark_syntax.specs.Blocks.{ends_solid, heading_text, is_sign, without_last};
 ghost use Rattle.commonmark_syntax.specs.Cuts.{IsCut};
-ghost use Rattle.commonmark_syntax.specs.Syntax.{is_blank};
 
-use crate::bytes::{count_back, is_space_or_tab};
+use crate::bytes::{count_back, is_space_or_tab, trimmed_size};
 
 /// The size of the text of a heading, of which what comes after its opening is given, without the white space there:
 /// the size without the signs that close it, and without the white space around them. Signs close a heading
@@ -35,15 +34,6 @@ fn ends_solid(text: &[u8]) -> bool
         [.., last] => !is_space_or_tab(*last),
         [] => false,
     }
-}
-
-/// How many bytes come before the spaces and tabs that a text ends with.
-fn trimmed_size(text: &[u8]) -> usize
-    ensures within { result ≤ length text.now }
-    ensures cut { IsCut text.now result }
-    ensures exact { take result text.now ≡ without_last is_blank text.now }
-{
-    text.len() - count_back(text, is_space_or_tab)
 }
 
 /// How many bytes come before the number signs that a text ends with.

@@ -1,10 +1,10 @@
 //! Bytes of a text: which are alike, and how many of them come one after another.
 
-ghost use Rattle.std.specs.Prelude.{◌≡◌, ◌≢◌, ◌≤◌, ◌<◌, ◌-◌, ◌==◌, ◌||◌, ◌&&◌, ◌+◌, ℕ, true, false, nat_le, drop, length, slice_index, IfSome, IsTrue, Some};
-ghost use Rattle.commonmark_syntax.specs.Blocks.{has, has_more};
+ghost use Rattle.std.specs.Prelude.{◌≡◌, ◌≢◌, ◌≤◌, ◌<◌, ◌-◌, ◌==◌, ◌||◌, ◌&&◌, ◌+◌, ℕ, true, false, nat_le, drop, length, slice_index, Some, take};
+ghost use Rattle.commonmark_syntax.specs.Blocks.{has, has_more, without_last};
 ghost use Rattle.commonmark_syntax.specs.Cuts.{IsCut, IsInLine, IsRunOf, IsOfAscii, IsOfLine, is_white_space};
 ghost use Rattle.commonmark_syntax.specs.Reading.{read};
-ghost use Rattle.commonmark_syntax.specs.Syntax.{blanks};
+ghost use Rattle.commonmark_syntax.specs.Syntax.{blanks, is_blank};
 
 /// How many bytes at the start of a text are such.
 ///
@@ -88,31 +88,6 @@ pub fn after(text: &[u8], size: usize) -> &[u8]
     text.get(size..).unwrap_or(&[])
 }
 
-/// The length of a text up to the first place where an end stands, with that end.
-///
-/// It is 3 for `a?>b` and the end `?>`.
-pub fn length_through(text: &[u8], end: &[u8]) -> Option<usize>
-    ensures most { IfSome result (λ size. size ≤ length text.now) }
-    ensures least { IfSome result (λ size. length end.now ≤ size) }
-    ensures end { IfSome result (λ size. (k : ℕ) → k < length end.now → slice_index text.now (size - length end.now + k) ≡ slice_index end.now k) }
-    ensures cut { IfSome result (λ size. 0 < length end.now → slice_index end.now (length end.now - 1) < 128 → IsCut text.now size) }
-{
-    for start in 0..text.len() {
-        if begins_with(after(text, start), end) {
-            return Some(start + end.len());
-        }
-    }
-    None
-}
-
-/// Whether a text begins with another one.
-fn begins_with(text: &[u8], other: &[u8]) -> bool
-    ensures length { IsTrue result → length other.now ≤ length text.now }
-    ensures bytes { IsTrue result → (k : ℕ) → k < length other.now → slice_index text.now k ≡ slice_index other.now k }
-{
-    text.len() >= other.len() && text.starts_with(other)
-}
-
 /// Whether a byte is a space or a tab.
 ///
 /// It is true of a tab, and false of a line feed.
@@ -148,6 +123,18 @@ pub fn is_continuation(byte: u8) -> bool
     ensures { result ≡ (nat_le 128 byte && nat_le byte 191) }
 {
     matches!(byte, 0x80..=0xBF)
+}
+
+/// How many bytes come before the spaces and tabs that a text ends with.
+///
+/// In ` a ` it is 2.
+pub fn trimmed_size(text: &[u8]) -> usize
+    ensures within { result ≤ length text.now }
+    ensures cut { IsCut text.now result }
+    ensures blank { (k : ℕ) → result ≤ k → k < length text.now → is_blank (slice_index text.now k) ≡ true }
+    ensures exact { take result text.now ≡ without_last is_blank text.now }
+{
+    text.len() - count_back(text, is_space_or_tab)
 }
 
 /// Whether there is more in a text than spaces and tabs.

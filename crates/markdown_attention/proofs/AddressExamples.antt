@@ -1,7 +1,7 @@
 -- The page of addresses read by computation: texts that begin with one, and texts that do not.
 use Rattle.std.proofs.Common.{◌≡◌, Bool, List, None, Option, Some, false, refl, true, ℕ}
 use Rattle.std.specs.Prelude.{codes}
-use Rattle.markdown_attention.specs.ExtendedAddresses.{address, segments}
+use Rattle.markdown_attention.specs.ExtendedAddresses.{address, may_follow, segments}
 
 -- of a text of ASCII, each byte of which is a character
 abbrev address_in : Bool → List ℕ → Option (List ℕ)
@@ -36,3 +36,24 @@ underscore_in_the_segment_before = refl
 
 pub period_first : address_in false (codes ".a.b") ≡ None
 period_first = refl
+
+pub at_the_start : may_follow (codes "") ≡ true
+at_the_start = refl
+
+pub after_a_space : may_follow (codes "a ") ≡ true
+after_a_space = refl
+
+pub after_an_asterisk : may_follow (codes "a*") ≡ true
+after_an_asterisk = refl
+
+pub after_a_parenthesis : may_follow (codes "a (") ≡ true
+after_a_parenthesis = refl
+
+pub after_a_letter : may_follow (codes "( a") ≡ false
+after_a_letter = refl
+
+pub after_a_bracket : may_follow (codes " [") ≡ false
+after_a_bracket = refl
+
+pub after_a_slash : may_follow (codes "*/") ≡ false
+after_a_slash = refl

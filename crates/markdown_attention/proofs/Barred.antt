@@ -2,16 +2,18 @@
 use Rattle.std.proofs.Common.{◌≡◌, ℕ, suc, ◌+◌, ◌-◌, ◌<◌, ◌≤◌, Bool, true, false, cond, List, [], ◌∷◌, ◌++◌, drop, take, length, slice_index, Some, None, refl, inl, inr, sym, ◌∙◌, ap, subst, arith, length-append, ◌==◌}
 use Rattle.std.specs.Prelude.{◌&&◌, ◌||◌, nat_le, not}
 use Rattle.std.specs.Char.{encode_utf8}
-use Rattle.std.specs.Str.{all_scalars, chars, encode_utf8_all}
+use Rattle.std.specs.Str.{IsUtf8, all_scalars, chars, encode_utf8_all}
 use Rattle.std.proofs.Math.Seq.{drop-append-add}
 use Rattle.std.proofs.lemmas.Bool.{cases_lt}
 use Rattle.std.proofs.lemmas.Bool.Decides.{nat_tests}
 use Rattle.std.proofs.lemmas.List.{append-nil, append_assoc, drop-drop, get_or-append-add, length-take-le, take-append-drop}
-use Rattle.std.proofs.lemmas.Str.{chars-encodes, len_utf8_bounds, length-encode}
+use Rattle.std.proofs.lemmas.Str.{IsUtf8-drop, chars-encodes, encodes-chars, len_utf8_bounds, length-encode, scalars-chars}
 use Rattle.commonmark_syntax.specs.Blocks.{has, with_byte, without_last}
+use Rattle.commonmark_syntax.specs.Cuts.{IsCut}
 use Rattle.commonmark_syntax.specs.ExtendedAutolinks.{how_many, is_trail, path}
 use Rattle.commonmark_syntax.specs.Inlines.{begins_with, ends_with}
 use Rattle.commonmark_syntax.specs.Language.{are_all}
+use Rattle.commonmark_syntax.proofs.Cuts.{cut_boundary}
 use Rattle.commonmark_syntax.proofs.Headings.{before_some}
 use Rattle.commonmark_syntax.proofs.Tests.{and_both, and_parts, cases_bool, or_left, or_right}
 use Rattle.commonmark_syntax.proofs.Trails.{counted, le_false, longer_counted}
@@ -353,3 +355,12 @@ kept b content cs at n p ok e is most within byte two i later from before fine r
     ap (λ x. address b x (encode_utf8_all (segments later))) (sym same)
     ∙ barred_none b text cs later j p ok e (subst (λ (x : List ℕ). p < length x) is within) (ap (λ (x : List ℕ). slice_index x p) (sym is) ∙ byte) (ap (λ (x : List ℕ). has 95 (last_two_segments x)) (sym is) ∙ two)
     (omega (arith, before, from)) (omega (arith, before, from, within, length-take-le n text most, most)) fine (same ∙ rest)
+
+-- in a content of UTF-8 characters stand from each cut on
+abbrev pub TextFrom : (content : List ℕ) → (at : ℕ) → Type 0
+TextFrom content at = (characters : List ℕ) × (all_scalars characters ≡ true) × (drop at content ≡ encode_utf8_all characters)
+
+pub text_from : (content : List ℕ) (at : ℕ) → IsUtf8 content → at ≤ length content → IsCut content at → TextFrom content at
+text_from content at valid within cut =
+    let rest : IsUtf8 (drop at content) = IsUtf8-drop content at valid (cut_boundary content at valid within cut) in
+    (chars (drop at content), scalars-chars (drop at content) rest, sym (encodes-chars (drop at content) rest))

@@ -5,6 +5,7 @@ mod FlankingExamples
 pub mod Domains
 pub mod Segments
 pub mod Barred
+pub mod Autolinks
 mod AddressExamples
 pub mod Marks
 pub mod Pairs
@@ -12,3 +13,8 @@ pub mod Stack
 pub mod Taking
 pub mod Unique
 pub mod Nesting
+pub mod OpenPairs
+pub mod Begun
+pub mod Lying
+pub mod Balance
+pub mod Sequences

@@ -1,5 +1,5 @@
 -- The pairs of emphasis nest: what a later pair takes lies outside of each pair before it.
-use Rattle.std.proofs.Common.{◌≡◌, ℕ, ◌+◌, ◌-◌, ◌<◌, ◌≤◌, ◌==◌, Bool, true, false, cond, ◌⊎◌, List, [], ◌∷◌, ◌++◌, refl, inl, inr, sym, ◌∙◌, ap, subst, arith}
+use Rattle.std.proofs.Common.{◌≡◌, ℕ, ◌+◌, ◌-◌, ◌<◌, ◌≤◌, ◌==◌, Bool, true, false, cond, ◌⊎◌, List, [], ◌∷◌, ◌++◌, refl, inl, inr, sym, subst, arith}
 use Rattle.std.specs.Prelude.{◌&&◌, nat_lt}
 use Rattle.std.proofs.lemmas.Bool.{cases_Bool}
 use Rattle.std.proofs.lemmas.Bool.Decides.{nat_tests}
@@ -7,7 +7,7 @@ use Rattle.markdown_attention.specs.Emphasis.{DelimiterRun, Pair, Resolves, done
 use Rattle.markdown_attention.specs.Nesting.{AreNested, Follow, NestsWith, closing_end, opening_end}
 
 -- A pair takes as many markers of each run as its kind has.
-takes_kind : (opener closer : DelimiterRun) → kind_size (kind_with opener closer) ≡ strength opener closer
+pub takes_kind : (opener closer : DelimiterRun) → kind_size (kind_with opener closer) ≡ strength opener closer
 takes_kind opener closer = elim (cases_Bool (opener.marker == 126)) [
   | inl tilde ↦ elim (cases_Bool (is_strong opener closer)) [
     | inl double ↦ rw tilde (rw double refl)
@@ -22,7 +22,7 @@ takes_kind opener closer = elim (cases_Bool (opener.marker == 126)) [
 both_more : (a b : ℕ) → (nat_lt 1 a && nat_lt 1 b) ≡ true → (1 < a) × (1 < b)
 both_more a b e = (grind (arith, nat_tests), grind (arith, nat_tests))
 
-strength_fits : (opener closer : DelimiterRun) → 0 < opener.left → 0 < closer.left → (0 < strength opener closer) × (strength opener closer ≤ opener.left) × (strength opener closer ≤ closer.left)
+pub strength_fits : (opener closer : DelimiterRun) → 0 < opener.left → 0 < closer.left → (0 < strength opener closer) × (strength opener closer ≤ opener.left) × (strength opener closer ≤ closer.left)
 strength_fits opener closer some other = elim (cases_Bool (is_strong opener closer)) [
   | inl double ↦ (let more : (1 < opener.left) × (1 < closer.left) = both_more opener.left closer.left double in
       let two : strength opener closer ≡ 2 = rw double refl in
@@ -42,11 +42,11 @@ AreBefore at [] = Unit {0}
 AreBefore at (run ∷ runs) = (run.first + run.left ≤ at) × AreBefore at runs
 
 -- what is known at a run in the middle
-record Middle (at : ℕ) (before : List DelimiterRun) (run : DelimiterRun) (rest : List DelimiterRun) : Type 0 where
-  before_it : AreBefore run.first before
-  late : at ≤ run.first
-  some : 0 < run.left
-  after_it : Follow (run.first + run.left) rest
+pub record Middle (at : ℕ) (before : List DelimiterRun) (run : DelimiterRun) (rest : List DelimiterRun) : Type 0 where
+  pub before_it : AreBefore run.first before
+  pub late : at ≤ run.first
+  pub some : 0 < run.left
+  pub after_it : Follow (run.first + run.left) rest
 
 middle : (at : ℕ) (before : List DelimiterRun) (run : DelimiterRun) (rest : List DelimiterRun) → Follow at (before ++ (run ∷ rest)) → Middle at before run rest
 middle at [] run rest h = record { before_it = tt; late = h.0; some = h.1; after_it = h.2 }
@@ -112,12 +112,12 @@ abbrev pub left_of_pair : (before rest : List DelimiterRun) (opener closer : Del
 left_of_pair before rest opener closer = before ++ (kept (opened (strength opener closer) opener) ++ (kept (closed (strength opener closer) closer) ++ rest))
 
 -- what is known of an opener and a closer
-record Both (at : ℕ) (before between rest : List DelimiterRun) (opener closer : DelimiterRun) : Type 0 where
-  first : Middle at before opener (between ++ (closer ∷ rest))
-  last : Middle (opener.first + opener.left) between closer rest
-  left_follows : Follow at (left_of_pair before rest opener closer)
+pub record Both (at : ℕ) (before between rest : List DelimiterRun) (opener closer : DelimiterRun) : Type 0 where
+  pub first : Middle at before opener (between ++ (closer ∷ rest))
+  pub last : Middle (opener.first + opener.left) between closer rest
+  pub left_follows : Follow at (left_of_pair before rest opener closer)
 
-both : (at : ℕ) (before between rest : List DelimiterRun) (opener closer : DelimiterRun) → Follow at (before ++ (opener ∷ (between ++ (closer ∷ rest)))) → Both at before between rest opener closer
+pub both : (at : ℕ) (before between rest : List DelimiterRun) (opener closer : DelimiterRun) → Follow at (before ++ (opener ∷ (between ++ (closer ∷ rest)))) → Both at before between rest opener closer
 both at before between rest opener closer h =
     let f : Middle at before opener (between ++ (closer ∷ rest)) = middle at before opener (between ++ (closer ∷ rest)) h in
     let l : Middle (opener.first + opener.left) between closer rest = middle (opener.first + opener.left) between closer rest f.after_it in

@@ -1,13 +1,15 @@
--- Addresses of extended autolinks (GFM), after www. or a scheme: a domain, and a path. Each rule stands here in our words.
-use Rattle.std.specs.Prelude.{◌≡◌, ◌<◌, ◌≤◌, ℕ, Bool, true, false, cond, not, ◌&&◌, ◌||◌, ◌==◌, nat_le, ◌++◌, List, [], ◌∷◌, Option, Some, None, codes, drop, length}
-use Rattle.std.specs.Str.{all_scalars, encode_utf8_all}
+-- Extended autolinks (GFM): the address after www. or a scheme, which is a domain and a path, and the whole. Each rule stands here in our words.
+use Rattle.std.specs.Prelude.{◌≡◌, ◌<◌, ◌≤◌, ◌+◌, ℕ, Bool, true, false, cond, not, ◌&&◌, ◌||◌, ◌==◌, nat_le, ◌++◌, List, [], ◌∷◌, Option, Some, None, codes, drop, length, take}
+use Rattle.std.specs.Str.{IsUtf8, all_scalars, encode_utf8_all}
 use Rattle.commonmark_syntax.specs.Blocks.{has, without_last}
 use Rattle.commonmark_syntax.specs.ExtendedAutolinks.{how_many, is_trail, path, trimmed}
-use Rattle.commonmark_syntax.specs.Inlines.{begins_with, is_gfm_white_space}
+use Rattle.commonmark_syntax.specs.Inlines.{begins_with, ends_with, extended_autolink_start, is_gfm_white_space}
+use Rattle.commonmark_syntax.specs.Language.{Leaves}
 use Rattle.commonmark_syntax.specs.Syntax.{is_one_of}
 use Rattle.markdown_attention.specs.Flanking.{kind_of}
 use Rattle.markdown_attention.specs.declared.character_kind.CharacterKind.{CharacterKind}
 use Rattle.markdown_attention.specs.declared.character_kind.CharacterKind.TheVariants.{Other}
+use Rattle.markdown_attention.specs.declared.extended_autolink_address.RefusedDomain.{RefusedDomain}
 
 -- The characters of a segment: letters, digits, hyphens and underscores. As a letter counts any character that is neither
 -- white space nor punctuation (micromark).
@@ -58,8 +60,38 @@ abbrev pub address : (in_bracket : Bool) → (text whole : List ℕ) → Option 
 address in_bracket text whole =
     cond (is_domain (domain in_bracket text whole)) (Some (with_path in_bracket text (domain in_bracket text whole))) None
 
+-- White space and the marks *, _, ~ and ( may come before an extended autolink.
+abbrev pub may_come_before : ℕ → Bool
+may_come_before c = is_gfm_white_space c || is_one_of (codes "*_~(") c
+
+-- An extended autolink may follow a text that is empty or ends with one of these.
+abbrev pub may_follow : List ℕ → Bool
+may_follow [] = true
+may_follow (c ∷ w) = ends_with may_come_before (c ∷ w)
+
+-- So many bytes at an offset of a content are an extended autolink: it may follow what stands before it, it begins as it
+-- has to, and after its beginning stands an address.
+pub record IsExtendedAutolink (in_bracket : Bool) (content : List ℕ) (at size : ℕ) : Type 0 where
+  pub follows : may_follow (take at content) ≡ true
+  pub start : ℕ
+  pub begins : Leaves extended_autolink_start (drop at content) (drop (at + start) content)
+  pub characters : List ℕ
+  pub scalars : all_scalars characters ≡ true
+  pub encoded : drop (at + start) content ≡ encode_utf8_all characters
+  pub domain_and_path : List ℕ
+  pub there : address in_bracket (encode_utf8_all characters) (encode_utf8_all (segments characters)) ≡ Some domain_and_path
+  pub whole : size ≡ start + length domain_and_path
+
+-- No extended autolink stands at an offset of a content.
+abbrev pub HasNoExtendedAutolink : (in_bracket : Bool) → (content : List ℕ) → (at : ℕ) → Type 0
+HasNoExtendedAutolink in_bracket content at = (size : ℕ) → IsExtendedAutolink in_bracket content at size → ⊥
+
 -- What is remembered of a domain that is refused for an underscore: up to that underscore no address begins, from an offset
 -- of the content on.
 abbrev pub IsBarred : (in_bracket : Bool) → (content : List ℕ) → (from to : ℕ) → Type 0
 IsBarred in_bracket content from to = (i : ℕ) (characters : List ℕ) → from ≤ i → i < to → all_scalars characters ≡ true → drop i content ≡ encode_utf8_all characters
     → address in_bracket (drop i content) (encode_utf8_all (segments characters)) ≡ None
+
+-- The domain that the scanner keeps is refused: that holds of it, where the content is UTF-8.
+abbrev pub IsRefused : (content : List ℕ) → RefusedDomain → Type 0
+IsRefused content refused = IsUtf8 content → IsBarred refused.in_bracket content refused.start refused.end

@@ -6,3 +6,5 @@ pub mod Openers
 pub mod Runs
 pub mod Taking
 pub mod Nesting
+pub mod OpenPairs
+pub mod Sequences

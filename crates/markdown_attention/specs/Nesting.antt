@@ -1,5 +1,5 @@
 -- How the pairs of emphasis stand to each other.
-use Rattle.std.specs.Prelude.{◌≡◌, ℕ, ◌+◌, ◌<◌, ◌≤◌, ◌⊎◌, List, [], ◌∷◌}
+use Rattle.std.specs.Prelude.{ℕ, ◌+◌, ◌<◌, ◌≤◌, ◌⊎◌, List, [], ◌∷◌}
 use Rattle.markdown_attention.specs.Emphasis.{DelimiterRun, Pair, kind_size}
 
 -- Where the sequences of a pair end.

@@ -1,30 +1,70 @@
 //! Addresses of extended autolinks: a domain, a path, and no punctuation at their end (GFM).
 
-ghost use Rattle.std.specs.Prelude.{◌≡◌, ◌≤◌, ◌<◌, ◌+◌, ◌-◌, ℕ, IfSome, List, MatchOption, None, Some, drop, false, length, slice_index, take, true};
-ghost use Rattle.std.specs.Str.{all_scalars, encode_utf8_all};
+ghost use Rattle.std.specs.Prelude.{◌≡◌, ◌≤◌, ◌<◌, ◌+◌, ◌-◌, ℕ, IfSome, IsFalse, IsTrue, List, MatchOption, None, Some, drop, false, length, slice_index, take, true};
+ghost use Rattle.std.specs.Str.{IsUtf8, all_scalars, encode_utf8_all};
 ghost use Rattle.commonmark_syntax.specs.Blocks.{has};
-ghost use Rattle.commonmark_syntax.specs.Cuts.{IsInLine};
+ghost use Rattle.commonmark_syntax.specs.Cuts.{IsCut, IsInLine};
 ghost use Rattle.markdown_attention.specs.ExtendedAddresses as page;
 
 use crate::extended_autolink_segments;
 use commonmark_syntax::bytes::{after, count_back, has_byte};
 use commonmark_syntax::extended_autolink_path;
 
+/// A domain that was refused for an underscore. No address begins in it before that underscore.
+///
+/// It is not read again. All searches together are linear, since no bracket opens or closes within a domain.
+#[derive(Clone, Copy, PartialEq, Eq, Debug)]
+pub struct RefusedDomain {
+    /// Whether a bracket is open before it.
+    in_bracket: bool,
+    /// The offset in the content at which it begins.
+    start: usize,
+    /// The offset of the underscore.
+    end: usize,
+}
+
+impl RefusedDomain {
+    /// No domain was refused yet.
+    pub fn new() -> RefusedDomain
+        ensures { (content : List ℕ) → page.IsRefused content result }
+    {
+        RefusedDomain {
+            in_bracket: false,
+            start: 0,
+            end: 0,
+        }
+    }
+
+    /// Whether no address begins at an offset, as far as is known.
+    fn covers(&self, at: usize, in_bracket: bool) -> bool
+        ensures bracket { IsTrue result → self.now.in_bracket ≡ in_bracket }
+        ensures start { IsTrue result → self.now.start ≤ at }
+        ensures end { IsTrue result → at < self.now.end }
+        ensures other { IsFalse result → self.now.in_bracket ≡ in_bracket → self.now.start ≤ at → self.now.end ≤ at }
+    {
+        self.in_bracket == in_bracket && self.start <= at && at < self.end
+    }
+}
+
 /// The length of the address that begins at an offset of a content. With `in_bracket` a bracket is open
 /// before it.
 ///
-/// Where its domain is refused for an underscore, `barred` becomes the offset of that. A domain that begins
-/// before it is refused, too, and is not read again, so that all searches together are linear. At first
-/// `barred` is 0.
-pub fn scan(content: &[u8], at: usize, in_bracket: bool, barred: &mut usize) -> Option<usize>
-    requires { at ≤ length content.now }
-    ensures exact { (characters : List ℕ) → all_scalars characters ≡ true → drop at content.now ≡ encode_utf8_all characters → MatchOption result (page.IsBarred in_bracket content.now at barred.old → page.address in_bracket (drop at content.now) (encode_utf8_all (page.segments characters)) ≡ None) (λ size. page.address in_bracket (drop at content.now) (encode_utf8_all (page.segments characters)) ≡ Some (take size (drop at content.now))) }
-    ensures barred { (characters : List ℕ) → all_scalars characters ≡ true → drop at content.now ≡ encode_utf8_all characters → page.IsBarred in_bracket content.now at barred.old → page.IsBarred in_bracket content.now at barred.new }
+/// Where its domain is refused for an underscore, that is kept in `refused`.
+pub fn scan(
+    content: &[u8],
+    at: usize,
+    in_bracket: bool,
+    refused: &mut RefusedDomain,
+) -> Option<usize>
+    requires within { at ≤ length content.now }
+    requires refused { page.IsRefused content.now refused.old }
+    ensures refused { IsCut content.now at → page.IsRefused content.now refused.new }
+    ensures exact { IsUtf8 content.now → (characters : List ℕ) → all_scalars characters ≡ true → drop at content.now ≡ encode_utf8_all characters → MatchOption result (page.address in_bracket (drop at content.now) (encode_utf8_all (page.segments characters)) ≡ None) (λ size. page.address in_bracket (drop at content.now) (encode_utf8_all (page.segments characters)) ≡ Some (take size (drop at content.now))) }
     ensures most { IfSome result (λ size. size ≤ length content.now - at) }
     ensures in_line { IfSome result (λ size. IsInLine (drop at content.now) size) }
     ensures next { IfSome result (λ size. at + size < length content.now → slice_index content.now (at + size) < 128) }
 {
-    if at < *barred {
+    if refused.covers(at, in_bracket) {
         return None;
     }
     let text = after(content, at);
@@ -32,7 +72,11 @@ pub fn scan(content: &[u8], at: usize, in_bracket: bool, barred: &mut usize) -> 
     let size = domain_size(text, whole, in_bracket);
     let domain = &text[..size];
     if let Some(place) = last_underscore(domain) {
-        *barred = at + place;
+        *refused = RefusedDomain {
+            in_bracket,
+            start: at,
+            end: at + place,
+        };
         return None;
     }
     if !has_byte(domain, b'.') {

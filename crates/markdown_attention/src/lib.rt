@@ -3,7 +3,7 @@
 //!
 //! `specs/Flanking.antt` and `specs/Emphasis.antt` are the page of runs: which characters count as white space and
 //! punctuation, which runs are flanking, and which can open and close emphasis; and which pairs runs make.
-//! `specs/ExtendedAddresses.antt` is that of addresses.
+//! `specs/ExtendedAddresses.antt` is that of extended autolinks and their addresses.
 #![tactic(auto)]
 
 pub mod character_kind;

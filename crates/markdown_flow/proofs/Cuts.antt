@@ -77,11 +77,16 @@ after_spaces-drop (b ∷ bs) = by (is_space_or_tab b) (after_spaces-drop bs) (af
         sym (ap (λ (n : ℕ). drop n (b ∷ bs)) none)
 
 -- nothing comes after white space alone
-pub spaces_alone : (text : List ℕ) → ((k : ℕ) → k < length text → is_space_or_tab (slice_index text k) ≡ true) → after_spaces text ≡ []
+spaces_alone : (text : List ℕ) → ((k : ℕ) → k < length text → is_space_or_tab (slice_index text k) ≡ true) → after_spaces text ≡ []
 unfolding after_spaces
 spaces_alone [] white = refl
 spaces_alone (b ∷ bs) white =
     ap (λ (t : Bool). cond t (after_spaces bs) (b ∷ bs)) (white 0 (omega arith)) ∙ spaces_alone bs (λ k less. white (suc k) (omega arith))
+
+-- nor from an offset on from which all is white space
+pub last_spaces : (text : List ℕ) (n : ℕ) → ((k : ℕ) → n ≤ k → k < length text → is_space_or_tab (slice_index text k) ≡ true) → after_spaces (drop n text) ≡ []
+last_spaces text n white =
+    spaces_alone (drop n text) (λ k less. subst (λ (b : ℕ). is_space_or_tab b ≡ true) (sym (get_or-drop n text k 0)) (white (n + k) (omega arith) (omega (arith, length-drop n text, less))))
 
 -- a text that begins with no white space is all
 pub black_first : (text : List ℕ) → is_space_or_tab (slice_index text 0) ≡ false → after_spaces text ≡ text

@@ -9,8 +9,8 @@ ghost use Rattle.markdown_flow.specs.Outputs.{Keeps, Writes, WritesOn, WritesOut
 ghost use Rattle.markdown_flow.specs.Rows.{IsFirst};
 
 use crate::output::Output;
-use crate::space_or_tab::{after_spaces, is_blank, trimmed_size};
-use commonmark_syntax::bytes::after;
+use crate::space_or_tab::{after_spaces, is_blank};
+use commonmark_syntax::bytes::{after, trimmed_size};
 use markdown_events::event::Name;
 use std::alloc::AllocError;
 

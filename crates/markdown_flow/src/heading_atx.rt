@@ -8,7 +8,7 @@ ghost use Rattle.markdown_flow.specs.Markers.{HasSigns};
 
 use crate::line::Line;
 use crate::output::Output;
-use crate::space_or_tab::trimmed_size;
+use commonmark_syntax::bytes::trimmed_size;
 use commonmark_syntax::{atx_closing, atx_opening};
 use markdown_events::event::Name;
 use std::alloc::AllocError;

@@ -13,8 +13,8 @@ ghost use Rattle.markdown_pieces.specs.Walks.{after_token, at, stage_after_strin
 
 use crate::line::Line;
 use crate::output::Output;
-use crate::space_or_tab::trimmed_size;
 use crate::{code_fenced, math_flow};
+use commonmark_syntax::bytes::trimmed_size;
 use commonmark_syntax::closing_fence;
 use markdown_events::event::Name;
 use std::alloc::AllocError;

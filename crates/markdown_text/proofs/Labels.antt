@@ -26,4 +26,5 @@ label_end_is bytes rest at labelled same target size some within bracket is othe
       first.part,
       after_label bytes labelled target (at + 1) (at + size) (λ footnote. other (sym label ∙ footnote)) (target_in bytes rest (at + 1) (length bytes) target 0 (size - 1) (at + 1) (at + size) slice whole from to after),
       range_in bytes rest (at + 1) (length bytes) 0 (size - 1) (at + 1) (at + size) slice whole from to range,
+      bracket,
     )

@@ -15,5 +15,11 @@ pub mod Constructs
 pub mod Opened
 pub mod Marks
 pub mod Tasks
+pub mod Utf8
 pub mod Spans
 pub mod Switches
+pub mod AttentionEvents
+pub mod AttentionRuns
+pub mod AttentionWalk
+pub mod AttentionTokens
+pub mod AttentionBegun

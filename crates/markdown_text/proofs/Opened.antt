@@ -215,12 +215,27 @@ innermost os slice last is there =
     let more : length os ≡ length os - 1 + 1 = omega (arith, less) in
     sym (take_all (length os) os (omega arith)) ∙ ap (λ (n : ℕ). take n os) more ∙ take_more os (length os - 1) last less ∙ ap (λ (x : Open). take (length os - 1) os ++ x ∷ []) (get_or_from_slice_get os (length os - 1) last last at)
 
+-- it is there
+pub innermost_there : (os slice front : List Open) (last : Open) → slice ≡ os → os ≡ front ++ last ∷ [] → slice_get slice (length slice - 1) ≡ Some last
+innermost_there os slice front last is ends =
+    let size : length slice - 1 ≡ length front = (let same = ap (λ (xs : List Open). length xs) (is ∙ ends) in let more = length-append front (last ∷ []) in omega (arith, same, more)) in
+    ap (λ (n : ℕ). slice_get slice n) size ∙ ap (λ (xs : List Open). slice_get xs (length front)) (is ∙ ends) ∙ at_end front
+  where
+    at_end : (xs : List Open) → slice_get (xs ++ last ∷ []) (length xs) ≡ Some last
+    at_end [] = refl
+    at_end (x ∷ xs) = at_end xs
+
 -- what is left without it
 pub without_innermost : (items os rest : List Open) (last : Open) (n : ℕ) → items ≡ os ++ last ∷ [] → n ≡ length items → rest ≡ take (n - 1) items → rest ≡ os
 without_innermost items os rest last n is size left =
     let more = length-append os (last ∷ []) in
     let same = ap (λ (xs : List Open). length xs) is in
     left ∙ ap (take (n - 1)) is ∙ take_at os (last ∷ []) (n - 1) (omega (arith, more, same, size))
+
+-- something is open where there is an innermost construct
+pub none_last : (os : List Open) (last : Open) → os ++ last ∷ [] ≡ [] → ⊥
+none_last [] last is = cc is
+none_last (o ∷ os) last is = cc is
 
 -- nothing is open
 pub none_open : (os : List Open) → length os ≡ 0 → os ≡ []

@@ -1,9 +1,9 @@
 -- The brackets that are open among the tokens so far.
-use Rattle.std.proofs.Common.{◌≡◌, ◌≤◌, ◌<◌, ◌+◌, ◌++◌, ◌∷◌, ◌⊎◌, List, None, Option, Some, [], ap, arith, get_or, inl, inr, length, refl, set, slice_get, subst, suc, sym, true, zero, ℕ}
+use Rattle.std.proofs.Common.{◌≡◌, ◌≤◌, ◌<◌, ◌+◌, ◌++◌, ◌∷◌, ◌⊎◌, List, None, Option, Some, [], ap, arith, get_or, inl, inr, length, refl, set, slice_get, slice_index, subst, suc, sym, true, zero, ℕ}
 use Rattle.std.proofs.lemmas.List.Elements.{All-get_or, All-set, All-weaker}
 use Rattle.markdown_text.specs.Contents.{IsAsciiPart, IsPart}
 use Rattle.markdown_text.specs.Reached.{AreOpen, AreOpenWith, IsOpen, IsStartOf, IsWith, Reach, ReachAsFar, form_size, starts_label}
-use Rattle.markdown_text.specs.Tokens.{IsToken, label_start}
+use Rattle.markdown_text.specs.Tokens.{BeginsLabel, IsToken, label_start}
 use Rattle.markdown_text.specs.declared.brackets.Bracket.{Bracket}
 use Rattle.markdown_text.specs.declared.brackets.LabelForm.{LabelForm}
 use Rattle.markdown_text.specs.declared.token.Found.{Found}
@@ -66,26 +66,27 @@ label_reach (v ∷ ts) zero t u form label at start size is first last text from
     let long = start.1 in (
       subst (λ (n : ℕ). IsPart text.bytes from n) (sym first) before,
       subst (λ (k : TokenKind). IsToken text k u.start u.end) (sym is) (
-        subst (λ (n : ℕ). IsAsciiPart text.bytes n u.end) (sym first) (subst (λ (n : ℕ). IsAsciiPart text.bytes t.start n) (sym last) (ascii t.kind start.0 token)),
+        subst (λ (n : ℕ). IsAsciiPart text.bytes n u.end) (sym first) (subst (λ (n : ℕ). IsAsciiPart text.bytes t.start n) (sym last) (begun t.kind start.0 token).0),
         omega (arith, first, last, long, size),
+        subst (λ (n : ℕ). BeginsLabel (slice_index text.bytes n)) (sym first) (begun t.kind start.0 token).1,
       ),
       subst (λ (n : ℕ). Reach text n ts to) (sym last) rest,
     )
   where
-    ascii : (kind : TokenKind) → starts_label kind ≡ true → IsToken text kind t.start t.end → IsAsciiPart text.bytes t.start t.end
-    ascii (LabelStart known) begins token = token.0
-    ascii LineEnding begins token = absurd (cc begins)
-    ascii HardBreakEscape begins token = absurd (cc begins)
-    ascii CharacterEscape begins token = absurd (cc begins)
-    ascii (CharacterReference kind) begins token = absurd (cc begins)
-    ascii (CodeText n) begins token = absurd (cc begins)
-    ascii (MathText n) begins token = absurd (cc begins)
-    ascii (Autolink name) begins token = absurd (cc begins)
-    ascii HtmlText begins token = absurd (cc begins)
-    ascii (AutolinkLiteral name) begins token = absurd (cc begins)
-    ascii Attention begins token = absurd (cc begins)
-    ascii (LabelEnd known target) begins token = absurd (cc begins)
-    ascii (TaskListItemCheck checked) begins token = absurd (cc begins)
+    begun : (kind : TokenKind) → starts_label kind ≡ true → IsToken text kind t.start t.end → IsAsciiPart text.bytes t.start t.end × BeginsLabel (slice_index text.bytes t.start)
+    begun (LabelStart known) begins token = (token.0, token.2)
+    begun LineEnding begins token = absurd (cc begins)
+    begun HardBreakEscape begins token = absurd (cc begins)
+    begun CharacterEscape begins token = absurd (cc begins)
+    begun (CharacterReference kind) begins token = absurd (cc begins)
+    begun (CodeText n) begins token = absurd (cc begins)
+    begun (MathText n) begins token = absurd (cc begins)
+    begun (Autolink name) begins token = absurd (cc begins)
+    begun HtmlText begins token = absurd (cc begins)
+    begun (AutolinkLiteral name) begins token = absurd (cc begins)
+    begun Attention begins token = absurd (cc begins)
+    begun (LabelEnd known target) begins token = absurd (cc begins)
+    begun (TaskListItemCheck checked) begins token = absurd (cc begins)
 label_reach (v ∷ ts) (suc i) t u form label at start size is first last text from to reach =
     (reach.0, reach.1, label_reach ts i t u form label at start size is first last text v.end to reach.2)
 

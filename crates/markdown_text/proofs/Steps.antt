@@ -1,5 +1,5 @@
 -- Pieces that are written, one after the other.
-use Rattle.std.proofs.Common.{Bool, Err, IfSome, List, None, Ok, OnOk, Option, Result, Some, [], ap, arith, false, if◌then◌else◌, is_some, length, refl, subst, sym, true, ℕ, ◌∷◌, ◌∙◌, ◌≡◌, ◌≤◌}
+use Rattle.std.proofs.Common.{Bool, Err, IfOk, IfSome, List, None, Ok, OnOk, Option, Result, Some, [], ap, arith, false, if◌then◌else◌, is_some, length, refl, subst, sym, true, ℕ, ◌∷◌, ◌∙◌, ◌≡◌, ◌≤◌}
 use Rattle.std.specs.Prelude.{slice_range}
 use Rattle.std.specs.Str.{IsCharBoundary, IsUtf8, is_utf8}
 use Rattle.std.proofs.lemmas.Option.{same_Some}
@@ -31,6 +31,16 @@ use Rattle.markdown_text.specs.Standings.{HasFront, HasValue, IsAt, MayEndLine, 
 pub on_ok : {X E P Q : Type 0} (r : Result X E) → (P → Q) → OnOk r P → OnOk r Q
 on_ok (Ok x) f p = f p
 on_ok (Err e) f p = tt
+
+-- the same of two things that are true of what it gives
+pub both_on_ok : {X E : Type 0} {P Q S : X → Type 0} (r : Result X E) → ((x : X) → P x → Q x → S x) → IfOk r P → IfOk r Q → IfOk r S
+both_on_ok (Ok x) f p q = f x p q
+both_on_ok (Err e) f p q = tt
+
+-- the same of four things that are true
+pub four_on_ok : {X E A B C : Type 0} {P Q : X → Type 0} (r : Result X E) → ((x : X) → A → B → C → P x → Q x) → OnOk r A → OnOk r B → OnOk r C → IfOk r P → IfOk r Q
+four_on_ok (Ok x) f a b c p = f x a b c p
+four_on_ok (Err e) f a b c p = tt
 
 -- of a stage that is there
 pub at_some : (P : Stage → Type 0) (o : Option Stage) (b : Stage) → o ≡ Some b → IfSome o P → P b

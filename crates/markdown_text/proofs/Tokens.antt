@@ -1,12 +1,13 @@
 -- What is found in a part of a text, in the whole, and tokens in order.
-use Rattle.std.proofs.Common.{◌≡◌, ◌≤◌, ◌<◌, ◌+◌, ◌-◌, ◌∷◌, ◌∙◌, Bool, List, None, Option, Some, [], ap, arith, drop, false, get_or, is_some, length, slice_range, subst, sym, take, true, ℕ}
+use Rattle.std.proofs.Common.{◌≡◌, ◌≤◌, ◌<◌, ◌+◌, ◌-◌, ◌∷◌, ◌∙◌, ◌≢◌, Bool, List, None, Option, Some, [], ap, arith, drop, false, get_or, inl, inr, is_some, length, refl, slice_index, slice_range, subst, suc, sym, take, true, zero, ℕ}
 use Rattle.std.proofs.lemmas.List.{drop-drop, drop-take, drop_more, take-take}
 use Rattle.commonmark_syntax.specs.Cuts.{IsCut}
 use Rattle.markdown_text.proofs.Found.{plain_found}
 use Rattle.markdown_text.proofs.Parts.{ascii_in, byte_in, cut_in, get_in, length_in, part_in, part_join, range_in, range_rest, rest_range}
+use Rattle.markdown_text.specs.Constructs.{IsMarker}
 use Rattle.markdown_text.specs.Contents.{IsPart, IsRange}
 use Rattle.markdown_text.specs.Texts.{text_of}
-use Rattle.markdown_text.specs.Tokens.{AreTokens, IsAfterLabel, IsDestination, IsEnclosed, IsFound, IsReference, IsResource, IsTarget, IsToken, Text, marker, markers}
+use Rattle.markdown_text.specs.Tokens.{AreTokens, BeginsLabel, IsAfterLabel, IsDestination, IsEnclosed, IsFound, IsReference, IsResource, IsTarget, IsToken, Text, marker, markers}
 use Rattle.markdown_text.specs.declared.character_reference.ReferenceKind.{ReferenceKind}
 use Rattle.markdown_text.specs.declared.resource.Resource.{Resource}
 use Rattle.markdown_text.specs.declared.token.Labelled.{Labelled}
@@ -97,6 +98,30 @@ label_in bytes text from to FootnoteCall target i j a b is range first last h = 
 label_in bytes text from to Link target i j a b is range first last h = target_in bytes text from to target i j a b is range first last h
 label_in bytes text from to Image target i j a b is range first last h = target_in bytes text from to target i j a b is range first last h
 
+-- a byte that is no null
+some_index : (xs : List ℕ) (i : ℕ) → slice_index xs i ≢ 0 → i < length xs
+some_index [] i some = absurd (some refl)
+some_index (x ∷ xs) zero some = omega arith
+some_index (x ∷ xs) (suc i) some = let less = some_index xs i some in omega (arith, less)
+
+some_byte_in : (bytes text : List ℕ) (from to i a : ℕ) → text ≡ slice_range bytes from to → IsRange bytes from to → a ≡ from + i → slice_index text i ≢ 0 → slice_index text i ≡ slice_index bytes a
+some_byte_in bytes text from to i a is range first some =
+    let size = length_in bytes text from to is range in
+    let less = some_index text i some in
+    byte_in bytes text from to i a is first (omega (arith, first, size, less))
+
+no_marker : (byte : ℕ) → IsMarker byte → byte ≢ 0
+no_marker byte (inl is) none = absurd (omega (arith, is, none))
+no_marker byte (inr (inl is)) none = absurd (omega (arith, is, none))
+no_marker byte (inr (inr is)) none = absurd (omega (arith, is, none))
+
+no_label_start : (byte : ℕ) → BeginsLabel byte → byte ≢ 0
+no_label_start byte (inl is) none = absurd (omega (arith, is, none))
+no_label_start byte (inr is) none = absurd (omega (arith, is, none))
+
+no_bracket : (byte : ℕ) → byte ≡ 93 → byte ≢ 0
+no_bracket byte is none = absurd (omega (arith, is, none))
+
 token_in : (bytes text : List ℕ) (decode : List ℕ → ℕ → Option (List ℕ)) (from to : ℕ) (kind : TokenKind) (i j a b : ℕ) → text ≡ slice_range bytes from to → IsRange bytes from to → a ≡ from + i → b ≡ from + j → IsToken (text_of text decode false) kind i j → IsToken (text_of bytes decode false) kind a b
 token_in bytes text decode from to LineEnding i j a b is range first last t = let size = t.0 in (omega (arith, first, last, size), get_in bytes text from to i a 10 is range first t.1)
 token_in bytes text decode from to HardBreakEscape i j a b is range first last t =
@@ -116,11 +141,19 @@ token_in bytes text decode from to (Autolink name) i j a b is range first last t
     }
 token_in bytes text decode from to HtmlText i j a b is range first last t = range_in bytes text from to i j a b is range first last t
 token_in bytes text decode from to (AutolinkLiteral name) i j a b is range first last t = (part_in bytes text from to i j a b is range first last t.0, t.1)
-token_in bytes text decode from to Attention i j a b is range first last t = ascii_in bytes text from to i j a b is range first last t
-token_in bytes text decode from to (LabelStart None) i j a b is range first last t = (ascii_in bytes text from to i j a b is range first last t.0, tt)
-token_in bytes text decode from to (LabelStart (Some label)) i j a b is range first last t = let size = t.1 in (ascii_in bytes text from to i j a b is range first last t.0, omega (arith, first, last, size))
-token_in bytes text decode from to (LabelEnd label target) i j a b is range first last t =
-    (part_in bytes text from to i (i + 1) a (a + 1) is range first (omega (arith, first)) t.0, label_in bytes text from to label target (i + 1) j (a + 1) b is range (omega (arith, first)) last t.1, range_in bytes text from to (i + 1) j (a + 1) b is range (omega (arith, first)) last t.2)
+token_in bytes text decode from to Attention i j a b is range first last t =
+    (ascii_in bytes text from to i j a b is range first last t.0, subst IsMarker (some_byte_in bytes text from to i a is range first (no_marker (slice_index text i) t.1)) t.1)
+token_in bytes text decode from to (LabelStart None) i j a b is range first last t =
+    (ascii_in bytes text from to i j a b is range first last t.0, tt, subst BeginsLabel (some_byte_in bytes text from to i a is range first (no_label_start (slice_index text i) t.2)) t.2)
+token_in bytes text decode from to (LabelStart (Some label)) i j a b is range first last t =
+    let size = t.1 in
+    (ascii_in bytes text from to i j a b is range first last t.0, omega (arith, first, last, size), subst BeginsLabel (some_byte_in bytes text from to i a is range first (no_label_start (slice_index text i) t.2)) t.2)
+token_in bytes text decode from to (LabelEnd label target) i j a b is range first last t = (
+  part_in bytes text from to i (i + 1) a (a + 1) is range first (omega (arith, first)) t.0,
+  label_in bytes text from to label target (i + 1) j (a + 1) b is range (omega (arith, first)) last t.1,
+  range_in bytes text from to (i + 1) j (a + 1) b is range (omega (arith, first)) last t.2,
+  sym (some_byte_in bytes text from to i a is range first (no_bracket (slice_index text i) t.3)) ∙ t.3,
+)
 token_in bytes text decode from to (TaskListItemCheck checked) i j a b is range first last t = let marked = t.0 in absurd (cc marked)
 
 in_same : (bytes text : List ℕ) (decode : List ℕ → ℕ → Option (List ℕ)) (from to : ℕ) (kind : Option TokenKind) (i j a b : ℕ) → text ≡ slice_range bytes from to → IsRange bytes from to → a ≡ from + i → b ≡ from + j → IsFound (text_of text decode false) kind i j → IsFound (text_of bytes decode false) kind a b

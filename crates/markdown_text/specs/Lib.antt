@@ -12,3 +12,8 @@ pub mod Addresses
 pub mod Spans
 pub mod Constructs
 pub mod Runs
+pub mod AttentionRuns
+pub mod AttentionWaiting
+pub mod AttentionEvents
+pub mod AttentionSpans
+pub mod AttentionWalk

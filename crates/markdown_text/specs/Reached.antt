@@ -26,6 +26,11 @@ form_size Link = 1
 form_size Image = 2
 form_size Footnote = 2
 
+-- whether there is a bracket
+abbrev pub has_bracket : List Bracket → Bool
+has_bracket [] = false
+has_bracket (b ∷ bs) = true
+
 -- whether a token of this kind is the start of a label
 abbrev pub starts_label : TokenKind → Bool
 starts_label (LabelStart label) = true

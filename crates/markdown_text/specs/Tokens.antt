@@ -5,6 +5,7 @@ use Rattle.commonmark_syntax.specs.Inlines.{email_autolink, uri_autolink}
 use Rattle.commonmark_syntax.specs.Language.{IsNotAt, Leaves}
 use Rattle.markdown_events.specs.declared.event.Name.{Name}
 use Rattle.markdown_events.specs.declared.event.Name.TheVariants.{AutolinkEmail, AutolinkProtocol, GfmAutolinkLiteralProtocol, GfmAutolinkLiteralWww}
+use Rattle.markdown_text.specs.Constructs.{IsMarker}
 use Rattle.markdown_text.specs.Contents.{IsAsciiPart, IsPart, IsRange}
 use Rattle.markdown_text.specs.declared.character_reference.ReferenceKind.{ReferenceKind}
 use Rattle.markdown_text.specs.declared.character_reference.ReferenceKind.TheVariants.{Decimal, Hexadecimal, Named}
@@ -103,6 +104,10 @@ abbrev pub IsLabelStart : Option Labelled → ℕ → ℕ → Type 0
 IsLabelStart None from to = Unit {0}
 IsLabelStart (Some label) from to = from + label_start label ≤ to
 
+-- the byte that begins the start of a label
+abbrev pub BeginsLabel : ℕ → Type 0
+BeginsLabel byte = (byte ≡ 33) ⊎ (byte ≡ 91)
+
 -- what the second pass asks of a token of this kind, from one offset to another
 abbrev pub IsToken : Text → TokenKind → ℕ → ℕ → Type 0
 IsToken text LineEnding from to = (to ≡ from + 1) × (slice_get text.bytes from ≡ Some 10)
@@ -114,9 +119,9 @@ IsToken text (MathText size) from to = (0 < size) × IsEnclosed text.bytes size 
 IsToken text (Autolink name) from to = IsAutolink text.bytes name from to
 IsToken text HtmlText from to = IsRange text.bytes from to
 IsToken text (AutolinkLiteral name) from to = IsPart text.bytes from to × ((name ≡ GfmAutolinkLiteralProtocol) ⊎ (name ≡ GfmAutolinkLiteralWww))
-IsToken text Attention from to = IsAsciiPart text.bytes from to
-IsToken text (LabelStart label) from to = IsAsciiPart text.bytes from to × IsLabelStart label from to
-IsToken text (LabelEnd label target) from to = IsPart text.bytes from (from + 1) × IsAfterLabel text.bytes label target (from + 1) to × IsRange text.bytes (from + 1) to
+IsToken text Attention from to = IsAsciiPart text.bytes from to × IsMarker (slice_index text.bytes from)
+IsToken text (LabelStart label) from to = IsAsciiPart text.bytes from to × IsLabelStart label from to × BeginsLabel (slice_index text.bytes from)
+IsToken text (LabelEnd label target) from to = IsPart text.bytes from (from + 1) × IsAfterLabel text.bytes label target (from + 1) to × IsRange text.bytes (from + 1) to × (slice_index text.bytes from ≡ 93)
 IsToken text (TaskListItemCheck is_checked) from to = (text.may_be_task ≡ true) × (from ≡ 0) × (to ≡ 3) × IsRange text.bytes 0 3 × ((k : ℕ) → k < 3 → slice_index text.bytes k < 128) × IsEnclosed text.bytes 1 0 3
 
 -- the same of a construct that was found, or data

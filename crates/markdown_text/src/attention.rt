@@ -27,7 +27,9 @@ impl Attention {
 
     /// No runs.
     pub fn new(alloc: Global) -> Attention
-        ensures { (c : Constructs) → IsAttentionOn c result }
+        ensures on { (c : Constructs) → IsAttentionOn c result }
+        ensures runs { result.runs.items ≡ [] }
+        ensures delimiters { result.delimiters.items ≡ [] }
     {
         Attention {
             runs: Vec::new(alloc),
@@ -83,7 +85,8 @@ impl Attention {
 
     /// What begins at each offset. It is empty where there are no runs.
     pub fn into_delimiters(self) -> Vec<Delimiter>
-        ensures { (c : Constructs) → IsAttentionOn c self → AreDelimitersOn c result.items }
+        ensures on { (c : Constructs) → IsAttentionOn c self → AreDelimitersOn c result.items }
+        ensures same { result ≡ self.delimiters }
     {
         let Attention {
             runs: _,

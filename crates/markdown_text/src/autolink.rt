@@ -1,9 +1,10 @@
 //! Autolinks (CommonMark): addresses in angle brackets.
 
-ghost use Rattle.std.specs.Prelude.{◌≡◌, IfSome, MatchOption, OnOk, drop, true};
+ghost use Rattle.std.specs.Prelude.{◌≡◌, IfSome, MatchOption, OnOk, drop, true, is_some};
 ghost use Rattle.commonmark_syntax.specs.Inlines.{email_autolink, uri_autolink};
 ghost use Rattle.commonmark_syntax.specs.Language.{IsNotAt};
 ghost use Rattle.markdown_options.specs.declared.Constructs.{Constructs};
+ghost use Rattle.markdown_text.specs.AttentionEvents.{attention_of};
 ghost use Rattle.markdown_text.specs.Constructs.{is_found_on};
 ghost use Rattle.markdown_text.specs.Outputs.{Stands, WritesTo, bytes_of, AtInlines, KeepsInlines, constructs_of};
 ghost use Rattle.markdown_text.specs.Texts.{bare};
@@ -21,6 +22,7 @@ pub fn scan(text: &[u8]) -> Option<Found>
     ensures exact { MatchOption result (IsNotAt uri_autolink text.now × IsNotAt email_autolink text.now) (λ found. LeavesAutolink text.now found.kind (drop found.size text.now)) }
     ensures found { IfSome result (λ found. IsFound (bare text.now) found.kind 0 found.size) }
     ensures on { IfSome result (λ found. (c : Constructs) → c.autolink ≡ true → is_found_on c found.kind ≡ true) }
+    ensures token { IfSome result (λ found. is_some found.kind ≡ true) }
 {
     if let Some(size) = uri_autolink::scan(text) {
         return Some(Found::token(TokenKind::Autolink(Name::AutolinkProtocol), size));
@@ -42,6 +44,7 @@ pub fn write<R: References>(
     ensures given { output.new.writer.given ≡ output.old.writer.given }
     ensures writes { OnOk result (WritesTo output.old output.new end) }
     ensures at { KeepsInlines result output.old output.new }
+    ensures attention { OnOk result (attention_of output.new ≡ attention_of output.old) }
 {
     output.flush(Next::Span)?;
     output.enter(Name::Autolink)?;

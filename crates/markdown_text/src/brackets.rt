@@ -3,7 +3,7 @@
 ghost use Rattle.std.specs.Prelude.{[], ◌≡◌, IfSome, List, OnOk, true};
 ghost use Rattle.markdown_options.specs.declared.Constructs.{Constructs};
 ghost use Rattle.markdown_text.specs.Constructs.{AreBracketsOn, is_form_on};
-ghost use Rattle.markdown_text.specs.Reached.{AreOpen, IsOpen};
+ghost use Rattle.markdown_text.specs.Reached.{AreOpen, IsOpen, has_bracket};
 ghost use Rattle.markdown_text.specs.declared.token.Token.{Token};
 
 use crate::token::Labelled;
@@ -68,7 +68,9 @@ impl Brackets {
     }
 
     /// Whether there are any.
-    pub fn are_open(&self) -> bool {
+    pub fn are_open(&self) -> bool
+        ensures { result ≡ has_bracket self.now.stack.items }
+    {
         !self.stack.is_empty()
     }
 

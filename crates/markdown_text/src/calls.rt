@@ -1,15 +1,17 @@
 //! The calls of the writer, where the grammar takes what they write: only memory can run out.
 
-ghost use Rattle.std.specs.Prelude.{Bool, IfSome, List, OnOk, true, ◌≡◌, ◌+◌};
+ghost use Rattle.std.specs.Prelude.{Bool, IfSome, List, OnOk, [], false, true, ◌≡◌, ◌+◌, ◌++◌, ◌∷◌};
 ghost use Rattle.std.specs.Str.{IsCharBoundary};
 ghost use Rattle.event_writer.specs.Calls.{CanReach, EndsLine, line_ending_length};
 ghost use Rattle.event_writer.specs.Stages.{Enclosing, Stage, entered, exited, takes_inlines, written};
+ghost use Rattle.markdown_events.specs.Forest as forest;
 ghost use Rattle.markdown_events.specs.Names.{role_of};
 ghost use Rattle.markdown_events.specs.declared.event.Name.{Name};
 ghost use Rattle.markdown_options.specs.Spans.{is_on};
 ghost use Rattle.markdown_options.specs.declared.Constructs.{Constructs};
 ghost use Rattle.markdown_pieces.specs.Tilings.{point};
 ghost use Rattle.markdown_pieces.specs.Walks.{inside};
+ghost use Rattle.markdown_text.specs.AttentionEvents.{attention_events, is_attention};
 ghost use Rattle.markdown_text.specs.Contents.{spot, whole};
 ghost use Rattle.markdown_text.specs.Spans.{IsWithin};
 ghost use Rattle.markdown_text.specs.Standings.{BreaksAt, IsAt, MayBreak, MayEndLine, MayEnter, MayExit, MayWrite, StandsIn, after_line};
@@ -27,6 +29,8 @@ pub fn enter<R: References>(writer: &mut Writer<'_, R>, name: Name) -> Result<()
     ensures cursor { writer.new.cursor ≡ writer.old.cursor }
     ensures at { (a : Stage) → (outer : List Enclosing) → IsAt writer.old a outer → OnOk result (IfSome (entered a (role_of name)) (λ b. IsAt writer.new b (inside name a outer))) }
     ensures within { (c : Constructs) → IsWithin c writer.old → is_on c name ≡ true → OnOk result (IsWithin c writer.new) }
+    ensures others { is_attention name ≡ false → OnOk result (attention_events writer.new.events ≡ attention_events writer.old.events) }
+    ensures attention { is_attention name ≡ true → OnOk result (attention_events writer.new.events ≡ attention_events writer.old.events ++ forest.enter name writer.old.cursor ∷ []) }
 {
     match writer.enter(name) {
         Ok(()) => Ok(()),
@@ -42,6 +46,8 @@ pub fn exit<R: References>(writer: &mut Writer<'_, R>) -> Result<(), AllocError>
     ensures cursor { writer.new.cursor ≡ writer.old.cursor }
     ensures at { (own a : Stage) → (name : Name) → (outer : List Enclosing) → IsAt writer.old own (inside name a outer) → OnOk result (IfSome (exited own a (role_of name)) (λ b. IsAt writer.new b outer)) }
     ensures within { (c : Constructs) → IsWithin c writer.old → OnOk result (IsWithin c writer.new) }
+    ensures others { (own a : Stage) → (name : Name) → (outer : List Enclosing) → IsAt writer.old own (inside name a outer) → is_attention name ≡ false → OnOk result (attention_events writer.new.events ≡ attention_events writer.old.events) }
+    ensures attention { (own a : Stage) → (name : Name) → (outer : List Enclosing) → IsAt writer.old own (inside name a outer) → is_attention name ≡ true → OnOk result (attention_events writer.new.events ≡ attention_events writer.old.events ++ forest.exit name writer.old.cursor ∷ []) }
 {
     match writer.exit() {
         Ok(()) => Ok(()),
@@ -65,6 +71,7 @@ pub fn token<R: References>(
     ensures spot { OnOk result (spot writer.new.cursor ≡ record { offset = to; virtual_spaces = virtual_spaces }) }
     ensures at { (a : Stage) → (outer : List Enclosing) → IsAt writer.old a outer → OnOk result (IfSome (written a (role_of name)) (λ b. IsAt writer.new b outer)) }
     ensures within { (c : Constructs) → IsWithin c writer.old → is_on c name ≡ true → OnOk result (IsWithin c writer.new) }
+    ensures attention { is_attention name ≡ false → OnOk result (attention_events writer.new.events ≡ attention_events writer.old.events) }
 {
     match writer.token(name, to, virtual_spaces) {
         Ok(()) => Ok(()),
@@ -87,6 +94,7 @@ pub fn hard_break<R: References>(
     ensures spot { OnOk result (spot writer.new.cursor ≡ whole to) }
     ensures at { (a : Stage) → (outer : List Enclosing) → takes_inlines a ≡ true → IsAt writer.old a outer → OnOk result (BreaksAt writer.new a outer) }
     ensures within { (c : Constructs) → IsWithin c writer.old → is_on c name ≡ true → OnOk result (IsWithin c writer.new) }
+    ensures attention { is_attention name ≡ false → OnOk result (attention_events writer.new.events ≡ attention_events writer.old.events) }
 {
     match writer.token(name, to, 0) {
         Ok(()) => Ok(()),
@@ -103,6 +111,7 @@ pub fn line_ending<R: References>(writer: &mut Writer<'_, R>, name: Name) -> Res
     ensures spot { OnOk result (spot writer.new.cursor ≡ whole (writer.old.cursor.index + line_ending_length writer.old.given.bytes writer.old.cursor.index)) }
     ensures at { (waits : Bool) → (a : Stage) → (outer : List Enclosing) → StandsIn waits writer.old a outer → OnOk result (IfSome (after_line waits a (role_of name)) (λ b. IsAt writer.new b outer)) }
     ensures within { (c : Constructs) → IsWithin c writer.old → is_on c name ≡ true → OnOk result (IsWithin c writer.new) }
+    ensures attention { is_attention name ≡ false → OnOk result (attention_events writer.new.events ≡ attention_events writer.old.events) }
 {
     match writer.line_ending(name) {
         Ok(()) => Ok(()),

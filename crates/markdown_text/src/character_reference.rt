@@ -1,9 +1,10 @@
 //! Character references (CommonMark): a character by its name or its number.
 
-ghost use Rattle.std.specs.Prelude.{◌≡◌, ◌≤◌, ◌<◌, ◌+◌, ◌-◌, drop, false, length, slice_range, true, IfOk, IfSome, MatchOption, OnOk, List};
+ghost use Rattle.std.specs.Prelude.{◌≡◌, ◌≤◌, ◌<◌, ◌+◌, ◌-◌, drop, false, length, slice_range, true, IfOk, IfSome, MatchOption, OnOk, List, is_some};
 ghost use Rattle.commonmark_syntax.specs.Inlines as page;
 ghost use Rattle.commonmark_syntax.specs.Language.{IsNotAt, Leaves};
 ghost use Rattle.markdown_options.specs.declared.Constructs.{Constructs};
+ghost use Rattle.markdown_text.specs.AttentionEvents.{attention_of};
 ghost use Rattle.markdown_text.specs.Constructs.{is_found_on};
 ghost use Rattle.markdown_text.specs.Contents.{IsAsciiPart};
 ghost use Rattle.markdown_text.specs.Outputs.{Stands, WritesTo, bytes_of, AtInlines, AtStage, KeepsInlines, as_text, references_of, constructs_of};
@@ -110,6 +111,7 @@ pub fn scan<R: References>(
     ensures kind { IfOk result (λ found. IfSome found (λ found. IsOfString found.kind)) }
     ensures found { IfOk result (λ found. IfSome found (λ found. IsFound (text_of text.now (R.text references.now) false) found.kind 0 found.size)) }
     ensures on { IfOk result (λ found. IfSome found (λ found. (c : Constructs) → c.character_reference ≡ true → is_found_on c found.kind ≡ true)) }
+    ensures token { IfOk result (λ found. IfSome found (λ found. is_some found.kind ≡ true)) }
 {
     let Some(form) = form_of(text) else {
         return Ok(None);
@@ -137,6 +139,7 @@ pub fn write<R: References>(
     ensures given { output.new.writer.given ≡ output.old.writer.given }
     ensures writes { OnOk result (WritesTo output.old output.new end) }
     ensures at { KeepsInlines result output.old output.new }
+    ensures attention { OnOk result (attention_of output.new ≡ attention_of output.old) }
 {
     output.flush(Next::Span)?;
     output.enter(Name::CharacterReference)?;
@@ -158,6 +161,7 @@ fn write_markers<R: References>(
     ensures writes { OnOk result (WritesTo output.old output.new (output.old.at + markers kind)) }
     ensures whole { OnOk result (output.new.writer.cursor.vs ≡ 0) }
     ensures at { (outer : List Enclosing) → IsAt output.old.writer character_reference outer → OnOk result (IsAt output.new.writer (character_reference_value (marker kind)) outer) }
+    ensures attention { OnOk result (attention_of output.new ≡ attention_of output.old) }
 {
     output.token(Name::CharacterReferenceMarker, 1)?;
     match kind {

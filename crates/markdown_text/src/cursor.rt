@@ -1,7 +1,7 @@
 //! A cursor in a content.
 
 ghost use Rattle.std.specs.Prelude.{◌≡◌, ◌≢◌, ◌≤◌, ◌<◌, ◌+◌, ◌-◌, drop, length, slice_index};
-ghost use Rattle.commonmark_syntax.specs.Cuts.{IsCut};
+ghost use Rattle.commonmark_syntax.specs.Cuts.{IsCut, IsRunOf};
 ghost use Rattle.commonmark_syntax.specs.Inlines.{delimiter_run};
 ghost use Rattle.commonmark_syntax.specs.Language.{Leaves};
 ghost use Rattle.markdown_text.specs.Contents.{IsAsciiPart};
@@ -55,6 +55,7 @@ impl<'c> Cursor<'c> {
     /// The length of the run that the byte begins: all bytes that stand there and are like it.
     pub fn run_length(&self) -> usize
         ensures exact { Leaves (delimiter_run (byte_at self.now)) (rest_of self.now) (drop result (rest_of self.now)) }
+        ensures run { IsRunOf (rest_of self.now) (byte_at self.now) result }
         ensures most { result ≤ bytes_from self.now }
         ensures least { 0 < result }
         ensures next { self.now.at + result < length self.now.content.now → slice_index self.now.content.now (self.now.at + result) ≢ byte_at self.now }

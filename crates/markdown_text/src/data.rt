@@ -2,6 +2,7 @@
 
 ghost use Rattle.std.specs.Prelude.{Bool, List, OnOk, ◌<◌, ◌≡◌, true};
 ghost use Rattle.event_writer.specs.Stages.{Enclosing, inlines};
+ghost use Rattle.markdown_text.specs.AttentionEvents.{attention_of};
 ghost use Rattle.markdown_text.specs.Contents.{IsPart};
 ghost use Rattle.markdown_text.specs.Outputs.{AtInlines, IsFlushed, KeepsInlines, Stands, WritesTo, bytes_of, constructs_of};
 ghost use Rattle.markdown_text.specs.Standings.{IsAt};
@@ -25,6 +26,7 @@ pub fn write<R: References>(
     ensures given { output.new.writer.given ≡ output.old.writer.given }
     ensures writes { OnOk result (WritesTo output.old output.new end) }
     ensures at { (h : Bool) → (outer : List Enclosing) → IsAt output.old.writer (inlines h) outer → OnOk result (IsFlushed next output.new (inlines h) outer) }
+    ensures attention { OnOk result (attention_of output.new ≡ attention_of output.old) }
 {
     let constructs = output.source().reading.options.constructs;
     let space = whitespace::scan(
@@ -55,6 +57,7 @@ fn write_break<R: References>(
     ensures given { output.new.writer.given ≡ output.old.writer.given }
     ensures writes { OnOk result (WritesTo output.old output.new end) }
     ensures at { (h : Bool) → (outer : List Enclosing) → IsAt output.old.writer (inlines h) outer → OnOk result (IsFlushed next output.new (inlines h) outer) }
+    ensures attention { OnOk result (attention_of output.new ≡ attention_of output.old) }
 {
     match next {
         Next::LineEnding => output.hard_break_to(Name::HardBreakTrailing, end),
@@ -70,6 +73,7 @@ fn write_text<R: References>(output: &mut Output<'_, '_, R>, end: usize) -> Resu
     ensures given { output.new.writer.given ≡ output.old.writer.given }
     ensures writes { OnOk result (WritesTo output.old output.new end) }
     ensures at { KeepsInlines result output.old output.new }
+    ensures attention { OnOk result (attention_of output.new ≡ attention_of output.old) }
 {
     let constructs = output.source().reading.options.constructs;
     if constructs.gfm_autolink_literal && output.may_link() {

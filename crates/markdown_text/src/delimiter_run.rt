@@ -1,6 +1,7 @@
 //! Runs of delimiters (CommonMark, GFM) in a content.
 
-ghost use Rattle.std.specs.Prelude.{◌≡◌, ◌≢◌, ◌≤◌, ◌==◌, ◌&&◌, ◌||◌, drop, IsTrue, true};
+ghost use Rattle.std.specs.Prelude.{◌≡◌, ◌≤◌, drop, IsTrue, true};
+ghost use Rattle.markdown_text.specs.AttentionRuns.{counts};
 ghost use Rattle.markdown_attention.specs.Flanking.{Flanked};
 ghost use Rattle.markdown_attention.specs.Runs.{IsWhole, are_markers, view};
 ghost use Rattle.markdown_text.specs.Constructs.{IsMarker, is_marker_on};
@@ -17,8 +18,7 @@ pub fn is_delimiter_run(marker: u8, size: usize, options: &ParseOptions) -> bool
     requires { IsMarker marker }
     ensures on { IsTrue result → is_marker_on options.now.constructs marker ≡ true }
     ensures markers { IsTrue result → are_markers marker size ≡ true }
-    ensures emphasis { marker ≢ 126 → result ≡ options.now.constructs.attention }
-    ensures struck { marker ≡ 126 → result ≡ (options.now.constructs.gfm_strikethrough && ((size == 2) || ((size == 1) && options.now.gfm_strikethrough_single_tilde))) }
+    ensures counts { result ≡ counts options.now marker size }
 {
     if marker != b'~' {
         return options.constructs.attention;

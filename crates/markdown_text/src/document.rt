@@ -1,6 +1,7 @@
 //! The events of a document, from its pieces.
 
 ghost use Rattle.std.specs.Prelude.{Bool, IfOk, List, [], false, true, ◌≡◌};
+ghost use Rattle.std.specs.Str.{is_utf8};
 ghost use Rattle.event_writer.specs.Stages.{Enclosing, flow, inlines};
 ghost use Rattle.markdown_options.specs.Spans.{AreOn};
 ghost use Rattle.markdown_pieces.specs.Spans.{AreOn as ArePiecesOn};
@@ -190,6 +191,7 @@ fn inlines_of<'c, 'd, R: References>(
     requires content { IsContent pieces.now }
     requires tiles { Tiles writer.given.bytes (spot writer.cursor) pieces.now (end_from (spot writer.cursor) pieces.now) }
     requires bytes { bytes.now ≡ joined writer.given.bytes writer.cursor.index pieces.now }
+    requires utf8 { is_utf8 bytes.now ≡ true }
     requires begins { BeginsContent place writer }
     requires within { IsWithin reading.now.options.constructs writer }
     ensures given { IfOk result (λ written. written.given ≡ writer.entry.given) }

@@ -1,6 +1,8 @@
 //! Autolink literals that begin with `www.`, `http://`, `https://` or `ftp://` (GFM).
 
-ghost use Rattle.std.specs.Prelude.{◌≡◌, ◌+◌, ◌⊎◌, IfSome, true};
+ghost use Rattle.std.specs.Prelude.{◌≡◌, ◌+◌, ◌⊎◌, IfSome, MatchOption, is_some, true};
+ghost use Rattle.std.specs.Str.{IsUtf8};
+ghost use Rattle.markdown_attention.specs.ExtendedAddresses.{HasNoExtendedAutolink, IsExtendedAutolink, IsRefused, may_come_before, may_follow};
 ghost use Rattle.markdown_events.specs.declared.event.Name.TheVariants.{GfmAutolinkLiteralProtocol, GfmAutolinkLiteralWww};
 ghost use Rattle.markdown_options.specs.declared.Constructs.{Constructs};
 ghost use Rattle.markdown_text.specs.Constructs.{is_found_on};
@@ -11,24 +13,27 @@ use crate::cursor::Cursor;
 use crate::token::{Found, TokenKind};
 use crate::whitespace::is_white_space;
 use commonmark_syntax::extended_autolink_start;
-use markdown_attention::extended_autolink_address;
+use markdown_attention::extended_autolink_address::{self, RefusedDomain};
 use markdown_events::event::Name;
 
 /// The autolink literal that begins at the cursor. With `in_bracket` a bracket is open there, which a closing
 /// bracket after the literal may close.
 ///
-/// Where a domain is refused for an underscore, `barred` becomes the offset of that. A domain that begins
-/// before it is refused, too, and is not read again, so that all searches together are linear.
-pub fn scan(cursor: Cursor<'_>, in_bracket: bool, barred: &mut usize) -> Option<Found>
+/// Where its domain is refused for an underscore, that is kept in `refused`.
+pub fn scan(cursor: Cursor<'_>, in_bracket: bool, refused: &mut RefusedDomain) -> Option<Found>
+    requires refused { IsRefused cursor.content.now refused.old }
+    ensures refused { IsRefused cursor.entry.content.now refused.new }
+    ensures exact { IsUtf8 cursor.entry.content.now → MatchOption result (HasNoExtendedAutolink in_bracket cursor.entry.content.now cursor.entry.at) (λ found. IsExtendedAutolink in_bracket cursor.entry.content.now cursor.entry.at found.size) }
     ensures found { IfSome result (λ found. IsFound (bare cursor.entry.content.now) found.kind cursor.entry.at (cursor.entry.at + found.size)) }
+    ensures token { IfSome result (λ found. is_some found.kind ≡ true) }
     ensures on { IfSome result (λ found. (c : Constructs) → c.gfm_autolink_literal ≡ true → is_found_on c found.kind ≡ true) }
 {
-    if !may_stand_before(cursor.before().last().copied()) {
+    if !may_follow(cursor.before()) {
         return None;
     }
     let start = extended_autolink_start::scan(cursor.rest())?;
     let at = cursor.at + start;
-    let size = extended_autolink_address::scan(cursor.content, at, in_bracket, barred)?;
+    let size = extended_autolink_address::scan(cursor.content, at, in_bracket, refused)?;
     let name = name_of(cursor.byte());
     Some(Found::token(TokenKind::AutolinkLiteral(name), start + size))
 }
@@ -43,10 +48,19 @@ fn name_of(first: u8) -> Name
     }
 }
 
-/// Whether a byte, or the start of the text, may come before a literal.
-fn may_stand_before(before: Option<u8>) -> bool {
+/// Whether a literal may follow a text.
+fn may_follow(before: &[u8]) -> bool
+    ensures { result ≡ may_follow before.now }
+{
     match before {
-        None => true,
-        Some(byte) => is_white_space(byte) || b"*_~(".contains(&byte),
+        [.., last] => may_come_before(*last),
+        [] => true,
     }
+}
+
+/// Whether a byte may come before a literal.
+fn may_come_before(byte: u8) -> bool
+    ensures { result ≡ may_come_before byte }
+{
+    is_white_space(byte) || matches!(byte, b'*' | b'_' | b'~' | b'(')
 }

@@ -1,7 +1,9 @@
 //! Autolink literals that are addresses of mail (GFM), which are found in data.
 
-ghost use Rattle.std.specs.Prelude.{IfSome, OnOk, slice_range, ℕ, ◌≡◌, true};
-ghost use Rattle.markdown_text.specs.Addresses.{IsAddress, IsAddressName};
+ghost use Rattle.std.specs.Prelude.{IfSome, MatchOption, OnOk, slice_range, ℕ, ◌≡◌, true};
+ghost use Rattle.commonmark_syntax.specs.EmailLiterals.{HasNoLiteral};
+ghost use Rattle.markdown_text.specs.Addresses.{IsAddress, IsAddressName, IsFirstAddress, address_name};
+ghost use Rattle.markdown_text.specs.AttentionEvents.{attention_of};
 ghost use Rattle.markdown_text.specs.Contents.{IsPart};
 ghost use Rattle.markdown_text.specs.Outputs.{AtInlines, GoesOn, KeepsInlines, Stands, WritesTo, bytes_of, constructs_of};
 
@@ -31,6 +33,7 @@ pub fn write<R: References>(output: &mut Output<'_, '_, R>, end: usize) -> Resul
     ensures given { output.new.writer.given ≡ output.old.writer.given }
     ensures writes { OnOk result (WritesTo output.old output.new end) }
     ensures at { KeepsInlines result output.old output.new }
+    ensures attention { OnOk result (attention_of output.new ≡ attention_of output.old) }
 {
     for _ in output.at()..end {
         let Some(address) = find(output.rest_to(end)) else {
@@ -54,6 +57,7 @@ fn write_address<R: References>(
     ensures goes_on { OnOk result (GoesOn output.old output.new) }
     ensures left { (end : ℕ) → IsPart (bytes_of output.old) output.old.at end → IsAddress (slice_range (bytes_of output.old) output.old.at end) address.now → OnOk result (IsPart (bytes_of output.new) output.new.at end) }
     ensures at { KeepsInlines result output.old output.new }
+    ensures attention { OnOk result (attention_of output.new ≡ attention_of output.old) }
 {
     let address_end = output.offset_after(address.end);
     output.fill_to(Name::Data, output.offset_after(address.start))?;
@@ -63,7 +67,8 @@ fn write_address<R: References>(
 
 /// The first address in a text.
 fn find(text: &[u8]) -> Option<Address>
-    ensures { IfSome result (λ address. IsAddress text.now address) }
+    ensures address { IfSome result (λ address. IsAddress text.now address) }
+    ensures exact { MatchOption result (HasNoLiteral text.now) (λ address. IsFirstAddress text.now address) }
 {
     let literal = email_literal::find(text)?;
     Some(Address {
@@ -75,7 +80,8 @@ fn find(text: &[u8]) -> Option<Address>
 
 /// The name of an address of a kind.
 fn name_of(kind: Kind) -> Name
-    ensures { IsAddressName result }
+    ensures named { IsAddressName result }
+    ensures exact { result ≡ address_name kind }
 {
     match kind {
         Kind::Email => Name::GfmAutolinkLiteralEmail,

@@ -1,9 +1,10 @@
 //! The mark of a task (GFM), at the start of the first paragraph of an item.
 
-ghost use Rattle.std.specs.Prelude.{◌≡◌, ◌+◌, IfSome, MatchOption, OnOk, drop, true, ◌⊎◌, false};
+ghost use Rattle.std.specs.Prelude.{◌≡◌, ◌+◌, Bool, IfSome, MatchOption, OnOk, Some, drop, true, ◌⊎◌, false};
 ghost use Rattle.commonmark_syntax.specs.Inlines.{task_mark};
 ghost use Rattle.commonmark_syntax.specs.Language.{IsNotAt, Leaves};
 ghost use Rattle.markdown_options.specs.declared.Constructs.{Constructs};
+ghost use Rattle.markdown_text.specs.AttentionEvents.{attention_of};
 ghost use Rattle.markdown_text.specs.Constructs.{is_found_on};
 ghost use Rattle.markdown_text.specs.Outputs.{Stands, WritesTo, bytes_of, AtStage, Leads, constructs_of};
 ghost use Rattle.markdown_text.specs.Texts.{no_values, text_of};
@@ -11,6 +12,7 @@ ghost use Rattle.event_writer.specs.Stages.{inlines, task};
 ghost use Rattle.markdown_events.specs.declared.event.Name.TheVariants.{GfmTaskListItemValueChecked, GfmTaskListItemValueUnchecked};
 ghost use Rattle.markdown_text.specs.Contents.{IsRange};
 ghost use Rattle.markdown_text.specs.Tokens.{IsEnclosed, IsFound};
+ghost use Rattle.markdown_text.specs.declared.token.TokenKind.TheVariants.{TaskListItemCheck};
 
 use crate::output::Output;
 use crate::token::{Found, TokenKind};
@@ -24,6 +26,7 @@ pub fn scan(text: &[u8]) -> Option<Found>
     ensures exact { MatchOption result (IsNotAt task_mark text.now) (λ found. Leaves task_mark text.now (drop found.size text.now)) }
     ensures found { IfSome result (λ found. IsFound (text_of text.now no_values true) found.kind 0 found.size) }
     ensures on { IfSome result (λ found. (c : Constructs) → c.gfm_task_list_item ≡ true → is_found_on c found.kind ≡ true) }
+    ensures kind { IfSome result (λ found. (is_checked : Bool) × (found.kind ≡ Some (TaskListItemCheck is_checked))) }
 {
     let size = task_mark::scan(text)?;
     let is_checked = matches!(text.get(1), Some(b'x' | b'X'));
@@ -44,6 +47,7 @@ pub fn write<R: References>(
     ensures given { output.new.writer.given ≡ output.old.writer.given }
     ensures writes { OnOk result (WritesTo output.old output.new 3) }
     ensures at { Leads result task (inlines false) output.old output.new }
+    ensures attention { OnOk result (attention_of output.new ≡ attention_of output.old) }
 {
     output.enter(Name::GfmTaskListItemCheck)?;
     output.token(Name::GfmTaskListItemMarker, 1)?;
@@ -73,6 +77,7 @@ fn write_value<R: References>(output: &mut Output<'_, '_, R>, value: Name) -> Re
     ensures given { output.new.writer.given ≡ output.old.writer.given }
     ensures writes { OnOk result (WritesTo output.old output.new (output.old.at + 1)) }
     ensures at { Leads result task (inlines false) output.old output.new }
+    ensures attention { OnOk result (attention_of output.new ≡ attention_of output.old) }
 {
     if output.rest()[0] == b'\n' {
         return output.line_ending_as(value);

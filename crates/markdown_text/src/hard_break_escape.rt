@@ -3,6 +3,7 @@
 ghost use Rattle.std.specs.Prelude.{Some, slice_get, ◌≡◌, ◌≤◌, ◌<◌, ◌+◌, drop, length, IfSome, MatchOption, OnOk, true};
 ghost use Rattle.commonmark_syntax.specs.Inlines.{backslash_break};
 ghost use Rattle.commonmark_syntax.specs.Language.{IsNotAt, Leaves};
+ghost use Rattle.markdown_text.specs.AttentionEvents.{attention_of};
 ghost use Rattle.markdown_text.specs.Contents.{IsAsciiPart};
 ghost use Rattle.markdown_text.specs.Outputs.{AtInlines, KeepsInlines, Stands, WritesTo, bytes_of, constructs_of};
 
@@ -32,6 +33,7 @@ pub fn write<R: References>(output: &mut Output<'_, '_, R>) -> Result<(), AllocE
     ensures given { output.new.writer.given ≡ output.old.writer.given }
     ensures writes { OnOk result (WritesTo output.old output.new (output.old.data + 2)) }
     ensures at { KeepsInlines result output.old output.new }
+    ensures attention { OnOk result (attention_of output.new ≡ attention_of output.old) }
 {
     output.flush(Next::Span)?;
     output.hard_break_to(Name::HardBreakEscape, output.offset_after(1))?;

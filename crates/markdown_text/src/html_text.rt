@@ -4,6 +4,7 @@ ghost use Rattle.std.specs.Prelude.{◌≡◌, ◌<◌, IfSome, MatchOption, OnO
 ghost use Rattle.commonmark_syntax.specs.HtmlTags.{AreMissing};
 ghost use Rattle.commonmark_syntax.specs.Language.{IsNotAt, Leaves};
 ghost use Rattle.commonmark_syntax.specs.Syntax.{html_tag};
+ghost use Rattle.markdown_text.specs.AttentionEvents.{attention_of};
 ghost use Rattle.markdown_text.specs.Contents.{IsRange};
 ghost use Rattle.markdown_text.specs.Cursors.{rest_of};
 ghost use Rattle.markdown_text.specs.Outputs.{Stands, WritesTo, bytes_of, AtInlines, KeepsInlines, constructs_of};
@@ -35,6 +36,7 @@ pub fn write<R: References>(output: &mut Output<'_, '_, R>, end: usize) -> Resul
     ensures given { output.new.writer.given ≡ output.old.writer.given }
     ensures writes { OnOk result (WritesTo output.old output.new end) }
     ensures at { KeepsInlines result output.old output.new }
+    ensures attention { OnOk result (attention_of output.new ≡ attention_of output.old) }
 {
     output.flush(Next::Span)?;
     output.enter(Name::HtmlText)?;

@@ -1,12 +1,14 @@
 //! The spans of a content, as they are written.
 
-ghost use Rattle.std.specs.Prelude.{Bool, IfOk, IfSome, List, OnOk, Some, drop, length, slice_get, slice_range, true, ℕ, ◌-◌, ◌≡◌, ◌≤◌, ◌<◌, ◌+◌};
+ghost use Rattle.std.specs.Prelude.{Bool, IfOk, IfSome, List, OnOk, Some, [], drop, false, length, slice_get, slice_range, true, ℕ, ◌-◌, ◌≡◌, ◌≤◌, ◌<◌, ◌+◌, ◌++◌, ◌∷◌};
 ghost use Rattle.event_writer.specs.Stages.{Enclosing, Stage, character_reference_value, entered, exited, inlines, nothing, takes_line_endings};
+ghost use Rattle.markdown_events.specs.Forest.{enter, exit};
 ghost use Rattle.markdown_events.specs.Names.{role_of};
 ghost use Rattle.markdown_events.specs.declared.event.Name.{Name};
 ghost use Rattle.markdown_events.specs.declared.event.Name.TheVariants.{SpaceOrTab};
 ghost use Rattle.markdown_options.specs.Spans.{is_on};
 ghost use Rattle.markdown_pieces.specs.Walks.{inside};
+ghost use Rattle.markdown_text.specs.AttentionEvents.{attention_events, attention_of, is_attention};
 ghost use Rattle.markdown_text.specs.Contents.{IsPart, IsRange};
 ghost use Rattle.markdown_text.specs.Outputs.{AtInlines, IsFlushed, KeepsInlines, MayDecode, MayFill, MayFillLines, MayPut, MayWriteString, after_plain, after_string, references_of};
 ghost use Rattle.markdown_text.specs.Spans.{IsWithin};
@@ -95,6 +97,7 @@ impl<'c, 'd, R: References> Output<'c, 'd, R> {
         ensures at { IfOk result (λ output. output.at ≡ 0) }
         ensures data_end { IfOk result (λ output. output.data ≡ 0) }
         ensures stage { (a : Stage) → (outer : List Enclosing) → IsAt writer.entry a outer → IfOk result (λ output. IsAt output.writer a outer) }
+        ensures attention { IfOk result (λ output. attention_of output ≡ attention_events writer.entry.events) }
     {
         let mut writer = writer;
         let lines = write_to_text(&mut writer, pieces)?;
@@ -204,6 +207,8 @@ impl<'c, 'd, R: References> Output<'c, 'd, R> {
         ensures given { self.new.writer.given ≡ self.old.writer.given }
         ensures writes { OnOk result (WritesTo self.old self.new self.old.at) }
         ensures stage { (a : Stage) → (outer : List Enclosing) → IsAt self.old.writer a outer → OnOk result (IfSome (entered a (role_of name)) (λ b. IsAt self.new.writer b (inside name a outer))) }
+        ensures others { is_attention name ≡ false → OnOk result (attention_of self.new ≡ attention_of self.old) }
+        ensures attention { is_attention name ≡ true → OnOk result (attention_of self.new ≡ attention_of self.old ++ enter name self.old.writer.cursor ∷ []) }
     {
         self.is_line_start = false;
         calls::enter(&mut self.writer, name)
@@ -217,6 +222,8 @@ impl<'c, 'd, R: References> Output<'c, 'd, R> {
         ensures given { self.new.writer.given ≡ self.old.writer.given }
         ensures writes { OnOk result (WritesTo self.old self.new self.old.at) }
         ensures stage { (own a : Stage) → (name : Name) → (outer : List Enclosing) → IsAt self.old.writer own (inside name a outer) → OnOk result (IfSome (exited own a (role_of name)) (λ b. IsAt self.new.writer b outer)) }
+        ensures others { (own a : Stage) → (name : Name) → (outer : List Enclosing) → IsAt self.old.writer own (inside name a outer) → is_attention name ≡ false → OnOk result (attention_of self.new ≡ attention_of self.old) }
+        ensures attention { (own a : Stage) → (name : Name) → (outer : List Enclosing) → IsAt self.old.writer own (inside name a outer) → is_attention name ≡ true → OnOk result (attention_of self.new ≡ attention_of self.old ++ exit name self.old.writer.cursor ∷ []) }
     {
         self.is_line_start = false;
         calls::exit(&mut self.writer)
@@ -233,6 +240,7 @@ impl<'c, 'd, R: References> Output<'c, 'd, R> {
         ensures writes { OnOk result (WritesTo self.old self.new (self.old.at + size)) }
         ensures whole { OnOk result (self.new.writer.cursor.vs ≡ 0) }
         ensures stage { (a : Stage) → (outer : List Enclosing) → IsAt self.old.writer a outer → OnOk result (IfSome (after_plain a name) (λ b. IsAt self.new.writer b outer)) }
+        ensures attention { is_attention name ≡ false → OnOk result (attention_of self.new ≡ attention_of self.old) }
     {
         self.token_to(name, later(self.at, size, self.source.bytes.len()))
     }
@@ -248,6 +256,7 @@ impl<'c, 'd, R: References> Output<'c, 'd, R> {
         ensures writes { OnOk result (WritesTo self.old self.new end) }
         ensures whole { OnOk result (self.new.writer.cursor.vs ≡ 0) }
         ensures stage { (a : Stage) → (outer : List Enclosing) → IsAt self.old.writer a outer → OnOk result (IfSome (after_plain a name) (λ b. IsAt self.new.writer b outer)) }
+        ensures attention { is_attention name ≡ false → OnOk result (attention_of self.new ≡ attention_of self.old) }
     {
         let to = self.move_to(end);
         calls::token(&mut self.writer, name, to, 0)?;
@@ -264,6 +273,7 @@ impl<'c, 'd, R: References> Output<'c, 'd, R> {
         ensures given { self.new.writer.given ≡ self.old.writer.given }
         ensures writes { OnOk result (WritesTo self.old self.new end) }
         ensures stage { (m : ℕ) → (outer : List Enclosing) → IsAt self.old.writer (character_reference_value m) outer → OnOk result (IsAt self.new.writer nothing outer) }
+        ensures attention { OnOk result (attention_of self.new ≡ attention_of self.old) }
     {
         let to = self.move_to(end);
         calls::token(&mut self.writer, Name::CharacterReferenceValue, to, 0)?;
@@ -279,6 +289,7 @@ impl<'c, 'd, R: References> Output<'c, 'd, R> {
         ensures given { self.new.writer.given ≡ self.old.writer.given }
         ensures writes { OnOk result (WritesTo self.old self.new end) }
         ensures stage { (a : Stage) → (outer : List Enclosing) → after_plain a name ≡ Some a → IsAt self.old.writer a outer → OnOk result (IsAt self.new.writer a outer) }
+        ensures attention { is_attention name ≡ false → OnOk result (attention_of self.new ≡ attention_of self.old) }
     {
         if end <= self.at {
             self.data = end;
@@ -298,6 +309,7 @@ impl<'c, 'd, R: References> Output<'c, 'd, R> {
         ensures given { self.new.writer.given ≡ self.old.writer.given }
         ensures writes { OnOk result (WritesTo self.old self.new end) }
         ensures stage { (h : Bool) → (outer : List Enclosing) → IsAt self.old.writer (inlines h) outer → OnOk result (IsFlushed LineEnding self.new (inlines h) outer) }
+        ensures attention { is_attention name ≡ false → OnOk result (attention_of self.new ≡ attention_of self.old) }
     {
         if end <= self.at {
             self.data = end;
@@ -334,6 +346,7 @@ impl<'c, 'd, R: References> Output<'c, 'd, R> {
         ensures given { self.new.writer.given ≡ self.old.writer.given }
         ensures writes { OnOk result (WritesTo self.old self.new (self.old.data + 1)) }
         ensures stage { KeepsInlines result self.old self.new }
+        ensures attention { OnOk result (attention_of self.new ≡ attention_of self.old) }
     {
         self.flush(Next::LineEnding)?;
         self.line_ending_as(Name::LineEnding)?;
@@ -350,6 +363,7 @@ impl<'c, 'd, R: References> Output<'c, 'd, R> {
         ensures given { self.new.writer.given ≡ self.old.writer.given }
         ensures writes { OnOk result (WritesTo self.old self.new (self.old.at + 1)) }
         ensures stage { (waits : Bool) → (a : Stage) → (outer : List Enclosing) → StandsIn waits self.old.writer a outer → OnOk result (IfSome (after_line waits a (role_of name)) (λ b. IsAt self.new.writer b outer)) }
+        ensures attention { is_attention name ≡ false → OnOk result (attention_of self.new ≡ attention_of self.old) }
     {
         let Some((_, next)) = self.lines.later.split_first() else {
             unreachable!()
@@ -372,6 +386,7 @@ impl<'c, 'd, R: References> Output<'c, 'd, R> {
         ensures given { self.new.writer.given ≡ self.old.writer.given }
         ensures writes { OnOk result (WritesTo self.old self.new end) }
         ensures stage { (a : Stage) → (outer : List Enclosing) → after_plain a name ≡ Some a → takes_line_endings a ≡ true → IsAt self.old.writer a outer → OnOk result (IsAt self.new.writer a outer) }
+        ensures attention { is_attention name ≡ false → OnOk result (attention_of self.new ≡ attention_of self.old) }
     {
         'lines: while self.at < end {
             self.line(name, end)?;
@@ -393,6 +408,7 @@ impl<'c, 'd, R: References> Output<'c, 'd, R> {
         ensures none_waits { OnOk result (self.new.data ≡ self.new.at) }
         ensures least { OnOk result (self.old.at < self.new.at) }
         ensures range { OnOk result (IsRange (bytes_of self.new) self.new.at end) }
+        ensures attention { is_attention name ≡ false → OnOk result (attention_of self.new ≡ attention_of self.old) }
     {
         match line_feed_in(self.rest_to(end)) {
             Some(0) => self.line_start(end),
@@ -415,6 +431,7 @@ impl<'c, 'd, R: References> Output<'c, 'd, R> {
         ensures none_waits { OnOk result (self.new.data ≡ self.new.at) }
         ensures least { OnOk result (self.old.at < self.new.at) }
         ensures range { OnOk result (IsRange (bytes_of self.new) self.new.at end) }
+        ensures attention { OnOk result (attention_of self.new ≡ attention_of self.old) }
     {
         self.line_ending_as(Name::LineEnding)?;
         let space = count_while(self.rest_to(end), is_space_or_tab);
@@ -431,6 +448,7 @@ impl<'c, 'd, R: References> Output<'c, 'd, R> {
         ensures given { self.new.writer.given ≡ self.old.writer.given }
         ensures writes { OnOk result (WritesTo self.old self.new (self.old.at + size)) }
         ensures stage { (a : Stage) → (outer : List Enclosing) → after_plain a SpaceOrTab ≡ Some a → takes_line_endings a ≡ true → IsAt self.old.writer a outer → OnOk result (IsAt self.new.writer a outer) }
+        ensures attention { OnOk result (attention_of self.new ≡ attention_of self.old) }
     {
         let end = later(self.at, size, self.source.bytes.len());
         self.lines(Name::SpaceOrTab, end)
@@ -466,6 +484,7 @@ impl<'c, 'd, R: References> Output<'c, 'd, R> {
         ensures given { self.new.writer.given ≡ self.old.writer.given }
         ensures writes { OnOk result (WritesTo self.old self.new self.old.data) }
         ensures stage { (h : Bool) → (outer : List Enclosing) → IsAt self.old.writer (inlines h) outer → OnOk result (IsFlushed next self.new (inlines h) outer) }
+        ensures attention { OnOk result (attention_of self.new ≡ attention_of self.old) }
     {
         let end = self.data;
         if end <= self.at {
@@ -483,6 +502,7 @@ impl<'c, 'd, R: References> Output<'c, 'd, R> {
         ensures end { IfOk result (λ writer. spot writer.cursor ≡ content_end self.entry) }
         ensures within { IfOk result (λ writer. IsWithin (constructs_of self.entry) writer) }
         ensures stage { (h : Bool) → (outer : List Enclosing) → IsAt self.entry.writer (inlines h) outer → IfOk result (λ writer. IsAt writer (inlines h) outer) }
+        ensures attention { IfOk result (λ writer. attention_events writer.events ≡ attention_of self.entry) }
     {
         self.flush(Next::End)?;
         let Output { writer, .. } = self;

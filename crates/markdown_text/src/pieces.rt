@@ -1,6 +1,6 @@
 //! Pieces, as the writer gets them.
 
-ghost use Rattle.std.specs.Prelude.{IfOk, IsTrue, List, OnOk, ◌≡◌, ◌≢◌};
+ghost use Rattle.std.specs.Prelude.{IfOk, IsTrue, List, OnOk, true, ◌≡◌, ◌≢◌};
 ghost use Rattle.std.specs.Str.{IsCharBoundary};
 ghost use Rattle.commonmark_syntax.specs.Cuts.{IsCut};
 ghost use Rattle.event_writer.specs.Calls.{CanReach};
@@ -10,6 +10,7 @@ ghost use Rattle.markdown_pieces.specs.Spans.{IsOn};
 ghost use Rattle.markdown_pieces.specs.Tilings.{Goes, Tiles, end_from, end_of, point};
 ghost use Rattle.markdown_pieces.specs.Walks.{State, Steps};
 ghost use Rattle.markdown_pieces.specs.declared.piece.PieceKind.TheVariants.{BlockQuotePrefix, Text};
+ghost use Rattle.markdown_text.specs.AttentionEvents.{attention_events, is_between_texts};
 ghost use Rattle.markdown_text.specs.Contents.{IsContent, IsLeft, joined, left, spot, whole};
 ghost use Rattle.markdown_text.specs.Spans.{IsWithin};
 ghost use Rattle.markdown_text.specs.Standings.{IsAt, IsSomewhere, MayStep};
@@ -53,6 +54,7 @@ pub fn write_to_text<'c, R: References>(
     ensures cut { IfOk result (λ lines. IsCut writer.old.given.bytes lines.end) }
     ensures at { (a : Stage) → (outer : List Enclosing) → IsAt writer.old a outer → OnOk result (IsAt writer.new a outer) }
     ensures within { (c : Constructs) → IsWithin c writer.old → OnOk result (IsWithin c writer.new) }
+    ensures attention { OnOk result (attention_events writer.new.events ≡ attention_events writer.old.events) }
 {
     let mut rest = pieces;
     'pieces: while let Some((piece, later)) = rest.split_first() {
@@ -80,6 +82,7 @@ pub fn write_piece<R: References>(
     ensures spot { OnOk result (spot writer.new.cursor ≡ end_of piece.now) }
     ensures at { (s t : State) → Steps piece.now.kind s t → IsAt writer.old s.stage s.outer → OnOk result (IsAt writer.new t.stage t.outer) }
     ensures within { (c : Constructs) → IsOn c piece.now.kind → IsWithin c writer.old → OnOk result (IsWithin c writer.new) }
+    ensures attention { is_between_texts piece.now.kind ≡ true → OnOk result (attention_events writer.new.events ≡ attention_events writer.old.events) }
 {
     let end = piece.end;
     match piece.kind {
@@ -108,6 +111,7 @@ fn write_block_quote_prefix<R: References>(
     ensures spot { OnOk result (spot writer.new.cursor ≡ record { offset = end; virtual_spaces = virtual_spaces }) }
     ensures at { (a : Stage) → (outer : List Enclosing) → IsAt writer.old a outer → OnOk result (IsAt writer.new a outer) }
     ensures within { (c : Constructs) → IsWithin c writer.old → OnOk result (IsWithin c writer.new) }
+    ensures attention { OnOk result (attention_events writer.new.events ≡ attention_events writer.old.events) }
 {
     calls::enter(writer, Name::BlockQuotePrefix)?;
     let marker_end = writer.cursor().index + 1;
@@ -130,6 +134,7 @@ fn write_space<R: References>(
     ensures spot { OnOk result (spot writer.new.cursor ≡ record { offset = to; virtual_spaces = virtual_spaces }) }
     ensures at { (a : Stage) → (outer : List Enclosing) → IsAt writer.old a outer → OnOk result (IsAt writer.new a outer) }
     ensures within { (c : Constructs) → IsWithin c writer.old → OnOk result (IsWithin c writer.new) }
+    ensures attention { OnOk result (attention_events writer.new.events ≡ attention_events writer.old.events) }
 {
     let cursor = writer.cursor();
     if cursor.index == to && cursor.vs == virtual_spaces {

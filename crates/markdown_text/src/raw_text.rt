@@ -4,6 +4,7 @@ ghost use Rattle.std.specs.Prelude.{false, ◌≡◌, ◌≢◌, ◌≤◌, ◌<
 ghost use Rattle.commonmark_syntax.specs.Strings.{AreLast, FirstStringEnds, HasNoString};
 ghost use Rattle.event_writer.specs.Stages.{inlines};
 ghost use Rattle.markdown_options.specs.Spans.{is_on};
+ghost use Rattle.markdown_text.specs.AttentionEvents.{attention_of};
 ghost use Rattle.markdown_text.specs.Contents.{IsAsciiPart};
 ghost use Rattle.markdown_text.specs.Cursors.{byte_at};
 ghost use Rattle.markdown_text.specs.Outputs.{AtInlines, AtStage, KeepsInlines, Leads, Stands, WritesTo, bytes_of, constructs_of};
@@ -104,6 +105,7 @@ pub fn write<R: References>(
     ensures given { output.new.writer.given ≡ output.old.writer.given }
     ensures writes { OnOk result (WritesTo output.old output.new end) }
     ensures at { KeepsInlines result output.old output.new }
+    ensures attention { OnOk result (attention_of output.new ≡ attention_of output.old) }
 {
     output.flush(Next::Span)?;
     output.enter(kind.name())?;
@@ -126,6 +128,7 @@ fn write_enclosed<R: References>(
     ensures given { output.new.writer.given ≡ output.old.writer.given }
     ensures writes { OnOk result (WritesTo output.old output.new end) }
     ensures at { Leads result (inlines false) (inlines false) output.old output.new }
+    ensures attention { OnOk result (attention_of output.new ≡ attention_of output.old) }
 {
     output.token(kind.sequence(), sequence)?;
     output.lines(kind.data(), end - sequence)?;

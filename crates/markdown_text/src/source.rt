@@ -1,11 +1,14 @@
 //! What a content is read with.
 
+ghost use Rattle.std.specs.Prelude.{true, ◌≡◌};
+ghost use Rattle.std.specs.Str.{is_utf8};
+
 use crate::document::Reading;
 use commonmark_syntax::bytes::after;
 use commonmark_syntax::label::is_text;
 use std::alloc::{AllocError, Global};
 
-/// The bytes of a content, and what its document is read with.
+/// The bytes of a content, which are UTF-8, and what its document is read with.
 #[derive(Drop)]
 pub struct Source<'c, R> {
     /// What the document is read with.
@@ -14,6 +17,7 @@ pub struct Source<'c, R> {
     pub bytes: &'c [u8],
     /// Whether it is the text of a cell of a table.
     pub is_cell: bool,
+    ghost utf8: { is_utf8 bytes.now ≡ true },
 }
 
 impl<R> Source<'_, R> {

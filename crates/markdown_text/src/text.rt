@@ -1,9 +1,14 @@
 //! Text content (micromark): all inlines. The second pass writes their spans.
 
-ghost use Rattle.std.specs.Prelude.{Bool, false, [], ◌∷◌, ◌++◌, ◌≡◌, ◌↔◌, ◌⊎◌, ◌≤◌, ◌<◌, ◌+◌, IfOk, IfSome, List, OnOk, Some, length, slice_get, true, ◌-◌};
+ghost use Rattle.std.specs.Prelude.{Bool, false, [], ◌∷◌, ◌++◌, ◌≡◌, ◌↔◌, ◌⊎◌, ◌≤◌, ◌<◌, ◌+◌, IfOk, IfSome, List, None, OnOk, Some, get_or, length, slice_get, true, ◌-◌};
 ghost use Rattle.event_writer.specs.Stages.{Enclosing, inlines};
 ghost use Rattle.markdown_options.specs.Spans.{is_on};
 ghost use Rattle.markdown_pieces.specs.Tilings.{Tiles, end_from};
+ghost use Rattle.markdown_text.specs.AttentionEvents.{WritesAttention, attention_of};
+ghost use Rattle.markdown_text.specs.AttentionRuns.{HasNoClosing};
+ghost use Rattle.markdown_text.specs.AttentionWaiting.{IsNoLabel};
+ghost use Rattle.markdown_text.specs.AttentionSpans.{WritesSpans, place_at};
+ghost use Rattle.markdown_text.specs.AttentionWalk.{AreApart, FitFrom, HasWalked, Holds, IsWalkOf, Walk, WalksOn};
 ghost use Rattle.markdown_text.specs.Constructs.{AreDelimitersOn, AreTokensOn, is_delimiter_on, is_kind_on, is_label_on};
 ghost use Rattle.markdown_text.specs.Contents.{IsAsciiPart, IsContent, IsPart, joined, spot};
 ghost use Rattle.markdown_text.specs.Opens.{AtOpen, AtOpened, KeepsOpen, group_name, opened};
@@ -13,6 +18,10 @@ ghost use Rattle.markdown_text.specs.Standings.{IsAt};
 ghost use Rattle.markdown_text.specs.Tokens.{AreTokens, IsToken, label_start};
 ghost use Rattle.markdown_events.specs.declared.event.Name.TheVariants.{GfmAutolinkLiteralProtocol, GfmAutolinkLiteralWww};
 ghost use Rattle.markdown_attention.specs.Emphasis.{kind_size};
+ghost use Rattle.markdown_attention.specs.Sequences.{IsSequence};
+ghost use Rattle.markdown_attention.specs.declared.delimiter.Delimiter.TheVariants.{Data};
+ghost use Rattle.markdown_events.specs.Forest.{enter, exit};
+ghost use Rattle.markdown_text.specs.Texts.{text_of};
 ghost use Rattle.markdown_attention.specs.declared.delimiter.AttentionKind.{AttentionKind};
 ghost use Rattle.markdown_text.specs.declared.text.Open.{Open};
 ghost use Rattle.markdown_text.specs.declared.text.Open.TheVariants.{Attention, Label};
@@ -64,6 +73,7 @@ pub fn inlines<'c, 'd, R: References>(
     ensures end { IfOk result (λ written. spot written.cursor ≡ end_from (spot writer.entry.cursor) pieces.now) }
     ensures at { (h : Bool) → (outer : List Enclosing) → IsAtText is_task writer.entry h outer → IfOk result (λ written. IsAt written (inlines h) outer) }
     ensures within { IfOk result (λ written. IsWithin source.now.reading.now.options.constructs written) }
+    ensures spans { HasNoClosing source.now.bytes.now → IfOk result (λ written. WritesSpans source.now.reading.now.options (place_at writer.entry pieces.now source.now.bytes.now) (text_of source.now.bytes.now (R.text source.now.reading.now.references.now) is_task) writer.entry written) }
 {
     let found = tokenize(source, is_task)?;
     let mut output = Output::new(source, writer, pieces, ContentKind::Text)?;
@@ -94,6 +104,7 @@ fn write_task<'t, R: References>(
     ensures left { IfOk result (λ rest. AreTokens (as_text output.new (R.text (references_of output.new)) false) output.new.data rest.now) }
     ensures at { (h : Bool) → (outer : List Enclosing) → IsAtText is_task output.old.writer h outer → OnOk result (IsAt output.new.writer (inlines h) outer) }
     ensures on { IfOk result (λ rest. AreTokensOn (constructs_of output.old) rest.now) }
+    ensures walks { (walk : Walk) → (constructs : List Open) → length walk.delimiters ≡ length walk.place.content → WalksOn walk output.old constructs tokens.now → IfOk result (λ rest. WalksOn walk output.new constructs rest.now) }
 {
     if !is_task {
         return Ok(tokens);
@@ -124,6 +135,7 @@ fn write_tokens<R: References>(
     ensures goes_on { OnOk result (GoesOn output.old output.new) }
     ensures rest { OnOk result (IsPart (bytes_of output.new) output.new.data (length (bytes_of output.new))) }
     ensures at { KeepsOpen result output.old output.new open.old.items open.new.items }
+    ensures walks { (walk : Walk) → IsWalkOf walk delimiters.now → WalksOn walk output.old open.old.items tokens.now → OnOk result (WalksOn walk output.new open.new.items []) }
 {
     let mut rest = tokens;
     'tokens: while let Some((token, later)) = rest.split_first() {
@@ -155,6 +167,7 @@ fn write_next<'t, R: References>(
     ensures shorter { IfOk result (λ rest. length rest.now ≤ length later.now) }
     ensures at { KeepsOpen result output.old output.new open.old.items open.new.items }
     ensures on { IfOk result (λ rest. AreTokensOn (constructs_of output.old) rest.now) }
+    ensures walks { (walk : Walk) → IsWalkOf walk delimiters.now → WalksOn walk output.old open.old.items (token.now ∷ later.now) → IfOk result (λ rest. WalksOn walk output.new open.new.items rest.now) }
 {
     output.data(token.start);
     if let Some((end, last)) = later.split_first()
@@ -231,6 +244,7 @@ fn write_token<R: References>(
     ensures goes_on { OnOk result (GoesOn output.old output.new) }
     ensures data_end { OnOk result (output.new.data ≡ token.now.end) }
     ensures at { KeepsOpen result output.old output.new open.old.items open.new.items }
+    ensures walks { (walk : Walk) → IsWalkOf walk delimiters.now → Holds walk.delimiters token.now → IsNoLabel token.now.kind → HasWalked walk output.old open.old.items output.old.data → OnOk result (HasWalked walk output.new open.new.items token.now.end) }
 {
     let end = token.end;
     match token.kind {
@@ -268,6 +282,7 @@ fn write_autolink_literal<R: References>(
     ensures goes_on { OnOk result (GoesOn output.old output.new) }
     ensures data_end { OnOk result (output.new.data ≡ end) }
     ensures at { KeepsInlines result output.old output.new }
+    ensures attention { OnOk result (attention_of output.new ≡ attention_of output.old) }
 {
     if !output.may_link() {
         output.data(end);
@@ -293,6 +308,7 @@ fn write_run<R: References>(
     ensures goes_on { OnOk result (GoesOn output.old output.new) }
     ensures data_end { OnOk result (output.new.data ≡ token.now.end) }
     ensures at { KeepsOpen result output.old output.new open.old.items open.new.items }
+    ensures walks { (walk : Walk) → IsWalkOf walk delimiters.now → FitFrom walk.delimiters token.now.start token.now.end → HasWalked walk output.old open.old.items output.old.data → OnOk result (HasWalked walk output.new open.new.items token.now.end) }
 {
     let mut at = token.start;
     'markers: while at < token.end {
@@ -323,6 +339,7 @@ fn write_delimiter<R: References>(
     ensures goes_on { OnOk result (GoesOn output.old output.new) }
     ensures rest { IfOk result (λ size. IsPart (bytes_of output.new) output.new.data (output.old.data + size)) }
     ensures at { KeepsOpen result output.old output.new open.old.items open.new.items }
+    ensures walks { (walk : Walk) → AreApart walk.delimiters → length walk.delimiters ≡ length walk.place.content → delimiter ≡ get_or walk.delimiters output.old.data Data → ((kind : AttentionKind) → IsSequence delimiter kind → kind_size kind ≤ most) → HasWalked walk output.old open.old.items output.old.data → IfOk result (λ size. HasWalked walk output.new open.new.items (output.old.data + size)) }
 {
     match delimiter {
         Delimiter::Opening(kind) if kind.size() <= most => open_attention(output, kind, open),
@@ -358,6 +375,8 @@ fn open_attention<R: References>(
     ensures goes_on { OnOk result (GoesOn output.old output.new) }
     ensures data_end { OnOk result (output.new.data ≡ output.old.data + kind_size kind) }
     ensures at { KeepsOpen result output.old output.new open.old.items open.new.items }
+    ensures attention { OnOk result (WritesAttention output.old output.new output.old.data (enter (group_name kind))) }
+    ensures opened { OnOk result (open.new.items ≡ open.old.items ++ (Attention kind ∷ [])) }
 {
     open.push(Open::Attention(kind))?;
     output.flush(Next::Span)?;
@@ -382,6 +401,8 @@ fn close_attention<R: References>(
     ensures goes_on { OnOk result (GoesOn output.old output.new) }
     ensures data_end { OnOk result (output.new.data ≡ output.old.data + kind_size kind) }
     ensures at { KeepsOpen result output.old output.new open.old.items open.new.items }
+    ensures attention { OnOk result (WritesAttention output.old output.new (output.old.data + kind_size kind) (exit (group_name kind))) }
+    ensures closed { OnOk result (open.old.items ≡ open.new.items ++ (Attention kind ∷ [])) }
 {
     open.pop();
     output.flush(Next::Span)?;
@@ -406,6 +427,7 @@ fn write_label_start<R: References>(
     ensures goes_on { OnOk result (GoesOn output.old output.new) }
     ensures data_end { OnOk result (output.new.data ≡ end) }
     ensures at { KeepsOpen result output.old output.new open.old.items open.new.items }
+    ensures none { labelled ≡ None → OnOk result (attention_of output.new ≡ attention_of output.old) × (open.new.items ≡ open.old.items) }
 {
     let Some(labelled) = labelled else {
         output.data(end);

@@ -1,16 +1,19 @@
 //! The first pass over a text: the constructs in it, in order.
 
-ghost use Rattle.std.specs.Prelude.{List, None, Some, [], false, true, ◌≡◌, ◌≢◌, ◌<◌, ◌≤◌, ◌+◌, ◌-◌, length, IfOk, IfSome, IsFalse, IsTrue, OnOk};
+ghost use Rattle.std.specs.Prelude.{List, None, Some, [], false, true, ◌≡◌, ◌≢◌, ◌<◌, ◌≤◌, ◌+◌, ◌-◌, ◌⊎◌, length, IfOk, IfSome, IsFalse, IsTrue, MatchOption, OnOk};
 ghost use Rattle.std.proofs.Props.{props};
 ghost use Rattle.commonmark_syntax.specs.HtmlTags.{AreMissing};
 ghost use Rattle.commonmark_syntax.specs.Strings.{AreLast};
+ghost use Rattle.markdown_attention.specs.ExtendedAddresses.{HasNoExtendedAutolink, IsExtendedAutolink, IsRefused};
 ghost use Rattle.markdown_options.specs.declared.Constructs.{Constructs};
+ghost use Rattle.markdown_text.specs.AttentionRuns.{HasNoClosing};
+ghost use Rattle.markdown_text.specs.AttentionWaiting.{ArePairsOf, HasNoLaterMarker, Wait, WaitWith};
 ghost use Rattle.markdown_text.specs.Constructs.{AreBracketsOn, AreDelimitersOn, AreTokensOn, IsMarker, is_form_on, is_found_on, is_label_on};
 ghost use Rattle.markdown_text.specs.Cursors.{byte_at, bytes_from};
-ghost use Rattle.markdown_text.specs.Reached.{AreOpen, AreOpenWith, IsOpen, IsWith, ReachAsFar, form_size};
+ghost use Rattle.markdown_text.specs.Reached.{AreOpen, AreOpenWith, IsOpen, IsWith, ReachAsFar, form_size, has_bracket};
 ghost use Rattle.markdown_text.specs.Runs.{IsAttentionOn};
 ghost use Rattle.markdown_text.specs.Texts.{bare, text_of};
-ghost use Rattle.markdown_text.specs.Tokens.{AreTokens, IsFound, label_start};
+ghost use Rattle.markdown_text.specs.Tokens.{AreTokens, BeginsLabel, IsFound, label_start};
 ghost use Rattle.markdown_text.specs.declared.brackets.Bracket.{Bracket};
 ghost use Rattle.markdown_text.specs.declared.token.TokenKind.TheVariants.{LabelEnd, LabelStart};
 
@@ -31,6 +34,7 @@ use commonmark_syntax::bytes::{after, count_while};
 use commonmark_syntax::code_span::LastStrings;
 use commonmark_syntax::html_tag::MissingEnds;
 use markdown_attention::delimiter::Delimiter;
+use markdown_attention::extended_autolink_address::RefusedDomain;
 use markdown_options::Constructs;
 use std::alloc::AllocError;
 
@@ -50,6 +54,7 @@ pub fn tokenize<R: References>(source: &Source<'_, R>, is_task: bool) -> Result<
     ensures found { IfOk result (λ found. AreTokens (text_of source.now.bytes.now (R.text source.now.reading.now.references.now) is_task) 0 found.tokens.items) }
     ensures on { IfOk result (λ found. AreTokensOn source.now.reading.now.options.constructs found.tokens.items) }
     ensures delimiters { IfOk result (λ found. AreDelimitersOn source.now.reading.now.options.constructs found.delimiters.items) }
+    ensures pairs { HasNoClosing source.now.bytes.now → IfOk result (λ found. ArePairsOf source.now.reading.now.options source.now.bytes.now found.tokens.items found.delimiters.items) }
 {
     let content = source.bytes;
     let mut tokenizer = Tokenizer::new(source);
@@ -86,14 +91,15 @@ struct Tokenizer<'c, R> {
     dollar_strings: Option<LastStrings>,
     /// What is known of the ends of HTML tags.
     missing: MissingEnds,
-    /// The offset before which no domain of an autolink literal begins.
-    barred: usize,
+    /// The last domain of an autolink literal that was refused.
+    refused: RefusedDomain,
     ghost tokens_on: { AreTokensOn source.now.reading.now.options.constructs tokens.items } by { Prim.hlevel props },
     ghost brackets_on: { AreBracketsOn source.now.reading.now.options.constructs brackets.stack.items } by { Prim.hlevel props },
     ghost attention_on: { IsAttentionOn source.now.reading.now.options.constructs attention } by { Prim.hlevel props },
     ghost backticks_known: { IfSome backtick_strings (AreLast 96 source.now.bytes.now) } by { Prim.hlevel props },
     ghost dollars_known: { IfSome dollar_strings (AreLast 36 source.now.bytes.now) } by { Prim.hlevel props },
     ghost missing_known: { AreMissing source.now.bytes.now missing } by { Prim.hlevel props },
+    ghost refused_known: { IsRefused source.now.bytes.now refused } by { Prim.hlevel props },
 }
 
 impl<'c, R: References> Tokenizer<'c, R> {
@@ -102,6 +108,7 @@ impl<'c, R: References> Tokenizer<'c, R> {
         ensures source { result.source.now ≡ source.now }
         ensures tokens { result.tokens.items ≡ [] }
         ensures brackets { result.brackets.stack.items ≡ [] }
+        ensures wait { Wait source.now.reading.now.options source.now.bytes.now [] 0 result.attention }
     {
         let alloc = source.reading.alloc;
         Tokenizer {
@@ -112,7 +119,7 @@ impl<'c, R: References> Tokenizer<'c, R> {
             backtick_strings: None,
             dollar_strings: None,
             missing: MissingEnds::new(source.bytes.len()),
-            barred: 0,
+            refused: RefusedDomain::new(),
         }
     }
 
@@ -130,6 +137,7 @@ impl<'c, R: References> Tokenizer<'c, R> {
         ensures tokens { OnOk result (IsWith self.old.tokens.items cursor.entry.at found.kind (cursor.entry.at + found.size) self.new.tokens.items) }
         ensures source { self.new.source.now ≡ self.old.source.now }
         ensures brackets { self.new.brackets ≡ self.old.brackets }
+        ensures attention { self.new.attention ≡ self.old.attention }
     {
         if let Some(kind) = found.kind {
             self.tokens.push(Token {
@@ -145,6 +153,7 @@ impl<'c, R: References> Tokenizer<'c, R> {
     /// that memory ran out.
     fn find(&mut self, cursor: Cursor<'_>, is_task: bool) -> Result<Found, AllocError>
         requires content { cursor.content.now ≡ self.old.source.now.bytes.now }
+        requires wait { Wait self.old.source.now.reading.now.options cursor.content.now self.old.tokens.items cursor.at self.old.attention }
         requires opened { AreOpen self.old.tokens.items self.old.brackets.stack.items }
         requires task { is_task ≡ true → self.old.source.now.reading.now.options.constructs.gfm_task_list_item ≡ true }
         ensures found { IfOk result (λ found. IsFound (text_of cursor.entry.content.now (R.text self.old.source.now.reading.now.references.now) is_task) found.kind cursor.entry.at (cursor.entry.at + found.size)) }
@@ -152,6 +161,7 @@ impl<'c, R: References> Tokenizer<'c, R> {
         ensures reach { OnOk result (ReachAsFar self.old.tokens.items self.new.tokens.items) }
         ensures opened { IfOk result (λ found. AreOpenWith self.new.tokens.items cursor.entry.at found self.new.brackets.stack.items) }
         ensures on { IfOk result (λ found. is_found_on self.old.source.now.reading.now.options.constructs found.kind ≡ true) }
+        ensures wait { IfOk result (λ found. WaitWith self.old.source.now.reading.now.options cursor.entry.content.now self.new.tokens.items cursor.entry.at found self.new.attention) }
     {
         if is_task && cursor.at == 0 {
             return self.task(cursor);
@@ -164,6 +174,7 @@ impl<'c, R: References> Tokenizer<'c, R> {
     fn task(&mut self, cursor: Cursor<'_>) -> Result<Found, AllocError>
         requires content { cursor.content.now ≡ self.old.source.now.bytes.now }
         requires start { cursor.at ≡ 0 }
+        requires wait { Wait self.old.source.now.reading.now.options cursor.content.now self.old.tokens.items cursor.at self.old.attention }
         requires opened { AreOpen self.old.tokens.items self.old.brackets.stack.items }
         requires on { self.old.source.now.reading.now.options.constructs.gfm_task_list_item ≡ true }
         ensures found { IfOk result (λ found. IsFound (text_of cursor.entry.content.now (R.text self.old.source.now.reading.now.references.now) true) found.kind cursor.entry.at (cursor.entry.at + found.size)) }
@@ -171,6 +182,7 @@ impl<'c, R: References> Tokenizer<'c, R> {
         ensures reach { OnOk result (ReachAsFar self.old.tokens.items self.new.tokens.items) }
         ensures opened { IfOk result (λ found. AreOpenWith self.new.tokens.items cursor.entry.at found self.new.brackets.stack.items) }
         ensures on { IfOk result (λ found. is_found_on self.old.source.now.reading.now.options.constructs found.kind ≡ true) }
+        ensures wait { IfOk result (λ found. WaitWith self.old.source.now.reading.now.options cursor.entry.content.now self.new.tokens.items cursor.entry.at found self.new.attention) }
     {
         match gfm_task_list_item_check::scan(cursor.rest()) {
             Some(found) => Ok(found),
@@ -181,21 +193,24 @@ impl<'c, R: References> Tokenizer<'c, R> {
     /// What begins at the cursor, but for the mark of a task. The only error is that memory ran out.
     fn scan(&mut self, cursor: Cursor<'_>) -> Result<Found, AllocError>
         requires content { cursor.content.now ≡ self.old.source.now.bytes.now }
+        requires wait { Wait self.old.source.now.reading.now.options cursor.content.now self.old.tokens.items cursor.at self.old.attention }
         requires opened { AreOpen self.old.tokens.items self.old.brackets.stack.items }
         ensures found { IfOk result (λ found. IsFound (text_of cursor.entry.content.now (R.text self.old.source.now.reading.now.references.now) false) found.kind cursor.entry.at (cursor.entry.at + found.size)) }
         ensures source { self.new.source.now ≡ self.old.source.now }
         ensures reach { OnOk result (ReachAsFar self.old.tokens.items self.new.tokens.items) }
         ensures opened { IfOk result (λ found. AreOpenWith self.new.tokens.items cursor.entry.at found self.new.brackets.stack.items) }
         ensures on { IfOk result (λ found. is_found_on self.old.source.now.reading.now.options.constructs found.kind ≡ true) }
+        ensures wait { IfOk result (λ found. WaitWith self.old.source.now.reading.now.options cursor.entry.content.now self.new.tokens.items cursor.entry.at found self.new.attention) }
     {
         match cursor.byte() {
             b'!' | b'[' => self.label_start(cursor),
             b']' => self.label_end(cursor),
+            b'*' | b'_' | b'~' => self.attention(cursor),
             _ => self.construct(cursor),
         }
     }
 
-    /// The construct that begins at the cursor, but for labels. The only error is that memory ran out.
+    /// The construct that begins at the cursor, but for labels and attention. The only error is that memory ran out.
     fn construct(&mut self, cursor: Cursor<'_>) -> Result<Found, AllocError>
         requires content { cursor.content.now ≡ self.old.source.now.bytes.now }
         ensures found { IfOk result (λ found. IsFound (text_of cursor.entry.content.now (R.text self.old.source.now.reading.now.references.now) false) found.kind cursor.entry.at (cursor.entry.at + found.size)) }
@@ -203,6 +218,8 @@ impl<'c, R: References> Tokenizer<'c, R> {
         ensures tokens { self.new.tokens ≡ self.old.tokens }
         ensures brackets { self.new.brackets ≡ self.old.brackets }
         ensures on { IfOk result (λ found. is_found_on self.old.source.now.reading.now.options.constructs found.kind ≡ true) }
+        ensures attention { self.new.attention ≡ self.old.attention }
+        ensures later { IfOk result (λ found. HasNoLaterMarker cursor.entry.content.now cursor.entry.at found) }
     {
         match cursor.byte() {
             b'\n' => Ok(Found::token(TokenKind::LineEnding, 1)),
@@ -210,7 +227,6 @@ impl<'c, R: References> Tokenizer<'c, R> {
             b'&' => self.character_reference(cursor),
             b'`' => self.code_text(cursor),
             b'$' => self.math_text(cursor),
-            b'*' | b'_' | b'~' => self.attention(cursor),
             b'<' => Ok(self.angle_bracket(cursor)),
             b'f' | b'F' | b'h' | b'H' | b'w' | b'W' => Ok(self.autolink_literal(cursor)),
             _ => Ok(data(cursor)),
@@ -222,6 +238,7 @@ impl<'c, R: References> Tokenizer<'c, R> {
         requires { byte_at cursor ≡ 92 }
         ensures found { IsFound (bare cursor.entry.content.now) result.kind cursor.entry.at (cursor.entry.at + result.size) }
         ensures on { is_found_on self.now.source.now.reading.now.options.constructs result.kind ≡ true }
+        ensures later { HasNoLaterMarker cursor.entry.content.now cursor.entry.at result }
     {
         let constructs = self.constructs();
         if constructs.hard_break_escape
@@ -242,6 +259,7 @@ impl<'c, R: References> Tokenizer<'c, R> {
         requires { byte_at cursor ≡ 38 }
         ensures found { IfOk result (λ found. IsFound (text_of cursor.entry.content.now (R.text self.now.source.now.reading.now.references.now) false) found.kind cursor.entry.at (cursor.entry.at + found.size)) }
         ensures on { IfOk result (λ found. is_found_on self.now.source.now.reading.now.options.constructs found.kind ≡ true) }
+        ensures later { IfOk result (λ found. HasNoLaterMarker cursor.entry.content.now cursor.entry.at found) }
     {
         if !self.constructs().character_reference {
             return Ok(Found::data(1));
@@ -267,6 +285,8 @@ impl<'c, R: References> Tokenizer<'c, R> {
         ensures tokens { self.new.tokens ≡ self.old.tokens }
         ensures brackets { self.new.brackets ≡ self.old.brackets }
         ensures on { IfOk result (λ found. is_found_on self.old.source.now.reading.now.options.constructs found.kind ≡ true) }
+        ensures attention { self.new.attention ≡ self.old.attention }
+        ensures later { IfOk result (λ found. HasNoLaterMarker cursor.entry.content.now cursor.entry.at found) }
     {
         let sequence = cursor.run_length();
         if !self.constructs().code_text {
@@ -288,6 +308,8 @@ impl<'c, R: References> Tokenizer<'c, R> {
         ensures tokens { self.new.tokens ≡ self.old.tokens }
         ensures brackets { self.new.brackets ≡ self.old.brackets }
         ensures on { IfOk result (λ found. is_found_on self.old.source.now.reading.now.options.constructs found.kind ≡ true) }
+        ensures attention { self.new.attention ≡ self.old.attention }
+        ensures later { IfOk result (λ found. HasNoLaterMarker cursor.entry.content.now cursor.entry.at found) }
     {
         let sequence = cursor.run_length();
         let is_short = sequence == 1 && !self.source.reading.options.math_text_single_dollar;
@@ -303,6 +325,8 @@ impl<'c, R: References> Tokenizer<'c, R> {
 
     /// What a run of delimiters is. The only error is that memory ran out.
     fn attention(&mut self, cursor: Cursor<'_>) -> Result<Found, AllocError>
+        requires content { cursor.content.now ≡ self.old.source.now.bytes.now }
+        requires wait { Wait self.old.source.now.reading.now.options cursor.content.now self.old.tokens.items cursor.at self.old.attention }
         requires marker { IsMarker (byte_at cursor) }
         requires ascii { byte_at cursor < 128 }
         requires line { byte_at cursor ≢ 10 }
@@ -311,6 +335,7 @@ impl<'c, R: References> Tokenizer<'c, R> {
         ensures tokens { self.new.tokens ≡ self.old.tokens }
         ensures brackets { self.new.brackets ≡ self.old.brackets }
         ensures on { IfOk result (λ found. is_found_on self.old.source.now.reading.now.options.constructs found.kind ≡ true) }
+        ensures wait { IfOk result (λ found. WaitWith self.old.source.now.reading.now.options cursor.entry.content.now self.new.tokens.items cursor.entry.at found self.new.attention) }
     {
         let size = cursor.run_length();
         if !is_delimiter_run(cursor.byte(), size, &self.source.reading.options) {
@@ -329,6 +354,8 @@ impl<'c, R: References> Tokenizer<'c, R> {
         ensures tokens { self.new.tokens ≡ self.old.tokens }
         ensures brackets { self.new.brackets ≡ self.old.brackets }
         ensures on { is_found_on self.old.source.now.reading.now.options.constructs result.kind ≡ true }
+        ensures attention { self.new.attention ≡ self.old.attention }
+        ensures later { HasNoLaterMarker cursor.entry.content.now cursor.entry.at result }
     {
         if self.constructs().autolink
             && let Some(found) = autolink::scan(cursor.rest())
@@ -345,6 +372,7 @@ impl<'c, R: References> Tokenizer<'c, R> {
 
     /// What an exclamation mark or an opening bracket begins. The only error is that memory ran out.
     fn label_start(&mut self, cursor: Cursor<'_>) -> Result<Found, AllocError>
+        requires begins { BeginsLabel (byte_at cursor) }
         requires ascii { byte_at cursor < 128 }
         requires line { byte_at cursor ≢ 10 }
         requires opened { AreOpen self.old.tokens.items self.old.brackets.stack.items }
@@ -353,6 +381,9 @@ impl<'c, R: References> Tokenizer<'c, R> {
         ensures tokens { self.new.tokens ≡ self.old.tokens }
         ensures opened { IfOk result (λ found. AreOpenWith self.new.tokens.items cursor.entry.at found self.new.brackets.stack.items) }
         ensures on { IfOk result (λ found. is_found_on self.old.source.now.reading.now.options.constructs found.kind ≡ true) }
+        ensures attention { self.new.attention ≡ self.old.attention }
+        ensures kind { IfOk result (λ found. (found.kind ≡ None) ⊎ (found.kind ≡ Some (LabelStart None))) }
+        ensures later { IfOk result (λ found. HasNoLaterMarker cursor.entry.content.now cursor.entry.at found) }
     {
         let constructs = self.constructs();
         let text = cursor.rest();
@@ -384,6 +415,7 @@ impl<'c, R: References> Tokenizer<'c, R> {
         ensures tokens { self.new.tokens ≡ self.old.tokens }
         ensures opened { IfOk result (λ found. AreOpenWith self.new.tokens.items cursor.entry.at found self.new.brackets.stack.items) }
         ensures on { IfOk result (λ found. is_found_on self.old.source.now.reading.now.options.constructs found.kind ≡ true) }
+        ensures attention { self.new.attention ≡ self.old.attention }
     {
         self.brackets.push(Bracket {
             form,
@@ -440,23 +472,26 @@ impl<'c, R: References> Tokenizer<'c, R> {
 
     /// The autolink literal, or the data, that a letter begins.
     fn autolink_literal(&mut self, cursor: Cursor<'_>) -> Found
-        requires { byte_at cursor ≢ 10 }
+        requires content { cursor.content.now ≡ self.old.source.now.bytes.now }
+        requires byte { byte_at cursor ≢ 10 }
+        ensures exact { self.old.source.now.reading.now.options.constructs.gfm_autolink_literal ≡ true
+            → MatchOption result.kind (HasNoExtendedAutolink (has_bracket self.old.brackets.stack.items) cursor.entry.content.now cursor.entry.at) (λ kind. IsExtendedAutolink (has_bracket self.old.brackets.stack.items) cursor.entry.content.now cursor.entry.at result.size) }
         ensures found { IsFound (bare cursor.entry.content.now) result.kind cursor.entry.at (cursor.entry.at + result.size) }
         ensures source { self.new.source.now ≡ self.old.source.now }
         ensures tokens { self.new.tokens ≡ self.old.tokens }
         ensures brackets { self.new.brackets ≡ self.old.brackets }
         ensures on { is_found_on self.old.source.now.reading.now.options.constructs result.kind ≡ true }
+        ensures attention { self.new.attention ≡ self.old.attention }
+        ensures later { HasNoLaterMarker cursor.entry.content.now cursor.entry.at result }
     {
-        if self.constructs().gfm_autolink_literal
-            && let Some(found) = gfm_autolink_literal::scan(
-                cursor,
-                self.brackets.are_open(),
-                &mut self.barred,
-            )
-        {
-            return found;
+        if !self.constructs().gfm_autolink_literal {
+            return data(cursor);
         }
-        data(cursor)
+        let in_bracket = self.brackets.are_open();
+        match gfm_autolink_literal::scan(cursor, in_bracket, &mut self.refused) {
+            Some(found) => found,
+            None => data(cursor),
+        }
     }
 }
 
@@ -476,6 +511,7 @@ fn data(cursor: Cursor<'_>) -> Found
     requires { byte_at cursor ≢ 10 }
     ensures kind { result.kind ≡ None }
     ensures found { IsFound (bare cursor.entry.content.now) result.kind cursor.entry.at (cursor.entry.at + result.size) }
+    ensures later { HasNoLaterMarker cursor.entry.content.now cursor.entry.at result }
 {
     Found::data(1 + count_while(after(cursor.content, cursor.at + 1), is_plain))
 }
@@ -484,6 +520,7 @@ fn data(cursor: Cursor<'_>) -> Found
 fn is_plain(byte: u8) -> bool
     ensures line { IsTrue result → byte ≢ 10 }
     ensures ascii { IsFalse result → byte < 128 }
+    ensures marker { IsTrue result → IsMarker byte → ⊥ }
 {
     !matches!(
         byte,

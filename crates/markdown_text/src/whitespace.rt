@@ -2,7 +2,7 @@
 //! ends a line, or the text.
 
 ghost use Rattle.std.specs.Prelude.{IsFalse, IsTrue, length, ◌≡◌, ◌≢◌, ◌≤◌, ◌<◌, ◌+◌, ◌-◌, drop, reverse, true};
-ghost use Rattle.commonmark_syntax.specs.Inlines.{spaces_break};
+ghost use Rattle.commonmark_syntax.specs.Inlines.{is_gfm_white_space, spaces_break};
 ghost use Rattle.commonmark_syntax.specs.Language.{IsNotAt, Leaves};
 ghost use Rattle.commonmark_syntax.specs.Cuts.{IsCut};
 ghost use Rattle.markdown_text.specs.declared.output.Next.TheVariants.{LineEnding};
@@ -26,6 +26,7 @@ pub struct Whitespace {
 
 /// Whether a byte is white space (GFM).
 pub fn is_white_space(byte: u8) -> bool
+    ensures exact { result ≡ is_gfm_white_space byte }
     ensures ascii { IsTrue result → byte < 128 }
     ensures other { IsFalse result → byte ≢ 10 }
 {

@@ -1,4 +1,4 @@
-use Rattle.std.proofs.Common.{drop, inl, inr, lit≤, rules, subst, ◌≡◌, ◌≢◌}
+use Rattle.std.proofs.Common.{drop, inl, inr, lit≤, rules, ◌≡◌, ◌≢◌}
 use Rattle.std.specs.Prelude.{slice_index}
 use Rattle.commonmark_syntax.specs.Syntax.{closing_tag, html_tag, open_tag, processing_instruction}
 use Rattle.commonmark_syntax.proofs.HtmlTags.{only_closing, only_instruction, only_open, same_scanned, scanned}

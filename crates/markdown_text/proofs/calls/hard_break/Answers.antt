@@ -1,3 +1,4 @@
+use Rattle.markdown_text.proofs.AttentionEvents.{written_other}
 use Rattle.markdown_text.proofs.Spans.{written_on}
 use Rattle.markdown_text.proofs.Standings.{contrary, reach_at, refusal, break_allowed, break_at}
 use Rattle.markdown_text.proofs.calls.hard_break.Goals as goal
@@ -12,3 +13,6 @@ returns-in-Ok-clause-at g c = λ a outer may at. break_at c.args.writer.now c.to
 
 pub returns-in-Ok-clause-within : goal.returns-in-Ok-clause-within
 returns-in-Ok-clause-within g c = λ constructs within on. written_on constructs c.args.writer.now c.token.new.self c.args.name c.args.writer.now.cursor c.token.new.self.cursor within on c.in-Ok.ensures.events c.in-Ok.ensures.written
+
+pub returns-in-Ok-clause-attention : goal.returns-in-Ok-clause-attention
+returns-in-Ok-clause-attention g c = λ other. written_other c.args.writer.now.events c.token.new.self.events c.args.name c.args.writer.now.cursor c.token.new.self.cursor other c.in-Ok.ensures.events

@@ -1,3 +1,4 @@
+use Rattle.markdown_text.proofs.AttentionEvents.{written_other}
 use Rattle.markdown_text.proofs.Spans.{written_on}
 use Rattle.markdown_text.proofs.Standings.{contrary, refusal, ending_allowed, ending_at}
 use Rattle.markdown_text.proofs.calls.line_ending.Goals as goal
@@ -12,3 +13,6 @@ returns-in-Ok-clause-at g c = λ waits a outer at. ending_at c.args.writer.now c
 
 pub returns-in-Ok-clause-within : goal.returns-in-Ok-clause-within
 returns-in-Ok-clause-within g c = λ constructs within on. written_on constructs c.args.writer.now c.line_ending.new.self c.args.name c.args.writer.now.cursor c.line_ending.new.self.cursor within on c.in-Ok.ensures.events c.in-Ok.ensures.written
+
+pub returns-in-Ok-clause-attention : goal.returns-in-Ok-clause-attention
+returns-in-Ok-clause-attention g c = λ other. written_other c.args.writer.now.events c.line_ending.new.self.events c.args.name c.args.writer.now.cursor c.line_ending.new.self.cursor other c.in-Ok.ensures.events

@@ -1,7 +1,8 @@
-use Rattle.std.proofs.Common.{refl}
+use Rattle.std.proofs.Common.{refl, ◌∙◌}
 use Rattle.event_writer.specs.Stages.{inlines}
 use Rattle.markdown_events.specs.declared.event.Name.TheVariants.{CharacterEscape}
 use Rattle.markdown_pieces.specs.Walks.{inside}
+use Rattle.markdown_text.proofs.Steps.{on_ok}
 use Rattle.markdown_text.proofs.character_escape.write.Goals as goal
 
 pub enter-requires-clause-may : goal.enter-requires-clause-may
@@ -49,3 +50,15 @@ returns-clause-at g c = λ h outer at.
     let put = c.in_ok-token.ensures.stage (inlines h) inner begun in
     let put2 = c.in_ok-token-2.ensures.stage (inlines h) inner put in
     c.exit.ensures.stage (inlines h) (inlines h) CharacterEscape outer put2
+
+pub returns-clause-attention : goal.returns-clause-attention
+returns-clause-attention g c =
+    let h = c.requires.inlines.in_heading in
+    let outer = c.requires.inlines.outer in
+    let inner = inside CharacterEscape (inlines h) outer in
+    let flushed = c.in_ok-flush.ensures.stage h outer c.requires.inlines.at in
+    let begun = c.in_ok-enter.ensures.stage (inlines h) outer flushed in
+    let put = c.in_ok-token.ensures.stage (inlines h) inner begun in
+    let put2 = c.in_ok-token-2.ensures.stage (inlines h) inner put in
+    let before = c.in_ok-token-2.ensures.attention refl ∙ c.in_ok-token.ensures.attention refl ∙ c.in_ok-enter.ensures.others refl ∙ c.in_ok-flush.ensures.attention in
+    on_ok c.exit.result (λ last. last ∙ before) (c.exit.ensures.others (inlines h) (inlines h) CharacterEscape outer put2 refl)

@@ -99,3 +99,16 @@ returns-clause-writes g c =
     let all = writes_then (writes_then (writes_then (writes_then fl en) wm) va) to in
     on_ok c.exit.result (λ (ex : WritesTo c.token.new.self c.exit.new.self c.token.new.self.at).
     writes_as c.args.output.now c.exit.new.self _ _ (omega (arith, filled, va.at, to.at)) (writes_then all ex)) c.exit.ensures.writes
+
+pub returns-clause-attention : goal.returns-clause-attention
+returns-clause-attention g c =
+    let h = c.requires.inlines.in_heading in
+    let outer = c.requires.inlines.outer in
+    let inner = inside CharacterReference (inlines h) outer in
+    let flushed = c.in_ok-flush.ensures.stage h outer c.requires.inlines.at in
+    let begun = c.in_ok-enter.ensures.stage (inlines h) outer flushed in
+    let marked = c.in_ok-write_markers.ensures.at inner begun in
+    let valued = c.in_ok-value_to.ensures.stage (marker c.args.kind) inner marked in
+    let put = c.in_ok-token.ensures.stage nothing inner valued in
+    let before = c.in_ok-token.ensures.attention refl ∙ c.in_ok-value_to.ensures.attention ∙ c.in_ok-write_markers.ensures.attention ∙ c.in_ok-enter.ensures.others refl ∙ c.in_ok-flush.ensures.attention in
+    on_ok c.exit.result (λ last. last ∙ before) (c.exit.ensures.others nothing (inlines h) CharacterReference outer put refl)

@@ -1,5 +1,6 @@
 use Rattle.std.proofs.Common.{arith, refl, subst, sym, ℕ, ◌+◌, ◌-◌, ◌∙◌}
 use Rattle.event_writer.specs.Stages.{inlines}
+use Rattle.markdown_text.proofs.Steps.{on_ok}
 use Rattle.markdown_text.proofs.Waiting.{part_same, trimmed}
 use Rattle.markdown_text.specs.Contents.{IsPart}
 use Rattle.markdown_text.specs.Outputs.{bytes_of}
@@ -61,3 +62,6 @@ write_break-requires-clause-inlines g c =
 pub returns-clause-at : goal.returns-clause-at
 returns-clause-at g c = λ h outer at.
     c.write_break.ensures.at h outer (c.in_ok-fill_to-2.ensures.stage (inlines h) outer refl (c.in_ok-write_text.ensures.at h outer (c.in_ok-fill_to.ensures.stage (inlines h) outer refl at)))
+
+pub returns-clause-attention : goal.returns-clause-attention
+returns-clause-attention g c = on_ok c.write_break.result (λ last. last ∙ c.in_ok-fill_to-2.ensures.attention refl ∙ c.in_ok-write_text.ensures.attention ∙ c.in_ok-fill_to.ensures.attention refl) c.write_break.ensures.attention

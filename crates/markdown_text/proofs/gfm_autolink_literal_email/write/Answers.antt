@@ -16,8 +16,9 @@ loop-preserved g c =
     record {
       given = c.write_address.ensures.given ∙ i.given;
       goes_on = goes_on_then c.args.output.now c.loop.output c.write_address.new.output i.goes_on wrote.goes_on;
-      part = wrote.left c.args.end c.loop.invariant.part (subst (λ (text : List ℕ). IsAddress text c.in-Some.address) c.rest_to.ensures c.in-Some.ensures);
+      part = wrote.left c.args.end c.loop.invariant.part (subst (λ (text : List ℕ). IsAddress text c.in-Some.address) c.rest_to.ensures c.in-Some.ensures.address);
       at = λ h outer at. wrote.at h outer (i.at h outer at);
+      attention = wrote.attention ∙ i.attention;
     }
 
 pub fill_to-requires-clause-may : goal.fill_to-requires-clause-may
@@ -29,4 +30,4 @@ pub returns-clause-at : goal.returns-clause-at
 returns-clause-at g c = λ h outer at. c.fill_to.ensures.stage (inlines h) outer refl (c.loop.invariant.at h outer at)
 
 pub write_address-requires-clause-address : goal.write_address-requires-clause-address
-write_address-requires-clause-address g c = (c.args.end, c.loop.invariant.part, subst (λ (text : List ℕ). IsAddress text c.in-Some.address) c.rest_to.ensures c.in-Some.ensures)
+write_address-requires-clause-address g c = (c.args.end, c.loop.invariant.part, subst (λ (text : List ℕ). IsAddress text c.in-Some.address) c.rest_to.ensures c.in-Some.ensures.address)

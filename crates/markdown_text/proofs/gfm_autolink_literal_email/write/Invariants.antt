@@ -1,5 +1,6 @@
 use Rattle.std.proofs.Common.{Bool, List, ◌≡◌}
 use Rattle.event_writer.specs.Stages.{Enclosing, inlines}
+use Rattle.markdown_text.specs.AttentionEvents.{attention_of}
 use Rattle.markdown_text.specs.Contents.{IsPart}
 use Rattle.markdown_text.specs.Outputs.{GoesOn, bytes_of}
 use Rattle.markdown_text.specs.Standings.{IsAt}
@@ -12,4 +13,5 @@ invariant-loop g l = record {
   goes_on : GoesOn l.fn.output l.output;
   part : IsPart (bytes_of l.output) l.output.at l.end;
   at : (h : Bool) → (outer : List Enclosing) → IsAt l.fn.output.writer (inlines h) outer → IsAt l.output.writer (inlines h) outer;
+  attention : attention_of l.output ≡ attention_of l.fn.output;
 }

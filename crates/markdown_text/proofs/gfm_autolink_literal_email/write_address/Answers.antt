@@ -1,5 +1,6 @@
 use Rattle.std.proofs.Common.{ap, is_some, refl, ◌+◌, ◌∙◌}
 use Rattle.event_writer.specs.Stages.{inlines}
+use Rattle.markdown_text.proofs.AttentionEvents.{address_other}
 use Rattle.markdown_text.proofs.Steps.{at_some}
 use Rattle.markdown_text.proofs.Waiting.{address_plain, around, part_same}
 use Rattle.markdown_text.specs.Outputs.{after_plain, bytes_of}
@@ -37,3 +38,6 @@ returns-clause-left g c = λ end part address.
 pub returns-clause-at : goal.returns-clause-at
 returns-clause-at g c = λ h outer at.
     at_some (λ b. IsAt c.token_to.new.self.writer b outer) (after_plain (inlines h) c.args.address.now.name) (inlines h) (address_plain c.args.address.now.name h c.requires.address.2.named) (c.in_ok-token_to.ensures.stage (inlines h) outer (c.in_ok-fill_to.ensures.stage (inlines h) outer refl at))
+
+pub returns-clause-attention : goal.returns-clause-attention
+returns-clause-attention g c = c.in_ok-token_to.ensures.attention (address_other c.args.address.now.name c.requires.address.2.named) ∙ c.in_ok-fill_to.ensures.attention refl

@@ -1,6 +1,7 @@
 use Rattle.std.proofs.Common.{false, sym, ◌∙◌}
 use Rattle.event_writer.specs.Stages.{inlines, task}
 use Rattle.markdown_events.specs.Names.{role_of}
+use Rattle.markdown_text.proofs.AttentionEvents.{value_other}
 use Rattle.markdown_text.proofs.Constructs.{byte_part, first_of_rest, value_line, value_stage}
 use Rattle.markdown_text.proofs.Steps.{at_some, on_ok}
 use Rattle.markdown_text.specs.Outputs.{after_plain, bytes_of}
@@ -19,3 +20,9 @@ returns-then-rest-eq10-clause-at g c = λ outer at.
 pub returns-clause-at : goal.returns-clause-at
 returns-clause-at g c = λ outer at.
     on_ok c.token.result (at_some (λ b. IsAt c.token.new.self.writer b outer) (after_plain task c.args.value) (inlines false) (value_stage c.args.value c.requires.value)) (c.token.ensures.stage task outer at)
+
+pub returns-then-rest-eq10-clause-attention : goal.returns-then-rest-eq10-clause-attention
+returns-then-rest-eq10-clause-attention g c = c.line_ending_as.ensures.attention (value_other c.args.value c.requires.value)
+
+pub returns-clause-attention : goal.returns-clause-attention
+returns-clause-attention g c = c.token.ensures.attention (value_other c.args.value c.requires.value)

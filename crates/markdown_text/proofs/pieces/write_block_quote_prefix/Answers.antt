@@ -46,3 +46,10 @@ returns-clause-at g c = λ a outer at.
 pub returns-clause-within : goal.returns-clause-within
 returns-clause-within g c = λ constructs h.
     c.in_ok-exit.ensures.within constructs (c.in_ok-write_space.ensures.within constructs (c.in_ok-token.ensures.within constructs (c.in_ok-enter.ensures.within constructs h refl) refl))
+
+pub returns-clause-attention : goal.returns-clause-attention
+returns-clause-attention g c =
+    let at = c.requires.at in
+    let around = inside BlockQuotePrefix at.stage at.outer in
+    let ended = c.in_ok-write_space.ensures.at at.stage around (c.in_ok-token.ensures.at at.stage around (c.in_ok-enter.ensures.at at.stage at.outer at.at)) in
+    c.in_ok-exit.ensures.others at.stage at.stage BlockQuotePrefix at.outer ended refl ∙ c.in_ok-write_space.ensures.attention ∙ c.in_ok-token.ensures.attention refl ∙ c.in_ok-enter.ensures.others refl

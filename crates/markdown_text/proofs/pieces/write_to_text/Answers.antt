@@ -3,6 +3,7 @@ use Rattle.markdown_pieces.specs.Tilings.{Spot, Tiles, end_from}
 use Rattle.markdown_pieces.specs.declared.piece.Piece.{Piece}
 use Rattle.markdown_pieces.specs.declared.piece.PieceKind.TheVariants.{Text}
 use Rattle.markdown_pieces.specs.Walks.{at as state}
+use Rattle.markdown_text.proofs.AttentionEvents.{between_texts}
 use Rattle.markdown_text.proofs.Contents.{between_left, between_on, between_step, text_left}
 use Rattle.markdown_text.specs.Contents.{IsContent, joined, spot}
 use Rattle.markdown_text.proofs.pieces.write_to_text.Goals as goal
@@ -43,6 +44,7 @@ pieces-preserved g c =
       at = λ a outer at. c.in_ok-write_piece.ensures.at (state a outer) (state a outer) (between_step p ps (state a outer) (subst IsContent is i.content) other) (i.at a outer at);
       bytes = ap (λ (s : Spot). joined document s.offset ps) at ∙ sym later.1 ∙ ap (λ (qs : List Piece). joined document c.pieces.writer.cursor.index qs) (sym is) ∙ i.bytes;
       within = λ constructs h. c.in_ok-write_piece.ensures.within constructs (between_on constructs p ps (subst IsContent is i.content)) (i.within constructs h);
+      attention = c.in_ok-write_piece.ensures.attention (between_texts p ps (subst IsContent is i.content) other) ∙ i.attention;
     }
 
 pub write_piece-requires-clause-kind : goal.write_piece-requires-clause-kind

@@ -2,6 +2,7 @@ use Rattle.std.proofs.Common.{List, length, ◌≡◌}
 use Rattle.event_writer.specs.Stages.{Enclosing, Stage}
 use Rattle.markdown_options.specs.declared.Constructs.{Constructs}
 use Rattle.markdown_pieces.specs.Tilings.{Tiles, end_from}
+use Rattle.markdown_text.specs.AttentionEvents.{attention_events}
 use Rattle.markdown_text.specs.Contents.{IsContent, joined, spot}
 use Rattle.markdown_text.specs.Spans.{IsWithin}
 use Rattle.markdown_text.specs.Standings.{IsAt}
@@ -16,6 +17,7 @@ invariant-pieces g l = record {
   at : (a : Stage) → (outer : List Enclosing) → IsAt l.initial.writer a outer → IsAt l.writer a outer;
   bytes : joined l.initial.writer.given.bytes l.writer.cursor.index l.rest ≡ joined l.initial.writer.given.bytes l.initial.writer.cursor.index l.pieces;
   within : (c : Constructs) → IsWithin c l.initial.writer → IsWithin c l.writer;
+  attention : attention_events l.writer.events ≡ attention_events l.initial.writer.events;
 }
 
 abbrev pub decreases-pieces : goal.decreases-pieces

@@ -1,4 +1,4 @@
-use Rattle.std.proofs.Common.{Option, arith, drop, sym, ℕ, ◌+◌, ◌-◌, ◌<◌, ◌≡◌, ◌≢◌, ◌≤◌, ◌∙◌}
+use Rattle.std.proofs.Common.{Option, arith, drop, sym, ℕ, ◌+◌, ◌-◌, ◌<◌, ◌≢◌, ◌≤◌, ◌∙◌}
 use Rattle.std.specs.Prelude.{IfSome, MatchOption}
 use Rattle.std.proofs.lemmas.Result.{IfOk-weaker}
 use Rattle.commonmark_syntax.specs.Strings.{FirstStringEnds, HasNoString}

@@ -1,6 +1,7 @@
-use Rattle.std.proofs.Common.{false}
+use Rattle.std.proofs.Common.{false, ◌∙◌}
 use Rattle.event_writer.specs.Stages.{inlines}
 use Rattle.markdown_pieces.specs.Walks.{inside}
+use Rattle.markdown_text.proofs.AttentionEvents.{as_named, raw_other}
 use Rattle.markdown_text.proofs.Opened.{has_exited, may_exit, named_entered, named_may_enter}
 use Rattle.markdown_text.proofs.RawTexts.{raw_enters, raw_exits, raw_front}
 use Rattle.markdown_text.proofs.Steps.{on_ok}
@@ -41,3 +42,15 @@ returns-clause-at g c = λ h outer at.
     let begun = named_entered c.enter.new.self.writer c.name.result (raw_text_name r) (inlines h) (inlines false) outer c.name.ensures (raw_enters r h) (c.in_ok-enter.ensures.stage (inlines h) outer flushed) in
     let ended = c.in_ok-write_enclosed.ensures.at (inside (raw_text_name r) (inlines h) outer) begun in
     on_ok c.exit.result (has_exited c.exit.new.self.writer (inlines false) (inlines h) (inlines h) (raw_text_name r) outer (raw_exits r h)) (c.exit.ensures.stage (inlines false) (inlines h) (raw_text_name r) outer ended)
+
+pub returns-clause-attention : goal.returns-clause-attention
+returns-clause-attention g c =
+    let r = c.args.kind in
+    let h = c.requires.inlines.in_heading in
+    let outer = c.requires.inlines.outer in
+    let other = raw_other r in
+    let flushed = c.in_ok-flush.ensures.stage h outer c.requires.inlines.at in
+    let begun = named_entered c.enter.new.self.writer c.name.result (raw_text_name r) (inlines h) (inlines false) outer c.name.ensures (raw_enters r h) (c.in_ok-enter.ensures.stage (inlines h) outer flushed) in
+    let ended = c.in_ok-write_enclosed.ensures.at (inside (raw_text_name r) (inlines h) outer) begun in
+    let before = c.in_ok-write_enclosed.ensures.attention ∙ c.in_ok-enter.ensures.others (as_named c.name.result (raw_text_name r) false c.name.ensures other) ∙ c.in_ok-flush.ensures.attention in
+    on_ok c.exit.result (λ last. last ∙ before) (c.exit.ensures.others (inlines false) (inlines h) (raw_text_name r) outer ended other)

@@ -1,5 +1,7 @@
-use Rattle.std.proofs.Common.{Bool, List, length, vec_len, ◌≡◌}
+use Rattle.std.proofs.Common.{[], Bool, List, length, vec_len, ◌≡◌}
 use Rattle.event_writer.specs.Stages.{Enclosing}
+use Rattle.markdown_text.specs.AttentionEvents.{attention_of}
+use Rattle.markdown_text.specs.AttentionRuns.{HasNoClosing}
 use Rattle.markdown_text.specs.Opens.{HasOpen}
 use Rattle.markdown_text.specs.Outputs.{GoesOn, IsAtText, bytes_of}
 use Rattle.markdown_text.proofs.text.inlines.Given as goal
@@ -10,6 +12,7 @@ invariant-open g l = record {
   given : l.output.writer.given ≡ l.initial.output.writer.given;
   goes_on : GoesOn l.initial.output l.output;
   ended : l.output.data ≡ length (bytes_of l.output);
+  spans : HasNoClosing l.source.bytes.now → (l.open.items ≡ []) × (attention_of l.output ≡ attention_of l.initial.output);
   stage : (h : Bool) → (outer : List Enclosing) → IsAtText l.is_task l.fn.writer h outer → HasOpen l.output l.open.items h outer;
 }
 

@@ -1,7 +1,12 @@
-use Rattle.std.proofs.Common.{false}
+use Rattle.std.proofs.Common.{List, [], ap, false, true, ◌++◌, ◌∷◌, ◌∙◌}
 use Rattle.event_writer.specs.Stages.{inlines}
+use Rattle.markdown_events.specs.Forest.{enter}
+use Rattle.markdown_events.specs.declared.event.Event.{Event}
+use Rattle.markdown_events.specs.declared.event.Name.{Name}
 use Rattle.markdown_pieces.specs.Walks.{inside}
+use Rattle.markdown_text.proofs.AttentionEvents.{as_named, at_spot, group_is, sequence_other, text_other}
 use Rattle.markdown_text.proofs.Opened.{group_enters, group_front, named_entered, named_may_enter, named_may_put, named_put, opens_innermost, sequence_stands, text_enters, text_front}
+use Rattle.markdown_text.specs.AttentionEvents.{attention_of}
 use Rattle.markdown_text.specs.Opens.{flag_of, group_name, outer_of, sequence_name, text_name}
 use Rattle.markdown_text.specs.declared.text.Open.TheVariants.{Attention}
 use Rattle.markdown_text.proofs.text.open_attention.Goals as goal
@@ -52,3 +57,18 @@ returns-clause-at g c = λ in_heading around at.
     let put = named_put c.token.new.self.writer c.sequence_name.result (sequence_name k) (inlines false) (inlines false) inner c.sequence_name.ensures (sequence_stands k) (c.in_ok-token.ensures.stage (inlines false) inner begun) in
     let text = named_entered c.enter-2.new.self.writer c.text_name.result (text_name k) (inlines false) (inlines false) inner c.text_name.ensures (text_enters k) (c.in_ok-enter-2.ensures.stage (inlines false) inner put) in
     opens_innermost c.enter-2.new.self c.push.new.self.items os (Attention k) in_heading around c.in_ok-push.ensures.items text
+
+pub returns-clause-attention : goal.returns-clause-attention
+returns-clause-attention g c =
+    let k = c.args.kind in
+    let old = c.args.output.now in
+    let name = c.group_name.result in
+    let point = c.flush.new.self.writer.cursor in
+    let group = c.in_ok-enter.ensures.attention (as_named name (group_name k) true c.group_name.ensures (group_is k)) in
+    let sequence = c.in_ok-token.ensures.attention (as_named c.sequence_name.result (sequence_name k) false c.sequence_name.ensures (sequence_other k)) in
+    let text = c.in_ok-enter-2.ensures.others (as_named c.text_name.result (text_name k) false c.text_name.ensures (text_other k)) in
+    record {
+      point = point;
+      place = at_spot old c.flush.new.self old.«data» c.in_ok-flush.ensures.writes;
+      events = text ∙ sequence ∙ group ∙ ap (λ (es : List Event). es ++ enter name point ∷ []) c.in_ok-flush.ensures.attention ∙ ap (λ (n : Name). attention_of old ++ enter n point ∷ []) c.group_name.ensures;
+    }

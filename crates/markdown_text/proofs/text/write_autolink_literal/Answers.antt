@@ -1,5 +1,6 @@
-use Rattle.std.proofs.Common.{ap, is_some}
+use Rattle.std.proofs.Common.{ap, is_some, ◌∙◌}
 use Rattle.event_writer.specs.Stages.{inlines}
+use Rattle.markdown_text.proofs.AttentionEvents.{literal_other}
 use Rattle.markdown_text.proofs.Opened.{literal_stands}
 use Rattle.markdown_text.proofs.Steps.{at_some, on_ok}
 use Rattle.markdown_text.specs.Outputs.{after_plain}
@@ -16,3 +17,6 @@ pub returns-clause-at : goal.returns-clause-at
 returns-clause-at g c = λ h outer at.
     on_ok c.token_to.result (at_some (λ b. IsAt c.token_to.new.self.writer b outer) (after_plain (inlines h) c.args.name) (inlines h) (literal_stands c.args.name h c.requires.name))
     (c.token_to.ensures.stage (inlines h) outer (c.in_ok-flush.ensures.stage h outer at))
+
+pub returns-clause-attention : goal.returns-clause-attention
+returns-clause-attention g c = on_ok c.token_to.result (λ last. last ∙ c.in_ok-flush.ensures.attention) (c.token_to.ensures.attention (literal_other c.args.name c.requires.name))

@@ -1,5 +1,6 @@
-use Rattle.std.proofs.Common.{Bool, List, ◌-◌, ◌≡◌}
+use Rattle.std.proofs.Common.{Bool, List, ◌-◌, ◌≡◌, ◌≤◌}
 use Rattle.event_writer.specs.Stages.{Enclosing}
+use Rattle.markdown_text.specs.AttentionWalk.{FitFrom, HasWalked, IsWalkOf, Walk}
 use Rattle.markdown_text.specs.Contents.{IsAsciiPart}
 use Rattle.markdown_text.specs.Opens.{HasOpen}
 use Rattle.markdown_text.specs.Outputs.{GoesOn, bytes_of}
@@ -12,6 +13,8 @@ invariant-markers g l = record {
   goes_on : GoesOn l.fn.output l.output;
   at : l.output.data ≡ l.at;
   ascii : IsAsciiPart (bytes_of l.output) l.at l.token.end;
+  least : l.token.start ≤ l.at;
+  walks : (walk : Walk) → IsWalkOf walk l.delimiters → FitFrom walk.delimiters l.token.start l.token.end → HasWalked walk l.fn.output l.fn.open.items l.fn.output.«data» → HasWalked walk l.output l.open.items l.at;
   stage : (h : Bool) → (outer : List Enclosing) → HasOpen l.fn.output l.fn.open.items h outer → HasOpen l.output l.open.items h outer;
 }
 

@@ -1,6 +1,7 @@
 use Rattle.std.proofs.Common.{subst, sym, true, ◌∙◌, ◌≡◌}
 use Rattle.markdown_text.proofs.Outputs.{goes_on_then}
 use Rattle.markdown_text.proofs.Switches.{first_on, later_on}
+use Rattle.markdown_text.specs.AttentionWalk.{WalksOn}
 use Rattle.markdown_text.specs.Constructs.{AreTokensOn, is_kind_on}
 use Rattle.markdown_text.specs.Outputs.{constructs_of}
 use Rattle.markdown_text.proofs.text.write_tokens.Goals as goal
@@ -24,5 +25,6 @@ tokens-preserved g c =
       goes_on = goes_on_then c.args.output.now c.tokens.output c.write_next.new.output i.goes_on wrote.goes_on;
       tokens = wrote.left;
       stage = λ h outer at. wrote.at h outer (i.stage h outer at);
+      walks = λ walk is w. wrote.walks walk is (subst (WalksOn walk c.tokens.output c.tokens.«open».items) c.in-Some.ensures.cases.0 (i.walks walk is w));
       on = subst (λ cs. AreTokensOn cs c.in_ok-rest.rest.now) i.goes_on.constructs wrote.on;
     }

@@ -3,6 +3,7 @@ use Rattle.std.proofs.Math.Seq.{get_or-drop}
 use Rattle.std.specs.Prelude.{slice_index}
 use Rattle.std.specs.Str.{IsAscii}
 use Rattle.commonmark_syntax.specs.Cuts.{IsCut}
+use Rattle.markdown_flow.proofs.Cuts.{last_spaces}
 use Rattle.markdown_flow.proofs.Rows.{IsEnd, is_first}
 use Rattle.markdown_flow.specs.Lines.{after_spaces}
 use Rattle.markdown_flow.proofs.gfm_table_row.Cell.first.Goals as goal
@@ -21,4 +22,4 @@ returns-clause-first c =
     let next = subst (λ (xs : List ℕ). (c.next_cell.result.now ≡ xs) ⊎ ((c.next_cell.result.now ≡ []) × IsAscii (drop 1 xs))) c.after-2.ensures.rest c.next_cell.ensures.next in
     is_first row size t _ c.cell_size-size.ensures.most order end c.divider_size-divider_size.ensures.ascii
     (subst (λ (xs : List ℕ). t ≤ length xs) whole c.trimmed_size.ensures.within) (ap (take t) whole) (subst (λ (xs : List ℕ). IsCut xs t) whole c.trimmed_size.ensures.cut)
-    (ap (λ (xs : List ℕ). after_spaces (drop t xs)) (sym whole) ∙ c.trimmed_size.ensures.blank) next
+    (ap (λ (xs : List ℕ). after_spaces (drop t xs)) (sym whole) ∙ last_spaces c.after_spaces-text.result.now t c.trimmed_size.ensures.blank) next

@@ -1,5 +1,6 @@
 use Rattle.std.proofs.Common.{arith, ap, List, drop, length, slice_index, subst, ◌∙◌, ◌+◌, ◌<◌, ◌≡◌, ℕ}
 use Rattle.std.proofs.lemmas.List.{get_or-drop}
+use Rattle.commonmark_syntax.specs.Cuts.{IsRunOf}
 use Rattle.commonmark_syntax.specs.Inlines.{delimiter_run}
 use Rattle.commonmark_syntax.specs.Language.{Leaves}
 use Rattle.markdown_text.proofs.Parts.{run_from}
@@ -15,6 +16,15 @@ returns-clause-exact c =
     let first : slice_index rest 0 ≡ slice_index cursor.content.now cursor.at = ap (λ (x : List ℕ). slice_index x 0) is ∙ get_or-drop cursor.at cursor.content.now 0 0 ∙ ap (slice_index cursor.content.now) place in
     subst (λ (x : List ℕ). Leaves (delimiter_run (slice_index cursor.content.now cursor.at)) x (drop c.size.result x)) is
     (subst (λ (b : ℕ). Leaves (delimiter_run b) rest (drop c.size.result rest)) first (c.size.ensures.exact filled))
+
+pub returns-clause-run : goal.returns-clause-run
+returns-clause-run c =
+    let cursor = c.args.self.now in
+    let rest = c.rest.result.now in
+    let is = c.rest.ensures.rest in
+    let place : cursor.at + 0 ≡ cursor.at = omega arith in
+    let first : slice_index rest 0 ≡ slice_index cursor.content.now cursor.at = ap (λ (x : List ℕ). slice_index x 0) is ∙ get_or-drop cursor.at cursor.content.now 0 0 ∙ ap (slice_index cursor.content.now) place in
+    subst (λ (x : List ℕ). IsRunOf x (slice_index cursor.content.now cursor.at) c.size.result) is (subst (λ (b : ℕ). IsRunOf rest b c.size.result) first c.size.ensures.run)
 
 pub returns-clause-part : goal.returns-clause-part
 returns-clause-part c ascii other =

@@ -1,7 +1,9 @@
-use Rattle.std.proofs.Common.{refl, true}
+use Rattle.std.proofs.Common.{ap, refl, true, ◌∙◌}
 use Rattle.event_writer.specs.Stages.{inlines}
+use Rattle.event_writer.specs.Written.{Written}
 use Rattle.markdown_text.proofs.Outputs.{moved_at, moved_cut, moved_reach, moved_within, moved_writes}
 use Rattle.markdown_text.specs.Outputs.{constructs_of}
+use Rattle.markdown_text.specs.AttentionEvents.{attention_events}
 use Rattle.markdown_text.proofs.output.Output.hard_break_to.Goals as goal
 
 pub hard_break-requires-clause-reach : goal.hard_break-requires-clause-reach
@@ -18,3 +20,6 @@ returns-clause-writes g c =
 
 pub returns-clause-stage : goal.returns-clause-stage
 returns-clause-stage g c = λ h outer at. (true, c.in_ok-hard_break.ensures.at (inlines h) outer refl (moved_at c.args.self.now c.move_to-to.new.self (inlines h) outer c.move_to-to.ensures.writer at))
+
+pub returns-clause-attention : goal.returns-clause-attention
+returns-clause-attention g c = λ other. c.in_ok-hard_break.ensures.attention other ∙ ap (λ (w : Written _). attention_events w.events) c.move_to-to.ensures.writer

@@ -17,4 +17,5 @@ lines-preserved g c =
       none_waits = wrote.none_waits;
       range = wrote.range;
       stage = λ a outer keeps ends at. wrote.stage a outer keeps ends (i.stage a outer keeps ends at);
+      attention = λ other. wrote.attention other ∙ i.attention other;
     }

@@ -1,5 +1,6 @@
-use Rattle.std.proofs.Common.{List, Some, true, ◌≡◌, ◌-◌}
+use Rattle.std.proofs.Common.{List, Some, false, true, ◌≡◌, ◌-◌}
 use Rattle.event_writer.specs.Stages.{Enclosing, Stage, takes_line_endings}
+use Rattle.markdown_text.specs.AttentionEvents.{attention_of, is_attention}
 use Rattle.markdown_text.specs.Contents.{IsRange}
 use Rattle.markdown_text.specs.Outputs.{GoesOn, after_plain, bytes_of}
 use Rattle.markdown_text.specs.Standings.{IsAt}
@@ -13,6 +14,7 @@ invariant-lines g l = record {
   none_waits : l.self.data ≡ l.self.at;
   range : IsRange (bytes_of l.self) l.self.at l.end;
   stage : (a : Stage) → (outer : List Enclosing) → after_plain a l.name ≡ Some a → takes_line_endings a ≡ true → IsAt l.fn.self.writer a outer → IsAt l.self.writer a outer;
+  attention : is_attention l.name ≡ false → attention_of l.self ≡ attention_of l.fn.self;
 }
 
 abbrev pub decreases-lines : goal.decreases-lines

@@ -1,4 +1,4 @@
-use Rattle.std.proofs.Common.{ap, false, is_some}
+use Rattle.std.proofs.Common.{ap, false, is_some, ◌∙◌}
 use Rattle.event_writer.specs.Stages.{entered, exited, inlines}
 use Rattle.markdown_events.specs.Names.{role_of}
 use Rattle.markdown_pieces.specs.Walks.{inside}
@@ -54,3 +54,22 @@ returns-clause-stage g c = λ a outer at.
 
 pub returns-then-self-end-clause-stage : goal.returns-then-self-end-clause-stage
 returns-then-self-end-clause-stage g c = λ a outer at. if_some (λ b. IsAt c.args.self.now.writer b outer) (after_string a c.args.name) (λ b is. weakened c.args.self.now.writer a b outer (string_stands a c.args.name b is).skip at)
+
+pub returns-clause-writes : goal.returns-clause-writes
+returns-clause-writes g c =
+    let begun = c.in_ok-enter.ensures.writes.goes_on in
+    let wrote = c.in_ok-write.ensures.goes_on in
+    let flushed = c.in_ok-flush.ensures.writes in
+    let ended = c.in_ok-exit.ensures.writes in
+    record {
+      goes_on = record {
+        stands = ended.goes_on.stands;
+        document = ended.goes_on.document ∙ flushed.goes_on.document ∙ wrote.document ∙ begun.document;
+        references = ended.goes_on.references ∙ flushed.goes_on.references ∙ wrote.references ∙ begun.references;
+        constructs = ended.goes_on.constructs ∙ flushed.goes_on.constructs ∙ wrote.constructs ∙ begun.constructs;
+        bytes = ended.goes_on.bytes ∙ flushed.goes_on.bytes ∙ wrote.bytes ∙ begun.bytes;
+        end = ended.goes_on.end ∙ flushed.goes_on.end ∙ wrote.end ∙ begun.end;
+      };
+      at = ended.at ∙ flushed.at ∙ c.in_ok-write.ensures.data_end;
+      data_end = ended.data_end ∙ flushed.at ∙ c.in_ok-write.ensures.data_end;
+    }

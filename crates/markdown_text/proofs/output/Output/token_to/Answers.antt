@@ -1,7 +1,9 @@
-use Rattle.std.proofs.Common.{refl}
+use Rattle.std.proofs.Common.{ap, refl, ◌∙◌}
+use Rattle.event_writer.specs.Written.{Written}
 use Rattle.markdown_text.proofs.Outputs.{moved_at, moved_cut, moved_reach, moved_within, moved_writes, plain_after}
 use Rattle.markdown_text.specs.Standings.{IsAt}
 use Rattle.markdown_text.specs.Outputs.{constructs_of}
+use Rattle.markdown_text.specs.AttentionEvents.{attention_events}
 use Rattle.markdown_text.proofs.output.Output.token_to.Goals as goal
 
 pub token-requires-clause-reach : goal.token-requires-clause-reach
@@ -18,3 +20,6 @@ returns-clause-writes g c =
 
 pub returns-clause-stage : goal.returns-clause-stage
 returns-clause-stage g c = λ a outer at. plain_after (λ b. IsAt c.token.new.writer b outer) a c.args.name (c.in_ok-token.ensures.at a outer (moved_at c.args.self.now c.move_to-to.new.self a outer c.move_to-to.ensures.writer at))
+
+pub returns-clause-attention : goal.returns-clause-attention
+returns-clause-attention g c = λ other. c.in_ok-token.ensures.attention other ∙ ap (λ (w : Written _). attention_events w.events) c.move_to-to.ensures.writer

@@ -1,7 +1,9 @@
-use Rattle.std.proofs.Common.{refl}
+use Rattle.std.proofs.Common.{ap, refl, ◌∙◌}
 use Rattle.event_writer.specs.Stages.{character_reference_value}
+use Rattle.event_writer.specs.Written.{Written}
 use Rattle.markdown_text.proofs.Outputs.{known_value, moved_at, moved_cut, moved_reach, moved_within, moved_writes}
 use Rattle.markdown_text.specs.Outputs.{constructs_of}
+use Rattle.markdown_text.specs.AttentionEvents.{attention_events}
 use Rattle.markdown_text.proofs.output.Output.value_to.Goals as goal
 
 pub token-requires-clause-reach : goal.token-requires-clause-reach
@@ -27,3 +29,6 @@ token-requires-clause-may g c = record {
 
 pub returns-clause-stage : goal.returns-clause-stage
 returns-clause-stage g c = λ m outer at. c.in_ok-token.ensures.at (character_reference_value m) outer (moved_at c.args.self.now c.move_to-to.new.self (character_reference_value m) outer c.move_to-to.ensures.writer at)
+
+pub returns-clause-attention : goal.returns-clause-attention
+returns-clause-attention g c = c.in_ok-token.ensures.attention refl ∙ ap (λ (w : Written _). attention_events w.events) c.move_to-to.ensures.writer

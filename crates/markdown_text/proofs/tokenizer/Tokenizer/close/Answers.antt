@@ -17,6 +17,7 @@ invariant_of-self-2 g c =
       backticks_known = self.backticks_known;
       dollars_known = self.dollars_known;
       missing_known = self.missing_known;
+      refused_known = self.refused_known;
     }
 
 pub invariant_of-self-in-Break-1 : goal.invariant_of-self-in-Break-1
@@ -30,4 +31,5 @@ invariant_of-self-in-Break-1 g c =
       backticks_known = self.backticks_known;
       dollars_known = self.dollars_known;
       missing_known = self.missing_known;
+      refused_known = self.refused_known;
     }

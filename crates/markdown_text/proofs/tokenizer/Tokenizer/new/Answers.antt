@@ -1,5 +1,6 @@
 use Rattle.std.proofs.Common.{[], refl, true, ◌≡◌}
 use Rattle.std.proofs.lemmas.List.Elements.{All-nil, All-same}
+use Rattle.markdown_text.proofs.AttentionRuns.{none_waits}
 use Rattle.markdown_text.specs.Constructs.{is_form_on, is_kind_on}
 use Rattle.markdown_text.specs.declared.brackets.Bracket.{Bracket}
 use Rattle.markdown_text.specs.declared.token.Token.{Token}
@@ -13,8 +14,12 @@ invariant_of-result g c =
     record {
       tokens_on = All-same is_token_on c.new.result.items [] c.new.ensures.items (All-nil is_token_on);
       brackets_on = All-same is_bracket_on c.new-3.result.stack.items [] c.new-3.ensures (All-nil is_bracket_on);
-      attention_on = c.new-2.ensures cs;
+      attention_on = c.new-2.ensures.on cs;
       backticks_known = tt;
       dollars_known = tt;
       missing_known = c.new-4.ensures c.args.source.now.bytes.now refl;
+      refused_known = c.new-5.ensures c.args.source.now.bytes.now;
     }
+
+pub returns-clause-wait : goal.returns-clause-wait
+returns-clause-wait g c = none_waits c.args.source.now.reading.now.options c.args.source.now.bytes.now c.new-2.result c.new-2.ensures.runs c.new-2.ensures.delimiters
