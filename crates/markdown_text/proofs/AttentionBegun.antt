@@ -1,5 +1,6 @@
 -- Where the second pass begins and ends: the pairs of a content without closing brackets, and their spans.
-use Rattle.std.proofs.Common.{List, [], ap, arith, length, refl, replicate, subst, sym, ℕ, ◌++◌, ◌∙◌, ◌∷◌, ◌≡◌, ◌≤◌}
+use Rattle.std.proofs.Common.{List, [], arith, length, refl, replicate, subst, sym, ℕ, ◌++◌, ◌∙◌, ◌≡◌, ◌≤◌}
+use Rattle.std.proofs.lemmas.List.{append-nil}
 use Rattle.std.proofs.lemmas.Grind.{common_steps}
 use Rattle.markdown_attention.specs.Emphasis.{Pair}
 use Rattle.markdown_attention.specs.Runs.{marked}
@@ -54,7 +55,7 @@ begins_walk {R} options document text stop tokens delimiters before p found outp
       are_open = refl;
       balanced = balanced (length text.bytes) p.runs p.pairs order.follow order.within p.resolves;
       events = [];
-      written = none ∙ sym (no_more before);
+      written = none ∙ sym (append-nil before);
       are_events = tt;
     } in
     record {
@@ -62,10 +63,6 @@ begins_walk {R} options document text stop tokens delimiters before p found outp
       no_labels = p.no_labels;
       stand = subst (λ n. StandInTokens walk.delimiters n tokens) (sym start) (stand text tokens p.runs walk.delimiters found p.are (lies_in_run (length text.bytes) p.runs p.pairs order.follow order.within p.resolves));
     }
-  where
-    no_more : (es : List Event) → es ++ [] ≡ es
-    no_more [] = refl
-    no_more (e ∷ es) = ap (λ fs. e ∷ fs) (no_more es)
 
 -- At the end nothing is open, and the spans are written.
 pub ends_walk : {R : Type 0} (options : ParseOptions) (document : List ℕ) (text : Text) (stop : Spot) (tokens : List Token) (delimiters : List Delimiter) (before : List Event) (p : ArePairsOf options text.bytes tokens delimiters) → AreTokens text 0 tokens

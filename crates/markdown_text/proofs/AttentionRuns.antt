@@ -6,10 +6,11 @@ use Rattle.commonmark_syntax.specs.Cuts.{IsRunOf as IsRunOfBytes}
 use Rattle.commonmark_syntax.specs.Inlines.{delimiter_run}
 use Rattle.commonmark_syntax.specs.Language.{Leaves}
 use Rattle.markdown_options.specs.declared.ParseOptions.{ParseOptions}
-use Rattle.std.proofs.lemmas.List.{drop-drop, get_or-drop}
+use Rattle.std.proofs.lemmas.List.{append-nil, drop-drop, get_or-drop}
 use Rattle.std.proofs.lemmas.Option.{same_Some}
 use Rattle.markdown_attention.specs.Flanking.{Flanked}
-use Rattle.markdown_attention.specs.Emphasis.{DelimiterRun, Pair, Resolves, done, pair}
+use Rattle.markdown_attention.proofs.Sequences.{none_of_none}
+use Rattle.markdown_attention.specs.Emphasis.{DelimiterRun, Pair, Resolves}
 use Rattle.markdown_attention.specs.Runs.{AreResolved, IsWhole, marked, view, views}
 use Rattle.markdown_attention.specs.declared.delimiter.Delimiter.{Delimiter}
 use Rattle.markdown_attention.specs.declared.delimiter.Delimiter.TheVariants.{Data}
@@ -61,12 +62,8 @@ with_last (u ∷ ts) t = by (is_delimiters u.kind) (with_last ts t)
     by true later = ap (λ us. u ∷ us) later
     by false later = later
 
-no_more : (ts : List Token) → ts ++ [] ≡ ts
-no_more [] = refl
-no_more (t ∷ ts) = ap (λ us. t ∷ us) (no_more ts)
-
 with_plain : (ts : List Token) (t : Token) → is_delimiters t.kind ≡ false → delimiter_tokens (ts ++ t ∷ []) ≡ delimiter_tokens ts
-with_plain ts t is = with_last ts t ∙ ap (λ (b : Bool). delimiter_tokens ts ++ (if b then t ∷ [] else [])) is ∙ no_more (delimiter_tokens ts)
+with_plain ts t is = with_last ts t ∙ ap (λ (b : Bool). delimiter_tokens ts ++ (if b then t ∷ [] else [])) is ∙ append-nil (delimiter_tokens ts)
 
 with_run : (ts : List Token) (t : Token) → is_delimiters t.kind ≡ true → delimiter_tokens (ts ++ t ∷ []) ≡ delimiter_tokens ts ++ t ∷ []
 with_run ts t is = with_last ts t ∙ ap (λ (b : Bool). delimiter_tokens ts ++ (if b then t ∷ [] else [])) is
@@ -189,15 +186,6 @@ wait_text options content ts at found old wait none all count = wait_kept option
 
 -- ---- The pairs
 
--- Without runs, no pair is made.
-none_of_none : (runs : List DelimiterRun) (pairs : List Pair) → runs ≡ [] → Resolves runs pairs → pairs ≡ []
-none_of_none runs pairs none (done _ _) = refl
-none_of_none runs all none (pair before between rest opener closer pairs unpaired fit nearest later) = absurd (some before none)
-  where
-    some : (before : List DelimiterRun) → before ++ (opener ∷ (between ++ (closer ∷ rest))) ≡ [] → ⊥
-    some [] e = cc e
-    some (r ∷ before) e = cc e
-
 all_data : (size at : ℕ) → get_or (replicate size Data) at Data ≡ Data
 all_data zero at = refl
 all_data (suc size) zero = refl
@@ -217,7 +205,7 @@ pairs_of options content ts old delimiters waiting resolved = record {
   where
     by : (runs : List Run) (pairs : List Pair) → Resolves (views runs) pairs → delimiters ≡ marked pairs (room runs (length content) old.delimiters.items) → (at : ℕ) → get_or delimiters at Data ≡ get_or (marked pairs (replicate (length content) Data)) at Data
     by [] pairs resolves are at =
-        let none : pairs ≡ [] = none_of_none [] pairs refl resolves in
+        let none : pairs ≡ [] = none_of_none pairs resolves in
         ap (λ ds. get_or ds at Data) (are ∙ ap (λ ps. marked ps old.delimiters.items) none ∙ waiting.untouched) ∙ sym (ap (λ ps. get_or (marked ps (replicate (length content) Data)) at Data) none ∙ all_data (length content) at)
     by (r ∷ runs) pairs resolves are at =
         ap (λ ds. get_or ds at Data) (are ∙ ap (λ ds. marked pairs (begun (length content) ds)) waiting.untouched)

@@ -1,10 +1,10 @@
 -- The sequences of pairs stand in the tokens that are runs of delimiters.
 use Rattle.std.proofs.Common.{Bool, List, [], arith, false, get_or, if◌then◌else◌, inl, inr, length, refl, subst, sym, true, ℕ, ◌+◌, ◌<◌, ◌∙◌, ◌∷◌, ◌≡◌, ◌≤◌, ◌⊎◌}
+use Rattle.markdown_attention.proofs.OpenPairs.{some_markers}
 use Rattle.markdown_attention.specs.Emphasis.{DelimiterRun, kind_size}
 use Rattle.markdown_attention.specs.Nesting.{Follow}
 use Rattle.markdown_attention.specs.Sequences.{EndWithin, IsSequence, LiesInRun}
 use Rattle.markdown_attention.specs.declared.delimiter.AttentionKind.{AttentionKind}
-use Rattle.markdown_attention.specs.declared.delimiter.AttentionKind.TheVariants.{DoubleStrikethrough, Emphasis, Strikethrough, Strong}
 use Rattle.markdown_attention.specs.declared.delimiter.Delimiter.{Delimiter}
 use Rattle.markdown_attention.specs.declared.delimiter.Delimiter.TheVariants.{Closing, Data, Opening}
 use Rattle.markdown_text.proofs.Found.{token_range}
@@ -13,12 +13,6 @@ use Rattle.markdown_text.specs.AttentionWalk.{StandInTokens}
 use Rattle.markdown_text.specs.Contents.{IsRange}
 use Rattle.markdown_text.specs.Tokens.{AreTokens, Text}
 use Rattle.markdown_text.specs.declared.token.Token.{Token}
-
-some_markers : (kind : AttentionKind) → 0 < kind_size kind
-some_markers Emphasis = omega arith
-some_markers Strong = omega arith
-some_markers Strikethrough = omega arith
-some_markers DoubleStrikethrough = omega arith
 
 -- ---- Runs in order
 

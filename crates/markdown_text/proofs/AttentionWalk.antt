@@ -1,10 +1,11 @@
 -- The second pass over the delimiters of a content.
 use Rattle.std.proofs.Common.{Bool, Err, List, None, Ok, OnOk, Option, Result, Some, [], ap, arith, drop, false, get_or, inl, inr, length, refl, subst, suc, sym, take, zero, ℕ, ◌+◌, ◌++◌, ◌-◌, ◌<◌, ◌∙◌, ◌∷◌, ◌≡◌, ◌≤◌}
+use Rattle.std.proofs.lemmas.List.{append-nil, append_assoc}
 use Rattle.std.proofs.lemmas.List.Elements.{All-rest}
+use Rattle.markdown_attention.proofs.OpenPairs.{some_markers}
 use Rattle.markdown_attention.specs.Emphasis.{kind_size}
 use Rattle.markdown_attention.specs.Sequences.{AreBalanced}
 use Rattle.markdown_attention.specs.declared.delimiter.AttentionKind.{AttentionKind}
-use Rattle.markdown_attention.specs.declared.delimiter.AttentionKind.TheVariants.{DoubleStrikethrough, Emphasis, Strikethrough, Strong}
 use Rattle.markdown_attention.specs.declared.delimiter.Delimiter.{Delimiter}
 use Rattle.markdown_attention.specs.declared.delimiter.Delimiter.TheVariants.{Closing, Data, Opening}
 use Rattle.markdown_events.specs.Forest.{enter, exit}
@@ -48,20 +49,6 @@ length_taken ds zero most = refl
 length_taken [] (suc at) most = absurd (omega (arith, most))
 length_taken (d ∷ ds) (suc at) most = ap suc (length_taken ds at (omega (arith, most)))
 
-joined_events : (xs ys zs : List Event) → (xs ++ ys) ++ zs ≡ xs ++ (ys ++ zs)
-joined_events [] ys zs = refl
-joined_events (x ∷ xs) ys zs = ap (λ es. x ∷ es) (joined_events xs ys zs)
-
-no_more : (es : List Event) → es ++ [] ≡ es
-no_more [] = refl
-no_more (e ∷ es) = ap (λ fs. e ∷ fs) (no_more es)
-
-some_markers : (kind : AttentionKind) → 0 < kind_size kind
-some_markers Emphasis = omega arith
-some_markers Strong = omega arith
-some_markers Strikethrough = omega arith
-some_markers DoubleStrikethrough = omega arith
-
 -- ---- Events
 
 events_then : (place : Place) (from : ℕ) (xs ys : List Delimiter) (es fs : List Event) → AreEventsOf place from xs es → AreEventsOf place (from + length xs) ys fs → AreEventsOf place from (xs ++ ys) (es ++ fs)
@@ -89,7 +76,7 @@ balanced_data kinds ds at less is h = by kinds (subst (AreBalanced kinds) (drop_
     by (kind ∷ kinds) k = k
 
 events_data : (place : Place) (ds : List Delimiter) (at : ℕ) (es : List Event) → at < length ds → get_or ds at Data ≡ Data → AreEventsOf place 0 (take at ds) es → AreEventsOf place 0 (take (at + 1) ds) es
-events_data place ds at es less is h = subst (AreEventsOf place 0 (take (at + 1) ds)) (no_more es) (events_one place ds at es [] less h (subst (λ d. AreEventsOf place at (d ∷ []) []) (sym is) tt))
+events_data place ds at es less is h = subst (AreEventsOf place 0 (take (at + 1) ds)) (append-nil es) (events_one place ds at es [] less h (subst (λ d. AreEventsOf place at (d ∷ []) []) (sym is) tt))
 
 walk_data : {R : Type 0} (walk : Walk) (output : Output R) (constructs : List Open) (size from : ℕ) → from + size ≤ length walk.delimiters → IsDataFrom walk.delimiters from (from + size) → HasWalked walk output constructs from → HasWalked walk output constructs (from + size)
 walk_data walk output constructs zero from most none walked = subst (HasWalked walk output constructs) (omega arith) walked
@@ -155,7 +142,7 @@ walked_opening walk old new constructs after at kind walked less is goes writes 
       are_open = opens ∙ ap (λ os. os ++ Attention kind ∷ []) walked.are_open;
       balanced = balanced_opening walked.kinds kind walk.delimiters at less is walked.balanced;
       events = walked.events ++ e ∷ [];
-      written = writes.events ∙ ap (λ es. es ++ e ∷ []) walked.written ∙ joined_events walk.before walked.events (e ∷ []);
+      written = writes.events ∙ ap (λ es. es ++ e ∷ []) walked.written ∙ append_assoc walk.before walked.events (e ∷ []);
       are_events = events_one walk.place walk.delimiters at walked.events (e ∷ []) less walked.are_events (subst (λ d. AreEventsOf walk.place at (d ∷ []) (e ∷ [])) (sym is) (here, tt));
     }
 
@@ -218,7 +205,7 @@ walked_closing walk old new constructs after at kind walked less is goes writes 
       are_open = last_same after (open_of i.outer) (Attention kind) (Attention kind) (sym opens ∙ walked.are_open ∙ ap open_of i.is);
       balanced = i.balanced;
       events = walked.events ++ e ∷ [];
-      written = writes.events ∙ ap (λ es. es ++ e ∷ []) walked.written ∙ joined_events walk.before walked.events (e ∷ []);
+      written = writes.events ∙ ap (λ es. es ++ e ∷ []) walked.written ∙ append_assoc walk.before walked.events (e ∷ []);
       are_events = events_one walk.place walk.delimiters at walked.events (e ∷ []) less walked.are_events (subst (λ d. AreEventsOf walk.place at (d ∷ []) (e ∷ [])) (sym is) (here, tt));
     }
 

@@ -63,7 +63,7 @@ pub record StaysText (options : ParseOptions) (content : List ℕ) (at : ℕ) : 
   pub all : Leaves (delimiter_run (slice_index content start)) (drop start content) (drop end content)
   pub none : counts options (slice_index content start) (end - start) ≡ false
 
--- Up to an offset all runs are among these tokens: those that are count, and each other marker is in a token of another kind, or stays text.
+-- Up to an offset all runs are among these tokens. Each run counts, and each marker lies in a token, or stays text.
 pub record AreAllRuns (options : ParseOptions) (content : List ℕ) (tokens : List Token) (end : ℕ) : Type 0 where
   pub counted : All (λ t. is_delimiters t.kind ≡ true → counts options (slice_index content t.start) (t.end - t.start) ≡ true) tokens
   pub others : (at : ℕ) → at < end → IsMarker (slice_index content at) → IsInToken tokens at ⊎ StaysText options content at
