@@ -14,10 +14,10 @@ ghost use Rattle.character_references.specs.Decoder.{
 use crate::references::References;
 use std::alloc::{AllocError, Global};
 
-/// The decoder of the programs. It knows the names `amp`, `lt`, `gt` and `quot`, and numbers of up to
-/// seven decimal or six hexadecimal digits, as CommonMark reads them.
+/// The decoder of the programs. It knows the names `amp`, `lt`, `gt` and `quot`, and numbers of up
+/// to seven decimal or six hexadecimal digits, as in CommonMark.
 ///
-/// `Decoder.decode(alloc, "amp", b'&')` gives `&`.
+/// `Decoder.decode(alloc, "amp", b'&')` returns `&`.
 #[derive(Clone, Copy, PartialEq, Eq, Debug)]
 pub struct Decoder;
 
@@ -36,10 +36,10 @@ impl References for Decoder {
     }
 }
 
-/// The decoder that knows nothing. With it a list of events is refused where it has a character
-/// reference with a value, by `reference-unknown`.
+/// The decoder that knows nothing. With it, a list of events that has a character reference with a
+/// value is refused by `reference-unknown`.
 ///
-/// `NoReferences.decode(alloc, "amp", b'&')` gives `None`.
+/// `NoReferences.decode(alloc, "amp", b'&')` returns `None`.
 #[derive(Clone, Copy, PartialEq, Eq, Debug)]
 pub struct NoReferences;
 
@@ -56,7 +56,7 @@ impl References for NoReferences {
     }
 }
 
-/// A text of one character.
+/// Returns a text of one character.
 fn text(alloc: Global, character: char) -> Result<String, AllocError>
     ensures { IfOk result (λ text. string_bytes text ≡ encode_utf8 character) }
 {
@@ -65,8 +65,8 @@ fn text(alloc: Global, character: char) -> Result<String, AllocError>
     Ok(text)
 }
 
-/// The character of a value: of a name after `&`, of decimal digits after `#`, of hexadecimal ones
-/// after `x`.
+/// Returns the character of a value: of a name after `&`, of decimal digits after `#`, of
+/// hexadecimal ones after `x`.
 #[tactic(auto, unfolding(crate::specs::Decoder::character_of))]
 fn character(value: &str, marker: u8) -> Option<char>
     ensures { result ≡ character_of value.now marker }
@@ -79,7 +79,7 @@ fn character(value: &str, marker: u8) -> Option<char>
     }
 }
 
-/// The character of a name.
+/// Returns the character of a name.
 #[tactic(auto, unfolding(crate::specs::Decoder::named_character))]
 fn named(name: &str) -> Option<char>
     ensures { result ≡ named_character name.now }
@@ -93,7 +93,7 @@ fn named(name: &str) -> Option<char>
     }
 }
 
-/// The character of the number that one to so many digits write.
+/// Returns the character of the number written by 1 to `most` digits.
 #[tactic(auto, unfolding(crate::specs::Decoder::numbered_character))]
 fn numbered(digits: &str, radix: u32, most: usize) -> Option<char>
     requires from { 2 ≤ radix }
@@ -105,7 +105,7 @@ fn numbered(digits: &str, radix: u32, most: usize) -> Option<char>
     Some(valid(number))
 }
 
-/// The number that one to so many digits write, with no sign before them.
+/// Returns the number written by 1 to `most` digits, with no sign before them.
 fn number(digits: &str, radix: u32, most: usize) -> Option<u32>
     requires from { 2 ≤ radix }
     requires to { radix ≤ 36 }
@@ -118,7 +118,7 @@ fn number(digits: &str, radix: u32, most: usize) -> Option<u32>
     u32::from_str_radix(digits, radix).ok()
 }
 
-/// The character of a number: U+FFFD for 0, and where no character has the number.
+/// Returns the character of a number, or U+FFFD for 0 and for a number that no character has.
 #[tactic(auto, unfolding(crate::specs::Decoder::valid_character))]
 fn valid(number: u32) -> char
     ensures { result ≡ valid_character number }

@@ -8,12 +8,12 @@ use crate::named::NamedReferences;
 use crate::references::References;
 use std::alloc::{AllocError, Global};
 
-/// The decoder that knows the character references of CommonMark: the 2,125 names of HTML, and numbers as
-/// [`Decoder`](crate::decoder::Decoder) reads them.
+/// The decoder that knows the character references of CommonMark: the 2,125 names of HTML, and
+/// numbers as in [`Decoder`](crate::decoder::Decoder).
 ///
 /// The only error is that memory ran out.
 ///
-/// `HtmlReferences.decode(alloc, "copy", b'&')` gives `©`.
+/// `HtmlReferences.decode(alloc, "copy", b'&')` returns `©`.
 #[derive(Clone, Copy, PartialEq, Eq, Debug)]
 pub struct HtmlReferences;
 
@@ -27,7 +27,7 @@ impl References for HtmlReferences {
     }
 }
 
-/// The lines of the names that begin as a value does.
+/// Returns the lines of the names that begin with the first byte of a value.
 fn lines_for(lines: &[&'static str], value: &str) -> &'static str
     ensures { result.now ≡ lines_for (map (λ line. line.now) lines.now) value.now }
 {
@@ -37,7 +37,7 @@ fn lines_for(lines: &[&'static str], value: &str) -> &'static str
     }
 }
 
-/// The lines of the names that begin with a byte.
+/// Returns the lines of the names that begin with a byte.
 fn lines_from(lines: &[&'static str], first: u8) -> &'static str
     ensures { result.now ≡ lines_from (map (λ line. line.now) lines.now) first }
 {

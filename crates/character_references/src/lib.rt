@@ -1,6 +1,7 @@
-//! What character references stand for: the trait `References` of a decoder, which the caller hands
-//! in, and four decoders: `Decoder` knows numbers and four names, `NamedReferences` a table of names
-//! besides, `HtmlReferences` the names of HTML, and `NoReferences` nothing.
+//! What character references stand for. The crate has the trait `References` of a decoder, which
+//! the caller provides, and four decoders. `Decoder` knows numbers and four names,
+//! `NamedReferences` also a table of names, `HtmlReferences` the names of HTML, and `NoReferences`
+//! nothing.
 #![tactic(auto)]
 
 pub mod decoder;

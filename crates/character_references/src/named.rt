@@ -10,13 +10,14 @@ use crate::decoder::Decoder;
 use crate::references::References;
 use std::alloc::{AllocError, Global};
 
-/// The decoder that knows a table of names, such as that of HTML, and all that [`Decoder`] knows.
+/// The decoder that knows a table of names, such as that of HTML, and everything that [`Decoder`]
+/// knows.
 ///
 /// A line of the table is a name, `=` and its text, without `&` and `;`. The first line of a name
-/// counts, and lines without `=` say nothing. No line can hold a line feed, the text of HTML's
+/// counts, and lines without `=` are ignored. No line can contain a line feed, the text of HTML's
 /// `NewLine`: that name is known without a line.
 ///
-/// `NamedReferences { table: "copy=©\nnbsp=\u{a0}" }.decode(alloc, "copy", b'&')` gives `©`.
+/// `NamedReferences { table: "copy=©\nnbsp=\u{a0}" }.decode(alloc, "copy", b'&')` returns `©`.
 #[derive(Clone, Copy, PartialEq, Eq, Debug)]
 pub struct NamedReferences<'a> {
     /// The lines of the table.
@@ -38,7 +39,7 @@ impl References for NamedReferences<'_> {
     }
 }
 
-/// The text of a value after `&`, by a table, or that of `NewLine`.
+/// Returns the text of a value after `&`, from a table, or that of `NewLine`.
 fn named<'a>(table: &'a str, value: &str, marker: u8) -> Option<&'a str>
     ensures { option_copied result
         ≡ (if marker == byte "&" then option_or (Named.text_of value.now table.now) (new_line value.now) else None) }
@@ -53,7 +54,7 @@ fn named<'a>(table: &'a str, value: &str, marker: u8) -> Option<&'a str>
     }
 }
 
-/// The text of a name, by the first line that gives it one.
+/// Returns the text of a name, from the first line for that name.
 fn text_of<'a>(table: &'a str, name: &str) -> Option<&'a str>
     ensures { option_copied result ≡ Named.text_of name.now table.now }
 {
@@ -67,7 +68,7 @@ fn text_of<'a>(table: &'a str, name: &str) -> Option<&'a str>
     text_in(rest, name)
 }
 
-/// The text that a line gives a name.
+/// Returns the text of a name, if this line is for that name.
 fn text_in<'a>(line: &'a str, name: &str) -> Option<&'a str>
     ensures { option_copied result ≡ text_in name.now line.now }
 {

@@ -94,35 +94,9 @@ rest_of (c ∷ u) = elim (cases_bool (c == 10)) [
 blanks_of : (s y : List ℕ) → read (optional new_line) (behind_run is_blank s) ≡ Some y → read blanks s ≡ Some y
 blanks_of s y h = blanks_by s (behind_run is_blank s) y (behind s) h
 
-pub blanks_twice : (b e f : List ℕ) → read blanks b ≡ Some e → read blanks e ≡ Some f → (f ≡ e) ⊎ (has_blank_line b ≡ true)
-blanks_twice b e f first second = elim (rest_of (behind_run is_blank b)) [
-  | inl x ↦
-      let same : Some (behind_run is_blank b) ≡ Some e = sym (blanks_of b _ x.0) ∙ first in
-      let at : behind_run is_blank b ≡ e = cc in
-      let again : read blanks e ≡ Some e = blanks_of e e (ap (λ y. read (optional new_line) y) (ap (behind_run is_blank) (sym at) ∙ behind_again b) ∙ x.0 ∙ ap Some at) in
-      let result : Some f ≡ Some e = sym second ∙ again in
-      inl cc
-  | inr x ↦
-      let same : Some (behind_run is_blank x.0) ≡ Some e = sym (blanks_of b _ x.2) ∙ first in
-      let at : behind_run is_blank x.0 ≡ e = cc in
-      let stays : behind_run is_blank e ≡ e = ap (behind_run is_blank) (sym at) ∙ behind_again x.0 ∙ at in
-      elim (rest_of e) [
-        | inl y ↦
-            let again : read blanks e ≡ Some e = blanks_of e e (ap (λ z. read (optional new_line) z) stays ∙ y.0) in
-            let result : Some f ≡ Some e = sym second ∙ again in
-            inl cc
-        | inr y ↦
-            let feed : slice_index (behind_run is_blank x.0) 0 ≡ 10 = ap (λ z. slice_index z 0) (at ∙ y.1) in
-            inr (blank_line_behind b (subst (λ z. has_blank_line z ≡ true) (sym x.1) (or_left _ _ (blank_ends x.0 feed))))
-      ]
-]
-
 -- Some blanks are blanks that are there.
 many_first : (c : ℕ) (u : List ℕ) → is_blank c ≡ true → behind_run is_blank (c ∷ u) ≡ behind_run is_blank u
 many_first c u e = ap (λ (b : Bool). cond b (behind_run is_blank u) (c ∷ u)) e
-
-run_line : (u : List ℕ) → read (many (one is_blank) then optional new_line) u ≡ read (optional new_line) (behind_run is_blank u)
-run_line u = ap (option_and_then (read (optional new_line))) (behind u)
 
 -- after a blank, after a line ending, and after neither
 some_of : (c : ℕ) (u : List ℕ) → is_blank c ≡ true → read (some (one is_blank) then optional new_line) (c ∷ u) ≡ read (optional new_line) (behind_run is_blank u)

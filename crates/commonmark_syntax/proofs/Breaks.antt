@@ -121,9 +121,6 @@ test_of n m e = grind (arith, nat_tests)
 test_true : (n m : ℕ) → n ≤ m → nat_le n m ≡ true
 test_true n m e = grind (arith, nat_tests)
 
-test_false : (n m : ℕ) → m < n → nat_le n m ≡ false
-test_false n m e = grind (arith, nat_tests)
-
 pub enough : (s : List ℕ) (has_one r : Bool) → has_one ≡ true → r ≡ nat_le 3 (signs s) → has_one ≡ has_one_sign s → IsSolid s → (r ≡ true) ↔ Matches thematic_break s
 enough s has_one r one_sign count same solid = (
   (λ e. matched s (sym same ∙ one_sign) solid (test_of 3 (signs s) (sym count ∙ e))),
@@ -144,10 +141,6 @@ IsOf (Some c) w = (is_break_sign c ≡ true) × (are_all (is_blank_or c) w ≡ t
 all_blank : (c : ℕ) (w : List ℕ) → are_all is_blank w ≡ true → are_all (is_blank_or c) w ≡ true
 all_blank c [] e = refl
 all_blank c (d ∷ w) e = and_both _ _ (or_left _ (d == c) (and_parts _ _ e).0) (all_blank c w (and_parts _ _ e).1)
-
-with_blank : (o : Option ℕ) (b : ℕ) (w : List ℕ) → is_blank b ≡ true → IsOf o w → IsOf o (b ∷ w)
-with_blank None b w blank of = and_both _ _ blank of
-with_blank (Some c) b w blank of = (of.0, and_both _ _ (or_left _ (b == c) blank) of.1, or_right (b == c) _ of.2)
 
 abbrev pub IsLike : Option ℕ → ℕ → Bool → Type 0
 IsLike o b r = MatchOption o (r ≡ is_break_sign b) (λ c. r ≡ (b == c))
@@ -238,10 +231,6 @@ later_one s k j less one_sign = elim (or_parts _ _ one_sign) [
     | inr f ↦ or_right (are_all (is_blank_or 42) (drop j s)) _ (or_right (are_all (is_blank_or 45) (drop j s)) _ (dropped_all (is_blank_or 95) s k j less f))
   ]
 ]
-
--- the loop
-pub end_blank : (o : Option ℕ) (s : List ℕ) (n : ℕ) → n < length s → is_blank (slice_index s (length s - n - 1)) ≡ true → IsOf o (end_of s n) → IsOf o (end_of s (suc n))
-end_blank o s n less blank of = subst (IsOf o) (sym (end_more s n less)) (with_blank o (slice_index s (length s - n - 1)) (end_of s n) blank of)
 
 pub end_sign : (o : Option ℕ) (s : List ℕ) (n : ℕ) (r : Bool) → n < length s → IsLike o (slice_index s (length s - n - 1)) r → r ≡ true → IsOf o (end_of s n) → IsOf (Some (slice_index s (length s - n - 1))) (end_of s (n + 1))
 end_sign o s n r less like is of =

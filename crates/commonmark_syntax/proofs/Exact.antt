@@ -108,10 +108,6 @@ leaves r s t clear bytes e = record {
   only = λ u h. (let k : read r s ≡ Some u = exact r everything clear s u bytes h refl in cc);
 }
 
-pub recognizes : {T : Type 0} (r : Syntax) (s : List ℕ) (view : T → List ℕ) (o : Option T) → is_clear r everything ≡ true → AreBytes s → Reading r s view o → MatchOption o (IsNotAt r s) (λ t. Leaves r s (view t))
-recognizes r s view None clear bytes e = is_not_at r s clear bytes e
-recognizes r s view (Some t) clear bytes e = leaves r s (view t) clear bytes e
-
 not_zero : (n : ℕ) → (suc n == 0) ≡ true → ⊥
 not_zero n e = grind (arith, nat_tests)
 
@@ -122,13 +118,6 @@ empty_length (c ∷ u) e = absurd (not_zero (length u) e)
 pub length_empty : (t : List ℕ) → t ≡ [] → (length t == 0) ≡ true
 length_empty [] e = refl
 length_empty (c ∷ u) e = cc
-
-pub whole_some : (r : Syntax) (s t : List ℕ) (b : Bool) → is_clear r the_end ≡ true → AreBytes s → read r s ≡ Some t → b ≡ (length t == 0) → (b ≡ true) ↔ Matches r s
-whole_some r s t b clear bytes e f = (
-  (λ h. (let k : t ≡ [] = empty_length t (sym f ∙ h) in sound r s [] (e ∙ ap Some k))),
-  (λ h. (let k : read r s ≡ Some [] = exact r the_end clear s [] bytes h refl in
-      let l : t ≡ [] = cc in f ∙ length_empty t l)),
-)
 
 pub whole_none : (r : Syntax) (s : List ℕ) → is_clear r the_end ≡ true → AreBytes s → read r s ≡ None → (false ≡ true) ↔ Matches r s
 whole_none r s clear bytes e = (

@@ -99,10 +99,3 @@ goes_many a K strict each none s m u bytes r k =
 pub goes_read : (r : Syntax) → Goes r Same → (s u : List ℕ) → AreBytes s → Reads r s u → read r s ≡ Some u
 goes_read r goes s u bytes h =
     let x : (x : List ℕ) × (read r s ≡ Some x) × (x ≡ u) = goes s u u bytes h refl in x.1 ∙ ap Some x.2
-
-pub goes_recognizes : {T : Type 0} (r : Syntax) (s : List ℕ) (view : T → List ℕ) (o : Option T) → Goes r Same → AreBytes s → Reading r s view o → MatchOption o (IsNotAt r s) (λ t. Leaves r s (view t))
-goes_recognizes r s view None goes bytes e = λ t h. (let k : read r s ≡ Some t = goes_read r goes s t bytes h in cc)
-goes_recognizes r s view (Some t) goes bytes e = record {
-  there = sound r s (view t) e;
-  only = λ u h. (let k : read r s ≡ Some u = goes_read r goes s u bytes h in cc);
-}

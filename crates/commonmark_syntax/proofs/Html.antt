@@ -134,7 +134,3 @@ in_later a (c ∷ u) some missing r = later_in a c u r.0 r.1 missing r.2 r.3
 
 pub in_here : (a : Syntax) (s : List ℕ) → IsAt a s → IsIn a s
 in_here a s at = ([], s, refl, at)
-
-pub raw_not_in_nothing : (s : List ℕ) → length s ≡ 0 → IsIn raw_end s → ⊥
-raw_not_in_nothing s empty r =
-    omega (arith, empty, ap length r.2, length-append {A = ℕ}, ap length (r.3.1).1.1.2)

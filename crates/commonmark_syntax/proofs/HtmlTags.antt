@@ -113,9 +113,6 @@ only_declaration s t e hyphen bracket r = elim (only_marked s t e r) [
   | a_section h ↦ absurd (bracket (cdata_marked s t h).third_is)
 ]
 
-pub not_short : (s : List ℕ) → length s ≤ 2 → IsNotAt html_tag s
-not_short s short t r = omega (arith, least html_tag s t r, short)
-
 -- One syntax where another one is the same.
 pub same_scanned : (a b : Syntax) (s : List ℕ) (o : Option ℕ) → ((t : List ℕ) → Reads a s t → Reads b s t) → ((t : List ℕ) → Reads b s t → Reads a s t) → IsScanned a s o → IsScanned b s o
 same_scanned a b s None to from h = record { exact = λ t r. h.exact t (from t r); most = tt; least = tt; cut = tt }

@@ -48,9 +48,6 @@ not_closing u t d =
     let same : x.0 ≡ 41 = cc in
     subst (λ y. Starts (kind y)) same x.3
 
-pub not_empty : (t : List ℕ) → IsDestination [] t → ⊥
-not_empty t d = (let x : First [] = first_of [] t d in cc)
-
 -- something solid comes first
 abbrev pub at_solid : View
 at_solid solid c = true
@@ -196,12 +193,6 @@ closing_stays (c ∷ u) e closing h =
       | inr x ↦ x.1 ∙ ap (λ y. y ∷ u) (sym closing)
     ]
 
--- the marks with which a title begins
-pub title_begins : (s t : List ℕ) → Reads title s t → ((slice_index s 0 ≡ 34) ⊎ ((slice_index s 0 ≡ 39) ⊎ (slice_index s 0 ≡ 40)))
-title_begins s t (inl r) = inl (ap (λ x. slice_index x 0) r.1.2 ∙ same_number r.1.0 34 r.1.1)
-title_begins s t (inr (inl r)) = inr (inl (ap (λ x. slice_index x 0) r.1.2 ∙ same_number r.1.0 39 r.1.1))
-title_begins s t (inr (inr r)) = inr (inr (ap (λ x. slice_index x 0) r.1.2 ∙ same_number r.1.0 40 r.1.1))
-
 pub bytes_dropped : (n : ℕ) (s : List ℕ) → AreBytes s → AreBytes (drop n s)
 bytes_dropped zero s h = h
 bytes_dropped (suc n) [] h = h
@@ -210,9 +201,6 @@ bytes_dropped (suc n) (c ∷ u) h = bytes_dropped n u h.1
 -- The start, a destination or none, and a title or none, each with the white space after it.
 pub started : (s i a : List ℕ) → read (byte 40) s ≡ Some i → read blanks i ≡ Some a → read resource_start s ≡ Some a
 started s i a first second = ap (option_and_then (read blanks)) first ∙ second
-
-pub not_started : (s : List ℕ) → AreBytes s → read (byte 40) s ≡ None → IsNoResource s
-not_started s bytes missing = start_none s bytes (ap (option_and_then (read blanks)) missing)
 
 pub record Parts (s a b e g f : List ℕ) (destination between size : ℕ) : Type 0 where
   pub bytes : AreBytes s

@@ -146,13 +146,6 @@ all_kept mark text i run old new h is stops fits n j some at up = elim (near_or_
       omega (arith, ap (slice_index new) last.0, is.here (omega (arith, last.0, some)), last.0, last.1)
 ]
 
-pub keeps_none : (mark : ℕ) (text ends : List ℕ) → ends ≡ [] → Keeps mark text 0 0 ends
-keeps_none mark text ends none = record {
-  running = run_begins mark text;
-  kept = λ n j some at less. absurd (omega (arith, less));
-  before = λ n. omega (arith, ap (λ (xs : List ℕ). slice_index xs n) none);
-}
-
 pub keeps_mark : (mark : ℕ) (text : List ℕ) (i run : ℕ) (ends : List ℕ) → Keeps mark text i run ends → slice_index text i ≡ mark → Keeps mark text (i + 1) (run + 1) ends
 keeps_mark mark text i run ends h is = record {
   running = run_goes_on mark text i run h.running is;

@@ -71,12 +71,6 @@ pub longer_counted : (c : ℕ) (w u : List ℕ) → how_many c u ≤ how_many c 
 longer_counted c [] u = omega arith
 longer_counted c (x ∷ w) u = omega (arith, longer_counted c w u, more_counted c x (w ++ u))
 
-mark_uncounted : (c : ℕ) → is_trailing c ≡ true → (c == 41) ≡ false
-mark_uncounted c e = elim (cases_bool (c == 41)) [
-  | inl same ↦ (let k : c ≡ 41 = same_number c 41 same in let l : is_trailing c ≡ false = ap is_trailing k in cc)
-  | inr other ↦ other
-]
-
 name_uncounted : (name u : List ℕ) → are_all is_alphanumeric name ≡ true → how_many 41 (name ++ 59 ∷ u) ≡ how_many 41 u
 name_uncounted [] u every = refl
 name_uncounted (c ∷ name) u every =
@@ -238,9 +232,6 @@ pub record TrimsTo (path rest : List ℕ) (unmatched : ℕ) : Type 0 where
   pub counted : unmatched + how_many 41 taken ≡ how_many 41 path - how_many 40 path
   pub next : length rest < length path → slice_index path (length rest) < 128
 
-pub trims_none : (path : List ℕ) (n : ℕ) → n ≡ how_many 41 path - how_many 40 path → TrimsTo path path n
-trims_none path n e = record { taken = []; whole = sym (append-nil path); trails = refl; counted = omega (arith, e); next = λ less. absurd (omega (arith, less)) }
-
 byte_behind : (front w path : List ℕ) (c : ℕ) → path ≡ front ++ c ∷ w → slice_index path (length front) ≡ c
 byte_behind [] w path c e = ap (λ x. slice_index x 0) e
 byte_behind (d ∷ front) w path c e = ap (λ x. slice_index x (suc (length front))) e ∙ byte_behind front w (front ++ c ∷ w) c refl
@@ -258,19 +249,6 @@ piece_taken path rest front piece c n k it parts ascii reads counts =
       counted = counts u ∙ it.counted;
       next = λ less. (let k = byte_behind front (piece ++ u) path c whole in omega (arith, k, ascii));
     }
-
-trailing_ascii : (c : ℕ) → is_trailing c ≡ true → c < 128
-trailing_ascii c e = grind (arith, nat_tests)
-
-pub mark_taken : (path rest front : List ℕ) (c n : ℕ) → TrimsTo path rest n → rest ≡ front ++ c ∷ [] → is_trailing c ≡ true → TrimsTo path front n
-mark_taken path rest front c n it parts mark =
-    piece_taken path rest front [] c n n it parts (trailing_ascii c mark) (λ u. mark_read c u mark)
-    (λ u. ap (λ x. n + x) (counted 41 c u false (mark_uncounted c mark)))
-
-pub parenthesis_taken : (path rest front : List ℕ) (c n k : ℕ) → TrimsTo path rest n → rest ≡ front ++ c ∷ [] → c ≡ 41 → k + 1 ≡ n → TrimsTo path front k
-parenthesis_taken path rest front c n k it parts is less =
-    piece_taken path rest front [] 41 n k it (parts ∙ ap (λ x. front ++ x ∷ []) is) (omega arith) (λ u. refl)
-    (λ u. omega (arith, less, counted 41 41 u true refl))
 
 pub reference_taken : (path rest front before name : List ℕ) (c n : ℕ) → TrimsTo path rest n → rest ≡ front ++ c ∷ [] → c ≡ 59 → front ≡ before ++ 38 ∷ name → are_all is_alphanumeric name ≡ true → 0 < length name → TrimsTo path before n
 reference_taken path rest front before name c n it parts is named every some =
@@ -370,16 +348,6 @@ name_nowhere s front n it empty named =
     omega (arith, empty, ap length both.1, length-append front (38 ∷ []))
 
 -- ---- Where the loop ends
-
-pub done_empty : (n : ℕ) → IsDone n []
-done_empty n = record {
-  mark = λ front c e. absurd (some_behind front c [] e);
-  parenthesis = λ front e. absurd (some_behind front 41 [] e);
-  reference = λ front name e some every. some_behind front 38 (name ++ 59 ∷ []) e;
-}
-  where
-    some_behind : (front : List ℕ) (c : ℕ) (w : List ℕ) → [] ≡ front ++ c ∷ w → ⊥
-    some_behind front c w e = omega (arith, ap length e, length-append front (c ∷ w))
 
 -- by the last byte
 pub done_last : (n c : ℕ) (rest front : List ℕ) → rest ≡ front ++ c ∷ [] → is_trailing c ≡ false → (c ≡ 41 → n ≡ 0) → (c ≡ 59 → (f : List ℕ) → EndsWithName front f → ⊥) → IsDone n rest

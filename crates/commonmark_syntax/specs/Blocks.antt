@@ -1,18 +1,18 @@
--- The syntax of the lines that blocks begin and end with: CommonMark's, GFM's, and those of math and frontmatter. Each
--- construct has the name that its specification gives it, and its rule in our words. A text is here that of one line,
--- without its indentation and its line ending. Indentation is counted in columns first: a line with four or more
--- columns is none of these.
+-- The syntax of the lines that begin and end blocks: those of CommonMark and GFM, and those of math and frontmatter.
+-- Each construct has the name that its specification gives it, and its rule in our words. A text here is one line, without
+-- its indentation and its line ending. Indentation is counted in columns first: a line with four or more columns is
+-- none of these.
 use Rattle.std.specs.Prelude.{ℕ, zero, suc, Bool, cond, false, not, ◌||◌, nat_le, ◌==◌, List, [], ◌∷◌, codes, filter, length}
 use Rattle.std.specs.List.{list_any}
 use Rattle.commonmark_syntax.specs.Language.{Syntax, are_all, nothing, one, many, all, tested, unless, ◌then◌, ◌or◌, optional, some}
 use Rattle.commonmark_syntax.specs.Syntax.{begins_character, byte, is_blank, is_digit, is_from, is_one_of, is_white_space, word}
 
--- At least so many of a byte, and all that stand here.
+-- A run of a byte: at least this many, and all there are.
 abbrev pub run : (least : ℕ) → ℕ → Syntax
 run zero c = all (λ x. x == c)
 run (suc n) c = byte c then run n c
 
--- What comes next, of which nothing is read.
+-- Tests on what comes next; nothing of it is read.
 abbrev pub has_more : List ℕ → Bool
 has_more w = list_any (λ c. not (is_blank c)) w
 
@@ -39,7 +39,7 @@ none_to_end c = unless (has c) nothing
 abbrev pub setext_underline : Syntax
 setext_underline = (run 1 61 or run 1 45) then blank_to_end
 
--- What a heading with number signs opens with: one to six #, before a space, a tab, or the end of the line.
+-- The opening sequence of an ATX heading: one to six #, before a space, a tab, or the end of the line.
 abbrev pub is_at_most : ℕ → List ℕ → Bool
 is_at_most n w = nat_le (length w) n
 
@@ -54,7 +54,7 @@ code_fence = (run 3 96 then none_to_end 96) or run 3 126
 abbrev pub math_fence : Syntax
 math_fence = run 2 36 then none_to_end 36
 
--- The fence that closes either: at least as many of the same sign, with only spaces and tabs after them.
+-- The fence that closes either: at least as many of the same sign as opened it, with only spaces and tabs after them.
 abbrev pub closing_fence : (sign opened : ℕ) → Syntax
 closing_fence sign opened = run opened sign then blank_to_end
 
@@ -73,11 +73,11 @@ is_delimiter c = (c == 46) || (c == 41)
 abbrev pub ordered_list_marker : Syntax
 ordered_list_marker = tested (is_at_most 9) (some (one is_digit)) then one is_delimiter
 
--- The marker of an item, before a space, a tab, or the end of the line.
+-- The marker of any item, before a space, a tab, or the end of the line.
 abbrev pub list_marker : Syntax
 list_marker = (one is_bullet or ordered_list_marker) then blank_or_end
 
--- The marker of an item that may interrupt a paragraph: its number is 1, if it has one, and there is more in its line.
+-- The marker of an item that may interrupt a paragraph: its number is 1, if it has one, and its line has more.
 abbrev pub marker_of_one : Syntax
 marker_of_one = tested (is_at_most 9) (many (byte 48) then byte 49) then one is_delimiter
 
@@ -87,11 +87,11 @@ is_blank_line w = not (has_more w)
 abbrev pub interrupting_list_marker : Syntax
 interrupting_list_marker = (one is_bullet or marker_of_one) then blank_or_end then unless is_blank_line nothing
 
--- The marker of a block quote: a >. A space after it belongs to it, which is counted in columns.
+-- The marker of a block quote: a >. A space after it belongs to it, and is counted in columns.
 abbrev pub block_quote_marker : Syntax
 block_quote_marker = byte 62
 
--- A thematic break: three or more of one sign, a *, a - or a _, with spaces and tabs between them and after them.
+-- A thematic break: three or more of one sign, which is *, - or _, with spaces and tabs between them and after them.
 abbrev pub spaced : ℕ → Syntax
 spaced sign = byte sign then many (one is_blank)
 
@@ -101,7 +101,7 @@ break_of sign = spaced sign then spaced sign then some (spaced sign)
 abbrev pub thematic_break : Syntax
 thematic_break = break_of 42 or break_of 45 or break_of 95
 
--- a text of one of its signs, if of any, and of spaces and tabs: it may be the end of a thematic break
+-- a text of spaces, tabs and at most one kind of these signs: it may be the end of a thematic break
 abbrev pub is_break_sign : ℕ → Bool
 is_break_sign c = is_one_of (42 ∷ 45 ∷ 95 ∷ []) c
 
@@ -111,8 +111,8 @@ is_blank_or sign c = is_blank c || (c == sign)
 abbrev pub has_one_sign : List ℕ → Bool
 has_one_sign w = are_all (is_blank_or 42) w || (are_all (is_blank_or 45) w || are_all (is_blank_or 95) w)
 
--- The text of a heading with number signs, from its first byte on that is no space and no tab: without the spaces and
--- tabs at its end, and without a closing sequence. That is any number of #, after a space, a tab, or nothing.
+-- The text of an ATX heading, from its first byte that is neither a space nor a tab: without the spaces and tabs at its
+-- end, and without a closing sequence. That is any number of #, after a space, a tab, or nothing.
 abbrev pub with_byte : (ℕ → Bool) → ℕ → List ℕ → List ℕ
 with_byte p c [] = cond (p c) [] (c ∷ [])
 with_byte p c (d ∷ v) = c ∷ d ∷ v
@@ -136,9 +136,9 @@ unclosed text before_signs = cond (ends_solid before_signs) text (without_last i
 abbrev pub heading_text : List ℕ → List ℕ
 heading_text w = unclosed (without_last is_blank w) (without_last is_sign (without_last is_blank w))
 
--- The delimiter row of a table: cells of one or more hyphens, with a colon before or after them or not, and with
--- spaces and tabs around that, between bars; there may be a bar before the first and after the last. Hyphens alone
--- are no such row: they are an underline.
+-- The delimiter row of a table: cells separated by bars, with an optional bar before the first cell and after the last. A
+-- cell is one or more hyphens, with an optional colon on each side, and with spaces and tabs around that. A row of
+-- hyphens alone does not count: it is an underline.
 abbrev pub delimiter : Syntax
 delimiter = optional (byte 58) then some (byte 45) then optional (byte 58)
 
@@ -161,7 +161,7 @@ abbrev pub delimiter_row : Syntax
 delimiter_row = tested has_bar_or_colon delimiter_cells
 
 -- The text of the label of a footnote (GFM): at least one character and at most 999, none of them white space. A
--- backslash takes a bracket or a backslash with it, and stands for itself before anything else.
+-- backslash escapes a bracket or a backslash, and stands for itself before anything else.
 abbrev pub is_taken : ℕ → Bool
 is_taken c = is_one_of (91 ∷ 93 ∷ 92 ∷ []) c
 
@@ -184,7 +184,7 @@ is_footnote_text w = is_from 1 999 (length (filter begins_character w))
 abbrev pub footnote_text : Syntax
 footnote_text = tested is_footnote_text (many footnote_character)
 
--- The label of a footnote definition, with what stands around it: [^, such a text, and ]:. A call of the footnote ends
--- with the bracket (footnote_call in Inlines.antt).
+-- The label of a footnote definition, with its markers: [^, such a text, and ]:. A footnote call ends with the bracket
+-- (footnote_call in Inlines.antt).
 abbrev pub footnote_label : Syntax
 footnote_label = word (codes "[^") then footnote_text then word (codes "]:")

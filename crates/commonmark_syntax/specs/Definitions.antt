@@ -1,16 +1,16 @@
--- Link reference definitions. They are no regular syntax, since destinations are not.
+-- Link reference definitions. They are not a regular syntax, because destinations are not.
 use Rattle.std.specs.Prelude.{◌≡◌, ◌⊎◌, List, ℕ}
 use Rattle.commonmark_syntax.specs.Language.{IsNotAt, Reads, Syntax, many, one, ◌then◌}
 use Rattle.commonmark_syntax.specs.Parentheses.{IsDestination}
 use Rattle.commonmark_syntax.specs.Syntax.{blanks, byte, is_blank, link_label, some_blanks, title}
 
--- A link reference definition: a link label, a colon, optional white space, a destination, a title if there is one, with
--- white space before it, and only spaces and tabs after that up to the end of the line. Where more stands in the last line of
--- a title, it is none, and the definition ends with the line of the destination.
+-- A link reference definition: a link label, a colon, optional white space, a destination, optionally white space and a
+-- title, and then only spaces and tabs up to the end of the line. If the last line of a title has more than that, it is no
+-- title, and the definition ends with the line of the destination.
 abbrev pub definition_start : Syntax
 definition_start = link_label then byte 58 then blanks
 
--- each line of a text ends with a line feed
+-- the end of a line: spaces and tabs, and then an LF, with which each line of a text ends
 abbrev pub line_end : Syntax
 line_end = many (one is_blank) then byte 10
 

@@ -1,5 +1,4 @@
--- Email autolinks without angle brackets (GFM): addresses of mail, which stand anywhere in a text. Each rule stands here in
--- our words.
+-- Email autolinks without angle brackets (GFM): addresses anywhere in a text. Each rule is in our words.
 use Rattle.std.specs.Prelude.{◌≡◌, ◌<◌, ◌≤◌, ◌+◌, ◌++◌, ℕ, Bool, true, false, ◌&&◌, ◌||◌, ◌==◌, List, codes, drop, length, slice_index, take}
 use Rattle.commonmark_syntax.specs.Blocks.{has}
 use Rattle.commonmark_syntax.specs.Inlines.{ends_with, in_any_case}
@@ -10,7 +9,7 @@ use Rattle.commonmark_syntax.specs.declared.email_literal.Kind.{Kind}
 use Rattle.commonmark_syntax.specs.declared.email_literal.Kind.TheVariants.{Email, Mailto, Xmpp}
 
 -- The local part, before the at sign: one or more letters, digits, plus signs, hyphens, periods and underscores, and
--- all that stand there. No slash comes before it (micromark).
+-- all there are. No slash comes before it (micromark).
 abbrev pub is_of_literal_local : ℕ → Bool
 is_of_literal_local c = is_alphanumeric c || is_one_of (codes "+-._") c
 
@@ -25,9 +24,9 @@ pub record IsLocalPart (text front : List ℕ) : Type 0 where
   pub ended : ends_with is_of_literal_local front ≡ false
   pub no_slash : ends_with is_slash front ≡ false
 
--- The domain, after the at sign: letters, digits, hyphens and underscores, with single periods between them, of which
--- there is one at least. A letter or a digit is its last byte, and it goes as far as it can. In an address with xmpp:
--- slashes may stand in it, since a resource comes after the domain there.
+-- The domain, after the at sign: letters, digits, hyphens and underscores, with single periods between them, at least
+-- one. Its last byte is a letter or a digit, and it goes as far as it can. In an address with xmpp: it may contain
+-- slashes, because a resource comes after the domain there.
 abbrev pub is_of_segment : ℕ → Bool
 is_of_segment c = is_alphanumeric c || is_one_of (codes "-_") c
 
@@ -52,7 +51,7 @@ pub record IsWholeDomain (class : ℕ → Bool) (s t : List ℕ) : Type 0 where
   pub there : Reads (literal_domain class) s t
   pub ended : IsNotAt (domain_step class) t
 
--- The protocol, before the local part: mailto: or xmpp: in letters of either case, with no letter and no digit before it.
+-- The protocol, before the local part: mailto: or xmpp: in letters of either case, with no letter or digit before it.
 pub record HasProtocol (protocol front before : List ℕ) : Type 0 where
   pub part : List ℕ
   pub whole : front ≡ before ++ part
@@ -62,13 +61,13 @@ pub record HasProtocol (protocol front before : List ℕ) : Type 0 where
 abbrev pub HasNoProtocol : (protocol front : List ℕ) → Type 0
 HasNoProtocol protocol front = (before : List ℕ) → HasProtocol protocol front before → ⊥
 
--- what stands before an address, where this stands before its local part
+-- the text before an address, from the text before its local part
 abbrev pub BeginsAfter : (front before : List ℕ) → Kind → Type 0
 BeginsAfter front before Mailto = HasProtocol (codes "mailto:") front before
 BeginsAfter front before Xmpp = HasProtocol (codes "xmpp:") front before
 BeginsAfter front before Email = (before ≡ front) × HasNoProtocol (codes "mailto:") front × HasNoProtocol (codes "xmpp:") front
 
--- An address stands around an at sign of a text.
+-- An address is around an at sign of a text.
 pub record IsLiteralAt (text : List ℕ) (at : ℕ) (it : EmailLiteral) : Type 0 where
   pub within : it.start < at
   pub order : at < it.end
@@ -79,7 +78,7 @@ pub record IsLiteralAt (text : List ℕ) (at : ℕ) (it : EmailLiteral) : Type 0
   pub begins : BeginsAfter front (take it.start text) it.kind
   pub domain : IsWholeDomain (domain_class it.kind) (drop (at + 1) text) (drop it.end text)
 
--- The first one: there is none around an at sign before it, and no other around its own.
+-- The first address: there is none around an at sign before it, and no other around its own.
 pub record IsFirstLiteral (text : List ℕ) (it : EmailLiteral) : Type 0 where
   pub at : ℕ
   pub there : IsLiteralAt text at it

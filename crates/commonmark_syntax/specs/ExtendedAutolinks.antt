@@ -1,14 +1,12 @@
--- Extended autolinks (GFM), after what they begin with: what their paths have, and where they end. Each rule stands here
--- in our words.
+-- Extended autolinks (GFM), after their start: their paths, and where they end. Each rule is in our words.
 use Rattle.std.specs.Prelude.{◌≡◌, ◌<◌, ◌++◌, ℕ, Bool, true, false, cond, if◌then◌else◌, ◌+◌, ◌-◌, ◌&&◌, ◌||◌, ◌==◌, nat_le, List, [], ◌∷◌, Option, Some, None, codes, filter, length}
 use Rattle.commonmark_syntax.specs.Inlines.{is_gfm_white_space}
 use Rattle.commonmark_syntax.specs.Language.{Syntax, all, are_all, many, one, ◌then◌, ◌or◌}
 use Rattle.commonmark_syntax.specs.Reading.{read}
 use Rattle.commonmark_syntax.specs.Syntax.{byte, is_alphanumeric, is_one_of}
 
--- A path: zero or more bytes that are no white space and no <. Where a bracket is open before the autolink, a ] ends
--- the path, too, but for one that goes with a [ of the path (micromark). So it is read with the number of brackets
--- that are open in it.
+-- A path: zero or more bytes other than white space and <. If a bracket is open before the autolink, a ] ends the path
+-- too, unless it matches a [ of the path (micromark). So the path is read with the number of brackets that are open in it.
 abbrev pub ends_path : (in_bracket : Bool) → (depth c : ℕ) → Bool
 ends_path in_bracket depth c = is_gfm_white_space c || (c == 60) || (in_bracket && (c == 93) && (depth == 0))
 
@@ -22,8 +20,8 @@ path_at_depth in_bracket depth (c ∷ u) = cond (ends_path in_bracket depth c) [
 abbrev pub path : (in_bracket : Bool) → List ℕ → List ℕ
 path in_bracket text = path_at_depth in_bracket 0 text
 
--- What an autolink may not end with: one of ?!.,:*_~, something like an entity reference, which is & and some letters
--- and digits and a semicolon, or a closing parenthesis, but see below.
+-- The parts that an autolink may not end with: one of ?!.,:*_~, something like an entity reference, which is & and some
+-- letters and digits and a semicolon, or a closing parenthesis, but see below.
 abbrev pub is_trailing : ℕ → Bool
 is_trailing c = is_one_of (codes "?!.,:*_~") c
 
@@ -36,7 +34,7 @@ trail_piece = one is_trailing or byte 41 or reference_like
 abbrev pub trail : Syntax
 trail = many trail_piece
 
--- whether nothing is left
+-- whether there is a result, with nothing left
 abbrev pub is_whole : Option (List ℕ) → Bool
 is_whole None = false
 is_whole (Some []) = true
@@ -45,8 +43,8 @@ is_whole (Some (c ∷ u)) = false
 abbrev pub is_trail : List ℕ → Bool
 is_trail w = is_whole (read trail w)
 
--- The text of an autolink ends at the first place from which on there is only such a trail. Of the closing parentheses
--- in that there are at most as many as the whole path has more than opening ones: the others are part of the text.
+-- The text of an autolink ends at the first place from which on there is only such a trail. The trail may have at most as
+-- many closing parentheses as the whole path has more than opening ones: the others are part of the text.
 abbrev pub how_many : ℕ → List ℕ → ℕ
 how_many c w = length (filter (λ x. x == c) w)
 
@@ -60,6 +58,6 @@ without_trail unmatched (c ∷ u) = cond (may_drop unmatched (c ∷ u)) [] (c �
 abbrev pub trimmed : List ℕ → List ℕ
 trimmed w = without_trail (how_many 41 w - how_many 40 w) w
 
--- A text ends with what is like a reference but for its semicolon.
+-- A text ends with something like an entity reference without its semicolon.
 abbrev pub EndsWithName : (text front : List ℕ) → Type 0
 EndsWithName text front = (name : List ℕ) × (text ≡ front ++ 38 ∷ name) × (are_all is_alphanumeric name ≡ true) × (0 < length name)

@@ -1,5 +1,5 @@
--- The syntax of CommonMark's blocks of HTML. They begin with the first of seven conditions that holds, and end in the
--- line that has the end of that, or before a blank line.
+-- The syntax of CommonMark's HTML blocks. A block begins with the first of seven conditions that holds. It ends in the line
+-- that has the end for that condition, or before a blank line.
 use Rattle.std.specs.Prelude.{ℕ, Bool, false, not, cond, ◌&&◌, ◌||◌, ◌≡◌, ◌<◌, ◌==◌, List, [], ◌∷◌, ◌++◌, codes, drop}
 use Rattle.std.specs.List.{list_any}
 use Rattle.std.specs.Str.{str_eq_ignore_ascii_case}
@@ -9,15 +9,15 @@ use Rattle.commonmark_syntax.specs.Syntax.{byte, closing_tag, is_blank, is_lette
 use Rattle.commonmark_syntax.specs.declared.html_block.Kind.{Kind}
 use Rattle.commonmark_syntax.specs.declared.html_block.Kind.TheVariants as html
 
--- A name is one of a list, whatever the case of its letters.
+-- A name is in a list, regardless of the case of its letters.
 abbrev pub is_among : List (List ℕ) → List ℕ → Bool
 is_among names w = list_any (λ name. str_eq_ignore_ascii_case name w) names
 
--- the elements that may have blank lines in them
+-- the elements that may contain blank lines
 abbrev pub raw_names : List (List ℕ)
 raw_names = codes "pre" ∷ codes "script" ∷ codes "style" ∷ codes "textarea" ∷ []
 
--- the elements of blocks
+-- the block elements
 abbrev pub basic_names : List (List ℕ)
 basic_names =
     codes "address" ∷ codes "article" ∷ codes "aside" ∷ codes "base" ∷ codes "basefont" ∷ codes "blockquote" ∷
@@ -34,7 +34,7 @@ basic_names =
 abbrev pub name_among : List (List ℕ) → Syntax
 name_among names = tested (is_among names) whole_tag_name
 
--- Condition 1: <, a name of an element that may have blank lines, and then a space, a tab, > or the end of the line.
+-- Condition 1: <, the name of an element that may contain blank lines, and then a space, a tab, > or the end of the line.
 abbrev pub goes_on : List ℕ → Bool
 goes_on [] = false
 goes_on (c ∷ u) = not (is_blank c || (c == 62))
@@ -42,11 +42,11 @@ goes_on (c ∷ u) = not (is_blank c || (c == 62))
 abbrev pub raw_start : Syntax
 raw_start = byte 60 then name_among raw_names then unless goes_on nothing
 
--- Conditions 2 to 5: what a comment, a processing instruction, a declaration and a CDATA section begin with.
+-- Conditions 2 to 5: the starts of a comment, a processing instruction, a declaration and a CDATA section.
 abbrev pub declaration_start : Syntax
 declaration_start = word (codes "<!") then one is_letter
 
--- Condition 6: < or </, a name of an element of blocks, and then a space, a tab, > or />, or the end of the line.
+-- Condition 6: < or </, the name of a block element, and then a space, a tab, > or />, or the end of the line.
 abbrev pub goes_on_in_tag : List ℕ → Bool
 goes_on_in_tag [] = false
 goes_on_in_tag (c ∷ []) = not (is_blank c || (c == 62))
@@ -55,7 +55,7 @@ goes_on_in_tag (c ∷ d ∷ u) = not (is_blank c || ((c == 62) || ((c == 47) && 
 abbrev pub basic_start : Syntax
 basic_start = byte 60 then optional (byte 47) then name_among basic_names then unless goes_on_in_tag nothing
 
--- Condition 7: an open tag, unless it has a name of condition 1, or a closing tag, alone in the line.
+-- Condition 7: an open tag, unless it has a name of condition 1, or a closing tag, alone on its line.
 abbrev pub front : (ℕ → Bool) → List ℕ → List ℕ
 front p [] = []
 front p (c ∷ u) = cond (p c) (c ∷ front p u) []
@@ -87,19 +87,19 @@ condition html.Cdata = 5
 condition html.Basic = 6
 condition html.Complete = 7
 
--- A condition holds of a line, and none before it.
+-- A condition holds for a line, and no earlier condition does.
 abbrev pub HoldsFirst : Kind → List ℕ → Type 0
 HoldsFirst kind s = IsAt (html_start kind) s × ((other : Kind) → condition other < condition kind → IsNotAt (html_start other) s)
 
--- A text of a syntax is somewhere in a text.
+-- A text of a syntax is somewhere in this text.
 abbrev pub IsIn : Syntax → List ℕ → Type 0
 IsIn a s = (before rest : List ℕ) × (s ≡ before ++ rest) × IsAt a rest
 
--- the closing tag of an element that may have blank lines, of any of them
+-- the closing tag of any element that may contain blank lines
 abbrev pub raw_end : Syntax
 raw_end = word (codes "</") then name_among raw_names then byte 62
 
--- A line has the end of a block. The last two kinds end at a blank line alone.
+-- A line has the end of a block. The last two kinds end only at a blank line.
 abbrev pub HasEnd : Kind → List ℕ → Type 0
 HasEnd html.Raw s = IsIn raw_end s
 HasEnd html.Comment s = IsIn (word (codes "-->")) s

@@ -5,8 +5,8 @@ use Rattle.commonmark_syntax.specs.Html.{front}
 use Rattle.commonmark_syntax.specs.Reading.{behind_run}
 use Rattle.commonmark_syntax.specs.Syntax.{is_blank}
 
--- What comes after a fence that opens, from its first byte on that is no space and no tab, up to the end of the line: the
--- info string, without the spaces and tabs at its end.
+-- The info string: what follows an opening fence, from its first byte that is neither a space nor a tab, up to the end of
+-- the line, without the spaces and tabs at its end.
 abbrev pub info_string : List ℕ → List ℕ
 info_string w = without_last is_blank w
 
@@ -17,6 +17,6 @@ is_solid c = not (is_blank c)
 abbrev pub language : List ℕ → List ℕ
 language w = front is_solid (info_string w)
 
--- What comes after that and the white space there is the meta (micromark). Math has no language: its meta is the info string.
+-- The meta comes after that word and the white space there (micromark). Math has no language: its meta is the info string.
 abbrev pub meta : List ℕ → List ℕ
 meta w = behind_run is_blank (behind_run is_solid (info_string w))

@@ -1,12 +1,12 @@
--- Destinations of links without angle brackets. They are no regular syntax, since parentheses come in pairs.
+-- Link destinations without angle brackets. They are not a regular syntax, because parentheses come in pairs.
 use Rattle.std.specs.Prelude.{◌≡◌, ◌≢◌, ◌⊎◌, ◌<◌, ℕ, zero, suc, Bool, true, false, ◌==◌, ◌||◌, List, [], ◌∷◌, Option, Some, None, if◌then◌else◌, length, nat_le}
 use Rattle.commonmark_syntax.specs.Language.{Reads}
 use Rattle.commonmark_syntax.specs.Syntax.{angle_destination, is_from}
 use Rattle.commonmark_syntax.specs.declared.destination.Kind as kinds
 use Rattle.commonmark_syntax.specs.declared.destination.Kind.TheVariants as kind_names
 
--- What a byte is to a destination. A space and a control character of ASCII end it. The null character is
--- none, since it is read as U+FFFD.
+-- The kind of a byte in a destination. A space or an ASCII control character ends it. The null character does not,
+-- because it is read as U+FFFD.
 pub data Kind : Type 0 where
   plain : Kind
   escapes : Kind
@@ -20,17 +20,17 @@ is_stop c = (c == 32) || (is_from 1 31 c || (c == 127))
 abbrev pub kind : ℕ → Kind
 kind c = if is_stop c then stops else if c == 92 then escapes else if c == 40 then opens else if c == 41 then closes else plain
 
--- a backslash takes with it what comes after it, but for what ends a destination
+-- a backslash takes the next byte with it, unless that byte ends a destination
 abbrev pub IsTaken : Kind → Type 0
 IsTaken stops = ⊥
 IsTaken _ = Unit {0}
 
--- nothing that a backslash takes
+-- a backslash takes nothing of this text
 abbrev pub IsUntaken : List ℕ → Type 0
 IsUntaken [] = Unit {0}
 IsUntaken (c ∷ u) = kind c ≡ stops
 
--- Parentheses stand in pairs, or after a backslash: s is such a text, and then t. Pairs stand in pairs at most so often.
+-- Parentheses come in pairs, or after a backslash: s is such a text, and then t. Pairs are nested at most n deep.
 pub data Balanced : ℕ → List ℕ → List ℕ → Type 0 where
   done : (n : ℕ) (t : List ℕ) → Balanced n t t
   one_more : (n c : ℕ) (s t : List ℕ) → kind c ≡ plain → Balanced n s t → Balanced n (c ∷ s) t
@@ -48,16 +48,16 @@ abbrev pub IsEnded : List ℕ → Type 0
 IsEnded [] = Unit {0}
 IsEnded (c ∷ u) = MayEnd (kind c)
 
--- A destination without angle brackets is not empty, and does not begin with <. It has neither spaces nor control characters
--- in it, and parentheses only in pairs or after a backslash. Pairs are nested at most 32 deep, as in cmark and micromark;
--- CommonMark asks for three levels at least. It goes as far as it can.
+-- A destination without angle brackets is not empty, and does not begin with <. It contains neither spaces nor control
+-- characters, and parentheses only in pairs or after a backslash. Pairs are nested at most 32 deep, as in cmark and
+-- micromark; CommonMark requires at least three levels. The destination goes as far as it can.
 pub record IsRawDestination (s t : List ℕ) : Type 0 where
   pub some : length t < length s
   pub not_angle : (u : List ℕ) → s ≢ 60 ∷ u
   pub balanced : Balanced 32 s t
   pub ended : IsEnded t
 
--- A destination, of one kind or the other.
+-- A destination, of either kind.
 abbrev pub IsDestination : List ℕ → List ℕ → Type 0
 IsDestination s t = Reads angle_destination s t ⊎ IsRawDestination s t
 
@@ -69,7 +69,7 @@ pub record LeavesDestination (s t : List ℕ) : Type 0 where
   pub there : IsDestination s t
   pub only : (u : List ℕ) → IsDestination s u → u ≡ t
 
--- the kinds of the program are these
+-- the kinds of the program, as these kinds
 abbrev pub kind_in : kinds.Kind → Kind
 kind_in kind_names.Plain = plain
 kind_in kind_names.Escapes = escapes
@@ -77,7 +77,7 @@ kind_in kind_names.Opens = opens
 kind_in kind_names.Closes = closes
 kind_in kind_names.Stops = stops
 
--- The same as a function: the end, with so many parentheses open, and whether a backslash came last.
+-- The end of a destination as a function, given the number of open parentheses, and whether a backslash came last.
 abbrev pub at_depth : List ℕ → ℕ → Option (List ℕ)
 at_depth t zero = Some t
 at_depth t (suc k) = None

@@ -1,4 +1,4 @@
--- Reading as a function: the first choice that works, and as many as there are.
+-- Reading as a function: the first choice that works, and as many repetitions as there are.
 use Rattle.std.specs.Prelude.{◌≡◌, ℕ, zero, suc, ◌-◌, take, Bool, true, false, cond, not, ◌&&◌, ◌||◌, List, [], ◌∷◌, length, Option, Some, None, option_and_then, nat_lt, ◌==◌}
 use Rattle.std.specs.Option.{option_or}
 use Rattle.commonmark_syntax.specs.Language.{Syntax, nothing, one, sequence, choice, at_most, many, through, all, tested, unless}
@@ -11,7 +11,7 @@ abbrev pub go_on : List ℕ → (List ℕ → List ℕ) → Option (List ℕ) �
 go_on s f None = s
 go_on s f (Some t) = f t
 
--- as often as f answers, but at most k times
+-- as often as f succeeds, but at most k times
 abbrev pub greedy : (List ℕ → Option (List ℕ)) → ℕ → List ℕ → List ℕ
 greedy f zero s = s
 greedy f (suc k) s = go_on s (greedy f k) (f s)
@@ -56,8 +56,8 @@ is_nullable (all p) = true
 is_nullable (tested test a) = is_nullable a
 is_nullable (unless test a) = is_nullable a
 
--- What is seen of a text ahead: whether a space or a tab, or a line ending, comes first, and the first byte
--- that is none of them, or 256 at the end.
+-- A look ahead at a text: whether a space or a tab, or a line ending, comes first, and the first byte that is none of
+-- them, or 256 at the end.
 pub data Lead : Type 0 where
   solid : Lead
   gap : Lead
@@ -85,7 +85,7 @@ abbrev pub first_solid : List ℕ → ℕ
 first_solid [] = 256
 first_solid (c ∷ u) = solid_from (lead_byte c) c (first_solid u)
 
--- A set of what can be seen.
+-- A set of what a look ahead may see.
 abbrev pub View : Type 0
 View = Lead → ℕ → Bool
 
@@ -131,7 +131,7 @@ if_closed false X = everything
 abbrev pub closing : (View → View) → View → View
 closing step X = if_closed (is_within (step X) X) X
 
--- what can be seen at the front of a text of the syntax, where F is seen behind it
+-- what a look ahead may see at a text of the syntax, where it may see F behind the text
 abbrev pub views : Syntax → View → View
 views nothing F = F
 views (one p) F = class_view p F
@@ -144,7 +144,7 @@ views (all p) F = union F (class_view p everything)
 views (tested test a) F = views a F
 views (unless test a) F = views a F
 
--- What is seen ahead always tells how reading goes on, where F is seen behind.
+-- A look ahead always decides how reading goes on, where it may see F behind the text.
 abbrev pub is_clear : Syntax → View → Bool
 is_clear nothing F = true
 is_clear (one p) F = true
@@ -157,7 +157,7 @@ is_clear (all p) F = true
 is_clear (tested test a) F = is_clear a F
 is_clear (unless test a) F = is_clear a F
 
--- What a function left, if it is what reading leaves.
+-- The result of a function is what reading leaves.
 abbrev pub Reading : Syntax → List ℕ → {T : Type 0} → (T → List ℕ) → Option T → Type 0
 Reading a s view None = read a s ≡ None
 Reading a s view (Some t) = read a s ≡ Some (view t)

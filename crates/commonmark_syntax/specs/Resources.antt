@@ -1,11 +1,11 @@
--- Resources of links and images. They are no regular syntax, since destinations are not.
+-- Resources of links and images. They are not a regular syntax, because destinations are not.
 use Rattle.std.specs.Prelude.{◌≡◌, ◌≢◌, ◌<◌, ◌⊎◌, List, ℕ, drop, slice_index}
 use Rattle.commonmark_syntax.specs.Language.{IsNotAt, Leaves, Reads, Syntax, optional, ◌then◌}
 use Rattle.commonmark_syntax.specs.Parentheses.{IsDestination, IsNoDestination, LeavesDestination}
 use Rattle.commonmark_syntax.specs.Syntax.{blanks, byte, some_blanks, title}
 
 -- A resource: parentheses with optional white space between them; or an opening parenthesis, optional white space, a
--- destination, a title if there is one, with white space before it, optional white space, and a closing parenthesis.
+-- destination, optionally white space and a title, optional white space, and a closing parenthesis.
 abbrev pub empty_resource : Syntax
 empty_resource = byte 40 then blanks then byte 41
 
@@ -26,13 +26,13 @@ pub record LeavesResource (s t : List ℕ) : Type 0 where
   pub there : IsResource s t
   pub only : (u : List ℕ) → IsResource s u → u ≡ t
 
--- The parts of a resource as they are found. First the parenthesis that closes it, or a destination of some length.
+-- The parts of a resource, as they are found: first the parenthesis that closes it, or a destination of this length.
 abbrev pub BeginsWithNeither : List ℕ → Type 0
 BeginsWithNeither s = (slice_index s 0 ≢ 41) × IsNoDestination s
 
 abbrev pub BeginsWithEither : List ℕ → ℕ → Type 0
 BeginsWithEither s size = ((slice_index s 0 ≡ 41) × (size ≡ 0)) ⊎ ((0 < size) × LeavesDestination s (drop size s))
 
--- after a destination and white space, a title of some length, or none
+-- after a destination and white space: a title of this length, or none
 abbrev pub HasTitle : List ℕ → ℕ → Type 0
 HasTitle s size = (IsNotAt title s × (size ≡ 0)) ⊎ ((0 < size) × Leaves title s (drop size s))

@@ -1,5 +1,5 @@
--- The page of the syntax: what blocks and inlines share, HTML, and the parts of links. Each construct has the name that
--- CommonMark gives it, and its rule in our words.
+-- The syntax that blocks and inlines share, HTML, and the parts of links. Each construct has its name from CommonMark, and
+-- its rule in our words.
 use Rattle.std.specs.Prelude.{ℕ, Bool, true, false, not, ◌&&◌, ◌||◌, nat_le, ◌==◌, List, [], ◌∷◌, codes, filter, length}
 use Rattle.std.specs.List.{list_any}
 use Rattle.commonmark_syntax.specs.Language.{Syntax, nothing, one, many, through, all, tested, unless, ◌then◌, ◌or◌, optional, some}
@@ -36,15 +36,15 @@ is_hexadecimal c = is_digit c || is_from 65 70 c || is_from 97 102 c
 abbrev pub is_blank : ℕ → Bool
 is_blank c = (c == 32) || (c == 9)
 
--- White space: spaces, tabs and line endings. A line ending is a line feed, since the tokenizer hands texts on so.
+-- White space: spaces, tabs and line endings. A line ending is an LF, because the tokenizer passes texts on in that form.
 abbrev pub new_line : Syntax
 new_line = byte 10 then many (one is_blank)
 
--- any number of spaces and tabs, with one line ending among them at most
+-- any number of spaces and tabs, with at most one line ending among them
 abbrev pub blanks : Syntax
 blanks = many (one is_blank) then optional new_line
 
--- the same, but not empty
+-- such white space, but not empty
 abbrev pub some_blanks : Syntax
 some_blanks = (some (one is_blank) then optional new_line) or new_line
 
@@ -59,7 +59,7 @@ tag_name = one is_letter then many (one is_of_tag_name)
 abbrev pub whole_tag_name : Syntax
 whole_tag_name = one is_letter then all is_of_tag_name
 
--- An attribute name begins with a letter, an underscore or a colon. Digits, full stops and hyphens may follow, too.
+-- An attribute name begins with a letter, an underscore or a colon. Digits, periods and hyphens may follow too.
 abbrev pub begins_attribute_name : ℕ → Bool
 begins_attribute_name c = is_letter c || (c == 95) || (c == 58)
 
@@ -69,7 +69,7 @@ is_of_attribute_name c = begins_attribute_name c || is_digit c || (c == 46) || (
 abbrev pub attribute_name : Syntax
 attribute_name = one begins_attribute_name then many (one is_of_attribute_name)
 
--- A value without quotes has neither white space nor quotes nor one of =, <, > and ` in it, and is not empty.
+-- An unquoted value is not empty, and contains neither white space nor quotes nor any of =, <, > and `.
 abbrev pub is_unquoted : ℕ → Bool
 is_unquoted c = not (is_one_of (32 ∷ 9 ∷ 10 ∷ 34 ∷ 39 ∷ 61 ∷ 60 ∷ 62 ∷ 96 ∷ []) c)
 
@@ -94,8 +94,8 @@ value_specification = blanks then byte 61 then blanks then attribute_value
 abbrev pub attribute : Syntax
 attribute = some_blanks then attribute_name then optional value_specification
 
--- An open tag ends with >, or with /> where the element is empty. In <a href=b/> the slash may belong to the value, or to
--- the end: the tag ends at the same place.
+-- An open tag ends with >, or with /> if the element is empty. In <a href=b/> the slash may belong to the value or to the
+-- end: the tag ends at the same place.
 abbrev pub open_tag_end : Syntax
 open_tag_end = blanks then optional (byte 47) then byte 62
 
@@ -108,7 +108,7 @@ abbrev pub closing_tag : Syntax
 closing_tag = word (codes "</") then tag_name then blanks then byte 62
 
 -- A comment is <!-->, or <!--->, or it goes from <!-- to the next -->. In <!--> a --> both a short comment and a long one
--- begin, and the specification does not say which counts: the short one does, as in cmark.
+-- begin, and the specification does not say which one counts: the short one does, as in cmark.
 abbrev pub begins_short : List ℕ → Bool
 begins_short [] = false
 begins_short (c ∷ []) = c == 62
@@ -156,7 +156,7 @@ has_blank_line (c ∷ u) = ((c == 10) && ends_blank u) || has_blank_line u
 abbrev pub has_no_blank_line : List ℕ → Bool
 has_no_blank_line w = not (has_blank_line w)
 
--- A title stands between two double quotes, two single quotes, or parentheses. Its own marks may stand in it only after a
+-- A title is between two double quotes, two single quotes, or parentheses. These marks may occur in it only after a
 -- backslash. It may have several lines, but no blank one.
 abbrev pub in_double_quotes : ℕ → Bool
 in_double_quotes c = not (is_one_of (34 ∷ 92 ∷ []) c)
@@ -176,8 +176,8 @@ titled opening plain closing = byte opening then title_text plain then byte clos
 abbrev pub title : Syntax
 title = titled 34 in_double_quotes 34 or titled 39 in_single_quotes 39 or titled 40 in_parentheses 41
 
--- A link label stands between brackets, and no bracket stands in it but after a backslash. It has more than white space in
--- it, and at most 999 characters.
+-- A link label is between brackets, and contains brackets only after a backslash. It has at most 999 characters, and not
+-- only white space.
 abbrev pub in_brackets : ℕ → Bool
 in_brackets c = not (is_one_of (91 ∷ 93 ∷ 92 ∷ []) c)
 
@@ -194,8 +194,8 @@ is_label_text w = list_any (λ c. not (is_white_space c)) w && nat_le (length (f
 abbrev pub link_label : Syntax
 link_label = byte 91 then tested is_label_text (many (character is_any in_brackets)) then byte 93
 
--- A destination may stand between angle brackets. Then it has no line ending in it, and no angle bracket but after a
--- backslash. specs/Parentheses.antt has those without.
+-- A destination may be between angle brackets. Then it contains no line ending, and angle brackets only after a
+-- backslash. The page Parentheses.antt has the destinations without angle brackets.
 abbrev pub in_line : ℕ → Bool
 in_line c = not (c == 10)
 

@@ -1,4 +1,4 @@
-//! Attributes of open tags of HTML (CommonMark).
+//! Attributes of HTML open tags (CommonMark).
 
 ghost use Rattle.commonmark_syntax.specs.Reading.{Reading};
 ghost use Rattle.commonmark_syntax.specs.Syntax as page;
@@ -6,8 +6,8 @@ ghost use Rattle.commonmark_syntax.specs.Syntax as page;
 use crate::class::{BeginsAttributeName, OfAttributeName, Unquoted};
 use crate::reading::{past_all, past_blanks, past_byte, past_first, past_one, past_some_blanks};
 
-/// After an attribute, with the white space before it. Where no value comes after the name, the attribute
-/// is the name.
+/// Returns the text after an attribute, with the white space before it. If no value comes after the
+/// name, the attribute is only the name.
 pub(crate) fn past(text: &[u8]) -> Option<&[u8]>
     ensures { Reading page.attribute text.now (λ rest. rest.now) result }
 {
@@ -18,7 +18,7 @@ pub(crate) fn past(text: &[u8]) -> Option<&[u8]>
     }
 }
 
-/// After the name of an attribute.
+/// Returns the text after the name of an attribute.
 fn past_name(text: &[u8]) -> Option<&[u8]>
     ensures { Reading page.attribute_name text.now (λ rest. rest.now) result }
 {
@@ -26,7 +26,7 @@ fn past_name(text: &[u8]) -> Option<&[u8]>
     Some(past_all::<OfAttributeName>(rest))
 }
 
-/// After a value with the equals sign before it, and the white space around that.
+/// Returns the text after a value, with the equals sign before it and the white space around that.
 fn past_value_specification(text: &[u8]) -> Option<&[u8]>
     ensures { Reading page.value_specification text.now (λ rest. rest.now) result }
 {
@@ -34,7 +34,7 @@ fn past_value_specification(text: &[u8]) -> Option<&[u8]>
     past_value(past_blanks(rest))
 }
 
-/// After a value, with its quotes where it has them.
+/// Returns the text after a value, with its quotes if it has them.
 fn past_value(text: &[u8]) -> Option<&[u8]>
     ensures { Reading page.attribute_value text.now (λ rest. rest.now) result }
 {
@@ -47,7 +47,7 @@ fn past_value(text: &[u8]) -> Option<&[u8]>
     past_quoted(text, b'"')
 }
 
-/// After a value without quotes.
+/// Returns the text after a value without quotes.
 fn past_unquoted(text: &[u8]) -> Option<&[u8]>
     ensures { Reading page.unquoted text.now (λ rest. rest.now) result }
 {
@@ -55,7 +55,7 @@ fn past_unquoted(text: &[u8]) -> Option<&[u8]>
     Some(past_all::<Unquoted>(rest))
 }
 
-/// After a value in quotes.
+/// Returns the text after a value in quotes.
 fn past_quoted(text: &[u8], quote: u8) -> Option<&[u8]>
     ensures { Reading (page.quoted quote) text.now (λ rest. rest.now) result }
 {

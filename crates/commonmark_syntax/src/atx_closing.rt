@@ -1,4 +1,4 @@
-//! The text of headings with number signs, and what closes it (CommonMark).
+//! The text of headings with number signs, and the closing sequence (CommonMark).
 
 ghost use Rattle.std.specs.Prelude.{◌≡◌, ◌≤◌, ◌-◌, length, take};
 ghost use Rattle.commonmark_syntax.specs.Blocks.{ends_solid, heading_text, is_sign, without_last};
@@ -6,9 +6,9 @@ ghost use Rattle.commonmark_syntax.specs.Cuts.{IsCut};
 
 use crate::bytes::{count_back, is_space_or_tab, trimmed_size};
 
-/// The size of the text of a heading, of which what comes after its opening is given, without the white space there:
-/// the size without the signs that close it, and without the white space around them. Signs close a heading
-/// where white space comes before them, or nothing (CommonMark).
+/// Returns the size of the text of a heading. `inside` is the text after its opening, without the
+/// white space there. The size excludes the signs that close the heading, and the white space
+/// around them. Signs close a heading if white space comes before them, or nothing (CommonMark).
 ///
 /// In `a # #` and a space it is 3.
 pub fn text_size(inside: &[u8]) -> usize
@@ -25,7 +25,7 @@ pub fn text_size(inside: &[u8]) -> usize
     trimmed_size(before_signs)
 }
 
-/// Whether a text ends with something else than a space or a tab.
+/// Whether a text ends with a byte other than a space or a tab.
 #[tactic(auto, using(crate::proofs::Headings::solid_last))]
 fn ends_solid(text: &[u8]) -> bool
     ensures { result ≡ ends_solid text.now }
@@ -36,7 +36,7 @@ fn ends_solid(text: &[u8]) -> bool
     }
 }
 
-/// How many bytes come before the number signs that a text ends with.
+/// Returns how many bytes come before the number signs that a text ends with.
 fn unsigned_size(text: &[u8]) -> usize
     ensures within { result ≤ length text.now }
     ensures cut { IsCut text.now result }

@@ -1,4 +1,4 @@
-//! What headings with number signs open with (CommonMark).
+//! Opening sequences of headings with number signs (CommonMark).
 
 ghost use Rattle.std.specs.Prelude.{◌≡◌, ◌≤◌, ◌<◌, MatchOption, drop, length, IfSome};
 ghost use Rattle.commonmark_syntax.specs.Blocks.{atx_opening, is_at_most, run};
@@ -8,11 +8,11 @@ ghost use Rattle.commonmark_syntax.specs.Reading.{Reading};
 
 use crate::reading::{past_blank_or_end, past_run};
 
-/// How many number signs a heading may begin with (CommonMark).
+/// The greatest number of number signs that a heading may begin with (CommonMark).
 const SIGNS_MOST: usize = 6;
 
-/// The number of number signs that the heading in a line opens with, if there is one: one to six, before a
-/// space, a tab, or the end of the line (CommonMark).
+/// Returns the number of number signs that the heading in a line opens with, if there is one: one
+/// to six, before a space, a tab, or the end of the line (CommonMark).
 ///
 /// In `## a` it is 2.
 pub fn scan(text: &[u8]) -> Option<usize>
@@ -25,14 +25,14 @@ pub fn scan(text: &[u8]) -> Option<usize>
     Some(text.len() - past(text)?.len())
 }
 
-/// After the signs that a heading opens with.
+/// Returns the text after the signs that a heading opens with.
 fn past(text: &[u8]) -> Option<&[u8]>
     ensures { Reading atx_opening text.now (λ rest. rest.now) result }
 {
     past_blank_or_end(past_signs(text)?)
 }
 
-/// After one to six number signs.
+/// Returns the text after one to six number signs.
 fn past_signs(text: &[u8]) -> Option<&[u8]>
     ensures { Reading (tested (is_at_most 6) (run 1 35)) text.now (λ rest. rest.now) result }
 {

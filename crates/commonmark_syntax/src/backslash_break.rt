@@ -8,7 +8,8 @@ ghost use Rattle.commonmark_syntax.specs.Reading.{Reading};
 
 use crate::reading::past_byte;
 
-/// The length of the hard line break that a text begins with (CommonMark): a backslash, and a line ending.
+/// Returns the length of the hard line break that a text begins with (CommonMark): a backslash, and
+/// a line ending.
 ///
 /// In a backslash, a line feed and an `a` it is 2.
 pub fn scan(text: &[u8]) -> Option<usize>
@@ -21,7 +22,7 @@ pub fn scan(text: &[u8]) -> Option<usize>
     Some(text.len() - past(text)?.len())
 }
 
-/// After a hard line break.
+/// Returns the text after a hard line break.
 fn past(text: &[u8]) -> Option<&[u8]>
     ensures { Reading backslash_break text.now (λ rest. rest.now) result }
 {

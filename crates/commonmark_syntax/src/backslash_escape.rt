@@ -9,9 +9,10 @@ ghost use Rattle.commonmark_syntax.specs.Reading.{Reading};
 use crate::class::Punctuation;
 use crate::reading::{past_byte, past_one};
 
-/// The length of the backslash escape that a text begins with (CommonMark): a backslash, and punctuation of ASCII.
+/// Returns the length of the backslash escape that a text begins with (CommonMark): a backslash,
+/// and ASCII punctuation.
 ///
-/// In `\\*a` it is 2.
+/// In `\*a` it is 2.
 pub fn scan(text: &[u8]) -> Option<usize>
     ensures exact { MatchOption result (IsNotAt backslash_escape text.now) (λ size. Leaves backslash_escape text.now (drop size text.now)) }
     ensures size { IfSome result (λ size. size ≡ 2) }
@@ -23,7 +24,7 @@ pub fn scan(text: &[u8]) -> Option<usize>
     Some(text.len() - past(text)?.len())
 }
 
-/// After a backslash escape.
+/// Returns the text after a backslash escape.
 fn past(text: &[u8]) -> Option<&[u8]>
     ensures { Reading backslash_escape text.now (λ rest. rest.now) result }
 {

@@ -6,7 +6,7 @@ ghost use Rattle.commonmark_syntax.specs.Language.{IsNotAt, Leaves};
 
 /// Whether the text of a line begins with the marker of a block quote (CommonMark).
 ///
-/// It is true of `> a`.
+/// It is true for `> a`.
 pub fn is_at(text: &[u8]) -> bool
     ensures yes { result ≡ true → Leaves block_quote_marker text.now (drop 1 text.now) }
     ensures no { result ≡ false → IsNotAt block_quote_marker text.now }

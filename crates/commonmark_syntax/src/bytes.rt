@@ -1,4 +1,4 @@
-//! Bytes of a text: which are alike, and how many of them come one after another.
+//! Bytes of a text: which are alike, and how many come in a row.
 
 ghost use Rattle.std.specs.Prelude.{◌≡◌, ◌≢◌, ◌≤◌, ◌<◌, ◌-◌, ◌==◌, ◌||◌, ◌&&◌, ◌+◌, ℕ, true, false, nat_le, drop, length, slice_index, Some, take};
 ghost use Rattle.commonmark_syntax.specs.Blocks.{has, has_more, without_last};
@@ -6,9 +6,9 @@ ghost use Rattle.commonmark_syntax.specs.Cuts.{IsCut, IsInLine, IsRunOf, IsOfAsc
 ghost use Rattle.commonmark_syntax.specs.Reading.{read};
 ghost use Rattle.commonmark_syntax.specs.Syntax.{blanks, is_blank};
 
-/// How many bytes at the start of a text are such.
+/// Returns how many bytes at the start of a text satisfy `is_such`.
 ///
-/// Of `aab` two are the letter `a`.
+/// In `aab` two are the letter `a`.
 pub fn count_while<F: Fn(u8) -> bool + Drop>(text: &[u8], is_such: F) -> usize
     requires { F.IsAlwaysCallable is_such }
     ensures most { result ≤ length text.now }
@@ -26,9 +26,9 @@ pub fn count_while<F: Fn(u8) -> bool + Drop>(text: &[u8], is_such: F) -> usize
     text.len()
 }
 
-/// How many bytes at the end of a text are such.
+/// Returns how many bytes at the end of a text satisfy `is_such`.
 ///
-/// Of `abb` two are the letter `b`.
+/// In `abb` two are the letter `b`.
 pub fn count_back<F: Fn(u8) -> bool + Drop>(text: &[u8], is_such: F) -> usize
     requires { F.IsAlwaysCallable is_such }
     ensures most { result ≤ length text.now }
@@ -45,9 +45,9 @@ pub fn count_back<F: Fn(u8) -> bool + Drop>(text: &[u8], is_such: F) -> usize
     text.len()
 }
 
-/// The length of the run of a byte that a text begins with.
+/// Returns the length of the run of a byte that a text begins with.
 ///
-/// Of the grave accent it is 2 in two grave accents and an `a`.
+/// For the grave accent it is 2 in two grave accents and an `a`.
 pub fn run_length(text: &[u8], of: u8) -> usize
     ensures most { result ≤ length text.now }
     ensures run { IsRunOf text.now of result }
@@ -58,8 +58,8 @@ pub fn run_length(text: &[u8], of: u8) -> usize
     count_while(text, |byte| byte == of)
 }
 
-/// The length of the white space that a text begins with: spaces and tabs, with at most one line
-/// ending among them (CommonMark).
+/// Returns the length of the white space that a text begins with: spaces and tabs, with at most one
+/// line ending among them (CommonMark).
 ///
 /// It is 2 in a line feed, a space and an `a`.
 pub fn white_space_length(text: &[u8]) -> usize
@@ -77,7 +77,7 @@ pub fn white_space_length(text: &[u8]) -> usize
     feed + count_while(after(text, feed), is_space_or_tab)
 }
 
-/// The rest of a text after so many bytes. It is empty where the text has fewer.
+/// Returns the rest of a text after `size` bytes. It is empty if the text has fewer.
 ///
 /// After 1 byte of `ab` it is `b`.
 pub fn after(text: &[u8], size: usize) -> &[u8]
@@ -90,7 +90,7 @@ pub fn after(text: &[u8], size: usize) -> &[u8]
 
 /// Whether a byte is a space or a tab.
 ///
-/// It is true of a tab, and false of a line feed.
+/// It is true for a tab, and false for a line feed.
 pub fn is_space_or_tab(byte: u8) -> bool
     ensures { result ≡ ((byte == 32) || (byte == 9)) }
 {
@@ -99,33 +99,33 @@ pub fn is_space_or_tab(byte: u8) -> bool
 
 /// Whether a byte is a space, a tab or a line ending.
 ///
-/// It is true of a line feed.
+/// It is true for a line feed.
 pub fn is_space_or_line_ending(byte: u8) -> bool
     ensures { result ≡ is_white_space byte }
 {
     is_space_or_tab(byte) || byte == b'\n'
 }
 
-/// Whether a byte is a control character of ASCII. The null character is none, since it is read as
+/// Whether a byte is an ASCII control character. The null character is not one, since it is read as
 /// U+FFFD (CommonMark).
 ///
-/// It is true of a tab.
+/// It is true for a tab.
 pub fn is_control(byte: u8) -> bool
     ensures { result ≡ ((nat_le 1 byte && nat_le byte 31) || (byte == 127)) }
 {
     matches!(byte, 0x01..=0x1F | 0x7F)
 }
 
-/// Whether a byte goes on with a character of UTF-8 and begins none.
+/// Whether a byte continues a UTF-8 character.
 ///
-/// It is true of the second byte of `é`.
+/// It is true for the second byte of `é`.
 pub fn is_continuation(byte: u8) -> bool
     ensures { result ≡ (nat_le 128 byte && nat_le byte 191) }
 {
     matches!(byte, 0x80..=0xBF)
 }
 
-/// How many bytes come before the spaces and tabs that a text ends with.
+/// Returns how many bytes come before the spaces and tabs that a text ends with.
 ///
 /// In ` a ` it is 2.
 pub fn trimmed_size(text: &[u8]) -> usize
@@ -137,9 +137,9 @@ pub fn trimmed_size(text: &[u8]) -> usize
     text.len() - count_back(text, is_space_or_tab)
 }
 
-/// Whether there is more in a text than spaces and tabs.
+/// Whether a text contains anything other than spaces and tabs.
 ///
-/// It is false of a tab.
+/// It is false for a tab.
 pub fn has_more(text: &[u8]) -> bool
     ensures { result ≡ has_more text.now }
 {

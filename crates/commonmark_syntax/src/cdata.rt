@@ -1,4 +1,4 @@
-//! CDATA sections of HTML (CommonMark).
+//! HTML CDATA sections (CommonMark).
 
 ghost use Rattle.std.specs.Prelude.{◌≤◌, ◌<◌, MatchOption, drop, length, IfSome};
 ghost use Rattle.commonmark_syntax.specs.Cuts.{IsCut};
@@ -8,8 +8,8 @@ ghost use Rattle.commonmark_syntax.specs.Syntax.{cdata_section};
 
 use crate::reading::{past_first, past_word};
 
-/// The length of the CDATA section that a text begins with (CommonMark): `<![CDATA[` up to the first `]]>`
-/// after it.
+/// Returns the length of the CDATA section that a text begins with (CommonMark): `<![CDATA[` up to
+/// the first `]]>` after it.
 ///
 /// In `<![CDATA[a]]> b` it is 13.
 pub fn scan(text: &[u8]) -> Option<usize>
@@ -21,7 +21,7 @@ pub fn scan(text: &[u8]) -> Option<usize>
     Some(text.len() - past(text)?.len())
 }
 
-/// After a CDATA section.
+/// Returns the text after a CDATA section.
 fn past(text: &[u8]) -> Option<&[u8]>
     ensures { Reading cdata_section text.now (λ rest. rest.now) result }
 {

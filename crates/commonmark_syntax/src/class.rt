@@ -1,4 +1,4 @@
-//! Classes of bytes, as the page of the syntax has them.
+//! Classes of bytes, as on the page of the syntax.
 
 ghost use Rattle.std.specs.Prelude.{◌≡◌, ◌==◌, ℕ, Bool, codes};
 ghost use Rattle.commonmark_syntax.specs.Blocks as blocks;
@@ -13,12 +13,12 @@ use crate::bytes::is_control;
 pub trait Class {
     ghost class: { ℕ → Bool };
 
-    /// Whether a byte is of the class.
+    /// Whether a byte is in the class.
     fn has(byte: u8) -> bool
         ensures { result ≡ class byte };
 }
 
-/// Letters of ASCII.
+/// ASCII letters.
 pub struct Letter;
 
 impl Class for Letter {
@@ -40,7 +40,7 @@ impl Class for Blank {
     }
 }
 
-/// The bytes of the name of a tag, after its first.
+/// The bytes of a tag name, after its first.
 pub struct OfTagName;
 
 impl Class for OfTagName {
@@ -51,7 +51,7 @@ impl Class for OfTagName {
     }
 }
 
-/// The bytes with which the name of an attribute may begin.
+/// The bytes that an attribute name may begin with.
 pub struct BeginsAttributeName;
 
 impl Class for BeginsAttributeName {
@@ -62,7 +62,7 @@ impl Class for BeginsAttributeName {
     }
 }
 
-/// The bytes of the name of an attribute, after its first.
+/// The bytes of an attribute name, after its first.
 pub struct OfAttributeName;
 
 impl Class for OfAttributeName {
@@ -99,7 +99,7 @@ impl Class for AnyByte {
     }
 }
 
-/// All bytes but line endings.
+/// All bytes except line endings.
 pub struct InLine;
 
 impl Class for InLine {
@@ -165,7 +165,7 @@ impl Class for InAngleBrackets {
     }
 }
 
-/// Letters and digits of ASCII.
+/// ASCII letters and digits.
 pub struct Alphanumeric;
 
 impl Class for Alphanumeric {
@@ -198,7 +198,7 @@ impl Class for OfUri {
     }
 }
 
-/// The bytes of an address of mail in angle brackets, before its at sign.
+/// The bytes of an email address in angle brackets, before its at sign.
 pub struct OfLocalPart;
 
 impl Class for OfLocalPart {
@@ -209,7 +209,7 @@ impl Class for OfLocalPart {
     }
 }
 
-/// Whether a byte is one of the marks that may stand before the at sign of an address of mail.
+/// Whether a byte is one of the marks that may occur before the at sign of an email address.
 fn is_mark_of_local_part(byte: u8) -> bool
     ensures { result ≡ page.is_one_of (codes ".!#$%&'*+/=?^_`{|}~-") byte }
 {
@@ -248,7 +248,7 @@ impl Class for OfDomainLabel {
     }
 }
 
-/// Digits of ASCII.
+/// ASCII digits.
 pub struct Digit;
 
 impl Class for Digit {
@@ -259,7 +259,7 @@ impl Class for Digit {
     }
 }
 
-/// Hexadecimal digits of ASCII.
+/// ASCII hexadecimal digits.
 pub struct Hexadecimal;
 
 impl Class for Hexadecimal {
@@ -270,7 +270,7 @@ impl Class for Hexadecimal {
     }
 }
 
-/// The letters that say that a number is hexadecimal.
+/// The letters that mark a number as hexadecimal.
 pub struct X;
 
 impl Class for X {
@@ -281,7 +281,7 @@ impl Class for X {
     }
 }
 
-/// Punctuation of ASCII.
+/// ASCII punctuation.
 pub struct Punctuation;
 
 impl Class for Punctuation {
@@ -347,7 +347,7 @@ impl Class for OfResource {
     }
 }
 
-/// The bytes that may stand in the mark of a task.
+/// The bytes that the mark of a task may contain.
 pub struct TaskValue;
 
 impl Class for TaskValue {
@@ -380,7 +380,7 @@ impl Class for Bullet {
     }
 }
 
-/// What comes after the numbers of items of ordered lists.
+/// The delimiters after the numbers of items of ordered lists.
 pub struct Delimiter;
 
 impl Class for Delimiter {
@@ -402,7 +402,7 @@ impl Class for Hyphen {
     }
 }
 
-/// The bytes that a backslash takes with it in the label of a footnote.
+/// The bytes that a backslash escapes in the label of a footnote.
 pub struct TakenInFootnote;
 
 impl Class for TakenInFootnote {

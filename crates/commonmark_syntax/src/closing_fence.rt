@@ -8,8 +8,8 @@ ghost use Rattle.commonmark_syntax.specs.Reading.{Reading};
 
 use crate::reading::{past_blank_to_end, past_run};
 
-/// The number of signs of the fence that the text of a line is, if it closes a fence of so many of a sign: at
-/// least as many of it, with only spaces and tabs after them (CommonMark).
+/// Returns the number of signs of the fence in a line, if the line closes a fence of `opened`
+/// signs: at least as many of them, with only spaces and tabs after them (CommonMark).
 ///
 /// For a fence of three tildes it is 4 in four tildes.
 pub fn scan(text: &[u8], sign: u8, opened: usize) -> Option<usize>
@@ -20,7 +20,7 @@ pub fn scan(text: &[u8], sign: u8, opened: usize) -> Option<usize>
     Some(text.len() - past(text, sign, opened)?.len())
 }
 
-/// After the signs of a fence that closes.
+/// Returns the text after the signs of a closing fence.
 fn past(text: &[u8], sign: u8, opened: usize) -> Option<&[u8]>
     ensures { Reading (closing_fence sign opened) text.now (λ rest. rest.now) result }
 {

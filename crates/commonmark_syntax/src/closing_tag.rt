@@ -1,4 +1,4 @@
-//! Closing tags of HTML (CommonMark).
+//! HTML closing tags (CommonMark).
 
 ghost use Rattle.std.specs.Prelude.{◌≤◌, ◌<◌, MatchOption, drop, length, IfSome};
 ghost use Rattle.commonmark_syntax.specs.Cuts.{IsCut};
@@ -9,7 +9,8 @@ ghost use Rattle.commonmark_syntax.specs.Syntax.{closing_tag};
 use crate::reading::{past_blanks, past_byte, past_word};
 use crate::tag_name;
 
-/// The length of the closing tag that a text begins with (CommonMark): `</`, a name, white space and `>`.
+/// Returns the length of the closing tag that a text begins with (CommonMark): `</`, a name, white
+/// space and `>`.
 ///
 /// In `</a > b` it is 5.
 pub fn scan(text: &[u8]) -> Option<usize>
@@ -21,7 +22,7 @@ pub fn scan(text: &[u8]) -> Option<usize>
     Some(text.len() - past(text)?.len())
 }
 
-/// After a closing tag.
+/// Returns the text after a closing tag.
 pub(crate) fn past(text: &[u8]) -> Option<&[u8]>
     ensures { Reading closing_tag text.now (λ rest. rest.now) result }
 {

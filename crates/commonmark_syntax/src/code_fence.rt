@@ -8,11 +8,11 @@ ghost use Rattle.commonmark_syntax.specs.Reading.{Reading};
 
 use crate::reading::{past_none_to_end, past_run};
 
-/// How many signs a fence has at least (CommonMark).
+/// The smallest number of signs in a fence (CommonMark).
 const SIGNS_LEAST: usize = 3;
 
-/// The number of signs of the fence of code that a line opens with, if it does: backticks, with none in the
-/// rest of the line, or tildes (CommonMark).
+/// Returns the number of signs of the code fence that a line opens with, if it does: backticks,
+/// with none in the rest of the line, or tildes (CommonMark).
 ///
 /// In `~~~ a` it is 3.
 pub fn scan(text: &[u8]) -> Option<usize>
@@ -25,7 +25,7 @@ pub fn scan(text: &[u8]) -> Option<usize>
     Some(text.len() - past(text)?.len())
 }
 
-/// After the signs of a fence.
+/// Returns the text after the signs of a fence.
 fn past(text: &[u8]) -> Option<&[u8]>
     ensures { Reading code_fence text.now (λ rest. rest.now) result }
 {
@@ -35,7 +35,7 @@ fn past(text: &[u8]) -> Option<&[u8]>
     past_run(text, b'~', SIGNS_LEAST)
 }
 
-/// After backticks, with none in the rest of the line.
+/// Returns the text after backticks, with none in the rest of the line.
 fn past_backticks(text: &[u8]) -> Option<&[u8]>
     ensures { Reading (run 3 96 then none_to_end 96) text.now (λ rest. rest.now) result }
 {

@@ -1,4 +1,4 @@
-//! Code spans, and math, which has dollars where code has backticks (CommonMark).
+//! Code spans, and math, which has dollars in place of backticks (CommonMark).
 
 ghost use Rattle.std.specs.Prelude.{◌≡◌, ◌≢◌, ◌≤◌, ◌<◌, ◌+◌, ◌-◌, ◌^◌, IfOk, IfSome, MatchOption, OnOk, drop, false, length, nat_lt, slice_index, ℕ};
 ghost use Rattle.commonmark_syntax.specs.Strings.{AreLast, FirstStringEnds, HasNoString, IsKept};
@@ -6,18 +6,19 @@ ghost use Rattle.commonmark_syntax.specs.Strings.{AreLast, FirstStringEnds, HasN
 use crate::bytes::after;
 use std::alloc::{AllocError, Global};
 
-/// Where the last string of each size ends, of one mark in a text.
+/// Where the last string of each size ends, for one mark in a text.
 ///
-/// With it, the string that closes a code span is looked for only where there is one, so that all searches
-/// together are linear.
+/// With it, the string that closes a code span is searched only if there is one. All searches
+/// together are therefore linear.
 #[derive(Drop)]
 pub struct LastStrings {
-    /// The offset at which the last string of a size ends, by the size. It is 0 where there is none.
+    /// The offset where the last string of a size ends, indexed by the size. It is 0 if there is
+    /// none.
     ends: Vec<usize>,
 }
 
 impl LastStrings {
-    /// The last strings of a mark in a text. The only error is that memory ran out.
+    /// Returns the last strings of a mark in a text. The only error is that memory ran out.
     fn new(alloc: Global, text: &[u8], mark: u8) -> Result<LastStrings, AllocError>
         ensures { IfOk result (AreLast mark text.now) }
     {
@@ -37,7 +38,8 @@ impl LastStrings {
         Ok(last)
     }
 
-    /// Keeps that a string ends at an offset. One of no marks is none. The only error is that memory ran out.
+    /// Records that a string ends at an offset. An empty string is ignored. The only error is that
+    /// memory ran out.
     fn keep(&mut self, size: usize, end: usize) -> Result<(), AllocError>
         requires order { size ≤ end }
         requires fits { end < 2 ^ 63 }
@@ -63,7 +65,7 @@ impl LastStrings {
         Ok(())
     }
 
-    /// Whether a string of this size ends after an offset, as far as is known.
+    /// Whether it is known that a string of this size ends after an offset.
     fn has_after(&self, size: usize, at: usize) -> bool
         ensures { result ≡ nat_lt at (slice_index self.now.ends.items size) }
     {
@@ -74,10 +76,11 @@ impl LastStrings {
     }
 }
 
-/// The length of the code span that begins with a string of so many marks at an offset, if one does (CommonMark).
+/// Returns the length of the code span that begins with a string of `size` marks at an offset, if
+/// one does (CommonMark).
 ///
-/// `last` is what is known of the strings of the mark in the content; it is found once. The only error is that
-/// memory ran out.
+/// `last` has what is known of the strings of the mark in the content; it is computed once. The
+/// only error is that memory ran out.
 pub fn scan(
     alloc: Global,
     content: &[u8],
@@ -103,8 +106,8 @@ pub fn scan(
     }
 }
 
-/// Whether a string of so many marks may come after an offset, by what is known of the strings of the mark. The only
-/// error is that memory ran out.
+/// Whether a string of `size` marks may come after an offset, by what is known of the strings of
+/// the mark. The only error is that memory ran out.
 fn may_close(
     alloc: Global,
     content: &[u8],
@@ -129,8 +132,8 @@ fn may_close(
     }
 }
 
-/// The length of a text through the first string of so many marks in it, which is what a code span has after the
-/// string of as many marks that opens it (CommonMark).
+/// Returns the length of a text through the first string of `size` marks in it. This is the rest of
+/// a code span after its opening string of the same size (CommonMark).
 ///
 /// In `a$$b$c` it is 5 for one dollar.
 fn length_through_string(text: &[u8], mark: u8, size: usize) -> Option<usize>

@@ -1,4 +1,4 @@
-//! Comments of HTML (CommonMark).
+//! HTML comments (CommonMark).
 
 ghost use Rattle.std.specs.Prelude.{◌≡◌, ◌≤◌, ◌<◌, MatchOption, codes, drop, length, IfSome};
 ghost use Rattle.commonmark_syntax.specs.Cuts.{IsCut};
@@ -8,8 +8,8 @@ ghost use Rattle.commonmark_syntax.specs.Syntax.{begins_short, comment, long_com
 
 use crate::reading::{past_first, past_word};
 
-/// The length of the comment that a text begins with (CommonMark 0.31): `<!-->`, `<!--->`, or `<!--` up to
-/// the first `-->` after it.
+/// Returns the length of the comment that a text begins with (CommonMark 0.31): `<!-->`, `<!--->`,
+/// or `<!--` up to the first `-->` after it.
 ///
 /// In `<!-- a --> b` it is 10.
 pub fn scan(text: &[u8]) -> Option<usize>
@@ -21,7 +21,7 @@ pub fn scan(text: &[u8]) -> Option<usize>
     Some(text.len() - past(text)?.len())
 }
 
-/// After a comment.
+/// Returns the text after a comment.
 fn past(text: &[u8]) -> Option<&[u8]>
     ensures { Reading comment text.now (λ rest. rest.now) result }
 {
@@ -34,14 +34,14 @@ fn past(text: &[u8]) -> Option<&[u8]>
     past_long(text)
 }
 
-/// After a comment that is neither of the short ones.
+/// Returns the text after a comment that is neither of the short ones.
 fn past_long(text: &[u8]) -> Option<&[u8]>
     ensures { Reading long_comment text.now (λ rest. rest.now) result }
 {
     past_inside(past_word(text, b"<!--")?)
 }
 
-/// After the text of such a comment, with its end.
+/// Returns the text after the text of such a comment, with its end.
 fn past_inside(text: &[u8]) -> Option<&[u8]>
     ensures { Reading (unless begins_short (through (codes "-->"))) text.now (λ rest. rest.now) result }
 {
@@ -51,7 +51,7 @@ fn past_inside(text: &[u8]) -> Option<&[u8]>
     past_first(text, b"-->")
 }
 
-/// Whether a text begins as one of the short comments ends.
+/// Whether a text begins like the end of a short comment.
 fn begins_short(text: &[u8]) -> bool
     ensures { result ≡ begins_short text.now }
 {

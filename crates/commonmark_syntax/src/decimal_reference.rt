@@ -1,4 +1,4 @@
-//! Decimal numeric character references: `&#38;` and its like (CommonMark).
+//! Decimal numeric character references, such as `&#38;` (CommonMark).
 
 ghost use Rattle.std.specs.Prelude.{◌≤◌, ◌<◌, MatchOption, drop, length, IfSome};
 ghost use Rattle.commonmark_syntax.specs.Cuts.{IsAscii, IsCut, IsInLine};
@@ -9,11 +9,11 @@ ghost use Rattle.commonmark_syntax.specs.Reading.{Reading};
 use crate::class::Digit;
 use crate::reading::{past_at_most, past_byte, past_one, past_word};
 
-/// The most digits after the first one (CommonMark).
+/// The greatest number of digits after the first one (CommonMark).
 const DIGITS_REST_MOST: usize = 6;
 
-/// The length of the decimal numeric character reference that a text begins with (CommonMark): `&#`, 1 to 7 digits,
-/// and `;`.
+/// Returns the length of the decimal numeric character reference that a text begins with
+/// (CommonMark): `&#`, 1 to 7 digits, and `;`.
 ///
 /// In `&#38; a` it is 5.
 pub fn scan(text: &[u8]) -> Option<usize>
@@ -27,7 +27,7 @@ pub fn scan(text: &[u8]) -> Option<usize>
     Some(text.len() - past(text)?.len())
 }
 
-/// After a decimal numeric character reference.
+/// Returns the text after a decimal numeric character reference.
 fn past(text: &[u8]) -> Option<&[u8]>
     ensures { Reading decimal_reference text.now (λ rest. rest.now) result }
 {

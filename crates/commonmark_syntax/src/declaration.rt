@@ -1,4 +1,4 @@
-//! Declarations of HTML (CommonMark).
+//! HTML declarations (CommonMark).
 
 ghost use Rattle.std.specs.Prelude.{◌≤◌, ◌<◌, MatchOption, drop, length, IfSome};
 ghost use Rattle.commonmark_syntax.specs.Cuts.{IsCut};
@@ -9,8 +9,8 @@ ghost use Rattle.commonmark_syntax.specs.Syntax.{declaration};
 use crate::class::Letter;
 use crate::reading::{past_first, past_one, past_word};
 
-/// The length of the declaration that a text begins with (CommonMark): `<!`, a letter of ASCII, and all up
-/// to the first `>` after it.
+/// Returns the length of the declaration that a text begins with (CommonMark): `<!`, an ASCII
+/// letter, and everything up to the first `>` after it.
 ///
 /// In `<!a b> c` it is 6.
 pub fn scan(text: &[u8]) -> Option<usize>
@@ -22,7 +22,7 @@ pub fn scan(text: &[u8]) -> Option<usize>
     Some(text.len() - past(text)?.len())
 }
 
-/// After a declaration.
+/// Returns the text after a declaration.
 fn past(text: &[u8]) -> Option<&[u8]>
     ensures { Reading declaration text.now (λ rest. rest.now) result }
 {

@@ -10,10 +10,11 @@ ghost use Rattle.commonmark_syntax.specs.Syntax.{byte, is_blank};
 use crate::class::{Blank, Hyphen};
 use crate::reading::{past_all, past_byte, past_one};
 
-/// Whether the text of a line is the delimiter row of a table: cells of hyphens, with colons before or after them
-/// or not, between bars (GFM). Hyphens alone are none, since they are an underline.
+/// Whether the text of a line is the delimiter row of a table: cells of hyphens, with optional
+/// colons before and after them, between bars (GFM). Hyphens alone are not a row, since they are an
+/// underline.
 ///
-/// It is true of `| - | :-: |`.
+/// It is true for `| - | :-: |`.
 pub fn is_row(text: &[u8]) -> bool
     ensures yes { result ≡ true → Matches blocks.delimiter_row text.now }
     ensures no { result ≡ false → Matches blocks.delimiter_row text.now → ⊥ }
@@ -29,7 +30,7 @@ fn has_bar_or_colon(text: &[u8]) -> bool
     text.iter().any(|byte| matches!(*byte, b':' | b'|'))
 }
 
-/// Whether a text is cells of a delimiter row.
+/// Whether a text consists of cells of a delimiter row.
 fn are_cells(text: &[u8]) -> bool
     ensures yes { result ≡ true → Matches blocks.delimiter_cells text.now }
     ensures no { result ≡ false → Matches blocks.delimiter_cells text.now → ⊥ }
@@ -40,7 +41,7 @@ fn are_cells(text: &[u8]) -> bool
     }
 }
 
-/// After the cells of a delimiter row, and the bar after them.
+/// Returns the text after the cells of a delimiter row, and the bar after them.
 fn past_cells(text: &[u8]) -> Option<&[u8]>
     ensures { Reading blocks.delimiter_cells text.now (λ rest. rest.now) result }
 {
@@ -48,7 +49,7 @@ fn past_cells(text: &[u8]) -> Option<&[u8]>
     Some(past_last_bar(past_later_cells(rest)))
 }
 
-/// After a cell of a delimiter row.
+/// Returns the text after a cell of a delimiter row.
 fn past_cell(text: &[u8]) -> Option<&[u8]>
     ensures { Reading blocks.delimiter_cell text.now (λ rest. rest.now) result }
 {
@@ -56,7 +57,7 @@ fn past_cell(text: &[u8]) -> Option<&[u8]>
     Some(past_all::<Blank>(rest))
 }
 
-/// After hyphens, with the colons before and after them.
+/// Returns the text after hyphens, with the colons before and after them.
 fn past_delimiter(text: &[u8]) -> Option<&[u8]>
     ensures { Reading blocks.delimiter text.now (λ rest. rest.now) result }
 {
@@ -64,7 +65,7 @@ fn past_delimiter(text: &[u8]) -> Option<&[u8]>
     Some(past_optional(rest, b':'))
 }
 
-/// After hyphens.
+/// Returns the text after hyphens.
 fn past_hyphens(text: &[u8]) -> Option<&[u8]>
     ensures { Reading (some (byte 45)) text.now (λ rest. rest.now) result }
 {
@@ -72,7 +73,7 @@ fn past_hyphens(text: &[u8]) -> Option<&[u8]>
     Some(past_all::<Hyphen>(rest))
 }
 
-/// After all cells that have a bar before them.
+/// Returns the text after all cells that have a bar before them.
 #[tactic(auto, using(crate::proofs::Loops::many_done))]
 fn past_later_cells(text: &[u8]) -> &[u8]
     ensures { read (many blocks.next_delimiter_cell) text.now ≡ Some result.now }
@@ -84,14 +85,15 @@ fn past_later_cells(text: &[u8]) -> &[u8]
     rest
 }
 
-/// After a bar and a cell.
+/// Returns the text after a bar and a cell.
 fn past_next_cell(text: &[u8]) -> Option<&[u8]>
     ensures { Reading blocks.next_delimiter_cell text.now (λ rest. rest.now) result }
 {
     past_cell(past_byte(text, b'|')?)
 }
 
-/// After the bar after the last cell, and the white space after that, if there is one.
+/// Returns the text after the bar after the last cell, and the white space after that, if there is
+/// one.
 fn past_last_bar(text: &[u8]) -> &[u8]
     ensures { read blocks.last_bar text.now ≡ Some result.now }
 {
@@ -101,7 +103,7 @@ fn past_last_bar(text: &[u8]) -> &[u8]
     }
 }
 
-/// After a bar, and white space.
+/// Returns the text after a bar, and white space.
 fn past_bar(text: &[u8]) -> Option<&[u8]>
     ensures { Reading (byte 124 then many (one is_blank)) text.now (λ rest. rest.now) result }
 {
@@ -109,7 +111,7 @@ fn past_bar(text: &[u8]) -> Option<&[u8]>
     Some(past_all::<Blank>(rest))
 }
 
-/// After a byte, if it comes first.
+/// Returns the text after a byte, if it comes first.
 fn past_optional(text: &[u8], expected: u8) -> &[u8]
     ensures { read (optional (byte expected)) text.now ≡ Some result.now }
 {

@@ -7,8 +7,8 @@ ghost use Rattle.commonmark_syntax.specs.Language.{Leaves};
 
 use crate::bytes::run_length;
 
-/// The number of markers of the run that a text begins with (CommonMark): all that stand there and are like the first
-/// one. It is 0 where the text is empty.
+/// Returns the number of markers of the run that a text begins with (CommonMark): all that equal
+/// the first one. It is 0 if the text is empty.
 ///
 /// It is 2 in `**a*`.
 pub fn size(text: &[u8]) -> usize

@@ -11,8 +11,8 @@ use crate::bytes::is_control;
 use crate::class::{InAngleBrackets, InLine};
 use crate::reading::{past_byte, past_characters};
 
-/// How deep parentheses may be nested in a destination without angle brackets. CommonMark asks for three
-/// at least; cmark and micromark allow this many.
+/// How deep parentheses may be nested in a destination without angle brackets. CommonMark requires
+/// at least three; cmark and micromark allow this many.
 const DEPTH_MOST: usize = 32;
 
 /// What a byte is to a destination without angle brackets.
@@ -20,7 +20,7 @@ const DEPTH_MOST: usize = 32;
 enum Kind {
     /// It stands for itself.
     Plain,
-    /// It takes with it what comes after it.
+    /// It escapes the byte after it.
     Escapes,
     /// It opens a pair.
     Opens,
@@ -30,8 +30,8 @@ enum Kind {
     Stops,
 }
 
-/// The length of the destination that a text begins with, with its angle brackets where it has them
-/// (CommonMark).
+/// Returns the length of the destination that a text begins with, with its angle brackets if it has
+/// them (CommonMark).
 ///
 /// In `<a b> c` it is 5, and in `a(b) c` it is 4.
 #[tactic(auto, using(crate::proofs::Destinations::angle_exact))]
@@ -51,7 +51,7 @@ pub fn scan(text: &[u8]) -> Option<usize>
     }
 }
 
-/// The length of the destination in angle brackets that a text begins with.
+/// Returns the length of the destination in angle brackets that a text begins with.
 fn scan_angle(text: &[u8]) -> Option<usize>
     ensures exact { MatchOption result (IsNotAt angle_destination text.now) (λ size. Leaves angle_destination text.now (drop size text.now)) }
     ensures most { IfSome result (λ size. size ≤ length text.now) }
@@ -64,7 +64,7 @@ fn scan_angle(text: &[u8]) -> Option<usize>
     Some(text.len() - past_angle(text)?.len())
 }
 
-/// After a destination in angle brackets.
+/// Returns the text after a destination in angle brackets.
 fn past_angle(text: &[u8]) -> Option<&[u8]>
     ensures { Reading angle_destination text.now (λ rest. rest.now) result }
 {
@@ -72,7 +72,7 @@ fn past_angle(text: &[u8]) -> Option<&[u8]>
     past_byte(past_characters::<InLine, InAngleBrackets>(inside), b'>')
 }
 
-/// The length of the destination without angle brackets that a text begins with.
+/// Returns the length of the destination without angle brackets that a text begins with.
 fn scan_raw(text: &[u8]) -> Option<usize>
     requires { slice_index text.now 0 ≢ 60 }
     ensures exact { MatchOption result (IsNoDestination text.now) (λ size. LeavesDestination text.now (drop size text.now)) }
@@ -85,8 +85,8 @@ fn scan_raw(text: &[u8]) -> Option<usize>
     if size > 0 { Some(size) } else { None }
 }
 
-/// After the longest text that has parentheses only escaped or in pairs, and that ends where a destination
-/// ends. It may be empty.
+/// Returns the text after the longest text whose parentheses are all escaped or in pairs, and that
+/// ends where a destination ends. That text may be empty.
 fn past_raw(text: &[u8]) -> Option<&[u8]>
     ensures { MatchOption result (ends text.now false 0 ≡ None) (λ rest. ends text.now false 0 ≡ Some rest.now) }
 {
@@ -109,7 +109,7 @@ fn past_raw(text: &[u8]) -> Option<&[u8]>
     if depth == 0 { Some(rest) } else { None }
 }
 
-/// What a byte is to a destination without angle brackets.
+/// Returns what a byte is to a destination without angle brackets.
 fn kind_of(byte: u8) -> Kind
     ensures { kind_in result ≡ kind byte }
 {

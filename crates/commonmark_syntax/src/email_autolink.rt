@@ -1,4 +1,4 @@
-//! Email autolinks: addresses of mail in angle brackets (CommonMark).
+//! Email autolinks: email addresses in angle brackets (CommonMark).
 
 ghost use Rattle.std.specs.Prelude.{◌≤◌, ◌<◌, ◌-◌, ◌≡◌, MatchOption, drop, length, slice_index, IfSome};
 ghost use Rattle.commonmark_syntax.specs.Cuts.{IsCut, IsInLine};
@@ -9,10 +9,11 @@ ghost use Rattle.commonmark_syntax.specs.Reading.{Reading, read};
 use crate::class::{Alphanumeric, Class, OfDomainLabel, OfLocalPart};
 use crate::reading::{past_all, past_byte, past_every, past_one};
 
-/// The most bytes of a label of a domain (CommonMark).
+/// The greatest number of bytes in a label of a domain (CommonMark).
 const LABEL_MOST: usize = 63;
 
-/// The length of the email autolink that a text begins with (CommonMark): `<`, an address of mail, and `>`.
+/// Returns the length of the email autolink that a text begins with (CommonMark): `<`, an email
+/// address, and `>`.
 ///
 /// In `<a@b.c> d` it is 7.
 pub fn scan(text: &[u8]) -> Option<usize>
@@ -27,14 +28,14 @@ pub fn scan(text: &[u8]) -> Option<usize>
     Some(text.len() - past(text)?.len())
 }
 
-/// After an email autolink.
+/// Returns the text after an email autolink.
 fn past(text: &[u8]) -> Option<&[u8]>
     ensures { Reading page.email_autolink text.now (λ rest. rest.now) result }
 {
     past_byte(past_address(past_byte(text, b'<')?)?, b'>')
 }
 
-/// After an address of mail.
+/// Returns the text after an email address.
 fn past_address(text: &[u8]) -> Option<&[u8]>
     ensures { Reading page.email_address text.now (λ rest. rest.now) result }
 {
@@ -42,7 +43,7 @@ fn past_address(text: &[u8]) -> Option<&[u8]>
     Some(past_next_labels(past_label(rest)?))
 }
 
-/// After what stands before the at sign of an address.
+/// Returns the text after the part of an address before its at sign.
 fn past_local_part(text: &[u8]) -> Option<&[u8]>
     ensures { Reading (some (one page.is_of_local_part)) text.now (λ rest. rest.now) result }
 {
@@ -50,7 +51,7 @@ fn past_local_part(text: &[u8]) -> Option<&[u8]>
     Some(past_all::<OfLocalPart>(rest))
 }
 
-/// After all labels of a domain but its first.
+/// Returns the text after all labels of a domain except its first.
 #[tactic(auto, using(crate::proofs::Loops::many_done))]
 fn past_next_labels(text: &[u8]) -> &[u8]
     ensures { read (many page.next_domain_label) text.now ≡ Some result.now }
@@ -62,14 +63,14 @@ fn past_next_labels(text: &[u8]) -> &[u8]
     rest
 }
 
-/// After a label of a domain, with the period before it.
+/// Returns the text after a label of a domain, with the period before it.
 fn past_next_label(text: &[u8]) -> Option<&[u8]>
     ensures { Reading page.next_domain_label text.now (λ rest. rest.now) result }
 {
     past_label(past_byte(text, b'.')?)
 }
 
-/// After a label of a domain.
+/// Returns the text after a label of a domain.
 fn past_label(text: &[u8]) -> Option<&[u8]>
     ensures { Reading page.domain_label text.now (λ rest. rest.now) result }
 {

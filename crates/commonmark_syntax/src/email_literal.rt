@@ -1,4 +1,4 @@
-//! Email autolinks without angle brackets: addresses of mail in a text (GFM).
+//! Email autolinks without angle brackets: email addresses in text (GFM).
 
 ghost use Rattle.std.specs.Prelude.{◌≡◌, ◌≤◌, ◌<◌, ◌+◌, IfSome, List, MatchOption, Some, drop, false, length, slice_index, take, true, ℕ};
 ghost use Rattle.commonmark_syntax.specs.Cuts.{IsCut};
@@ -14,7 +14,7 @@ use crate::class::{Alphanumeric, Class, OfLiteralLocal, OfResource, OfSegment};
 use crate::extended_autolink_start::past_any_case;
 use crate::reading::{past_byte, past_one};
 
-/// What stands before the local part of an address.
+/// The protocol before the local part of an address.
 #[derive(Clone, Copy, PartialEq, Eq, Debug)]
 pub enum Kind {
     /// No protocol.
@@ -28,16 +28,16 @@ pub enum Kind {
 /// An address in a text.
 #[derive(Clone, Copy, PartialEq, Eq, Debug)]
 pub struct EmailLiteral {
-    /// What stands before its local part.
+    /// The protocol before its local part.
     pub kind: Kind,
-    /// The offset in the text at which it begins.
+    /// The offset in the text where it begins.
     pub start: usize,
-    /// The offset in the text at which it ends.
+    /// The offset in the text where it ends.
     pub end: usize,
 }
 
-/// The first address in a text (GFM): a local part, an at sign and a domain, with `mailto:` or `xmpp:` before them
-/// or not.
+/// Returns the first address in a text (GFM): a local part, an at sign and a domain, with an
+/// optional `mailto:` or `xmpp:` before them.
 ///
 /// In `a b@c.d` it begins at 2 and ends at 7.
 pub fn find(text: &[u8]) -> Option<EmailLiteral>
@@ -57,7 +57,7 @@ pub fn find(text: &[u8]) -> Option<EmailLiteral>
     None
 }
 
-/// The address around the at sign at an offset.
+/// Returns the address around the at sign at an offset.
 fn around(text: &[u8], at: usize) -> Option<EmailLiteral>
     requires within { at < length text.now }
     requires sign { slice_index text.now at ≡ 64 }
@@ -74,7 +74,7 @@ fn around(text: &[u8], at: usize) -> Option<EmailLiteral>
     })
 }
 
-/// What comes before the local part that a text ends with.
+/// Returns the text before the local part that it ends with.
 fn before_local(text: &[u8]) -> Option<&[u8]>
     ensures exact { MatchOption result ((front : List ℕ) → page.IsLocalPart text.now front → ⊥) (λ front. page.IsLocalPart text.now front.now) }
 {
@@ -109,13 +109,13 @@ fn ends_with_alphanumeric(text: &[u8]) -> bool
 /// Where an address begins.
 #[derive(Clone, Copy, PartialEq, Eq, Debug)]
 struct Beginning {
-    /// What stands before its local part.
+    /// The protocol before its local part.
     kind: Kind,
-    /// The offset in the text at which it begins.
+    /// The offset in the text where it begins.
     start: usize,
 }
 
-/// Where an address begins whose local part comes after these bytes.
+/// Returns where an address begins whose local part comes after these bytes.
 fn with_protocol(front: &[u8]) -> Beginning
     ensures exact { page.BeginsAfter front.now (take result.start front.now) result.kind }
     ensures within { result.start ≤ length front.now }
@@ -138,7 +138,7 @@ fn with_protocol(front: &[u8]) -> Beginning
     }
 }
 
-/// How many bytes come before a protocol that a text ends with, in letters of either case.
+/// Returns how many bytes come before a protocol that a text ends with, in letters of either case.
 fn before_protocol(front: &[u8], protocol: &[u8]) -> Option<usize>
     ensures exact { MatchOption result (page.HasNoProtocol protocol.now front.now) (λ size. page.HasProtocol protocol.now front.now (take size front.now)) }
     ensures within { IfSome result (λ size. size ≤ length front.now) }
@@ -152,7 +152,7 @@ fn before_protocol(front: &[u8], protocol: &[u8]) -> Option<usize>
     }
 }
 
-/// Whether a text is a word in letters of either case, which is given in small ones.
+/// Whether a text is this lowercase word, in letters of either case.
 fn is_any_case(text: &[u8], expected: &[u8]) -> bool
     ensures yes { result ≡ true → Matches (in_any_case expected.now) text.now }
     ensures no { result ≡ false → Matches (in_any_case expected.now) text.now → ⊥ }
@@ -163,7 +163,7 @@ fn is_any_case(text: &[u8], expected: &[u8]) -> bool
     }
 }
 
-/// The size of the domain that a text begins with, in an address of this kind.
+/// Returns the size of the domain that a text begins with, in an address of this kind.
 fn domain_size(text: &[u8], kind: Kind) -> Option<usize>
     ensures exact { MatchOption result ((t : List ℕ) → page.IsWholeDomain (page.domain_class kind) text.now t → ⊥) (λ size. page.IsWholeDomain (page.domain_class kind) text.now (drop size text.now)) }
     ensures most { IfSome result (λ size. size ≤ length text.now) }
@@ -173,7 +173,7 @@ fn domain_size(text: &[u8], kind: Kind) -> Option<usize>
     Some(text.len() - rest.len())
 }
 
-/// After the domain of an address of this kind.
+/// Returns the text after the domain of an address of this kind.
 fn past_domain_of(text: &[u8], kind: Kind) -> Option<&[u8]>
     ensures { Reading (page.literal_domain (page.domain_class kind)) text.now (λ rest. rest.now) result }
 {
@@ -184,7 +184,7 @@ fn past_domain_of(text: &[u8], kind: Kind) -> Option<&[u8]>
     }
 }
 
-/// After a domain.
+/// Returns the text after a domain.
 fn past_domain<C: Class>(text: &[u8]) -> Option<&[u8]>
     ensures { Reading (page.literal_domain C.class) text.now (λ rest. rest.now) result }
 {
@@ -197,14 +197,14 @@ fn past_domain<C: Class>(text: &[u8]) -> Option<&[u8]>
     }
 }
 
-/// Whether segments of a domain are a domain.
+/// Whether segments of a domain form a domain.
 fn is_domain(segments: &[u8]) -> bool
     ensures { result ≡ page.is_literal_domain segments.now }
 {
     has_byte(segments, b'.') && ends_with_alphanumeric(segments)
 }
 
-/// After all bytes of a domain but its first.
+/// Returns the text after all bytes of a domain except its first.
 #[tactic(auto, using(crate::proofs::Loops::many_done))]
 fn past_steps<C: Class>(text: &[u8]) -> &[u8]
     ensures { read (many (page.domain_step C.class)) text.now ≡ Some result.now }
@@ -216,7 +216,7 @@ fn past_steps<C: Class>(text: &[u8]) -> &[u8]
     rest
 }
 
-/// After a byte of a domain, or a period and a byte of a segment.
+/// Returns the text after a byte of a domain, or a period and a byte of a segment.
 fn past_step<C: Class>(text: &[u8]) -> Option<&[u8]>
     ensures { Reading (page.domain_step C.class) text.now (λ rest. rest.now) result }
 {
@@ -226,7 +226,7 @@ fn past_step<C: Class>(text: &[u8]) -> Option<&[u8]>
     past_period(text)
 }
 
-/// After a period and a byte of a segment.
+/// Returns the text after a period and a byte of a segment.
 fn past_period(text: &[u8]) -> Option<&[u8]>
     ensures { Reading (byte 46 then one page.is_of_segment) text.now (λ rest. rest.now) result }
 {

@@ -1,4 +1,4 @@
-//! Entity references: `&amp;` and its like (CommonMark).
+//! Entity references, such as `&amp;` (CommonMark).
 
 ghost use Rattle.std.specs.Prelude.{◌≤◌, ◌<◌, MatchOption, drop, length, IfSome};
 ghost use Rattle.commonmark_syntax.specs.Cuts.{IsAscii, IsCut, IsInLine};
@@ -9,11 +9,12 @@ ghost use Rattle.commonmark_syntax.specs.Reading.{Reading};
 use crate::class::Alphanumeric;
 use crate::reading::{past_at_most, past_byte, past_one};
 
-/// The most bytes of the name of an entity after its first one. No entity of HTML has a longer name.
+/// The greatest number of bytes in the name of an entity after its first one. No entity of HTML has
+/// a longer name.
 const NAME_REST_MOST: usize = 30;
 
-/// The length of what may be an entity reference, which a text begins with (CommonMark): `&`, 1 to 31 letters and
-/// digits of ASCII, and `;`.
+/// Returns the length of a possible entity reference that a text begins with (CommonMark): `&`, 1
+/// to 31 ASCII letters and digits, and `;`.
 ///
 /// In `&amp; a` it is 5.
 pub fn scan(text: &[u8]) -> Option<usize>
@@ -27,7 +28,7 @@ pub fn scan(text: &[u8]) -> Option<usize>
     Some(text.len() - past(text)?.len())
 }
 
-/// After what may be an entity reference.
+/// Returns the text after a possible entity reference.
 fn past(text: &[u8]) -> Option<&[u8]>
     ensures { Reading entity_reference text.now (λ rest. rest.now) result }
 {

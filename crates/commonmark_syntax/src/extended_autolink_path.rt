@@ -1,4 +1,4 @@
-//! Paths of extended autolinks, and what may not stand at their end (GFM).
+//! Paths of extended autolinks, and the punctuation that may not end them (GFM).
 
 ghost use Rattle.std.specs.Prelude.{◌≡◌, ◌≢◌, ◌≤◌, ◌<◌, ◌+◌, ◌^◌, ℕ, List, MatchOption, Some, false, length, slice_index, take, true};
 ghost use Rattle.commonmark_syntax.specs.Cuts.{IsInLine};
@@ -9,9 +9,9 @@ use crate::bytes::count_back;
 use crate::class::{Alphanumeric, Class, Trailing, WhiteSpace};
 use crate::reading::{past_byte, past_every, past_one};
 
-/// The size of the path that an extended autolink has after its domain, where a text begins with that: without the
-/// punctuation at its end (GFM). With `in_bracket` a bracket is open before the autolink, and a closing one that no
-/// opening one in the path goes with ends it (micromark).
+/// Returns the size of the path of an extended autolink that a text begins with, after its domain,
+/// without the punctuation at its end (GFM). With `in_bracket` a bracket is open before the
+/// autolink, and a closing one without a matching opening one in the path ends it (micromark).
 ///
 /// In `/a_(b)). c` it is 6.
 pub fn scan(text: &[u8], in_bracket: bool) -> usize
@@ -24,10 +24,10 @@ pub fn scan(text: &[u8], in_bracket: bool) -> usize
     trimmed_size(path)
 }
 
-/// Whether nothing would be left of the path that a text begins with without the punctuation at its end, even
-/// with every closing parenthesis.
+/// Whether the path that a text begins with would be empty without the punctuation at its end.
+/// Every closing parenthesis counts as such punctuation here.
 ///
-/// It is true of `_. a`.
+/// It is true for `_. a`.
 pub fn is_trail(text: &[u8], in_bracket: bool) -> bool
     ensures { result ≡ page.is_trail (page.path in_bracket text.now) }
 {
@@ -37,7 +37,7 @@ pub fn is_trail(text: &[u8], in_bracket: bool) -> bool
     }
 }
 
-/// The size of the path that a text begins with, with the punctuation at its end.
+/// Returns the size of the path that a text begins with, with the punctuation at its end.
 fn path_size(text: &[u8], in_bracket: bool) -> usize
     ensures exact { take result text.now ≡ page.path in_bracket text.now }
     ensures most { result ≤ length text.now }
@@ -54,7 +54,7 @@ fn path_size(text: &[u8], in_bracket: bool) -> usize
     text.len()
 }
 
-/// Whether a byte ends a path with so many open brackets in it.
+/// Whether a byte ends a path with `depth` open brackets in it.
 fn ends_path(byte: u8, depth: usize, in_bracket: bool) -> bool
     ensures exact { result ≡ page.ends_path in_bracket depth byte }
     ensures ascii { result ≡ true → byte < 128 }
@@ -63,7 +63,7 @@ fn ends_path(byte: u8, depth: usize, in_bracket: bool) -> bool
     WhiteSpace::has(byte) || byte == b'<' || in_bracket && byte == b']' && depth == 0
 }
 
-/// How many brackets are open after a byte.
+/// Returns how many brackets are open after a byte.
 fn depth_after(depth: usize, byte: u8) -> usize
     requires { depth + 1 < 2 ^ 64 }
     ensures { result ≡ page.depth_after depth byte }
@@ -75,8 +75,8 @@ fn depth_after(depth: usize, byte: u8) -> usize
     }
 }
 
-/// The size of a path without the punctuation at its end. A closing parenthesis stays where an opening
-/// one in the path goes with it.
+/// Returns the size of a path without the punctuation at its end. A closing parenthesis is kept if
+/// it has a matching opening one in the path.
 fn trimmed_size(path: &[u8]) -> usize
     ensures exact { take result path.now ≡ page.trimmed path.now }
     ensures most { result ≤ length path.now }
@@ -101,15 +101,15 @@ fn trimmed_size(path: &[u8]) -> usize
     rest.len()
 }
 
-/// How many of a byte are in a text.
+/// Returns how often a byte occurs in a text.
 fn how_many(text: &[u8], sign: u8) -> usize
     ensures { result ≡ page.how_many sign text.now }
 {
     text.iter().filter(|byte| **byte == sign).count()
 }
 
-/// What comes before the ampersand and the letters and digits that a text ends with: with a semicolon they
-/// are like a reference.
+/// Returns the text before the ampersand and the letters and digits that it ends with: with a
+/// semicolon they look like a reference.
 fn before_name(text: &[u8]) -> Option<&[u8]>
     ensures { MatchOption result ((front : List ℕ) → page.EndsWithName text.now front → ⊥) (λ front. page.EndsWithName text.now front.now) }
 {
@@ -122,7 +122,7 @@ fn before_name(text: &[u8]) -> Option<&[u8]>
     }
 }
 
-/// After the pieces of punctuation that a text begins with.
+/// Returns the text after the pieces of punctuation that a text begins with.
 #[tactic(auto, using(crate::proofs::Loops::many_done))]
 fn past_trail(text: &[u8]) -> &[u8]
     ensures { read page.trail text.now ≡ Some result.now }
@@ -134,7 +134,7 @@ fn past_trail(text: &[u8]) -> &[u8]
     rest
 }
 
-/// After a piece of what may not end an autolink.
+/// Returns the text after a piece of what may not end an autolink.
 fn past_piece(text: &[u8]) -> Option<&[u8]>
     ensures { Reading page.trail_piece text.now (λ rest. rest.now) result }
 {
@@ -147,7 +147,7 @@ fn past_piece(text: &[u8]) -> Option<&[u8]>
     past_reference(text)
 }
 
-/// After what is like an entity reference.
+/// Returns the text after something that looks like an entity reference.
 fn past_reference(text: &[u8]) -> Option<&[u8]>
     ensures { Reading page.reference_like text.now (λ rest. rest.now) result }
 {

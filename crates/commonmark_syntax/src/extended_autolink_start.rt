@@ -1,4 +1,4 @@
-//! What extended autolinks begin with: `www.`, or a scheme with its slashes (GFM).
+//! Beginnings of extended autolinks: `www.`, or a scheme with its slashes (GFM).
 
 ghost use Rattle.std.specs.Prelude.{◌≡◌, ◌≤◌, ◌<◌, MatchOption, codes, drop, length, IfSome};
 ghost use Rattle.commonmark_syntax.specs.Cuts.{IsInLine};
@@ -8,8 +8,8 @@ ghost use Rattle.commonmark_syntax.specs.Reading.{Reading};
 
 use crate::reading::past_word;
 
-/// The length of what an extended autolink has before its domain, where a text begins with that (GFM): `www.`,
-/// `http://`, `https://` or `ftp://`, in letters of either case.
+/// Returns the length of the beginning of an extended autolink, before its domain, if a text begins
+/// with one (GFM): `www.`, `http://`, `https://` or `ftp://`, in letters of either case.
 ///
 /// In `HTTP://a` it is 7.
 pub fn scan(text: &[u8]) -> Option<usize>
@@ -21,7 +21,7 @@ pub fn scan(text: &[u8]) -> Option<usize>
     Some(text.len() - past(text)?.len())
 }
 
-/// After what an extended autolink begins with.
+/// Returns the text after the beginning of an extended autolink.
 fn past(text: &[u8]) -> Option<&[u8]>
     ensures { Reading page.extended_autolink_start text.now (λ rest. rest.now) result }
 {
@@ -31,7 +31,7 @@ fn past(text: &[u8]) -> Option<&[u8]>
     past_word(past_scheme(text)?, b"://")
 }
 
-/// After a scheme of an extended autolink.
+/// Returns the text after a scheme of an extended autolink.
 fn past_scheme(text: &[u8]) -> Option<&[u8]>
     ensures { Reading page.extended_scheme text.now (λ rest. rest.now) result }
 {
@@ -41,7 +41,7 @@ fn past_scheme(text: &[u8]) -> Option<&[u8]>
     past_any_case(text, b"ftp")
 }
 
-/// After `http` or `https`.
+/// Returns the text after `http` or `https`.
 fn past_http(text: &[u8]) -> Option<&[u8]>
     ensures { Reading (page.in_any_case (codes "http") then optional (page.in_any_case (codes "s"))) text.now (λ rest. rest.now) result }
 {
@@ -52,7 +52,7 @@ fn past_http(text: &[u8]) -> Option<&[u8]>
     }
 }
 
-/// After a word in letters of either case, which is given in small ones.
+/// Returns the text after this lowercase word, in letters of either case.
 #[tactic(auto, using(crate::proofs::AnyCase::letter_read, crate::proofs::AnyCase::letter_missing))]
 pub fn past_any_case<'a>(text: &'a [u8], expected: &[u8]) -> Option<&'a [u8]>
     ensures { Reading (page.in_any_case expected.now) text.now (λ rest. rest.now) result }
@@ -66,7 +66,7 @@ pub fn past_any_case<'a>(text: &'a [u8], expected: &[u8]) -> Option<&'a [u8]>
     Some(rest)
 }
 
-/// After a letter of either case, which is given as a small one, or after another byte.
+/// Returns the text after the byte `small`, in either case if it is a letter.
 fn past_letter(text: &[u8], small: u8) -> Option<&[u8]>
     ensures { Reading (one (page.is_in_any_case small)) text.now (λ rest. rest.now) result }
 {

@@ -10,7 +10,7 @@ use crate::reading::{past_byte, past_word};
 
 /// Whether a text is a footnote call (GFM): `[^`, the text of a label, and `]`.
 ///
-/// It is true of `[^a]`.
+/// It is true for `[^a]`.
 pub fn is_call(text: &[u8]) -> bool
     ensures yes { result ≡ true → Matches footnote_call text.now }
     ensures no { result ≡ false → Matches footnote_call text.now → ⊥ }
@@ -21,7 +21,7 @@ pub fn is_call(text: &[u8]) -> bool
     }
 }
 
-/// After a footnote call.
+/// Returns the text after a footnote call.
 fn past(text: &[u8]) -> Option<&[u8]>
     ensures { Reading footnote_call text.now (λ rest. rest.now) result }
 {

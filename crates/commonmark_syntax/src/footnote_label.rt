@@ -10,8 +10,8 @@ use crate::class::{InFootnote, TakenInFootnote};
 use crate::label::{CHARACTERS_MOST, character_count};
 use crate::reading::{past_byte, past_one, past_word};
 
-/// The size of the label of the footnote definition that the text of a line begins with, with the four bytes around
-/// it, if it begins with one (GFM).
+/// Returns the size of the label of the footnote definition that the text of a line begins with,
+/// with the four bytes around it, if it begins with one (GFM).
 ///
 /// It is 5 in `[^a]: b`.
 pub fn scan(text: &[u8]) -> Option<usize>
@@ -24,14 +24,14 @@ pub fn scan(text: &[u8]) -> Option<usize>
     Some(text.len() - past(text)?.len())
 }
 
-/// After the label of a footnote definition.
+/// Returns the text after the label of a footnote definition.
 fn past(text: &[u8]) -> Option<&[u8]>
     ensures { Reading blocks.footnote_label text.now (λ rest. rest.now) result }
 {
     past_word(past_text(past_word(text, b"[^")?)?, b"]:")
 }
 
-/// After the text of a label.
+/// Returns the text after the text of a label.
 pub(crate) fn past_text(text: &[u8]) -> Option<&[u8]>
     ensures { Reading blocks.footnote_text text.now (λ rest. rest.now) result }
 {
@@ -52,7 +52,7 @@ fn is_text(inside: &[u8]) -> bool
     1 <= characters && characters <= CHARACTERS_MOST
 }
 
-/// After the characters of a label.
+/// Returns the text after the characters of a label.
 #[tactic(auto, using(crate::proofs::Loops::many_done))]
 fn past_characters(text: &[u8]) -> &[u8]
     ensures { read (many blocks.footnote_character) text.now ≡ Some result.now }
@@ -64,7 +64,7 @@ fn past_characters(text: &[u8]) -> &[u8]
     rest
 }
 
-/// After a character of a label.
+/// Returns the text after a character of a label.
 fn past_character(text: &[u8]) -> Option<&[u8]>
     ensures { Reading blocks.footnote_character text.now (λ rest. rest.now) result }
 {
@@ -77,28 +77,28 @@ fn past_character(text: &[u8]) -> Option<&[u8]>
     past_one::<InFootnote>(text)
 }
 
-/// After a backslash, and what it takes with it.
+/// Returns the text after a backslash and the byte that it escapes.
 fn past_escape(text: &[u8]) -> Option<&[u8]>
     ensures { Reading (byte 92 then one blocks.is_taken) text.now (λ rest. rest.now) result }
 {
     past_one::<TakenInFootnote>(past_byte(text, b'\\')?)
 }
 
-/// After a backslash that stands for itself.
+/// Returns the text after a backslash that stands for itself.
 fn past_backslash(text: &[u8]) -> Option<&[u8]>
     ensures { Reading blocks.lone_backslash text.now (λ rest. rest.now) result }
 {
     past_untaken(past_byte(text, b'\\')?)
 }
 
-/// The same text, if a backslash does not take what it begins with.
+/// Returns the text, if it does not begin with a byte that a backslash escapes.
 fn past_untaken(text: &[u8]) -> Option<&[u8]>
     ensures { Reading (unless blocks.begins_taken nothing) text.now (λ rest. rest.now) result }
 {
     if begins_taken(text) { None } else { Some(text) }
 }
 
-/// Whether a backslash takes what a text begins with.
+/// Whether a text begins with a byte that a backslash escapes.
 fn begins_taken(text: &[u8]) -> bool
     ensures { result ≡ blocks.begins_taken text.now }
 {

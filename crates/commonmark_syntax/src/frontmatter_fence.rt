@@ -8,8 +8,8 @@ ghost use Rattle.commonmark_syntax.specs.Reading.{Reading};
 
 use crate::reading::{past_blank_to_end, past_word};
 
-/// The number of signs of the fence of frontmatter that the text of a line is, if it is one: three, with only
-/// spaces and tabs after them (micromark).
+/// Returns the number of signs of the frontmatter fence in a line, if the line is one: three, with
+/// only spaces and tabs after them (micromark).
 ///
 /// For hyphens it is 3 in `---`.
 pub fn scan(text: &[u8], sign: u8) -> Option<usize>
@@ -21,7 +21,7 @@ pub fn scan(text: &[u8], sign: u8) -> Option<usize>
     Some(text.len() - past(text, sign)?.len())
 }
 
-/// After the signs of a fence.
+/// Returns the text after the signs of a fence.
 fn past(text: &[u8], sign: u8) -> Option<&[u8]>
     ensures { Reading (frontmatter_fence sign) text.now (λ rest. rest.now) result }
 {

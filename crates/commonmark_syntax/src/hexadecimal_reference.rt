@@ -1,4 +1,4 @@
-//! Hexadecimal numeric character references: `&#x26;` and its like (CommonMark).
+//! Hexadecimal numeric character references, such as `&#x26;` (CommonMark).
 
 ghost use Rattle.std.specs.Prelude.{◌≤◌, ◌<◌, MatchOption, drop, length, IfSome};
 ghost use Rattle.commonmark_syntax.specs.Cuts.{IsAscii, IsCut, IsInLine};
@@ -9,11 +9,11 @@ ghost use Rattle.commonmark_syntax.specs.Reading.{Reading};
 use crate::class::{Hexadecimal, X};
 use crate::reading::{past_at_most, past_byte, past_one, past_word};
 
-/// The most digits after the first one (CommonMark).
+/// The greatest number of digits after the first one (CommonMark).
 const DIGITS_REST_MOST: usize = 5;
 
-/// The length of the hexadecimal numeric character reference that a text begins with (CommonMark): `&#`, `x` or `X`,
-/// 1 to 6 hexadecimal digits, and `;`.
+/// Returns the length of the hexadecimal numeric character reference that a text begins with
+/// (CommonMark): `&#`, `x` or `X`, 1 to 6 hexadecimal digits, and `;`.
 ///
 /// In `&#x26; a` it is 6.
 pub fn scan(text: &[u8]) -> Option<usize>
@@ -27,7 +27,7 @@ pub fn scan(text: &[u8]) -> Option<usize>
     Some(text.len() - past(text)?.len())
 }
 
-/// After a hexadecimal numeric character reference.
+/// Returns the text after a hexadecimal numeric character reference.
 fn past(text: &[u8]) -> Option<&[u8]>
     ensures { Reading hexadecimal_reference text.now (λ rest. rest.now) result }
 {

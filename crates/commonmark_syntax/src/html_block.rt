@@ -1,15 +1,15 @@
-//! Blocks of HTML (CommonMark).
+//! HTML blocks (CommonMark).
 
 ghost use Rattle.std.specs.Prelude.{◌≡◌, MatchOption, false, true};
 ghost use Rattle.commonmark_syntax.specs.Language.{IsNotAt};
 
 use crate::{html_end, html_start};
 
-/// What a block of HTML begins with, in the order of CommonMark's seven conditions.
+/// What an HTML block begins with, in the order of CommonMark's seven conditions.
 #[derive(Clone, Copy, PartialEq, Eq, Debug)]
 pub enum Kind {
-    /// The opening tag of an element that may have blank lines in it. It ends with the closing tag of such
-    /// an element.
+    /// The opening tag of an element that may contain blank lines. It ends with the closing tag of
+    /// such an element.
     Raw,
     /// A comment.
     Comment,
@@ -19,7 +19,7 @@ pub enum Kind {
     Declaration,
     /// A CDATA section.
     Cdata,
-    /// A tag of an element of blocks. It ends at a blank line.
+    /// A tag of a block element. It ends at a blank line.
     Basic,
     /// Any other tag, alone in its line. It ends at a blank line.
     Complete,
@@ -28,8 +28,8 @@ pub enum Kind {
 impl Kind {
     ghost use Rattle.commonmark_syntax.specs.Html.{HasEnd, HoldsFirst, html_start};
 
-    /// The kind of the block of HTML that the text of a line begins with, if it begins with one: the first of the
-    /// seven conditions that holds (CommonMark).
+    /// Returns the kind of the HTML block that the text of a line begins with, if it begins with
+    /// one: the first of the seven conditions that holds (CommonMark).
     ///
     /// In `<!-- a` it is a comment.
     pub fn find(text: &[u8]) -> Option<Kind>
@@ -57,9 +57,10 @@ impl Kind {
         }
     }
 
-    /// Whether a line has its end. The last two kinds have none: they end at a blank line (CommonMark).
+    /// Whether a line contains its end. The last two kinds have none: they end at a blank line
+    /// (CommonMark).
     ///
-    /// A comment has it in `a --> b`.
+    /// For a comment it is true for `a --> b`.
     pub fn ends_in(self, text: &[u8]) -> bool
         ensures yes { result ≡ true → HasEnd self text.now }
         ensures no { result ≡ false → HasEnd self text.now → ⊥ }

@@ -1,4 +1,4 @@
-//! What blocks of HTML end with (CommonMark).
+//! Ends of HTML blocks (CommonMark).
 
 ghost use Rattle.std.specs.Prelude.{◌≡◌, false, true};
 ghost use Rattle.commonmark_syntax.specs.Html.{IsIn, raw_end};
@@ -10,7 +10,7 @@ use crate::bytes::after;
 use crate::html_start::past_raw_name;
 use crate::reading::{past_byte, past_first, past_word};
 
-/// Whether a text has the closing tag of an element that may have blank lines in it.
+/// Whether a text contains the closing tag of an element that may contain blank lines.
 pub fn has_raw(text: &[u8]) -> bool
     ensures yes { result ≡ true → IsIn raw_end text.now }
     ensures no { result ≡ false → IsIn raw_end text.now → ⊥ }
@@ -33,14 +33,14 @@ fn is_raw(text: &[u8]) -> bool
     past_raw(text).is_some()
 }
 
-/// After such a tag.
+/// Returns the text after such a tag.
 fn past_raw(text: &[u8]) -> Option<&[u8]>
     ensures { Reading raw_end text.now (λ rest. rest.now) result }
 {
     past_byte(past_raw_name(past_word(text, b"</")?)?, b'>')
 }
 
-/// Whether a text has a word.
+/// Whether a text contains a word.
 pub fn has(text: &[u8], expected: &[u8]) -> bool
     ensures yes { result ≡ true → IsIn (word expected.now) text.now }
     ensures no { result ≡ false → IsIn (word expected.now) text.now → ⊥ }

@@ -9,7 +9,7 @@ ghost use Rattle.commonmark_syntax.specs.Html.{basic_names, is_among, raw_names}
 /// Elements whose content may have blank lines: condition 1.
 static RAW: [&[u8]; 4] = [b"pre", b"script", b"style", b"textarea"];
 
-/// Elements that begin a block up to a blank line: condition 6.
+/// Elements that begin a block that ends at a blank line: condition 6.
 static BASIC: [&[u8]; 62] = [
     b"address",
     b"article",
@@ -75,18 +75,18 @@ static BASIC: [&[u8]; 62] = [
     b"ul",
 ];
 
-/// Whether an element may have blank lines in it. Capital letters are as small ones.
+/// Whether an element may contain blank lines. Case does not matter.
 ///
-/// It is true of `PRE`.
+/// It is true for `PRE`.
 pub fn is_raw(name: &[u8]) -> bool
     ensures { result ≡ is_among raw_names name.now }
 {
     contains(&RAW, name)
 }
 
-/// Whether an element begins a block up to a blank line. Capital letters are as small ones.
+/// Whether an element begins a block that ends at a blank line. Case does not matter.
 ///
-/// It is true of `Div`.
+/// It is true for `Div`.
 pub fn is_basic(name: &[u8]) -> bool
     ensures { result ≡ is_among basic_names name.now }
 {

@@ -1,4 +1,4 @@
-//! What blocks of HTML begin with (CommonMark).
+//! Beginnings of HTML blocks (CommonMark).
 
 ghost use Rattle.std.specs.Prelude.{◌≡◌, codes, false, true};
 ghost use Rattle.commonmark_syntax.specs.Html as page;
@@ -11,7 +11,8 @@ use crate::class::{Letter, OfTagName};
 use crate::reading::{past_all, past_blank_to_end, past_byte, past_one, past_word};
 use crate::{closing_tag, html_names, open_tag, tag_name};
 
-/// Whether a text begins with the opening tag of an element that may have blank lines in it: condition 1.
+/// Whether a text begins with the opening tag of an element that may contain blank lines: condition
+/// 1.
 pub fn is_raw(text: &[u8]) -> bool
     ensures yes { result ≡ true → IsAt page.raw_start text.now }
     ensures no { result ≡ false → IsNotAt page.raw_start text.now }
@@ -19,14 +20,14 @@ pub fn is_raw(text: &[u8]) -> bool
     past_raw(text).is_some()
 }
 
-/// After the name in such a tag.
+/// Returns the text after the name in such a tag.
 fn past_raw(text: &[u8]) -> Option<&[u8]>
     ensures { Reading page.raw_start text.now (λ rest. rest.now) result }
 {
     past_end_of_raw(past_raw_name(past_byte(text, b'<')?)?)
 }
 
-/// After the name of an element that may have blank lines in it.
+/// Returns the text after the name of an element that may contain blank lines.
 pub(crate) fn past_raw_name(text: &[u8]) -> Option<&[u8]>
     ensures { Reading (page.name_among page.raw_names) text.now (λ rest. rest.now) result }
 {
@@ -39,14 +40,14 @@ pub(crate) fn past_raw_name(text: &[u8]) -> Option<&[u8]>
     }
 }
 
-/// The same text, if the name in such a tag may end before it.
+/// Returns the text, if the name in such a tag may end before it.
 fn past_end_of_raw(text: &[u8]) -> Option<&[u8]>
     ensures { Reading (unless page.goes_on nothing) text.now (λ rest. rest.now) result }
 {
     if goes_on(text) { None } else { Some(text) }
 }
 
-/// Whether such a name does not end before a text.
+/// Whether such a name continues in a text.
 fn goes_on(text: &[u8]) -> bool
     ensures { result ≡ page.goes_on text.now }
 {
@@ -80,7 +81,7 @@ pub fn is_declaration(text: &[u8]) -> bool
     past_declaration(text).is_some()
 }
 
-/// After the start of a declaration.
+/// Returns the text after the start of a declaration.
 fn past_declaration(text: &[u8]) -> Option<&[u8]>
     ensures { Reading page.declaration_start text.now (λ rest. rest.now) result }
 {
@@ -95,7 +96,7 @@ pub fn is_cdata(text: &[u8]) -> bool
     past_word(text, b"<![CDATA[").is_some()
 }
 
-/// Whether a text begins with a tag of an element of blocks: condition 6.
+/// Whether a text begins with a tag of a block element: condition 6.
 pub fn is_basic(text: &[u8]) -> bool
     ensures yes { result ≡ true → IsAt page.basic_start text.now }
     ensures no { result ≡ false → IsNotAt page.basic_start text.now }
@@ -103,7 +104,7 @@ pub fn is_basic(text: &[u8]) -> bool
     past_basic(text).is_some()
 }
 
-/// After the name in such a tag.
+/// Returns the text after the name in such a tag.
 fn past_basic(text: &[u8]) -> Option<&[u8]>
     ensures { Reading page.basic_start text.now (λ rest. rest.now) result }
 {
@@ -114,14 +115,14 @@ fn past_basic(text: &[u8]) -> Option<&[u8]>
     }
 }
 
-/// After the name in such a tag, where that may end.
+/// Returns the text after the name in such a tag, if the name may end there.
 fn past_basic_tag(text: &[u8]) -> Option<&[u8]>
     ensures { Reading (page.name_among page.basic_names then unless page.goes_on_in_tag nothing) text.now (λ rest. rest.now) result }
 {
     past_end_of_basic(past_basic_name(text)?)
 }
 
-/// After the name of an element of blocks.
+/// Returns the text after the name of a block element.
 fn past_basic_name(text: &[u8]) -> Option<&[u8]>
     ensures { Reading (page.name_among page.basic_names) text.now (λ rest. rest.now) result }
 {
@@ -134,7 +135,7 @@ fn past_basic_name(text: &[u8]) -> Option<&[u8]>
     }
 }
 
-/// The same text, if the name in such a tag may end before it.
+/// Returns the text, if the name in such a tag may end before it.
 fn past_end_of_basic(text: &[u8]) -> Option<&[u8]>
     ensures { Reading (unless page.goes_on_in_tag nothing) text.now (λ rest. rest.now) result }
 {
@@ -145,7 +146,7 @@ fn past_end_of_basic(text: &[u8]) -> Option<&[u8]>
     }
 }
 
-/// Whether such a name does not end before a text.
+/// Whether such a name continues in a text.
 fn goes_on_in_tag(text: &[u8]) -> bool
     ensures { result ≡ page.goes_on_in_tag text.now }
 {
@@ -167,7 +168,7 @@ pub fn is_complete(text: &[u8]) -> bool
     is_closing(text)
 }
 
-/// Whether a text is an opening tag of an element that may have no blank lines in it: condition 7.
+/// Whether a text is an opening tag of an element that may not contain blank lines: condition 7.
 fn is_opening(text: &[u8]) -> bool
     ensures yes { result ≡ true → IsAt page.complete_opening text.now }
     ensures no { result ≡ false → IsNotAt page.complete_opening text.now }
@@ -175,14 +176,14 @@ fn is_opening(text: &[u8]) -> bool
     past_opening(text).is_some()
 }
 
-/// After such a tag.
+/// Returns the text after such a tag.
 fn past_opening(text: &[u8]) -> Option<&[u8]>
     ensures { Reading page.complete_opening text.now (λ rest. rest.now) result }
 {
     past_blank_to_end(past_other_tag(text)?)
 }
 
-/// After an opening tag of an element that may have no blank lines in it.
+/// Returns the text after an opening tag of an element that may not contain blank lines.
 fn past_other_tag(text: &[u8]) -> Option<&[u8]>
     ensures { Reading (unless page.has_raw_name open_tag) text.now (λ rest. rest.now) result }
 {
@@ -192,14 +193,15 @@ fn past_other_tag(text: &[u8]) -> Option<&[u8]>
     open_tag::past(text)
 }
 
-/// Whether the name after the first byte of a text is of an element that may have blank lines in it.
+/// Whether the name after the first byte of a text is that of an element that may contain blank
+/// lines.
 fn has_raw_name(text: &[u8]) -> bool
     ensures { result ≡ page.has_raw_name text.now }
 {
     html_names::is_raw(name_in(after(text, 1)))
 }
 
-/// The name of a tag that a text begins with, as far as it goes.
+/// Returns the whole tag name that a text begins with.
 fn name_in(text: &[u8]) -> &[u8]
     ensures { result.now ≡ page.front is_of_tag_name text.now }
 {
@@ -214,7 +216,7 @@ fn is_closing(text: &[u8]) -> bool
     past_closing(text).is_some()
 }
 
-/// After such a tag.
+/// Returns the text after such a tag.
 fn past_closing(text: &[u8]) -> Option<&[u8]>
     ensures { Reading page.complete_closing text.now (λ rest. rest.now) result }
 {

@@ -13,23 +13,23 @@ use crate::class::Letter;
 use crate::reading::{past_one, past_word};
 use crate::{cdata, closing_tag, comment, declaration, instruction, open_tag};
 
-/// From which offsets of a text on some ends of HTML tags are known to be missing.
+/// The offsets of a text from which some ends of HTML tags are known to be missing.
 ///
-/// A search for an end that failed is not made again, so that all searches together are linear.
+/// A failed search for an end is not repeated, so all searches together are linear.
 #[derive(Clone, Copy, PartialEq, Eq, Debug)]
 pub struct MissingEnds {
-    /// From where on there is no `-->`.
+    /// The offset from which there is no `-->`.
     comment: usize,
-    /// From where on there is no `?>`.
+    /// The offset from which there is no `?>`.
     instruction: usize,
-    /// From where on there is no `>`, as far as declarations have looked for one.
+    /// The offset from which there is no `>`, where declarations have searched for one.
     declaration: usize,
-    /// From where on there is no `]]>`.
+    /// The offset from which there is no `]]>`.
     cdata: usize,
 }
 
 impl MissingEnds {
-    /// Nothing is known of a text of so many bytes.
+    /// Returns the state for a text of this size, in which nothing is known.
     pub fn new(size: usize) -> MissingEnds
         ensures { (text : List ℕ) → length text ≡ size → AreMissing text result }
     {
@@ -42,7 +42,8 @@ impl MissingEnds {
     }
 }
 
-/// The length of the HTML tag that begins with an opening angle bracket at an offset of a content (CommonMark).
+/// Returns the length of the HTML tag that begins with an opening angle bracket at an offset of a
+/// content (CommonMark).
 ///
 /// In `a <b> c` it is 3 at the offset 2.
 pub fn scan(content: &[u8], at: usize, missing: &mut MissingEnds) -> Option<usize>
@@ -62,7 +63,8 @@ pub fn scan(content: &[u8], at: usize, missing: &mut MissingEnds) -> Option<usiz
     }
 }
 
-/// The length of the comment, the declaration or the CDATA section that begins with `<!` at an offset.
+/// Returns the length of the comment, the declaration or the CDATA section that begins with `<!` at
+/// an offset.
 fn scan_marked(content: &[u8], at: usize, missing: &mut MissingEnds) -> Option<usize>
     requires mark { slice_index (drop at content.now) 1 ≡ 33 }
     requires missing { AreMissing content.now missing.old }
@@ -77,7 +79,8 @@ fn scan_marked(content: &[u8], at: usize, missing: &mut MissingEnds) -> Option<u
     }
 }
 
-/// The length of the comment at an offset, where its end is known to be missing from an offset on.
+/// Returns the length of the comment at an offset, given the offset from which its end is known to
+/// be missing.
 fn scan_comment(content: &[u8], at: usize, missing: &mut usize) -> Option<usize>
     requires { IsMissing (codes "-->") content.now missing.old }
     ensures missing { IsMissing (codes "-->") content.now missing.new }
@@ -94,7 +97,8 @@ fn scan_comment(content: &[u8], at: usize, missing: &mut usize) -> Option<usize>
     found
 }
 
-/// The length of the processing instruction at an offset, where its end is known to be missing from an offset on.
+/// Returns the length of the processing instruction at an offset, given the offset from which its
+/// end is known to be missing.
 fn scan_instruction(content: &[u8], at: usize, missing: &mut usize) -> Option<usize>
     requires { IsMissing (codes "?>") content.now missing.old }
     ensures missing { IsMissing (codes "?>") content.now missing.new }
@@ -111,7 +115,8 @@ fn scan_instruction(content: &[u8], at: usize, missing: &mut usize) -> Option<us
     found
 }
 
-/// The length of the declaration at an offset, where its end is known to be missing from an offset on.
+/// Returns the length of the declaration at an offset, given the offset from which its end is known
+/// to be missing.
 fn scan_declaration(content: &[u8], at: usize, missing: &mut usize) -> Option<usize>
     requires { IsMissing (codes ">") content.now missing.old }
     ensures missing { IsMissing (codes ">") content.now missing.new }
@@ -128,14 +133,15 @@ fn scan_declaration(content: &[u8], at: usize, missing: &mut usize) -> Option<us
     found
 }
 
-/// After what a declaration begins with: `<!` and a letter of ASCII.
+/// Returns the text after the start of a declaration: `<!` and an ASCII letter.
 fn past_start(text: &[u8]) -> Option<&[u8]>
     ensures { Reading (word (codes "<!") then one page.is_letter) text.now (λ rest. rest.now) result }
 {
     past_one::<Letter>(past_word(text, b"<!")?)
 }
 
-/// The length of the CDATA section at an offset, where its end is known to be missing from an offset on.
+/// Returns the length of the CDATA section at an offset, given the offset from which its end is
+/// known to be missing.
 fn scan_cdata(content: &[u8], at: usize, missing: &mut usize) -> Option<usize>
     requires { IsMissing (codes "]]>") content.now missing.old }
     ensures missing { IsMissing (codes "]]>") content.now missing.new }

@@ -1,4 +1,4 @@
-//! Info strings: what comes after the fences that open code (CommonMark).
+//! Info strings: the text after the fences that open code (CommonMark).
 
 ghost use Rattle.std.specs.Prelude.{◌≡◌, ◌≤◌, drop, length, take};
 ghost use Rattle.commonmark_syntax.specs.Cuts.{IsCut};
@@ -8,8 +8,9 @@ ghost use Rattle.commonmark_syntax.specs.Syntax.{is_blank};
 
 use crate::bytes::{count_while, is_space_or_tab};
 
-/// The size of the language of code, which is the first word of an info string (CommonMark). What comes after
-/// that and the white space there is the meta, without the white space at the end of the line (micromark).
+/// Returns the size of the language of code, which is the first word of an info string
+/// (CommonMark). The rest after the white space is the meta, without the white space at the end of
+/// the line (micromark).
 ///
 /// In `a b` it is 1.
 pub fn language_size(info: &[u8]) -> usize

@@ -1,4 +1,4 @@
-//! Processing instructions of HTML (CommonMark).
+//! HTML processing instructions (CommonMark).
 
 ghost use Rattle.std.specs.Prelude.{◌≤◌, ◌<◌, MatchOption, drop, length, IfSome};
 ghost use Rattle.commonmark_syntax.specs.Cuts.{IsCut};
@@ -8,8 +8,8 @@ ghost use Rattle.commonmark_syntax.specs.Syntax.{processing_instruction};
 
 use crate::reading::{past_first, past_word};
 
-/// The length of the processing instruction that a text begins with (CommonMark): `<?` up to the first `?>`
-/// after it.
+/// Returns the length of the processing instruction that a text begins with (CommonMark): `<?` up
+/// to the first `?>` after it.
 ///
 /// In `<?a?> b` it is 5.
 pub fn scan(text: &[u8]) -> Option<usize>
@@ -21,7 +21,7 @@ pub fn scan(text: &[u8]) -> Option<usize>
     Some(text.len() - past(text)?.len())
 }
 
-/// After a processing instruction.
+/// Returns the text after a processing instruction.
 fn past(text: &[u8]) -> Option<&[u8]>
     ensures { Reading processing_instruction text.now (λ rest. rest.now) result }
 {

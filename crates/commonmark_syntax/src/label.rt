@@ -11,13 +11,13 @@ use crate::bytes::{is_continuation, is_space_or_line_ending};
 use crate::class::{AnyByte, InBrackets};
 use crate::reading::{past_byte, past_characters};
 
-/// The most characters that a label may have between its brackets (CommonMark).
+/// The greatest number of characters between the brackets of a label (CommonMark).
 pub const CHARACTERS_MOST: usize = 999;
 
-/// The length of the label that a text begins with, with its brackets (CommonMark).
+/// Returns the length of the label that a text begins with, with its brackets (CommonMark).
 ///
-/// A label ends at the first bracket in it without a backslash before it, which must be a closing one.
-/// It holds more than white space, and at most [`CHARACTERS_MOST`] characters.
+/// A label ends at the first bracket in it without a backslash before it, which must be a closing
+/// one. It contains more than white space, and at most [`CHARACTERS_MOST`] characters.
 ///
 /// In `[a]: b` it is 3; `[a[b]]` begins with no label.
 pub fn scan(text: &[u8]) -> Option<usize>
@@ -32,14 +32,14 @@ pub fn scan(text: &[u8]) -> Option<usize>
     Some(text.len() - past(text)?.len())
 }
 
-/// After a label.
+/// Returns the text after a label.
 fn past(text: &[u8]) -> Option<&[u8]>
     ensures { Reading link_label text.now (λ rest. rest.now) result }
 {
     past_byte(past_text(past_byte(text, b'[')?)?, b']')
 }
 
-/// After the text of a label.
+/// Returns the text after the text of a label.
 fn past_text(text: &[u8]) -> Option<&[u8]>
     ensures { Reading (tested is_label_text (many (character is_any in_brackets))) text.now (λ rest. rest.now) result }
 {
@@ -55,21 +55,21 @@ fn past_text(text: &[u8]) -> Option<&[u8]>
 /// Whether a label may have this text between its brackets: more than white space, and at most
 /// [`CHARACTERS_MOST`] characters (CommonMark).
 ///
-/// ` a ` is such a text, and ` ` is none.
+/// ` a ` is such a text, and ` ` is not.
 pub fn is_text(inside: &[u8]) -> bool
     ensures { result ≡ is_label_text inside.now }
 {
     has_more_than_white_space(inside) && character_count(inside) <= CHARACTERS_MOST
 }
 
-/// Whether a text holds more than white space.
+/// Whether a text contains more than white space.
 fn has_more_than_white_space(text: &[u8]) -> bool
     ensures { result ≡ list_any (λ c. not (is_white_space c)) text.now }
 {
     text.iter().any(|byte| !is_space_or_line_ending(*byte))
 }
 
-/// The number of characters of a text.
+/// Returns the number of characters of a text.
 pub(crate) fn character_count(text: &[u8]) -> usize
     ensures { result ≡ length (filter begins_character text.now) }
 {
@@ -84,7 +84,7 @@ pub(crate) fn character_count(text: &[u8]) -> usize
     count
 }
 
-/// Whether a byte begins a character of UTF-8.
+/// Whether a byte begins a UTF-8 character.
 fn begins_character(byte: u8) -> bool
     ensures { result ≡ begins_character byte }
 {

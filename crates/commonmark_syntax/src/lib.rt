@@ -1,9 +1,9 @@
-//! Scanners of the syntax of CommonMark and GFM: of what blocks begin and end with; of autolinks, character
-//! references, escapes, hard line breaks, and code spans; and of what blocks and inlines share: labels,
-//! destinations, titles, and tags of HTML.
+//! Scanners for the syntax of CommonMark and GFM: the beginnings and ends of blocks; autolinks,
+//! character references, escapes, hard line breaks, and code spans; and what blocks and inlines
+//! share: labels, destinations, titles, and HTML tags.
 //!
-//! Each scanner takes a text, and gives the length of the construct that the text begins with, in
-//! bytes, or nothing where it begins with none. A line ending in the text is a line feed. No scanner
+//! Each scanner takes a text, and returns the length in bytes of the construct that the text begins
+//! with, or nothing if it begins with none. A line ending in the text is a line feed. No scanner
 //! uses the machine's stack for depth, and each reads a byte at most a few times.
 #![tactic(auto)]
 

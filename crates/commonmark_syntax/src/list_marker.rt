@@ -11,11 +11,11 @@ use crate::bytes::has_more;
 use crate::class::{Bullet, Delimiter, Digit, Zero};
 use crate::reading::{past_all, past_blank_or_end, past_byte, past_one};
 
-/// How many digits the number of an item may have (CommonMark).
+/// The greatest number of digits in the number of an item (CommonMark).
 const DIGITS_MOST: usize = 9;
 
-/// The size of the marker of the item that the text of a line begins with, if one does: a bullet, or digits and a
-/// delimiter, before a space, a tab, or the end of the line (CommonMark).
+/// Returns the size of the marker of the item that the text of a line begins with, if one does: a
+/// bullet, or digits and a delimiter, before a space, a tab, or the end of the line (CommonMark).
 ///
 /// In `- a` it is 1, and in `10. a` it is 3.
 pub fn scan(text: &[u8]) -> Option<usize>
@@ -29,14 +29,14 @@ pub fn scan(text: &[u8]) -> Option<usize>
     Some(text.len() - past(text)?.len())
 }
 
-/// After a marker.
+/// Returns the text after a marker.
 fn past(text: &[u8]) -> Option<&[u8]>
     ensures { Reading blocks.list_marker text.now (λ rest. rest.now) result }
 {
     past_blank_or_end(past_marker(text)?)
 }
 
-/// After a bullet, or a number and a delimiter.
+/// Returns the text after a bullet, or a number and a delimiter.
 fn past_marker(text: &[u8]) -> Option<&[u8]>
     ensures { Reading (one blocks.is_bullet or blocks.ordered_list_marker) text.now (λ rest. rest.now) result }
 {
@@ -46,7 +46,7 @@ fn past_marker(text: &[u8]) -> Option<&[u8]>
     }
 }
 
-/// After the number of an item.
+/// Returns the text after the number of an item.
 fn past_number(text: &[u8]) -> Option<&[u8]>
     ensures { Reading (tested (blocks.is_at_most 9) (some (one is_digit))) text.now (λ rest. rest.now) result }
 {
@@ -59,7 +59,7 @@ fn past_number(text: &[u8]) -> Option<&[u8]>
     }
 }
 
-/// After digits.
+/// Returns the text after digits.
 fn past_digits(text: &[u8]) -> Option<&[u8]>
     ensures { Reading (some (one is_digit)) text.now (λ rest. rest.now) result }
 {
@@ -67,17 +67,17 @@ fn past_digits(text: &[u8]) -> Option<&[u8]>
     Some(past_all::<Digit>(rest))
 }
 
-/// Whether these digits are few enough.
+/// Whether there are few enough digits.
 fn is_short(digits: &[u8]) -> bool
     ensures { result ≡ blocks.is_at_most 9 digits.now }
 {
     digits.len() <= DIGITS_MOST
 }
 
-/// Whether the text of a line begins with the marker of an item that may interrupt a paragraph: one with the number
-/// 1, if it has one, and with something in its line (CommonMark).
+/// Whether the text of a line begins with the marker of an item that may interrupt a paragraph.
+/// Such an item has the number 1, if it has one, and is not blank (CommonMark).
 ///
-/// It is true of `1. a`, and false of `2. a`.
+/// It is true for `1. a`, and false for `2. a`.
 pub fn may_interrupt(text: &[u8]) -> bool
     ensures yes { result ≡ true → IsAt blocks.interrupting_list_marker text.now }
     ensures no { result ≡ false → IsNotAt blocks.interrupting_list_marker text.now }
@@ -85,14 +85,14 @@ pub fn may_interrupt(text: &[u8]) -> bool
     past_interrupting(text).is_some()
 }
 
-/// After the marker of an item that may interrupt a paragraph.
+/// Returns the text after the marker of an item that may interrupt a paragraph.
 fn past_interrupting(text: &[u8]) -> Option<&[u8]>
     ensures { Reading blocks.interrupting_list_marker text.now (λ rest. rest.now) result }
 {
     past_filled(past_first_marker(text)?)
 }
 
-/// The same text, if an item may begin before it that is not blank.
+/// Returns the text, if an item that is not blank may begin before it.
 fn past_filled(text: &[u8]) -> Option<&[u8]>
     ensures { Reading (blocks.blank_or_end then unless blocks.is_blank_line nothing) text.now (λ rest. rest.now) result }
 {
@@ -100,7 +100,7 @@ fn past_filled(text: &[u8]) -> Option<&[u8]>
     if has_more(rest) { Some(rest) } else { None }
 }
 
-/// After a bullet, or the number 1 and a delimiter.
+/// Returns the text after a bullet, or the number 1 and a delimiter.
 fn past_first_marker(text: &[u8]) -> Option<&[u8]>
     ensures { Reading (one blocks.is_bullet or blocks.marker_of_one) text.now (λ rest. rest.now) result }
 {
@@ -110,7 +110,7 @@ fn past_first_marker(text: &[u8]) -> Option<&[u8]>
     }
 }
 
-/// After the number 1, in as many digits as a number may have.
+/// Returns the text after the number 1, in as many digits as a number may have.
 fn past_number_one(text: &[u8]) -> Option<&[u8]>
     ensures { Reading (tested (blocks.is_at_most 9) (many (byte 48) then byte 49)) text.now (λ rest. rest.now) result }
 {
@@ -123,7 +123,7 @@ fn past_number_one(text: &[u8]) -> Option<&[u8]>
     }
 }
 
-/// After digits that say 1.
+/// Returns the text after digits for the number 1.
 fn past_zeros_and_one(text: &[u8]) -> Option<&[u8]>
     ensures { Reading (many (byte 48) then byte 49) text.now (λ rest. rest.now) result }
 {

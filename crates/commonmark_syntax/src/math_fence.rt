@@ -8,11 +8,11 @@ ghost use Rattle.commonmark_syntax.specs.Reading.{Reading};
 
 use crate::reading::{past_none_to_end, past_run};
 
-/// How many signs a fence has at least (micromark).
+/// The smallest number of signs in a fence (micromark).
 const SIGNS_LEAST: usize = 2;
 
-/// The number of signs of the fence of math that a line opens with, if it does: dollar signs, with none in the
-/// rest of the line (micromark).
+/// Returns the number of signs of the math fence that a line opens with, if it does: dollar signs,
+/// with none in the rest of the line (micromark).
 ///
 /// In `$$ a` it is 2.
 pub fn scan(text: &[u8]) -> Option<usize>
@@ -24,7 +24,7 @@ pub fn scan(text: &[u8]) -> Option<usize>
     Some(text.len() - past(text)?.len())
 }
 
-/// After the signs of a fence.
+/// Returns the text after the signs of a fence.
 fn past(text: &[u8]) -> Option<&[u8]>
     ensures { Reading math_fence text.now (λ rest. rest.now) result }
 {

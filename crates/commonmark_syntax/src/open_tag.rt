@@ -1,4 +1,4 @@
-//! Open tags of HTML (CommonMark).
+//! HTML open tags (CommonMark).
 
 ghost use Rattle.std.specs.Prelude.{◌≡◌, ◌≤◌, ◌<◌, MatchOption, drop, length, IfSome};
 ghost use Rattle.commonmark_syntax.specs.Cuts.{IsCut};
@@ -9,8 +9,8 @@ ghost use Rattle.commonmark_syntax.specs.Syntax.{attribute, open_tag, open_tag_e
 use crate::reading::{past_blanks, past_byte};
 use crate::{attribute, tag_name};
 
-/// The length of the open tag that a text begins with (CommonMark): `<`, a name, attributes, white
-/// space, `/` where it closes itself, and `>`.
+/// Returns the length of the open tag that a text begins with (CommonMark): `<`, a name,
+/// attributes, white space, `/` if it closes itself, and `>`.
 ///
 /// In `<a b> c` it is 5, and in `<br />` it is 6.
 pub fn scan(text: &[u8]) -> Option<usize>
@@ -22,7 +22,7 @@ pub fn scan(text: &[u8]) -> Option<usize>
     Some(text.len() - past(text)?.len())
 }
 
-/// After an open tag.
+/// Returns the text after an open tag.
 pub(crate) fn past(text: &[u8]) -> Option<&[u8]>
     ensures { Reading open_tag text.now (λ rest. rest.now) result }
 {
@@ -30,7 +30,7 @@ pub(crate) fn past(text: &[u8]) -> Option<&[u8]>
     past_end(past_attributes(rest))
 }
 
-/// After all attributes.
+/// Returns the text after all attributes.
 #[tactic(auto, using(crate::proofs::Loops::many_done))]
 fn past_attributes(text: &[u8]) -> &[u8]
     ensures { read (many attribute) text.now ≡ Some result.now }
@@ -42,7 +42,7 @@ fn past_attributes(text: &[u8]) -> &[u8]
     rest
 }
 
-/// After the end of an open tag, with the white space before it.
+/// Returns the text after the end of an open tag, with the white space before it.
 fn past_end(text: &[u8]) -> Option<&[u8]>
     ensures { Reading open_tag_end text.now (λ rest. rest.now) result }
 {

@@ -1,4 +1,4 @@
-//! Steps of reading, which the constructs share. Each gives what comes after what it reads.
+//! Reading steps that the constructs share. Each returns the text after what it reads.
 
 ghost use Rattle.std.specs.Prelude.{◌≡◌};
 ghost use Rattle.commonmark_syntax.specs.Blocks.{blank_or_end, blank_to_end, begins_more, none_to_end, run};
@@ -9,7 +9,7 @@ ghost use Rattle.commonmark_syntax.specs.Syntax.{blanks, byte, character, new_li
 use crate::bytes::{after, has_byte, has_more, is_space_or_tab, run_length};
 use crate::class::{Blank, Class};
 
-/// After a byte.
+/// Returns the text after a byte.
 pub fn past_byte(text: &[u8], expected: u8) -> Option<&[u8]>
     ensures { Reading (byte expected) text.now (λ rest. rest.now) result }
 {
@@ -19,7 +19,7 @@ pub fn past_byte(text: &[u8], expected: u8) -> Option<&[u8]>
     }
 }
 
-/// After a byte of a class.
+/// Returns the text after a byte of a class.
 pub fn past_one<C: Class>(text: &[u8]) -> Option<&[u8]>
     ensures { Reading (one C.class) text.now (λ rest. rest.now) result }
 {
@@ -29,7 +29,7 @@ pub fn past_one<C: Class>(text: &[u8]) -> Option<&[u8]>
     }
 }
 
-/// After the bytes of a class that come first, of which there may be none.
+/// Returns the text after the bytes of a class that come first. There may be none.
 #[tactic(auto, using(crate::proofs::Counts::many_counted))]
 pub fn past_all<C: Class>(text: &[u8]) -> &[u8]
     ensures { read (many (one C.class)) text.now ≡ Some result.now }
@@ -42,7 +42,7 @@ pub fn past_all<C: Class>(text: &[u8]) -> &[u8]
     after(text, text.len())
 }
 
-/// After all the bytes of a class that come first, of which there may be none.
+/// Returns the text after all the bytes of a class that come first. There may be none.
 #[tactic(auto, using(crate::proofs::Loops::many_is_all))]
 pub fn past_every<C: Class>(text: &[u8]) -> &[u8]
     ensures { read (all C.class) text.now ≡ Some result.now }
@@ -50,7 +50,7 @@ pub fn past_every<C: Class>(text: &[u8]) -> &[u8]
     past_all::<C>(text)
 }
 
-/// After the bytes of a class that come first, but at most so many of them.
+/// Returns the text after the bytes of a class that come first, but at most `most` of them.
 #[tactic(auto, using(crate::proofs::Counts::one_fewer, crate::proofs::Counts::none_more))]
 pub fn past_at_most<C: Class>(text: &[u8], most: usize) -> &[u8]
     ensures { read (at_most most (one C.class)) text.now ≡ Some result.now }
@@ -67,14 +67,14 @@ pub fn past_at_most<C: Class>(text: &[u8], most: usize) -> &[u8]
     rest
 }
 
-/// After a word.
+/// Returns the text after a word.
 pub fn past_word<'a>(text: &'a [u8], expected: &[u8]) -> Option<&'a [u8]>
     ensures { Reading (word expected.now) text.now (λ rest. rest.now) result }
 {
     text.strip_prefix(expected)
 }
 
-/// After the first place of a word.
+/// Returns the text after the first occurrence of a word.
 #[tactic(auto, using(crate::proofs::Words::found_here, crate::proofs::Words::found_later))]
 pub fn past_first<'a>(text: &'a [u8], expected: &[u8]) -> Option<&'a [u8]>
     ensures { Reading (through expected.now) text.now (λ rest. rest.now) result }
@@ -89,14 +89,14 @@ pub fn past_first<'a>(text: &'a [u8], expected: &[u8]) -> Option<&'a [u8]>
     }
 }
 
-/// After spaces, tabs, and up to one line ending, of which there may be none (CommonMark).
+/// Returns the text after spaces, tabs, and up to one line ending. There may be none (CommonMark).
 pub fn past_blanks(text: &[u8]) -> &[u8]
     ensures { read blanks text.now ≡ Some result.now }
 {
     past_optional_line(past_all::<Blank>(text))
 }
 
-/// After spaces, tabs, and up to one line ending (CommonMark).
+/// Returns the text after spaces, tabs, and up to one line ending (CommonMark).
 pub fn past_some_blanks(text: &[u8]) -> Option<&[u8]>
     ensures { Reading some_blanks text.now (λ rest. rest.now) result }
 {
@@ -106,7 +106,7 @@ pub fn past_some_blanks(text: &[u8]) -> Option<&[u8]>
     }
 }
 
-/// After a line ending, with the spaces and tabs after it, if there is one.
+/// Returns the text after a line ending, with the spaces and tabs after it, if there is one.
 fn past_optional_line(text: &[u8]) -> &[u8]
     ensures { read (optional new_line) text.now ≡ Some result.now }
 {
@@ -116,7 +116,7 @@ fn past_optional_line(text: &[u8]) -> &[u8]
     }
 }
 
-/// After a line ending, with the spaces and tabs after it.
+/// Returns the text after a line ending, with the spaces and tabs after it.
 fn past_new_line(text: &[u8]) -> Option<&[u8]>
     ensures { Reading new_line text.now (λ rest. rest.now) result }
 {
@@ -124,8 +124,8 @@ fn past_new_line(text: &[u8]) -> Option<&[u8]>
     Some(past_all::<Blank>(rest))
 }
 
-/// After the characters that come first, of which there may be none: a backslash takes a byte of a class
-/// with it, and the bytes of another class stand for themselves.
+/// Returns the text after the characters that come first. There may be none. A backslash escapes a
+/// byte of one class, and the bytes of another class stand for themselves.
 #[tactic(auto, using(crate::proofs::Loops::many_done))]
 pub fn past_characters<T: Class, C: Class>(text: &[u8]) -> &[u8]
     ensures { read (many (character T.class C.class)) text.now ≡ Some result.now }
@@ -137,7 +137,7 @@ pub fn past_characters<T: Class, C: Class>(text: &[u8]) -> &[u8]
     rest
 }
 
-/// After such a character.
+/// Returns the text after such a character.
 fn past_character<T: Class, C: Class>(text: &[u8]) -> Option<&[u8]>
     ensures { Reading (character T.class C.class) text.now (λ rest. rest.now) result }
 {
@@ -147,14 +147,14 @@ fn past_character<T: Class, C: Class>(text: &[u8]) -> Option<&[u8]>
     past_one::<C>(text)
 }
 
-/// After a backslash and a byte of a class.
+/// Returns the text after a backslash and a byte of a class.
 fn past_escape<T: Class>(text: &[u8]) -> Option<&[u8]>
     ensures { Reading (byte 92 then one T.class) text.now (λ rest. rest.now) result }
 {
     past_one::<T>(past_byte(text, b'\\')?)
 }
 
-/// After a run of a byte, if it has at least so many bytes.
+/// Returns the text after a run of a byte, if it has at least `least` bytes.
 #[tactic(auto, using(crate::proofs::Runs::run_counted, crate::proofs::Runs::run_short))]
 pub fn past_run(text: &[u8], of: u8, least: usize) -> Option<&[u8]>
     ensures { Reading (run least of) text.now (λ rest. rest.now) result }
@@ -166,28 +166,28 @@ pub fn past_run(text: &[u8], of: u8, least: usize) -> Option<&[u8]>
     Some(after(text, size))
 }
 
-/// The same text, if only spaces and tabs come in it.
+/// Returns the text, if it contains only spaces and tabs.
 pub fn past_blank_to_end(text: &[u8]) -> Option<&[u8]>
     ensures { Reading blank_to_end text.now (λ rest. rest.now) result }
 {
     if has_more(text) { None } else { Some(text) }
 }
 
-/// The same text, if it is empty, or begins with a space or a tab.
+/// Returns the text, if it is empty, or begins with a space or a tab.
 pub fn past_blank_or_end(text: &[u8]) -> Option<&[u8]>
     ensures { Reading blank_or_end text.now (λ rest. rest.now) result }
 {
     if begins_more(text) { None } else { Some(text) }
 }
 
-/// The same text, if a byte is not in it.
+/// Returns the text, if it does not contain a byte.
 pub fn past_none_to_end(text: &[u8], of: u8) -> Option<&[u8]>
     ensures { Reading (none_to_end of) text.now (λ rest. rest.now) result }
 {
     if has_byte(text, of) { None } else { Some(text) }
 }
 
-/// Whether a text begins with something else than a space or a tab.
+/// Whether a text begins with a byte other than a space or a tab.
 fn begins_more(text: &[u8]) -> bool
     ensures { result ≡ begins_more text.now }
 {

@@ -1,4 +1,4 @@
-//! Underlines of headings (CommonMark).
+//! Underlines of setext headings (CommonMark).
 
 ghost use Rattle.std.specs.Prelude.{◌≤◌, ◌<◌, MatchOption, drop, length, IfSome};
 ghost use Rattle.commonmark_syntax.specs.Blocks.{run, setext_underline};
@@ -8,8 +8,8 @@ ghost use Rattle.commonmark_syntax.specs.Reading.{Reading};
 
 use crate::reading::{past_blank_to_end, past_run};
 
-/// The number of signs of the underline that the text of a line is, if it is one: equals signs or hyphens,
-/// with only spaces and tabs after them (CommonMark).
+/// Returns the number of signs of the underline in a line, if the line is one: equals signs or
+/// hyphens, with only spaces and tabs after them (CommonMark).
 ///
 /// In `===` it is 3.
 pub fn scan(text: &[u8]) -> Option<usize>
@@ -21,14 +21,14 @@ pub fn scan(text: &[u8]) -> Option<usize>
     Some(text.len() - past(text)?.len())
 }
 
-/// After the signs of an underline.
+/// Returns the text after the signs of an underline.
 fn past(text: &[u8]) -> Option<&[u8]>
     ensures { Reading setext_underline text.now (λ rest. rest.now) result }
 {
     past_blank_to_end(past_signs(text)?)
 }
 
-/// After equals signs or hyphens.
+/// Returns the text after equals signs or hyphens.
 fn past_signs(text: &[u8]) -> Option<&[u8]>
     ensures { Reading (run 1 61 or run 1 45) text.now (λ rest. rest.now) result }
 {

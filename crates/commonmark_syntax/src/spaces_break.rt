@@ -7,11 +7,11 @@ ghost use Rattle.commonmark_syntax.specs.Language.{IsNotAt, Leaves};
 
 use crate::bytes::count_back;
 
-/// So many spaces before a line ending are a hard line break, or more (CommonMark).
+/// The smallest number of spaces before a line ending that make a hard line break (CommonMark).
 const SPACES_LEAST: usize = 2;
 
-/// The length of the hard line break by spaces that a text ends with, where a line ending comes after it
-/// (CommonMark): all spaces at its end, if they are two or more.
+/// Returns the length of the hard line break by spaces that a text ends with, if a line ending
+/// comes after it (CommonMark): all spaces at its end, if they are two or more.
 ///
 /// In an `a` and three spaces it is 3.
 pub fn scan_back(text: &[u8]) -> Option<usize>

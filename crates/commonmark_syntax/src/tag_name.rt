@@ -1,4 +1,4 @@
-//! Names of tags of HTML (CommonMark).
+//! Names of HTML tags (CommonMark).
 
 ghost use Rattle.std.specs.Prelude.{◌≡◌, ◌≤◌, ◌<◌, MatchOption, drop, length, IfSome};
 ghost use Rattle.commonmark_syntax.specs.Cuts.{IsCut, IsInLine};
@@ -9,8 +9,8 @@ ghost use Rattle.commonmark_syntax.specs.Syntax.{tag_name, whole_tag_name};
 use crate::class::{Letter, OfTagName};
 use crate::reading::{past_all, past_one};
 
-/// The length of the name of a tag that a text begins with: a letter, and then letters, digits and
-/// hyphens, all of ASCII (CommonMark).
+/// Returns the length of the name of a tag that a text begins with: a letter, and then letters,
+/// digits and hyphens, all ASCII (CommonMark).
 ///
 /// In `h1>` it is 2.
 pub fn scan(text: &[u8]) -> Option<usize>
@@ -23,7 +23,7 @@ pub fn scan(text: &[u8]) -> Option<usize>
     Some(text.len() - past_whole(text)?.len())
 }
 
-/// After the name of a tag, as far as it goes.
+/// Returns the text after the whole name of a tag.
 #[tactic(auto, using(crate::proofs::Names::whole_name))]
 pub(crate) fn past_whole(text: &[u8]) -> Option<&[u8]>
     ensures { Reading whole_tag_name text.now (λ rest. rest.now) result }
@@ -31,7 +31,7 @@ pub(crate) fn past_whole(text: &[u8]) -> Option<&[u8]>
     past(text)
 }
 
-/// After the name of a tag.
+/// Returns the text after the name of a tag.
 pub(crate) fn past(text: &[u8]) -> Option<&[u8]>
     ensures { Reading tag_name text.now (λ rest. rest.now) result }
 {

@@ -10,8 +10,8 @@ ghost use Rattle.commonmark_syntax.specs.Reading.{Reading};
 use crate::class::{Class, TaskValue, WhiteSpace};
 use crate::reading::{past_byte, past_one};
 
-/// The length of the mark of a task that a text begins with (GFM): `[`, white space, `x` or `X`, and `]`. White
-/// space comes after it, and then more of the text.
+/// Returns the length of the mark of a task that a text begins with (GFM): `[`, white space, `x` or
+/// `X`, and `]`. White space comes after it, and then more of the text.
 ///
 /// In `[x] a` it is 3.
 pub fn scan(text: &[u8]) -> Option<usize>
@@ -25,7 +25,7 @@ pub fn scan(text: &[u8]) -> Option<usize>
     Some(text.len() - past(text)?.len())
 }
 
-/// After the mark of a task.
+/// Returns the text after the mark of a task.
 fn past(text: &[u8]) -> Option<&[u8]>
     ensures { Reading task_mark text.now (λ rest. rest.now) result }
 {
@@ -33,7 +33,7 @@ fn past(text: &[u8]) -> Option<&[u8]>
     before_task(past_byte(rest, b']')?)
 }
 
-/// A text that may come after the mark of a task.
+/// Returns the text, if it may come after the mark of a task.
 fn before_task(text: &[u8]) -> Option<&[u8]>
     ensures { Reading (unless begins_no_task nothing) text.now (λ rest. rest.now) result }
 {
@@ -43,7 +43,7 @@ fn before_task(text: &[u8]) -> Option<&[u8]>
     Some(text)
 }
 
-/// Whether a text does not begin with white space, or is white space alone.
+/// Whether a text does not begin with white space, or is only white space.
 fn begins_no_task(text: &[u8]) -> bool
     ensures { result ≡ begins_no_task text.now }
 {
@@ -60,7 +60,7 @@ fn begins_with_white_space(text: &[u8]) -> bool
     }
 }
 
-/// Whether a text holds more than white space.
+/// Whether a text contains more than white space.
 fn has_more_than_white_space(text: &[u8]) -> bool
     ensures { result ≡ list_any (λ c. not (is_gfm_white_space c)) text.now }
 {

@@ -7,10 +7,11 @@ ghost use Rattle.commonmark_syntax.specs.Syntax.{is_blank};
 
 use crate::bytes::is_space_or_tab;
 
-/// How many signs make a thematic break (CommonMark).
+/// The smallest number of signs in a thematic break (CommonMark).
 const SIGNS_LEAST: usize = 3;
 
-/// The size of the longest end of a line that has only spaces, tabs and one of the signs of thematic breaks.
+/// Returns the size of the longest end of a line that contains only spaces, tabs and one of the
+/// signs of thematic breaks.
 ///
 /// In `- a **` it is 3.
 pub fn tail_size(line: &[u8]) -> usize
@@ -32,7 +33,7 @@ pub fn tail_size(line: &[u8]) -> usize
     line.len()
 }
 
-/// Whether a byte is the one sign that there is already, or any sign where there is none.
+/// Whether a byte is the sign that was found already, or any sign if none was found.
 fn is_like(byte: u8, sign: Option<u8>) -> bool
     ensures { MatchOption sign (result ≡ is_break_sign byte) (λ c. result ≡ (byte == c)) }
 {
@@ -42,10 +43,10 @@ fn is_like(byte: u8, sign: Option<u8>) -> bool
     }
 }
 
-/// Whether the text of a line is a thematic break, where it is known whether it has only spaces, tabs and one of the
-/// signs: then it is one if it has enough of them (CommonMark).
+/// Whether the text of a line is a thematic break, given whether it contains only spaces, tabs and
+/// one of the signs. If so, it is one if it has enough of them (CommonMark).
 ///
-/// It is true of `* **`, and false of `**`.
+/// It is true for `* **`, and false for `**`.
 pub fn is_at(text: &[u8], has_one: bool) -> bool
     ensures one { result ≡ true → has_one ≡ true }
     ensures exact { has_one ≡ has_one_sign text.now → (0 < length text.now → is_blank (slice_index text.now 0) ≡ false) → (result ≡ true) ↔ Matches thematic_break text.now }

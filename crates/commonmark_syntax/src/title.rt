@@ -9,10 +9,10 @@ ghost use Rattle.commonmark_syntax.specs.Syntax as page;
 use crate::class::{AnyByte, Class, InDoubleQuotes, InParentheses, InSingleQuotes};
 use crate::reading::{past_byte, past_characters};
 
-/// The length of the title that a text begins with, with its markers: two quotation marks, two apostrophes,
-/// or two parentheses (CommonMark).
+/// Returns the length of the title that a text begins with, with its markers: two quotation marks,
+/// two apostrophes, or two parentheses (CommonMark).
 ///
-/// No marker without a backslash before it stands in a title, and no blank line does.
+/// A title contains no marker without a backslash before it, and no blank line.
 ///
 /// In `"a" b` it is 3, and in `(a) b` too.
 pub fn scan(text: &[u8]) -> Option<usize>
@@ -26,7 +26,7 @@ pub fn scan(text: &[u8]) -> Option<usize>
     Some(text.len() - past(text)?.len())
 }
 
-/// After a title.
+/// Returns the text after a title.
 fn past(text: &[u8]) -> Option<&[u8]>
     ensures { Reading page.title text.now (λ rest. rest.now) result }
 {
@@ -39,7 +39,7 @@ fn past(text: &[u8]) -> Option<&[u8]>
     past_titled::<InParentheses>(text, b'(', b')')
 }
 
-/// After a title between two markers.
+/// Returns the text after a title between two markers.
 fn past_titled<C: Class>(text: &[u8], opening: u8, closing: u8) -> Option<&[u8]>
     ensures { Reading (page.titled opening C.class closing) text.now (λ rest. rest.now) result }
 {
@@ -47,7 +47,7 @@ fn past_titled<C: Class>(text: &[u8], opening: u8, closing: u8) -> Option<&[u8]>
     past_byte(past_text::<C>(inside)?, closing)
 }
 
-/// After the text of a title.
+/// Returns the text after the text of a title.
 fn past_text<C: Class>(text: &[u8]) -> Option<&[u8]>
     ensures { Reading (page.title_text C.class) text.now (λ rest. rest.now) result }
 {

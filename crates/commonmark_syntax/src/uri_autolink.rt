@@ -9,11 +9,11 @@ ghost use Rattle.commonmark_syntax.specs.Reading.{Reading};
 use crate::class::{Letter, OfScheme, OfUri};
 use crate::reading::{past_all, past_at_most, past_byte, past_one};
 
-/// The most bytes of a scheme after its first two (CommonMark).
+/// The greatest number of bytes in a scheme after its first two (CommonMark).
 const SCHEME_REST_MOST: usize = 30;
 
-/// The length of the URI autolink that a text begins with (CommonMark): `<`, a scheme, `:`, the rest of the
-/// URI, and `>`.
+/// Returns the length of the URI autolink that a text begins with (CommonMark): `<`, a scheme, `:`,
+/// the rest of the URI, and `>`.
 ///
 /// In `<ab:c> d` it is 6.
 pub fn scan(text: &[u8]) -> Option<usize>
@@ -28,14 +28,14 @@ pub fn scan(text: &[u8]) -> Option<usize>
     Some(text.len() - past(text)?.len())
 }
 
-/// After a URI autolink.
+/// Returns the text after a URI autolink.
 fn past(text: &[u8]) -> Option<&[u8]>
     ensures { Reading uri_autolink text.now (λ rest. rest.now) result }
 {
     past_byte(past_uri(past_byte(text, b'<')?)?, b'>')
 }
 
-/// After an absolute URI.
+/// Returns the text after an absolute URI.
 fn past_uri(text: &[u8]) -> Option<&[u8]>
     ensures { Reading absolute_uri text.now (λ rest. rest.now) result }
 {
@@ -43,7 +43,7 @@ fn past_uri(text: &[u8]) -> Option<&[u8]>
     Some(past_all::<OfUri>(rest))
 }
 
-/// After a scheme.
+/// Returns the text after a scheme.
 fn past_scheme(text: &[u8]) -> Option<&[u8]>
     ensures { Reading scheme text.now (λ rest. rest.now) result }
 {

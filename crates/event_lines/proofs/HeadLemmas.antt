@@ -95,15 +95,3 @@ head_some sign nm end kind name k lt at n spelled =
     }
 
 -- ---- A head and a point
-
--- a wrong point
-pub event_no_point : (text numbers : List ℕ) (kind : Kind) (name : Name) → HeadBegins text kind name numbers → point_of (before 10 numbers) ≡ None → event_of (before 10 text) ≡ None
-event_no_point text numbers kind name h none = h.event ∙ ap (λ o. o >>= λ point. the_event kind name point) none
-
--- a head and its point
-pub event_some : (text numbers rest : List ℕ) (kind : Kind) (name : Name) (point : Point) → HeadBegins text kind name numbers → PointBegins numbers point rest
-    → EventBegins text (record { kind = kind; name = name; point = point }) rest
-event_some text numbers rest kind name point h p = record {
-  says = h.event ∙ ap (λ o. o >>= λ q. the_event kind name q) p.says;
-  lines = p.lines ∙ ap (λ o. unwrap_or o []) (sym h.lines);
-}

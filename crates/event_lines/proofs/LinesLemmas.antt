@@ -12,12 +12,6 @@ pub record Reads (bytes : List ℕ) (events : List Event) (number : ℕ) (left :
   pub lines_so_far : lines bytes ≡ option_map (λ es. events ++ es) (events_of_lines left)
   pub unread_so_far : unread_line bytes ≡ first_unread (number + 1) left
 
--- after an empty line
-pub reads_empty : (bytes : List ℕ) (events : List Event) (number : ℕ) (line : List ℕ) (left : List (List ℕ)) → Reads bytes events number (line ∷ left) → length line ≡ 0 → Reads bytes events (number + 1) left
-reads_empty bytes events number line left so_far h =
-    let is : eqb (length line) 0 ≡ true = grind (arith, nat_tests) in
-    record { lines_so_far = so_far.lines_so_far ∙ rw is refl; unread_so_far = so_far.unread_so_far ∙ rw is refl }
-
 -- the first of the events left goes after those so far
 map_push : (xs : List Event) (e : Event) (o : Option (List Event)) → option_map (λ es. xs ++ es) (option_map (λ es. e ∷ es) o) ≡ option_map (λ es. (xs ++ e ∷ []) ++ es) o
 map_push xs e None = refl
@@ -55,26 +49,11 @@ unfolding event_of
 said [] event h = absurd (cc)
 said (b ∷ bs) event h = λ e. omega (arith, e)
 
-start_lines : (o : Option (List Event)) → o ≡ option_map (λ es. [] ++ es) o
-start_lines None = refl
-start_lines (Some es) = refl
-
--- before the first line
-pub reads_start : (bytes : List ℕ) → Reads bytes [] 0 (pieces 10 bytes)
-reads_start bytes = record { lines_so_far = start_lines (events_of_lines (pieces 10 bytes)); unread_so_far = refl }
-
 -- after a line that says an event
 pub reads_next : (bytes : List ℕ) (events : List Event) (number : ℕ) (rest next : List ℕ) (event : Event) → Reads bytes events number (pieces 10 rest) → EventBegins rest event next → Reads bytes (events ++ event ∷ []) (number + 1) (pieces 10 next)
 reads_next bytes events number rest next event r e =
     let now : Reads bytes events number (before 10 rest ∷ more_pieces 10 (after 10 rest)) = rw (pieces_first 10 rest) at r in
     rw e.lines (step_next bytes (events ++ event ∷ []) (number + 1) (after 10 rest) (reads_event bytes events number (before 10 rest) (more_pieces 10 (after 10 rest)) event now (said (before 10 rest) event e.says) e.says))
-
--- after an empty line
-pub reads_feed : (bytes : List ℕ) (events : List Event) (number : ℕ) (rest : List ℕ) → Reads bytes events number (pieces 10 rest) → 0 < length rest → get_or rest 0 0 ≡ 10 → Reads bytes events (number + 1) (pieces 10 (from rest 1))
-reads_feed bytes events number rest r some feed =
-    let parts : rest ≡ 10 ∷ from rest 1 = drop_at rest 0 10 some feed in
-    let now : Reads bytes events number ([] ∷ pieces 10 (from rest 1)) = subst (λ t. Reads bytes events number (pieces 10 t)) parts r in
-    reads_empty bytes events number [] (pieces 10 (from rest 1)) now refl
 
 -- at a line that says nothing
 some_line : (rest : List ℕ) → 0 < length rest → get_or rest 0 0 ≢ 10 → length (before 10 rest) ≢ 0
@@ -85,8 +64,3 @@ pub reads_wrong : (bytes : List ℕ) (events : List Event) (number : ℕ) (rest 
 reads_wrong bytes events number rest r some other none =
     let now : Reads bytes events number (before 10 rest ∷ more_pieces 10 (after 10 rest)) = rw (pieces_first 10 rest) at r in
     reads_none bytes events number (before 10 rest) (more_pieces 10 (after 10 rest)) now (some_line rest some other) none
-
--- at the end
-pub reads_end : (bytes : List ℕ) (events : List Event) (number : ℕ) (rest : List ℕ) → Reads bytes events number (pieces 10 rest) → length rest ≡ 0 → lines bytes ≡ Some events
-reads_end bytes events number [] r h = reads_all bytes events (number + 1) (reads_empty bytes events number [] [] r refl)
-reads_end bytes events number (b ∷ bs) r h = absurd (omega arith)

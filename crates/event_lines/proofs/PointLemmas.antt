@@ -307,10 +307,3 @@ line_says text point rest n p all some =
 -- the lines after a point are no longer than it and they
 pub point_short : (text : List ℕ) (point : Point) (rest : List ℕ) → PointBegins text point rest → length rest ≤ length text
 point_short text point rest p = let h : length (rest_after 10 text) ≤ length text = rest_short 10 text in rw p.lines h
-
--- by the head of the line and the point of the line before
-pub point_again : (text front : List ℕ) (point : Point) (rest : List ℕ) → AlwaysSays front point → text ≡ front ++ rest → PointBegins text point rest
-point_again text front point rest m e = record {
-  says = ap (λ t. point_of (before 10 t)) e ∙ m.says rest;
-  lines = sym (ap (λ t. rest_after 10 t) e ∙ ap (λ o. unwrap_or o []) (m.lines rest));
-}

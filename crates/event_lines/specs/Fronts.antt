@@ -1,4 +1,4 @@
--- What stands at the front of a text, read line by line.
+-- The front of a text that is read line by line.
 use Rattle.std.specs.Prelude.{◌≡◌, ℕ, ◌^◌, ◌<◌, ◌≤◌, List, [], ◌++◌, Option, Some, None, length, take, slice_index, unwrap_or}
 use Rattle.std.specs.Char.{digit_value}
 use Rattle.std.specs.Str.Parse.{digits_value, AllDigits}
@@ -9,30 +9,30 @@ use Rattle.markdown_events.specs.declared.event.Point.{Point}
 use Rattle.event_lines.specs.declared.point.SaidPoint.{SaidPoint}
 use Rattle.event_lines.specs.Lines.{before, after, number_of, spaces_of, point_of, event_of, ◌>>=◌}
 
--- what comes after the first byte c, if anything does
+-- the text after the first byte c, empty if there is none
 abbrev pub rest_after : ℕ → List ℕ → List ℕ
 rest_after c text = unwrap_or (after c text) []
 
--- a number, a colon, and what comes after it
+-- a number, a colon, and the text after it
 unfoldable pub field_of : List ℕ → Option (ℕ × List ℕ)
 field_of line =
     after 58 line >>= λ more.
     number_of (before 58 line) >>= λ value.
     Some (value, more)
 
--- an index, and virtual spaces where they are given
+-- an index, and virtual spaces if they are given
 unfoldable pub index_and_spaces_of : List ℕ → Option (ℕ × ℕ)
 index_and_spaces_of line =
     number_of (before 58 line) >>= λ index.
     spaces_of (after 58 line) >>= λ vs.
     Some (index, vs)
 
--- the first line begins with no number
+-- the first line does not begin with a number
 pub record NoNumberBegins (text : List ℕ) : Type 0 where
   pub line : number_of (before 10 text) ≡ None
   pub field : number_of (before 58 (before 10 text)) ≡ None
 
--- the text begins with so many digits, which are this number, and no digit follows them
+-- the text begins with this many digits, which write this number, and no digit follows them
 pub record NumberBegins (text : List ℕ) (value : ℕ) (count : ℕ) : Type 0 where
   pub some : 0 < count
   pub within : count ≤ length text
@@ -46,11 +46,11 @@ pub record FieldBegins (text : List ℕ) (value : ℕ) (more : List ℕ) : Type 
   pub field : field_of (before 10 text) ≡ Some (value, before 10 more)
   pub lines : after 10 text ≡ after 10 more
 
--- the first line is no index with virtual spaces
+-- the first line is not an index with virtual spaces
 abbrev pub NoIndexBegins : List ℕ → Type 0
 NoIndexBegins text = index_and_spaces_of (before 10 text) ≡ None
 
--- the first line is an index and virtual spaces
+-- the first line is an index with virtual spaces
 pub record IndexBegins (text : List ℕ) (index : ℕ) (vs : ℕ) (rest : List ℕ) : Type 0 where
   pub last : index_and_spaces_of (before 10 text) ≡ Some (index, vs)
   pub lines : rest ≡ rest_after 10 text
@@ -80,6 +80,6 @@ pub record AlwaysSays (bytes : List ℕ) (point : Point) : Type 0 where
   pub says : (rest : List ℕ) → point_of (before 10 (bytes ++ rest)) ≡ Some point
   pub lines : (rest : List ℕ) → after 10 (bytes ++ rest) ≡ Some rest
 
--- a point that was said, by its text
+-- a point that was read, with its text: the text always says this point
 abbrev pub IsSaid : SaidPoint → Type 0
 IsSaid said = AlwaysSays (take said.length said.bytes) said.point

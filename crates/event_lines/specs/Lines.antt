@@ -1,4 +1,4 @@
--- Event lines: what a text of lines says.
+-- Event lines: the events that a text of lines says.
 use Rattle.std.specs.Prelude.{◌≡◌, ⊤, ℕ, ◌+◌, ◌^◌, List, [], ◌∷◌, Bool, Option, Some, None, if◌then◌else◌, ◌==◌, ◌&&◌, ◌||◌, length, nat_lt, is_some, option_and_then, option_map}
 use Rattle.std.specs.List.{slice_split}
 use Rattle.std.specs.Str.{all_ascii_digits}
@@ -18,28 +18,28 @@ use Rattle.event_lines.specs.declared.lines.LinesError.TheVariants as errors
 abbrev pub pieces : ℕ → List ℕ → List (List ℕ)
 pieces c bytes = slice_split (λ b. b == c) bytes
 
--- what stands before the first byte c, or all where there is none
+-- the text before the first byte c, or all of it if there is none
 abbrev pub before : ℕ → List ℕ → List ℕ
 before c [] = []
 before c (b ∷ bytes) = if b == c then [] else b ∷ before c bytes
 
--- what stands after the first byte c, if there is one
+-- the text after the first byte c, if there is one
 abbrev pub after : ℕ → List ℕ → Option (List ℕ)
 after c [] = None
 after c (b ∷ bytes) = if b == c then Some bytes else after c bytes
 
 -- ---- The parts of an event line
 
--- one or more decimal digits, of a number in 64 bits
+-- a 64-bit number, written with one or more decimal digits
 unfoldable pub number_of : List ℕ → Option ℕ
 number_of digits = if nat_lt 0 (length digits) && (all_ascii_digits digits && nat_lt (digits_value 10 digits) (2 ^ 64)) then Some (digits_value 10 digits) else None
 
--- virtual spaces: none where none are given
+-- virtual spaces, 0 if none are given
 abbrev pub spaces_of : Option (List ℕ) → Option ℕ
 spaces_of None = Some 0
 spaces_of (Some digits) = number_of digits
 
--- what goes on with what was found
+-- the next step with what was found, if anything was
 infixl 10 ◌>>=◌
 abbrev pub ◌>>=◌ : {A B : Type 0} → Option A → (A → Option B) → Option B
 found >>= next = option_and_then next found
@@ -55,7 +55,7 @@ point_of text =
     spaces_of (after 58 after_column) >>= λ vs.
     Some (record { line = line; column = column; index = index; vs = vs })
 
--- `+` where a span begins, `-` where one ends
+-- `+` for the enter of a span, `-` for its exit
 abbrev pub kind_of : ℕ → Option Kind
 kind_of sign = if sign == 43 then Some Enter else (if sign == 45 then Some Exit else None)
 
@@ -77,7 +77,7 @@ event_of line =
 
 -- ---- Whole texts
 
--- the events of lines, of which empty ones say nothing
+-- the events of lines; empty lines say nothing
 abbrev pub events_of_lines : List (List ℕ) → Option (List Event)
 events_of_lines [] = Some []
 events_of_lines (line ∷ more) =
@@ -92,7 +92,7 @@ lines bytes = events_of_lines (pieces 10 bytes)
 abbrev pub can_be_read : List ℕ → Bool
 can_be_read line = (length line == 0) || is_some (event_of line)
 
--- the number of the first line that cannot be read, where the lines are counted from a number
+-- the number of the first line that cannot be read, where the lines are counted from `number`
 abbrev pub first_unread : ℕ → List (List ℕ) → Option ℕ
 first_unread number [] = None
 first_unread number (line ∷ more) = if can_be_read line then first_unread (number + 1) more else Some number
@@ -101,12 +101,12 @@ first_unread number (line ∷ more) = if can_be_read line then first_unread (num
 abbrev pub unread_line : List ℕ → Option ℕ
 unread_line bytes = first_unread 1 (pieces 10 bytes)
 
--- a text says no events, and this is its first line that cannot be read
+-- a text says no events, and this is the number of its first line that cannot be read
 pub record IsFirstUnread (number : ℕ) (bytes : List ℕ) : Type 0 where
   pub no_events : lines bytes ≡ None
   pub first : unread_line bytes ≡ Some number
 
--- want of memory says nothing of the text
+-- running out of memory says nothing about the text
 abbrev pub IsErrorOf : LinesError → List ℕ → Type 0
 IsErrorOf (errors.Unread number) bytes = IsFirstUnread number bytes
 IsErrorOf (errors.Memory error) bytes = ⊤

@@ -7,12 +7,12 @@ use Rattle.markdown_events.specs.declared.event.Kind.{Kind}
 use Rattle.markdown_events.specs.declared.event.Kind.TheVariants.{Enter, Exit}
 use Rattle.markdown_events.specs.declared.event.Point.{Point}
 
--- where a span begins, and where one ends
+-- `+` for the enter of a span, `-` for its exit
 abbrev pub sign : Kind → List ℕ
 sign Enter = codes "+"
 sign Exit = codes "-"
 
--- virtual spaces, where there are any
+-- virtual spaces, if there are any
 abbrev pub spaces : ℕ → List ℕ
 spaces vs = if vs == 0 then [] else codes ":" ++ decimal vs
 

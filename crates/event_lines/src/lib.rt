@@ -1,4 +1,5 @@
-//! Event lines: the events of a tokenizer as a text, a line for each, and the reader of that text.
+//! Event lines: the events of a tokenizer as a text, one event on each line, and the reader of that
+//! text.
 #![tactic(auto)]
 
 pub mod lines;

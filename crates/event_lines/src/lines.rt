@@ -1,4 +1,4 @@
-//! Event lines, read in one pass.
+//! The reader of event lines, in one pass.
 
 ghost use Rattle.std.specs.Prelude.{◌≡◌, ◌<◌, length, None, Some, IfOk, IfErr, IfSome, MatchOption, alloc_error};
 ghost use Rattle.event_lines.specs.declared.lines.LinesError.TheVariants.{Memory};
@@ -16,7 +16,7 @@ use std::fmt;
 /// Why lines were not read. `Display` writes `event line 2 cannot be read`, or `out of memory`.
 #[derive(Debug, Drop)]
 pub enum LinesError {
-    /// This line, counted from 1, is no event line, and it is not empty.
+    /// This line, counted from 1, is neither empty nor an event line.
     Unread(usize),
     /// Memory ran out.
     Memory(AllocError),
@@ -43,15 +43,15 @@ impl<T: Drop> From<AllocFailed<T>> for LinesError {
     }
 }
 
-/// Reads the events that a text says in event lines.
+/// Reads the events that a text of event lines describes.
 ///
-/// A line is `+Name line:column:index` where a span begins, or the same with `-` where it ends,
-/// and `:vs` may come after the index. Lines end with a line feed, which the last may lack.
-/// Empty lines say nothing, and numbers have to fit 64 bits. The error is `Unread` with the number of
-/// the first line that is neither empty nor such a line, and `Memory` where memory runs out. The form
-/// of the lines is ours.
+/// A line is `+Name line:column:index` where a span begins, or the same with `-` where it ends, and
+/// `:vs` may come after the index. Lines end with a line feed, which the last may lack. Empty lines
+/// are skipped, and numbers must fit 64 bits. The error is `Unread` with the number of the first
+/// line that is neither empty nor such a line, and `Memory` if memory runs out. The form of the
+/// lines is ours.
 ///
-/// `b"+Data 1:1:0\n-Data 1:3:2\n"` gives two events.
+/// `b"+Data 1:1:0\n-Data 1:3:2\n"` has two events.
 pub fn events(alloc: Global, bytes: &[u8]) -> Result<Vec<Event>, LinesError>
     ensures ok { IfOk result (λ events. lines bytes.now ≡ Some events.items) }
     ensures err { IfErr result (λ error. IsErrorOf error bytes.now) }
@@ -75,7 +75,7 @@ pub fn events(alloc: Global, bytes: &[u8]) -> Result<Vec<Event>, LinesError>
     Ok(events)
 }
 
-/// The event of the first line of a text, and the lines after it.
+/// Returns the event of the first line of a text, and the lines after it.
 fn event<'a>(text: &'a [u8], last_point: &mut Option<SaidPoint>) -> Option<(Event, &'a [u8])>
     requires text { 0 < length text.now }
     requires last_point { IfSome last_point.old IsSaid }
@@ -87,7 +87,7 @@ fn event<'a>(text: &'a [u8], last_point: &mut Option<SaidPoint>) -> Option<(Even
     Some((Event { kind, name, point }, rest))
 }
 
-/// The sign and the name of a line, and the text after the space that follows them.
+/// Returns the sign and the name of a line, and the text after the space that follows them.
 fn head(text: &[u8]) -> Option<(Kind, Name, &[u8])>
     requires { 0 < length text.now }
     ensures { MatchOption result (event_of (before 10 text.now) ≡ None) (λ found. HeadBegins text.now found.0 found.1 found.2.now) }
@@ -102,7 +102,7 @@ fn head(text: &[u8]) -> Option<(Kind, Name, &[u8])>
     Some((kind, name, &word[end + 1..]))
 }
 
-/// What a sign says.
+/// Returns the kind that a sign stands for.
 fn kind(sign: u8) -> Option<Kind>
     ensures { result ≡ kind_of sign }
 {

@@ -17,19 +17,19 @@ ghost use Rattle.event_lines.specs.Fronts.{
 use crate::search::same_bytes;
 use markdown_events::event::Point;
 
-/// A point, and the text that says it, with the line feed that ends its line.
+/// A point and its text, with the line feed that ends its line.
 #[derive(Clone, Copy)]
 pub struct SaidPoint {
     point: Point,
-    /// They begin with the text.
+    /// A buffer that begins with the text.
     bytes: [u8; 32],
-    /// How many bytes the text has.
+    /// The length of the text, in bytes.
     length: usize,
 }
 
-/// The point of the line that goes on with this text, and the lines after it.
+/// Returns the point of the line that continues with this text, and the lines after it.
 ///
-/// Two of three lines say the point of the line before, since a span ends where the next begins.
+/// Two of three lines repeat the point of the line before, since a span ends where the next begins.
 /// Such a text is compared with the last one, and its numbers are not read again.
 pub fn next_point<'a>(text: &'a [u8], last: &mut Option<SaidPoint>) -> Option<(Point, &'a [u8])>
     requires { IfSome last.old IsSaid }
@@ -46,7 +46,7 @@ pub fn next_point<'a>(text: &'a [u8], last: &mut Option<SaidPoint>) -> Option<(P
     Some((point, rest))
 }
 
-/// What comes after the text of a point, if a text begins with it.
+/// Returns the rest of a text after the text of a point, if it begins with it.
 fn after_said<'a>(said: &SaidPoint, text: &'a [u8]) -> Option<&'a [u8]>
     ensures { IfSome result (λ rest. text.now ≡ take said.now.length said.now.bytes ++ rest.now) }
 {
@@ -57,7 +57,7 @@ fn after_said<'a>(said: &SaidPoint, text: &'a [u8]) -> Option<&'a [u8]>
     }
 }
 
-/// A point with its text, if a line feed ends the text within 32 bytes.
+/// Returns a point with its text, if a line feed ends the text within 32 bytes.
 fn said(point: Point, text: &[u8], rest: &[u8]) -> Option<SaidPoint>
     requires { PointBegins text.now point rest.now }
     ensures { IfSome result IsSaid }
@@ -74,7 +74,7 @@ fn said(point: Point, text: &[u8], rest: &[u8]) -> Option<SaidPoint>
     })
 }
 
-/// The point of the line that goes on with this text, and the lines after it.
+/// Returns the point of the line that continues with this text, and the lines after it.
 fn point(text: &[u8]) -> Option<(Point, &[u8])>
     ensures { MatchOption result (point_of (before 10 text.now) ≡ None) (λ found. PointBegins text.now found.0 found.1.now) }
 {
@@ -92,7 +92,7 @@ fn point(text: &[u8]) -> Option<(Point, &[u8])>
     ))
 }
 
-/// A number that a colon ends, and what comes after the colon.
+/// Returns a number that a colon ends, and the rest after the colon.
 fn field(text: &[u8]) -> Option<(usize, &[u8])>
     ensures { MatchOption result (field_of (before 10 text.now) ≡ None) (λ found. FieldBegins text.now found.0 found.1.now) }
 {
@@ -104,7 +104,7 @@ fn field(text: &[u8]) -> Option<(usize, &[u8])>
     }
 }
 
-/// An index and virtual spaces, which end the line, and the lines after it.
+/// Returns an index and virtual spaces, which end the line, and the lines after it.
 fn index_and_spaces(text: &[u8]) -> Option<(usize, usize, &[u8])>
     ensures { MatchOption result (NoIndexBegins text.now) (λ found. IndexBegins text.now found.0 found.1 found.2.now) }
 {
@@ -123,7 +123,7 @@ fn index_and_spaces(text: &[u8]) -> Option<(usize, usize, &[u8])>
     }
 }
 
-/// A number that ends the line, and the lines after it.
+/// Returns a number that ends the line, and the lines after it.
 fn last_number(text: &[u8]) -> Option<(usize, &[u8])>
     ensures { MatchOption result (number_of (before 10 text.now) ≡ None) (λ found. LastNumberBegins text.now found.0 found.1.now) }
 {
@@ -138,7 +138,7 @@ fn last_number(text: &[u8]) -> Option<(usize, &[u8])>
     }
 }
 
-/// The number that a text begins with, and how many digits it has.
+/// Returns the number that a text begins with, and how many digits it has.
 fn number(text: &[u8]) -> Option<(usize, usize)>
     ensures { MatchOption result (NoNumberBegins text.now) (λ found. NumberBegins text.now found.0 found.1) }
 {
@@ -155,7 +155,7 @@ fn number(text: &[u8]) -> Option<(usize, usize)>
     long_number(text)
 }
 
-/// The same for a number of any length.
+/// Does the same for a number of any length.
 fn long_number(text: &[u8]) -> Option<(usize, usize)>
     ensures { MatchOption result (NoNumberBegins text.now) (λ found. NumberBegins text.now found.0 found.1) }
 {
@@ -169,7 +169,7 @@ fn long_number(text: &[u8]) -> Option<(usize, usize)>
     counted(value, text.len())
 }
 
-/// A number of so many digits, if there are any.
+/// Returns a number and its digit count, if it has any digits.
 fn counted(value: usize, count: usize) -> Option<(usize, usize)>
     ensures { MatchOption result (count ≡ 0) (λ found. (found.0 ≡ value) × (found.1 ≡ count) × (0 < count)) }
 {

@@ -6,7 +6,7 @@ ghost use lib.Lanes.{chunk};
 
 use std::simd::prelude::*;
 
-/// Where the first space of a text is, or the length of a text without one.
+/// Returns where the first space of a text is, or the length of a text without one.
 pub fn find_space(text: &[u8]) -> usize
     ensures within { result ≤ length text.now }
     ensures before { (k : ℕ) → k < result → slice_index text.now k ≢ 32 }
@@ -21,7 +21,7 @@ pub fn find_space(text: &[u8]) -> usize
     far_space(text)
 }
 
-/// Where the first space of 32 bytes is, or 32.
+/// Returns where the first space of 32 bytes is, or 32.
 fn near_space(text: &[u8]) -> usize
     requires { 32 ≤ length text.now }
     ensures before { (k : ℕ) → k < result → slice_index text.now k ≢ 32 }
@@ -30,7 +30,7 @@ fn near_space(text: &[u8]) -> usize
     first_of_32(text, b' ')
 }
 
-/// How many of 32 bytes come before the first one that is this byte.
+/// Returns how many of 32 bytes come before the first one that equals this byte.
 fn first_of_32(text: &[u8], byte: u8) -> usize
     requires { 32 ≤ length text.now }
     ensures { result ≡ prefix_len (λ x. not (x == byte)) (chunk 0 32 text.now) }
@@ -45,7 +45,7 @@ fn first_of_32(text: &[u8], byte: u8) -> usize
     }
 }
 
-/// The same as `find_space`, byte by byte.
+/// Does what `find_space` does, byte by byte.
 fn far_space(text: &[u8]) -> usize
     ensures within { result ≤ length text.now }
     ensures before { (k : ℕ) → k < result → slice_index text.now k ≢ 32 }
@@ -61,7 +61,7 @@ fn far_space(text: &[u8]) -> usize
     at
 }
 
-/// How many of the first 32 bytes of two texts are the same, up to the first that is not.
+/// Returns how many of the first 32 bytes of two texts are the same, up to the first that differs.
 pub fn same_bytes(text: &[u8], other: &[u8]) -> usize
     requires text { 32 ≤ length text.now }
     requires other { 32 ≤ length other.now }

@@ -7,13 +7,13 @@ use markdown_events::decimal::push_decimal;
 use markdown_events::event::{Event, Kind, Point};
 use std::alloc::{AllocError, Global};
 
-/// The events as a text, a line for each, as [`events`](crate::lines::events) reads them.
+/// Returns the events as a text, one on each line, which [`events`](crate::lines::events) can read.
 ///
 /// A line is `+Name line:column:index` where a span begins, or the same with `-` where it ends, and
-/// `:vs` comes after the index where there are virtual spaces. Each line ends with a line feed. The
-/// form of the lines is ours. The only error is that memory ran out.
+/// `:vs` follows the index if there are virtual spaces. Each line ends with a line feed. The form
+/// of the lines is ours. The only error is that memory ran out.
 ///
-/// The two events of a data span over `Hi` give `+Data 1:1:0` and `-Data 1:3:2`.
+/// The two events of a data span over `Hi` are written as `+Data 1:1:0` and `-Data 1:3:2`.
 pub fn lines_of(alloc: Global, events: &[Event]) -> Result<String, AllocError>
     ensures { IfOk result (λ text. string_bytes text ≡ written events.now) }
 {
@@ -36,7 +36,7 @@ fn push_event(text: &mut String, event: Event) -> Result<(), AllocError>
     push_point(text, event.point)
 }
 
-/// The sign of an event.
+/// Returns the sign of an event.
 fn sign(kind: Kind) -> &'static str
     ensures { result.now ≡ sign kind }
 {
@@ -59,7 +59,7 @@ fn push_point(text: &mut String, point: Point) -> Result<(), AllocError>
     push_spaces(text, point.vs)
 }
 
-/// Writes virtual spaces, where there are any.
+/// Writes virtual spaces, if there are any.
 fn push_spaces(text: &mut String, count: usize) -> Result<(), AllocError>
     ensures { OnOk result (string_bytes text.new ≡ string_bytes text.old ++ spaces count) }
 {

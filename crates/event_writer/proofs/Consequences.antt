@@ -13,8 +13,8 @@ use Rattle.markdown_events.specs.declared.event.Point.{Point}
 use Rattle.markdown_grammar.specs.Correct.{FailsRightly}
 use Rattle.markdown_grammar.specs.Document.{Source}
 use Rattle.markdown_grammar.specs.Ordered.{NeverGoesBack, RisesFrom}
-use Rattle.positions.specs.declared.message.Message.{Message}
-use Rattle.positions.specs.declared.message.Fault.TheVariants as faults
+use Rattle.markdown_events.specs.declared.message.Message.{Message}
+use Rattle.markdown_events.specs.declared.message.Fault.TheVariants as faults
 use Rattle.event_writer.specs.Finished.{IsFinished}
 use Rattle.event_writer.specs.Tilings.{Follows, IsBefore, begun_at, is_enter, origin, token_at, token_bytes, tokens_from}
 

@@ -137,10 +137,6 @@ exit_named : (from : Point → Type 0) (e : Enclosing) (outer : List Enclosing) 
 exit_named from e outer end [] k = absurd k
 exit_named from e outer end (g ∷ rest) k = λ i. exit (k.0.name i) end ∷ []
 
--- its exit has its name
-pub closing_name : (from : Point → Type 0) (spans : Stack) (name : Name) (end : Point) (own a : Stage) (outer : List Enclosing) → Shows from spans own (record { name = name; stage = a } ∷ outer) → exit_of spans end ≡ exit name end ∷ []
-closing_name from spans name end own a outer x = exit_named from (record { name = name; stage = a }) outer end spans.frames x.frames
-
 -- ---- Tokens
 
 stands_as : (from : Point → Type 0) (s : Source) (spans : Stack) (r : Role) (start end : Point) (a b : Stage) (outer : List Enclosing) → Shows from spans a outer → written a r ≡ Some b → is_readable s a r start end ≡ true

@@ -1,4 +1,4 @@
--- What holds of each writer.
+-- The invariant of a writer.
 use Rattle.std.specs.Prelude.{List, false, length, ◌<◌, ◌^◌}
 use Rattle.markdown_events.specs.declared.event.Event.{Event}
 use Rattle.markdown_events.specs.declared.event.Point.{Point}
@@ -8,7 +8,8 @@ use Rattle.markdown_acceptance.specs.Stacks.{Stack}
 use Rattle.event_writer.specs.Places.{ArePlaces, IsPlace}
 use Rattle.event_writer.specs.Tilings.{Follows, origin}
 
--- the steps take the events, their tokens tile the document up to the cursor, and each point is true
+-- the steps accept the events, their tokens tile the document up to the cursor, and each point is a place of the document;
+-- the document has fewer than 2^61 bytes
 pub record Holds (s : Source) (events : List Event) (spans : Stack) (cursor : Point) : Type 0 where
   pub tracks : Tracks s events spans
   pub tiles : Follows origin false events cursor

@@ -1,4 +1,4 @@
--- How far a span has come, and what may stand next in it: the words for a caller that owes that nothing is refused.
+-- Stages: how far an open span has come, and what may come next in it. For a caller that must prove that no call is refused.
 use Rattle.std.specs.Prelude.{Bool, None, Option, Some, false, if◌then◌else◌, not, true, ℕ, ◌&&◌, ◌≡◌, ◌⊎◌}
 use Rattle.markdown_events.specs.declared.event.Name.{Name}
 use Rattle.markdown_events.specs.declared.role.Content.{Content}
@@ -11,43 +11,43 @@ use Rattle.markdown_events.specs.declared.role.Role.TheVariants.{Significant as 
 use Rattle.markdown_events.specs.declared.role.TransparentKind.{TransparentKind}
 use Rattle.markdown_events.specs.declared.role.TransparentKind.TheVariants as transparents
 
--- what may stand next in a span, by what has stood in it
+-- a stage of an open span: what may come next, given what came before
 pub data Stage : Type 0 where
-  -- blocks, which are in no table: at the root, in a block quote or in an item. The flag says that the number of an item has stood
+  -- blocks, outside tables: at the root, in a block quote or in an item. The flag says that the item has its number
   flow : (numbered : Bool) → Stage
-  -- the same, before the first block of an item
+  -- blocks, before the first block of an item
   item : (numbered : Bool) → Stage
-  -- inlines, lines of code, rows and cells. The flag says that signs that close a heading may stand, too
+  -- inlines, lines of code, rows and cells. The flag says that a closing sequence of a heading may come too
   inlines : (in_heading : Bool) → Stage
-  -- the same, and before them the mark of a task
+  -- inlines, and before them the mark of a task
   task : Stage
-  -- line endings alone, and nothing
+  -- only line endings, and nothing at all
   endings nothing : Stage
-  -- items; in an ordered list by whether one with a number has stood
+  -- the items of a list; for an ordered list, by whether one of them has had a number
   list_unordered list_ordered list_numbered : Stage
   -- the number of an item, and the label of a footnote definition
   item_number footnote_definition : Stage
-  -- the first signs of a heading
+  -- the opening sequence of an ATX heading
   heading_atx : Stage
-  -- the text of a heading, and its underline
+  -- the text of a setext heading, and its underline
   heading_setext heading_setext_underline : Stage
-  -- the first fence of a block, and its lines and further fences
+  -- the first fence of a block, and its lines and later fences
   code_fenced code_lines math_flow math_lines : Stage
-  -- the words in a fence
+  -- the info and the meta of a fence
   code_fence code_fence_meta math_fence : Stage
-  -- the parts of a definition that are left
+  -- the remaining parts of a definition
   definition definition_destination definition_title : Stage
   -- the cells of a delimiter row, and the value of one
   delimiter_row delimiter_value : Stage
-  -- the parts of a link or an image that are left, and those of what it points to
+  -- the remaining parts of a link or an image, and those of its target
   media media_target resource resource_title reference : Stage
-  -- the label of a call of a footnote, and the address of an autolink
+  -- the label of a footnote call, and the address of an autolink
   footnote_call autolink : Stage
-  -- the first marker of a character reference, and further ones or its value, by the last one
+  -- the first marker of a character reference; then more markers or its value, by the last marker
   character_reference : Stage
   character_reference_value : (marker : ℕ) → Stage
 
--- a stage after another, with no item in between: it allows less, or says less of what has stood
+-- the second stage may follow the first with no item in between: it allows less, or says less about what came before
 abbrev pub skips : Stage → Stage → Bool
 skips (item n) (flow false) = true
 skips (item true) (flow true) = true
@@ -75,13 +75,13 @@ skips reference endings = true
 skips footnote_call nothing = true
 skips _ _ = false
 
--- what is true at a stage is true at another
+-- `b` is `a`, or a stage that allows or says less
 abbrev pub IsWeaker : Stage → Stage → Type 0
 IsWeaker a b = (a ≡ b) ⊎ (skips a b ≡ true)
 
--- ---- What may stand
+-- ---- The items that may come next
 
--- inlines and what is like them may stand
+-- inlines, and what is treated like them
 abbrev pub takes_inlines : Stage → Bool
 takes_inlines (flow _) = true
 takes_inlines (item _) = true
@@ -91,7 +91,7 @@ takes_inlines code_lines = true
 takes_inlines math_lines = true
 takes_inlines _ = false
 
--- a line ending may stand
+-- a line ending
 abbrev pub takes_line_endings : Stage → Bool
 takes_line_endings endings = true
 takes_line_endings list_unordered = true
@@ -128,9 +128,9 @@ may_end reference = true
 may_end footnote_call = true
 may_end a = takes_inlines a
 
--- ---- The stage in a span that begins
+-- ---- The first stage in a span
 
--- in one of inlines, where inlines may stand
+-- in an inline, a row or a cell, where inlines may come
 abbrev pub in_inline : Content → Option Stage
 in_inline contents.CharacterReference = Some character_reference
 in_inline contents.Autolink = Some autolink
@@ -147,7 +147,7 @@ in_inline contents.TableCell = Some (inlines false)
 in_inline contents.TableRow = Some (inlines false)
 in_inline _ = None
 
--- in a block, where blocks may stand
+-- in a block, where blocks may come
 abbrev pub in_block : Content → Option Stage
 in_block contents.BlockQuote = Some (flow false)
 in_block contents.CodeFenced = Some code_fenced
@@ -217,7 +217,7 @@ in_part task parts.TaskMarkChecked = Some nothing
 in_part task parts.TaskMarkUnchecked = Some nothing
 in_part _ _ = None
 
--- in a span that is no item: that of the span around it, but for the cells of a delimiter row
+-- in a transparent span: the stage around it, except in delimiter rows and their cell values; a sealed span has none
 abbrev pub in_transparent : Stage → TransparentKind → Option Stage
 in_transparent a transparents.BlankLineEnding = None
 in_transparent a transparents.SpaceOrTab = None
@@ -227,7 +227,7 @@ in_transparent delimiter_row transparents.DelimiterCellValue = Some delimiter_va
 in_transparent a transparents.DelimiterCellValue = None
 in_transparent a _ = Some a
 
--- the stage in a span that begins at a stage, where it may
+-- the first stage in a span that begins at a stage, if it may begin
 abbrev pub entered : Stage → Role → Option Stage
 entered a (transparent k) = in_transparent a k
 entered a (significant (content c)) = in_content a c
@@ -263,14 +263,14 @@ after_part (character_reference_value m) parts.CharacterReferenceMarkerHexadecim
 after_part task _ = inlines false
 after_part _ _ = nothing
 
--- after content, by the stage in it at its end
+-- after content, by the last stage in it
 abbrev pub after_content : Stage → Stage → Stage
 after_content list_ordered (flow true) = list_numbered
 after_content list_ordered (item true) = list_numbered
 after_content (item n) own = flow n
 after_content a own = a
 
--- a stage is in a delimiter row, and in the value of one of its cells
+-- whether a stage is in a delimiter row, and whether it is in the value of one of its cells
 abbrev pub is_in_row : Stage → Bool
 is_in_row delimiter_row = true
 is_in_row delimiter_value = true
@@ -280,11 +280,11 @@ abbrev pub is_in_value : Stage → Bool
 is_in_value delimiter_value = true
 is_in_value _ = false
 
--- two stages are alike in delimiter rows and their values
+-- two stages agree on being in a delimiter row, and on being in a cell value
 abbrev pub are_beside : Stage → Stage → Bool
 are_beside own a = (if is_in_row own then is_in_row a else not (is_in_row a)) && (if is_in_value own then is_in_value a else not (is_in_value a))
 
--- a part whose value is more than a text: it is written as a token, and no span of it ends
+-- a part whose value is more than a text: it can only be written as a token
 abbrev pub is_token_alone : Part → Bool
 is_token_alone parts.CharacterReferenceValue = true
 is_token_alone parts.HeadingAtxSequence = true
@@ -292,7 +292,8 @@ is_token_alone parts.HeadingSetextUnderlineSequence = true
 is_token_alone parts.ListItemValue = true
 is_token_alone _ = false
 
--- the stage after a span, by the stage in it and the one at which it began, where it may end. The prefix of an item ends before its first block
+-- the stage after a span, from the last stage in it and the one at which it began, if it may end;
+-- the prefix of an item ends before the item's first block
 abbrev pub exited : Stage → Stage → Role → Option Stage
 exited own a (transparent transparents.DelimiterRow) = if is_in_row own then Some a else None
 exited own a (transparent transparents.DelimiterCellValue) = if is_in_row own then Some a else None
@@ -302,7 +303,7 @@ exited own a (transparent k) = if are_beside own a then Some own else None
 exited own a (significant (content c)) = if may_end own then Some (after_content a own) else None
 exited own a (significant (part p)) = if may_end own && not (is_token_alone p) then Some (after_part a p) else None
 
--- ---- The stage after a token: a span in which nothing stands
+-- ---- The stage after a token, a span with nothing in it
 
 -- after content
 abbrev pub after_leaf : Stage → Content → Option Stage
@@ -313,27 +314,27 @@ after_leaf a contents.AutolinkLiteralWhole = if takes_inlines a then Some a else
 after_leaf a contents.LineEnding = if takes_line_endings a then Some a else None
 after_leaf a _ = None
 
--- after a part in which nothing stands
+-- after a part with nothing in it
 abbrev pub after_leaf_part : Stage → Part → Option Stage → Option Stage
 after_leaf_part a p (Some nothing) = Some (after_part a p)
 after_leaf_part a p _ = None
 
--- after a span that is no item
+-- after a transparent span
 abbrev pub after_transparent : Stage → TransparentKind → Option Stage
 after_transparent a transparents.DelimiterRow = None
 after_transparent a transparents.DelimiterCellValue = None
 after_transparent a transparents.ListItemPrefix = None
 after_transparent a _ = Some a
 
--- the stage after a token at a stage, where it may stand
+-- the stage after a token, if it may come at this stage
 abbrev pub written : Stage → Role → Option Stage
 written a (transparent k) = after_transparent a k
 written a (significant (content c)) = after_leaf a c
 written a (significant (part p)) = after_leaf_part a p (in_part a p)
 
--- ---- What is around
+-- ---- The spans around
 
--- a span that is open: its name, and the stage at which it began
+-- an open span: its name, and the stage at which it began
 pub record Enclosing : Type 0 where
   pub name : Name
   pub stage : Stage

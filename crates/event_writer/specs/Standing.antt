@@ -1,4 +1,4 @@
--- What the open spans are at a stage: the words for a caller that owes that nothing is refused.
+-- The open spans at each stage. For a caller that must prove that no call is refused.
 use Rattle.std.specs.Prelude.{Bool, List, None, Option, Some, [], false, is_some, true, ℕ, ◌&&◌, ◌||◌, ◌∷◌, ◌≡◌, ◌⊎◌}
 use Rattle.std.specs.List.{list_any}
 use Rattle.std.specs.Option.{option_or}
@@ -29,9 +29,10 @@ use Rattle.markdown_acceptance.specs.declared.open_spans.Outer.{Outer}
 use Rattle.markdown_acceptance.specs.declared.site.Site.{Site}
 use Rattle.event_writer.specs.Stages.{Enclosing, Stage, autolink, character_reference, character_reference_value, code_fence, code_fence_meta, code_fenced, code_lines, definition, definition_destination, definition_title, delimiter_row, delimiter_value, endings, entered, flow, footnote_call, footnote_definition, heading_atx, heading_setext, heading_setext_underline, inlines, is_in_row, is_in_value, item, item_number, list_numbered, list_ordered, list_unordered, math_fence, math_flow, math_lines, media, media_target, nothing, reference, resource, resource_title, task}
 
--- ---- What a site says of its container
+-- ---- The container at a site
 
--- a container: its content models, which parts have stood in it, whether a number has, whether a table is around, and the last marker
+-- a container: its content model at first and now, the parts so far, whether it has a number, whether a table is around,
+-- and the last marker
 pub record Ground : Type 0 where
   pub initial_model : ContentModel
   pub model : ContentModel
@@ -40,16 +41,16 @@ pub record Ground : Type 0 where
   pub in_table : Bool
   pub marker : Option ℕ
 
--- that of a site
+-- the container at a site
 abbrev pub ground_of : Site → Ground
 ground_of site = record { initial_model = grammar_model site.initial_model; model = grammar_model site.model; stood = contains site.stood; is_numbered = site.is_numbered; in_table = site.in_table; marker = site.marker }
 
--- that of an item which begins in it
+-- an item that begins in this container, as a container
 abbrev pub ground_in : ItemKind → Ground → Ground
 ground_in what g =
     record { initial_model = model_of g.model what; model = model_of g.model what; stood = λ p. false; is_numbered = false; in_table = g.in_table || is_table what; marker = None }
 
--- the same container after an item, to which a check mark or a number was given
+-- the same container after an item; the flags say whether the item was given a check mark and a number
 abbrev pub ground_after : ItemKind → Bool → Bool → Ground → Ground
 ground_after what marked numbered g = record {
   initial_model = g.initial_model;
@@ -60,34 +61,34 @@ ground_after what marked numbered g = record {
   marker = option_or (marker_of what) g.marker;
 }
 
--- ---- What a stage says of the container
+-- ---- The container at a stage
 
--- any content may stand
+-- any content may come
 abbrev pub TakesContent : Ground → Type 0
 TakesContent g = (c : Content) → takes g.initial_model g.stood (content c) ≡ true
 
--- what has to stand has stood
+-- it has what its content model requires
 abbrev pub IsWhole : Ground → Type 0
 IsWhole g = has_required g.initial_model g.stood g.is_numbered ≡ true
 
--- it has this content model, before and after what has stood
+-- it has this content model, at first and now
 abbrev pub IsOf : ContentModel → Ground → Type 0
 IsOf h g = (g.initial_model ≡ h) × (g.model ≡ h)
 
--- blocks may stand, in no table
+-- blocks may come, outside tables; the flag says that there has been a number
 pub record TakesBlocks (n : Bool) (g : Ground) : Type 0 where
   pub content : TakesContent g
   pub whole : IsWhole g
   pub in_table : g.in_table ≡ false
   pub numbered : n ≡ true → g.is_numbered ≡ true
 
--- signs that close a heading may stand
+-- a closing sequence of a heading may come
 pub record IsInHeading (g : Ground) : Type 0 where
   pub initial_model : g.initial_model ≡ grammar.heading_atx
   pub model : g.model ≡ grammar.heading_text
   pub stood : g.stood parts.HeadingAtxSequence ≡ true
 
--- what a container is at a stage
+-- a container fits a stage
 abbrev pub Fits : Stage → Ground → Type 0
 Fits (flow n) g = TakesBlocks n g
 Fits (item n) g = TakesBlocks n g × ((g.model ≡ grammar.list_item) ⊎ (g.model ≡ grammar.numbered_item))
@@ -129,18 +130,18 @@ Fits (character_reference_value m) g = IsOf grammar.character_reference g × (g.
 abbrev pub ShowsStage : Stage → Site → Type 0
 ShowsStage a site = Fits a (ground_of site)
 
--- ---- What a stage says of the open spans
+-- ---- The open spans at a stage
 
--- what is around the next span
+-- the surroundings of the next span
 abbrev pub around_at : Stage → Around
 around_at a = record { in_sealed = false; in_row = is_in_row a; in_value = is_in_value a }
 
--- what is kept of the site around a span that began at a stage
+-- the outer site that is kept for a span that began at a stage
 abbrev pub ShowsOuter : Role → Stage → Option Outer → Type 0
 ShowsOuter (transparent k) a outer = outer ≡ None
 ShowsOuter (significant what) a outer = (site : Site) × (outer ≡ Some (record { what = what; site = site })) × ShowsStage a site × (site.after_break ≡ false)
 
--- a span that is open: its name, where it began and what was around it
+-- an open span: its name, its start and its surroundings
 pub record ShowsFrame (from : Point → Type 0) (e : Enclosing) (frame : Frame) : Type 0 where
   pub name : frame.name ≡ e.name
   pub start : from frame.start
@@ -154,7 +155,7 @@ ShowsFrames from [] [] = Unit {0}
 ShowsFrames from (e ∷ es) (frame ∷ frames) = ShowsFrame from e frame × ShowsFrames from es frames
 ShowsFrames from _ _ = ⊥
 
--- the container of a delimiter row is what it was where the row began, by the innermost span and what holds of those around it
+-- the container around a delimiter row fits the stage at which the row began; `rest` says so for the spans further out
 abbrev pub WaitsAs : Role → Stage → Ground → Type 0 → Type 0
 WaitsAs (transparent transparents.DelimiterRow) a g rest = Fits a g × (is_in_row a ≡ false)
 WaitsAs (transparent _) a g rest = rest
@@ -164,7 +165,7 @@ abbrev pub Waits : Ground → List Enclosing → Type 0
 Waits g [] = ⊥
 Waits g (e ∷ es) = WaitsAs (role_of e.name) e.stage g (Waits g es)
 
--- the spans are at a stage in these, the innermost first, by whether a hard break waits for its line ending
+-- the open spans are at a stage inside the outer ones, the innermost first; `waiting` says whether a hard break is pending
 pub record StandsAt (waiting : Bool) (from : Point → Type 0) (spans : Stack) (a : Stage) (outer : List Enclosing) : Type 0 where
   pub around : spans.around ≡ around_at a
   pub stage : ShowsStage a spans.site
@@ -172,27 +173,27 @@ pub record StandsAt (waiting : Bool) (from : Point → Type 0) (spans : Stack) (
   pub frames : ShowsFrames from outer spans.frames
   pub waits : is_in_row a ≡ true → Waits (ground_of spans.site) outer
 
--- no break waits
+-- no break is pending
 abbrev pub Shows : (Point → Type 0) → Stack → Stage → List Enclosing → Type 0
 Shows from spans a outer = StandsAt false from spans a outer
 
--- one waits
+-- a break is pending
 abbrev pub ShowsBreak : (Point → Type 0) → Stack → Stage → List Enclosing → Type 0
 ShowsBreak from spans a outer = StandsAt true from spans a outer
 
--- ---- What is read of a token
+-- ---- Reading a token
 
--- the signs of a heading are counted where they come first
+-- the opening sequence of a heading has one to six bytes
 abbrev pub are_signs : Source → Stage → Point → Point → Bool
 are_signs s (inlines _) start end = true
 are_signs s _ start end = is_depth (length_between s.bytes start end)
 
--- the decoder knows the value of a character reference, by its last marker
+-- the decoder knows the value of a character reference, given its last marker
 abbrev pub is_decoded : Source → Stage → Point → Point → Bool
 is_decoded s (character_reference_value m) start end = is_some (slice s.bytes start end) && is_some (s.text (text_read s start end) m)
 is_decoded s _ start end = true
 
--- what is read of a token at a stage can be
+-- whatever is read of a token at a stage can be read
 abbrev pub is_readable : Source → Stage → Role → Point → Point → Bool
 is_readable s a (significant (content contents.Data)) start end = is_some (slice s.bytes start end)
 is_readable s a (significant (content contents.AutolinkLiteralEmail)) start end = is_some (slice s.bytes start end)

@@ -10,7 +10,7 @@ use Rattle.markdown_events.specs.declared.event.Point.{Point}
 abbrev pub origin : Point
 origin = record { line = 1; column = 1; index = 0; vs = 0 }
 
--- a point comes before another or is the same, by offset and virtual spaces
+-- a point is before another one or the same, by offset and virtual spaces
 abbrev pub IsBefore : Point → Point → Type 0
 IsBefore a b = (a.index < b.index) ⊎ ((a.index ≡ b.index) × (a.vs ≤ b.vs))
 
@@ -19,8 +19,8 @@ abbrev pub is_enter : Kind → Bool
 is_enter Enter = true
 is_enter Exit = false
 
--- the events go from one point to another, by whether an enter comes directly before: each event stands where the one before it does,
--- but for the end of a token, an exit directly after an enter, which may stand later
+-- the events go from one point to another; the flag says whether an enter comes directly before. Each event is at the point of the
+-- event before it, except the end of a token: an exit directly after an enter may be at a later point
 abbrev pub Follows : Point → Bool → List Event → Point → Type 0
 Follows at entered [] to = at ≡ to
 Follows at entered (event ∷ events) to =
@@ -28,11 +28,11 @@ Follows at entered (event ∷ events) to =
 
 -- ---- The tokens
 
--- where a token may begin: at an enter, for the event directly after it
+-- where a token begins, if its exit comes next: at an enter
 abbrev pub begun_at : Event → Option Point
 begun_at event = if is_enter event.kind then Some event.point else None
 
--- the bytes of a token, at the exit directly after its enter; of any other event none
+-- the bytes of a token, at the exit directly after its enter; no bytes for any other event
 abbrev pub token_at : List ℕ → Option Point → Kind → Point → List ℕ
 token_at bytes (Some start) Exit end = slice_range bytes (edge start) (edge end)
 token_at bytes _ _ end = []
@@ -42,6 +42,6 @@ abbrev pub tokens_from : List ℕ → Option Point → List Event → List ℕ
 tokens_from bytes before [] = []
 tokens_from bytes before (event ∷ events) = token_at bytes before event.kind event.point ++ tokens_from bytes (begun_at event) events
 
--- the same from the start of a list
+-- the bytes of the tokens of a list, joined
 abbrev pub token_bytes : List ℕ → List Event → List ℕ
 token_bytes bytes events = tokens_from bytes None events

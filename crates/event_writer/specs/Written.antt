@@ -1,15 +1,15 @@
--- What a writer has written.
+-- The state of a writer.
 use Rattle.std.specs.Prelude.{List, ℕ}
 use Rattle.markdown_events.specs.declared.event.Event.{Event}
 use Rattle.markdown_events.specs.declared.event.Point.{Point}
 use Rattle.markdown_acceptance.specs.Stacks.{Stack}
 
--- what it was given: a document and a decoder
+-- the input of a writer: a document and a decoder
 pub record Given (R : Type 0) : Type 0 where
   pub bytes : List ℕ
   pub references : R
 
--- the events so far, where the next one stands, and the open spans
+-- the input, the events so far, the point of the next one, and the open spans
 pub record Written (R : Type 0) : Type 0 where
   pub given : Given R
   pub events : List Event

@@ -26,7 +26,7 @@ ghost use Rattle.event_writer.specs.Tilings.{IsBefore};
 
 use markdown_events::event::Point;
 
-/// The column after a tab that begins at a column.
+/// Returns the column after a tab that begins at a column.
 fn after_tab(column: usize) -> usize
     requires { column < 2 ^ 63 + 8 }
     ensures { result ≡ after_tab column }
@@ -34,7 +34,7 @@ fn after_tab(column: usize) -> usize
     (column + 3) / 4 * 4 + 1
 }
 
-/// The column after a byte that begins at a column, or `None` where the byte ends the line.
+/// Returns the column after a byte that begins at a column, or `None` if the byte ends the line.
 #[inline(always)]
 fn column_after(byte: u8, column: usize) -> Option<usize>
     requires { column < 2 ^ 63 + 8 }
@@ -50,7 +50,7 @@ fn column_after(byte: u8, column: usize) -> Option<usize>
     }
 }
 
-/// The column of an offset in the line of a point, or `None` where the line ends before it.
+/// Returns the column of an offset in the line of a point, or `None` if the line ends before it.
 fn column_of(bytes: &[u8], from: Point, to: usize) -> Option<usize>
     requires place { IsPlace bytes.now from }
     requires short { length bytes.now < 2 ^ 61 }
@@ -68,7 +68,7 @@ fn column_of(bytes: &[u8], from: Point, to: usize) -> Option<usize>
     Some(column)
 }
 
-/// Whether a byte stands at an offset.
+/// Whether this byte is at an offset.
 #[inline(always)]
 fn is_byte(bytes: &[u8], index: usize, byte: u8) -> bool
     ensures { result ≡ is_byte_at byte bytes.now index }
@@ -79,8 +79,8 @@ fn is_byte(bytes: &[u8], index: usize, byte: u8) -> bool
     }
 }
 
-/// Whether a point can stand so many columns after an offset, which is at a column: none, or fewer
-/// than the tab there has.
+/// Whether a point can be this number of columns after an offset, which is at a column: none, or
+/// fewer than the width of the tab there.
 fn has_columns(bytes: &[u8], column: usize, index: usize, virtual_spaces: usize) -> bool
     requires { column ≤ 2 ^ 63 }
     ensures yes { result ≡ true → 0 < virtual_spaces → (slice_get bytes.now index ≡ Some 9) × (column + virtual_spaces < after_tab column) }
@@ -91,8 +91,8 @@ fn has_columns(bytes: &[u8], column: usize, index: usize, virtual_spaces: usize)
         || (is_byte(bytes, index, b'\t') && virtual_spaces < after_tab(column) - column)
 }
 
-/// The point at an offset in the line of a point and not before it, and so many columns into the
-/// tab there; `None` where no such point is.
+/// Returns the point at an offset that is in the line of a point and not before it, and a number of
+/// columns into the tab there, or `None` if there is no such point.
 ///
 /// In `>→a`, where → is a tab, the point after the `>` is 1:2. The one at offset 1 with one virtual
 /// space is 1:3, and the one at offset 2 is 1:5.
@@ -120,8 +120,8 @@ pub fn point_at(bytes: &[u8], from: Point, to: usize, virtual_spaces: usize) -> 
     })
 }
 
-/// How many bytes the line ending at an offset has: two where a carriage return stands before a
-/// line feed, and none where no line ends there (CommonMark, line endings).
+/// Returns the length in bytes of the line ending at an offset: two for a carriage return before a
+/// line feed, and zero if no line ends there (CommonMark, line endings).
 ///
 /// In `a\r\nb` it is 2 at offset 1.
 fn line_ending_length(bytes: &[u8], index: usize) -> usize
@@ -141,7 +141,7 @@ fn line_ending_length(bytes: &[u8], index: usize) -> usize
     }
 }
 
-/// The point after the line ending at a point, or `None` where no line ends there.
+/// Returns the point after the line ending at a point, or `None` if no line ends there.
 ///
 /// In `a\r\nb` the point after the line ending at offset 1 is 2:1, at offset 3.
 pub fn line_start(bytes: &[u8], from: Point) -> Option<Point>

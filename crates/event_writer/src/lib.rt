@@ -1,8 +1,7 @@
-//! The only maker of events.
+//! The only producer of events.
 //!
-//! Whatever is asked of a [`writer::Writer`], its finished events are those of a forest that the
-//! grammar accepts. Their tokens tile the document, and each event stands at its true line and
-//! column.
+//! Whichever calls a [`writer::Writer`] gets, its finished events are those of a forest that the
+//! grammar accepts. Their tokens tile the document, and each event is at its true line and column.
 #![tactic(auto)]
 
 mod cursor;

@@ -26,19 +26,19 @@ use crate::cursor::{line_start, point_at};
 use character_references::references::References;
 use markdown_acceptance::error::WriteError;
 use markdown_acceptance::open_spans::OpenSpans;
-use markdown_builder::slice::Document;
 use markdown_events::event::{Event, Kind, Name, Point};
 use markdown_grammar::values::Values;
+use markdown_parts::slice::Document;
 use std::alloc::{AllocError, Global};
 use std::marker::Model;
 
 /// A writer of the events of a document: a cursor in it, the open spans, and the events so far
 /// (ours).
 ///
-/// Each call first asks the grammar whether what it writes may stand at the cursor. A token begins
-/// at the cursor and moves it to the token's end; no other call moves it. So the finished events
-/// are those of an accepted forest, and their tokens are the document, byte for byte. A call that
-/// returns an error leaves the writer as it was.
+/// Each call first checks with the grammar whether what it writes may be at the cursor. A token
+/// begins at the cursor and moves it to the token's end; no other call moves it. So the finished
+/// events are those of an accepted forest, and their tokens are the document, byte for byte. A call
+/// that returns an error leaves the writer unchanged.
 ///
 /// These calls write the events of `Hi`, a paragraph with one data span:
 ///
@@ -51,7 +51,7 @@ use std::marker::Model;
 /// ```
 #[derive(Drop)]
 pub struct Writer<'d, R: References> {
-    /// Where memory is asked for.
+    /// The allocator.
     alloc: Global,
     /// The document.
     document: Document<'d>,
@@ -61,7 +61,7 @@ pub struct Writer<'d, R: References> {
     events: Vec<Event>,
     /// The spans that are open after them.
     spans: OpenSpans,
-    /// Where the next event stands.
+    /// Where the next event is written.
     cursor: Point,
 }
 
@@ -83,10 +83,10 @@ impl<'d, R: References> Model for Writer<'d, R> {
 }
 
 impl<'d, R: References> Writer<'d, R> {
-    /// A writer at the start of a document, with no event.
+    /// Returns a writer at the start of a document, with no event.
     ///
-    /// It takes no memory. A document of 2^61 bytes or more is refused as one for which memory ran
-    /// out: its columns might not fit 64 bits.
+    /// It allocates no memory. A document of 2^61 bytes or more is refused as one for which memory
+    /// ran out: its columns might not fit 64 bits.
     pub fn new(
         alloc: Global,
         document: &'d [u8],
@@ -116,7 +116,8 @@ impl<'d, R: References> Writer<'d, R> {
         })
     }
 
-    /// Where the next event stands: line and column count from 1, the offset counts bytes from 0.
+    /// Returns where the next event is written: line and column count from 1, the offset counts
+    /// bytes from 0.
     ///
     /// In a new writer it is 1:1, at offset 0.
     pub fn cursor(&self) -> Point
@@ -127,9 +128,9 @@ impl<'d, R: References> Writer<'d, R> {
 
     /// Opens a span at the cursor.
     ///
-    /// At the start of a document, `enter(Name::Paragraph)` opens a paragraph. The call is a
-    /// `WriteError::Misfit` where the grammar takes no such span, as a `Name::LabelText` outside a
-    /// link. It is a `WriteError::Memory` where memory runs out.
+    /// At the start of a document, `enter(Name::Paragraph)` opens a paragraph. The call returns a
+    /// `WriteError::Misfit` if the grammar does not accept such a span, for example a
+    /// `Name::LabelText` outside a link. It returns a `WriteError::Memory` if memory runs out.
     pub fn enter(&mut self, name: Name) -> Result<(), WriteError>
         ensures given { self.new.given ≡ self.old.given }
         ensures events { OnOk result (self.new.events ≡ self.old.events ++ enter name self.old.cursor ∷ []) }
@@ -152,10 +153,10 @@ impl<'d, R: References> Writer<'d, R> {
 
     /// Closes the innermost span at the cursor.
     ///
-    /// After `enter(Name::Paragraph)` it closes the paragraph. The call is a `WriteError::Misfit`
-    /// where no span is open, where the span lacks what must stand in it, where a break in it waits
-    /// for its line ending, and where its value cannot be read. It is a `WriteError::Memory` where
-    /// memory runs out.
+    /// After `enter(Name::Paragraph)` it closes the paragraph. The call returns a
+    /// `WriteError::Misfit` if no span is open, if the span lacks a required part, if a break in it
+    /// waits for its line ending, or if its value cannot be read. It returns a `WriteError::Memory`
+    /// if memory runs out.
     pub fn exit(&mut self) -> Result<(), WriteError>
         ensures given { self.new.given ≡ self.old.given }
         ensures events { OnOk result (self.new.events ≡ self.old.events ++ exit_of self.old.spans self.old.cursor) }
@@ -178,13 +179,13 @@ impl<'d, R: References> Writer<'d, R> {
         Ok(())
     }
 
-    /// Writes a token, a span in which nothing stands: from the cursor to an offset in the same
-    /// line, and so many columns into the tab there. The cursor goes to its end.
+    /// Writes a token, a span that contains no span: from the cursor to an offset in the same line,
+    /// and a number of columns into the tab there. The cursor moves to its end.
     ///
-    /// In a paragraph, `token(Name::Data, 2, 0)` writes data up to offset 2. The call is a
-    /// `WriteError::Misfit` where the offset comes before the cursor, where the line or the
-    /// document ends before the offset, where the tab there has fewer columns, and where the
-    /// grammar takes no such token. It is a `WriteError::Memory` where memory runs out.
+    /// In a paragraph, `token(Name::Data, 2, 0)` writes data up to offset 2. The call returns a
+    /// `WriteError::Misfit` if the offset is before the cursor, if the line or the document ends
+    /// before the offset, if the tab there has fewer columns, or if the grammar does not accept
+    /// such a token. It returns a `WriteError::Memory` if memory runs out.
     pub fn token(&mut self, name: Name, to: usize, virtual_spaces: usize) -> Result<(), WriteError>
         ensures given { self.new.given ≡ self.old.given }
         ensures events { OnOk result (self.new.events ≡ self.old.events ++ enter name self.old.cursor ∷ exit name self.new.cursor ∷ []) }
@@ -207,11 +208,11 @@ impl<'d, R: References> Writer<'d, R> {
     }
 
     /// Writes the line ending at the cursor as a token of this name: a line feed, a carriage
-    /// return, or both in this order. The cursor goes to the start of the next line.
+    /// return, or both in this order. The cursor moves to the start of the next line.
     ///
     /// In `a⏎b`, after the `a`, `line_ending(Name::LineEnding)` leaves the cursor at 2:1. The call
-    /// is a `WriteError::Misfit` where no line ends at the cursor, and where the grammar takes no
-    /// such token. It is a `WriteError::Memory` where memory runs out.
+    /// returns a `WriteError::Misfit` if no line ends at the cursor, or if the grammar does not
+    /// accept such a token. It returns a `WriteError::Memory` if memory runs out.
     pub fn line_ending(&mut self, name: Name) -> Result<(), WriteError>
         ensures given { self.new.given ≡ self.old.given }
         ensures events { OnOk result (self.new.events ≡ self.old.events ++ enter name self.old.cursor ∷ exit name self.new.cursor ∷ []) }
@@ -268,8 +269,8 @@ impl<'d, R: References> Writer<'d, R> {
         Ok(())
     }
 
-    /// The events, if the document is written to its end, no span is open, and no break waits for
-    /// its line ending.
+    /// Returns the events, if the document is written to its end, no span is open, and no break
+    /// waits for its line ending.
     ///
     /// For the empty document this is the empty list.
     pub fn finish(self) -> Option<Vec<Event>>

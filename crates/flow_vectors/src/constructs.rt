@@ -6,11 +6,11 @@ use markdown_options::Constructs;
 use std::alloc::{AllocError, Global};
 use std::process::Abort;
 
-/// A document with each construct of blocks.
+/// A document with each block construct.
 pub const DOCUMENT: &str =
     "---\nx\n---\n# a\n\na\n===\n\n> a\n\n* a\n\n1. b\n\n***\n\n    a\n\n```\na\n```\n\n$$\na\n$$\n\n<div>\n\n[a]: b\n\n[^a]: b\n\n| a |\n| - |\n";
 
-/// Stops the test where the document has no span of a name with all constructs, or has one with these.
+/// Stops the test if the document has no span of a name with all constructs, or has one with these.
 fn switches(
     rt: &impl Abort,
     alloc: Global,

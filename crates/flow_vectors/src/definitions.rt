@@ -1,4 +1,4 @@
-//! Definitions, and what a document defines.
+//! Definitions, and the identifiers that a document defines.
 
 use crate::reading::{blocks, has, holds, shows};
 use markdown_events::event::Name;
@@ -25,7 +25,8 @@ fn pieces(rt: HostRuntime) -> Result<(), AllocError> {
 #[test]
 fn a_title_that_is_none_is_text(rt: HostRuntime) -> Result<(), AllocError> {
     let alloc = rt.alloc();
-    // CommonMark: a title that something comes after on its line is none, and the definition ends before it
+    // CommonMark: if something comes after a title on its line, it is not a title, and the
+    // definition ends before it.
     shows(
         &rt,
         alloc,
@@ -82,7 +83,7 @@ fn identifiers(rt: HostRuntime) -> Result<(), AllocError> {
     Ok(())
 }
 
-/// A label of so many characters between these texts.
+/// Returns a label of this many characters between these texts.
 fn labelled(
     alloc: Global,
     before: &str,
@@ -142,7 +143,8 @@ fn a_label_has_at_most_999_characters(rt: HostRuntime) -> Result<(), AllocError>
 #[test]
 fn raw_elements_begin_no_other_tag(rt: HostRuntime) -> Result<(), AllocError> {
     let alloc = rt.alloc();
-    // CommonMark, HTML blocks: condition 7 is for no opening tag of `pre`, `script`, `style` or `textarea`
+    // CommonMark, HTML blocks: condition 7 excludes opening tags of `pre`, `script`, `style` and
+    // `textarea`.
     holds(
         &rt,
         !has(alloc, "<pre/>", Constructs::everything(), Name::HtmlFlow)?,

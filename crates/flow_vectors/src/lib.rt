@@ -1,7 +1,7 @@
-//! Worked examples of `markdown_flow`, each a test with the pieces that it must give.
+//! Worked examples of `markdown_flow`, each a test with the expected pieces.
 //!
-//! They show what no contract says. Their values were worked by hand from CommonMark, GFM and the spans of
-//! micromark; none comes from a run of this repository.
+//! They show what no contract says. Their values were worked out by hand from CommonMark, GFM and
+//! the spans of micromark; none comes from a run of this repository.
 #![tactic(auto)]
 
 #[cfg(test)]

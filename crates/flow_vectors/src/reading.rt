@@ -1,4 +1,4 @@
-//! What the tests ask of the blocks of a document.
+//! The block queries of the tests.
 
 use markdown_events::event::Name;
 use markdown_flow::document::{Blocks, read};
@@ -7,7 +7,7 @@ use markdown_pieces::piece::{Piece, PieceKind};
 use std::alloc::{AllocError, Global};
 use std::process::Abort;
 
-/// The blocks of a document with these constructs.
+/// Returns the blocks of a document with these constructs.
 pub fn blocks(alloc: Global, document: &str, constructs: Constructs) -> Result<Blocks, AllocError> {
     let options = ParseOptions {
         constructs,
@@ -32,8 +32,8 @@ pub fn has(
     )
 }
 
-/// The pieces of a document as a text, with all constructs. `(A` begins a span, `)` ends one, and `A:1` is a
-/// token up to offset 1.
+/// Returns the pieces of a document as a text, with all constructs. `(A` begins a span, `)` ends
+/// one, and `A:1` is a token up to offset 1.
 pub fn shown(alloc: Global, document: &str) -> Result<String, AllocError> {
     let blocks = blocks(alloc, document, Constructs::everything())?;
     let mut text = String::new(alloc);
@@ -43,7 +43,7 @@ pub fn shown(alloc: Global, document: &str) -> Result<String, AllocError> {
     Ok(text)
 }
 
-/// Adds a piece to a text.
+/// Appends a piece to a text.
 fn show(text: &mut String, piece: &Piece) -> Result<(), AllocError> {
     match piece.kind {
         PieceKind::Enter(name) => {
@@ -61,7 +61,7 @@ fn show(text: &mut String, piece: &Piece) -> Result<(), AllocError> {
     }
 }
 
-/// Adds a piece that has a length to a text.
+/// Appends a piece that has a length to a text.
 fn show_token(text: &mut String, name: &str, piece: &Piece) -> Result<(), AllocError> {
     let end = piece.end;
     let virtual_spaces = piece.virtual_spaces;
@@ -73,14 +73,14 @@ fn show_token(text: &mut String, name: &str, piece: &Piece) -> Result<(), AllocE
     text.push_str(" ")
 }
 
-/// Stops the test where the pieces of a document are not these.
+/// Stops the test if the pieces of a document are not these.
 pub fn shows(rt: &impl Abort, alloc: Global, document: &str, want: &str) -> Result<(), AllocError> {
     let found = shown(alloc, document)?;
     assert_eq!(rt; found.as_str(), want, "{document}");
     Ok(())
 }
 
-/// Stops the test where something does not hold.
+/// Stops the test if a fact is false.
 pub fn holds(rt: &impl Abort, fact: bool, case: &str) {
     assert!(rt; fact, "{case}");
 }

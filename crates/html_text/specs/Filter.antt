@@ -1,4 +1,4 @@
--- GFM's filter of tags (Disallowed Raw HTML): the `<` of the tags of nine elements stands as text.
+-- GFM's filter of tags (Disallowed Raw HTML): the `<` of the tags of nine elements is written as text.
 use Rattle.std.specs.Prelude.{ℕ, Bool, true, false, ◌&&◌, ◌||◌, List, [], ◌∷◌, ◌++◌, if◌then◌else◌, ◌==◌, codes}
 use Rattle.std.specs.List.{list_any}
 use Rattle.html_text.specs.Safe.{is_space}
@@ -22,11 +22,11 @@ begins_with_name [] (b ∷ text) = ends_name b
 begins_with_name (letter ∷ name) [] = false
 begins_with_name (letter ∷ name) (b ∷ text) = lower b == letter && begins_with_name name text
 
--- the same, of one of some names
+-- a text begins with one of these names, and the name ends there
 unfoldable pub begins_with_one : List (List ℕ) → List ℕ → Bool
 begins_with_one names text = list_any (λ name. begins_with_name name text) names
 
--- what stands after the `/` of an end tag
+-- the text after the `/` of an end tag, or the whole text if there is none
 abbrev pub after_slash : List ℕ → List ℕ
 after_slash [] = []
 after_slash (b ∷ text) = if b == 47 then text else b ∷ text
@@ -35,11 +35,11 @@ after_slash (b ∷ text) = if b == 47 then text else b ∷ text
 unfoldable pub is_filtered : List ℕ → Bool
 is_filtered text = begins_with_one filtered_elements (after_slash text)
 
--- what stands for a byte with this text after it
+-- a byte, filtered, given the text after it
 unfoldable pub filtered_byte : ℕ → List ℕ → List ℕ
 filtered_byte b text = if b == 60 && is_filtered text then codes "&lt;" else b ∷ []
 
--- what stands for a text
+-- a text, filtered
 abbrev pub filtered : List ℕ → List ℕ
 filtered [] = []
 filtered (b ∷ text) = filtered_byte b text ++ filtered text

@@ -1,17 +1,17 @@
--- What a browser's tokenizer reads in a text (HTML Standard), and which texts are safe. It knows what a page here may have and refuses all
--- else: a comment, a tag or an attribute that is not listed, a value without quotes, another character reference, a value that its
--- attribute may not have.
+-- How a browser's tokenizer reads a text (HTML Standard), and which texts are safe. It knows what a page here may have and refuses
+-- everything else: a comment, a tag or an attribute that is not listed, a value without quotes, another character reference,
+-- a value that its attribute may not have.
 use Rattle.std.specs.Prelude.{◌≡◌, ℕ, Bool, true, false, not, ◌&&◌, ◌||◌, List, [], ◌∷◌, ◌++◌, Option, Some, None, if◌then◌else◌, ◌==◌, codes}
 use Rattle.std.specs.List.{list_any, list_all}
 use Rattle.std.specs.Str.{bytes_eq}
 use Rattle.html_text.specs.Urls.{one_of, between, is_safe_link, is_safe_source}
 
--- what a page may have besides: with what each id begins, and whether an address may have any scheme
+-- the limits of a safe page: the prefix of each id, and whether an address may have any scheme
 pub record Allowed : Type 0 where
   pub id_prefix : List ℕ
   pub any_url : Bool
 
--- the elements that may stand: those with an end tag, and those without
+-- the elements that are allowed: those with an end tag, and those without
 abbrev pub elements : List (List ℕ)
 elements = codes "p" ∷ codes "blockquote" ∷ codes "em" ∷ codes "strong" ∷ codes "del" ∷ codes "sup" ∷ codes "h1" ∷ codes "h2" ∷ codes "h3" ∷ codes "h4" ∷ codes "h5" ∷ codes "h6" ∷ codes "ol" ∷ codes "ul" ∷ codes "li" ∷ codes "pre" ∷ codes "code" ∷ codes "a" ∷ codes "table" ∷ codes "thead" ∷ codes "tbody" ∷ codes "tr" ∷ codes "th" ∷ codes "td" ∷ codes "section" ∷ []
 
@@ -32,7 +32,7 @@ attributes_of name =
     else (if bytes_eq name (codes "h2") then codes "class" ∷ codes "id" ∷ []
     else []))))))))
 
--- what follows a text that begins with another
+-- the rest of a text that begins with another one
 abbrev pub after_front : List ℕ → List ℕ → Option (List ℕ)
 after_front [] text = Some text
 after_front (_ ∷ _) [] = None
@@ -42,7 +42,7 @@ after_front (a ∷ front) (b ∷ text) = if a == b then after_front front text e
 abbrev pub begins_with : List ℕ → List ℕ → Bool
 begins_with front text = elim (after_front front text) [ None ↦ false | Some _ ↦ true ]
 
--- a byte that parts the classes of an element
+-- a byte that separates the classes of an element
 abbrev pub is_space : ℕ → Bool
 is_space b = b == 32 || b == 9 || b == 10 || b == 12 || b == 13
 
@@ -50,7 +50,7 @@ is_space b = b == 32 || b == 9 || b == 10 || b == 12 || b == 13
 abbrev pub is_language_class : List ℕ → Bool
 is_language_class value = elim (after_front (codes "language-") value) [ None ↦ false | Some language ↦ not (list_any is_space language) ]
 
--- the other classes that may stand
+-- the other classes that are allowed
 abbrev pub classes : List (List ℕ)
 classes = codes "language-math math-inline" ∷ codes "language-math math-display" ∷ codes "footnotes" ∷ codes "sr-only" ∷ codes "data-footnote-backref" ∷ []
 
@@ -62,7 +62,7 @@ texts = codes "title" ∷ codes "alt" ∷ codes "aria-label" ∷ []
 abbrev pub switches : List (List ℕ)
 switches = codes "checked" ∷ codes "disabled" ∷ codes "data-footnote-ref" ∷ codes "data-footnote-backref" ∷ codes "data-footnotes" ∷ []
 
--- how a cell is aligned
+-- the alignments of a cell
 abbrev pub alignments : List (List ℕ)
 alignments = codes "left" ∷ codes "right" ∷ codes "center" ∷ []
 
@@ -75,7 +75,7 @@ character name =
     else (if bytes_eq name (codes "quot") then Some 34
     else None)))
 
--- where the tokenizer is: `up` are the open elements, the innermost first
+-- the state of the tokenizer; `up` are the open elements, the innermost first
 pub data State : Type 0 where
   content : (up : List (List ℕ)) → State
   reference : (up : List (List ℕ)) (read : List ℕ) → State
@@ -90,7 +90,7 @@ pub data State : Type 0 where
   void_end : (up : List (List ℕ)) → State
   unsafe : State
 
--- after a character reference
+-- the state after a character reference
 abbrev pub referred : List (List ℕ) → Option ℕ → State
 referred up None = unsafe
 referred up (Some _) = content up
@@ -99,7 +99,7 @@ abbrev pub value_referred : (up : List (List ℕ)) (name attribute value : List 
 value_referred up name attribute value None = unsafe
 value_referred up name attribute value (Some c) = in_value up name attribute (value ++ (c ∷ []))
 
--- after the end tag of an element
+-- the state after the end tag of an element
 abbrev pub closed : List (List ℕ) → List ℕ → State
 closed [] name = unsafe
 closed (last ∷ up) name = if bytes_eq last name then content up else unsafe
@@ -118,7 +118,7 @@ module _ (allowed : Allowed) where
       else (if one_of switches name then bytes_eq value []
       else one_of texts name)))))))
 
-  -- after one byte
+  -- the state after one byte
   abbrev pub step : State → ℕ → State
   step (content up) b = if b == 60 then tag up else (if b == 38 then reference up [] else (if b == 62 then unsafe else content up))
   step (reference up read) b = if b == 59 then referred up (character read) else reference up (read ++ (b ∷ []))
@@ -146,11 +146,11 @@ module _ (allowed : Allowed) where
   step (void_end up) b = if b == 62 then content up else unsafe
   step unsafe b = unsafe
 
-  -- after a text
+  -- the state after a text
   abbrev pub run : State → List ℕ → State
   run state [] = state
   run state (b ∷ text) = run (step state b) text
 
-  -- a text that is safe in a page: it is read to its end, and each element that it opens it closes
+  -- a text that is safe in a page: it is read to its end, and it closes each element that it opens
   unfoldable pub IsSafe : List ℕ → Type 0
   IsSafe text = run (content []) text ≡ content []

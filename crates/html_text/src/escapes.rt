@@ -5,7 +5,7 @@ ghost use Rattle.html_text.specs.Escapes.{escape, escaped};
 
 use std::alloc::AllocError;
 
-/// Appends a text to a page. `&`, `<`, `>` and `"` get their escapes, so it may stand between tags and
+/// Appends a text to a page. `&`, `<`, `>` and `"` are escaped, so the text may be between tags and
 /// between the quotes of an attribute.
 ///
 /// The only error is that memory ran out. `a < "b"` is appended as `a &lt; &quot;b&quot;`.
@@ -34,7 +34,7 @@ fn is_escaped(byte: u8) -> bool
     byte == b'&' || byte == b'<' || byte == b'>' || byte == b'"'
 }
 
-/// Appends what stands for a byte.
+/// Appends the escape of a byte.
 #[tactic(auto, unfolding(crate::specs::Escapes::escape))]
 fn push_escape(out: &mut String, byte: u8) -> Result<(), AllocError>
     requires { byte < 128 }

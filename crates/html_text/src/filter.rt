@@ -6,8 +6,9 @@ ghost use Rattle.html_text.specs.Filter.{after_slash, begins_with_name, begins_w
 use crate::urls::lower;
 use std::alloc::AllocError;
 
-/// Appends HTML, with the `<` of some tags as text: those of `title`, `textarea`, `style`, `xmp`, `iframe`,
-/// `noembed`, `noframes`, `script` and `plaintext`, in any case of their letters (GFM, Disallowed Raw HTML).
+/// Appends HTML, with the `<` of some tags written as text: those of `title`, `textarea`, `style`,
+/// `xmp`, `iframe`, `noembed`, `noframes`, `script` and `plaintext`, in any case of their letters
+/// (GFM, Disallowed Raw HTML).
 ///
 /// The only error is that memory ran out. `<b><XMP a>` is appended as `<b>&lt;XMP a>`.
 pub fn push_filtered(out: &mut String, html: &str) -> Result<(), AllocError>
@@ -15,7 +16,7 @@ pub fn push_filtered(out: &mut String, html: &str) -> Result<(), AllocError>
 {
     let bytes = html.as_bytes();
     let mut start = 0;
-    // Bytes that stay as they are are appended together.
+    // Unchanged bytes are appended together.
     for at in 0..bytes.len() {
         if bytes[at] == b'<' && is_filtered(&bytes[at + 1..]) {
             out.push_str(&html[start..at])?;
@@ -51,7 +52,7 @@ fn begins_with_raw_text(text: &[u8]) -> bool
         || begins_with_name(b"noframes", text)
 }
 
-/// What stands after the `/` of an end tag.
+/// Returns the text after the `/` of an end tag.
 fn after_slash(text: &[u8]) -> &[u8]
     ensures { result.now ≡ after_slash text.now }
 {

@@ -21,13 +21,14 @@ ghost use Rattle.html_text.specs.Urls.{
 
 use std::alloc::{AllocError, Global};
 
-/// Whether an address may stand in a link: it has no scheme, or `http`, `https`, `mailto`, `irc`, `ircs` or
-/// `xmpp` (those of hast-util-sanitize).
+/// Whether an address may be used in a link: it has no scheme, or `http`, `https`, `mailto`, `irc`,
+/// `ircs` or `xmpp` (those of hast-util-sanitize).
 ///
-/// The scheme is the one that a browser reads (URL Standard): in any case of its letters, after controls and
-/// spaces, and with tabs and line endings in it. The only error is that memory ran out.
+/// The scheme is the one that a browser reads (URL Standard): in any case of its letters, after
+/// controls and spaces, and with tabs and line endings in it. The only error is that memory ran
+/// out.
 ///
-/// `/a` and `HTTPS://a` may stand, and `java\nscript:a` may not.
+/// `/a` and `HTTPS://a` may be used, and `java\nscript:a` may not.
 #[tactic(auto, unfolding(crate::specs::Urls::is_safe_link))]
 pub fn is_safe_link(alloc: Global, url: &str) -> Result<bool, AllocError>
     ensures { IfOk result (λ safe. safe ≡ is_safe_link url.now) }
@@ -38,9 +39,9 @@ pub fn is_safe_link(alloc: Global, url: &str) -> Result<bool, AllocError>
     })
 }
 
-/// Whether an address may stand in an image: it has no scheme, or `http` or `https`.
+/// Whether an address may be used in an image: it has no scheme, or `http` or `https`.
 ///
-/// All else is as in [`is_safe_link`]. `data:image/png,a` may not stand.
+/// Everything else is as in [`is_safe_link`]. `data:image/png,a` may not be used.
 #[tactic(auto, unfolding(crate::specs::Urls::is_safe_source))]
 pub fn is_safe_source(alloc: Global, url: &str) -> Result<bool, AllocError>
     ensures { IfOk result (λ safe. safe ≡ is_safe_source url.now) }
@@ -70,7 +71,7 @@ fn is_image_scheme(scheme: &[u8]) -> bool
     scheme == b"http".as_slice() || scheme == b"https".as_slice()
 }
 
-/// The scheme of an address in lower case, and none where it is relative.
+/// Returns the scheme of an address in lower case, or none if it is relative.
 fn scheme(alloc: Global, url: &[u8]) -> Result<Option<Vec<u8>>, AllocError>
     ensures { IfOk result (λ found. option_map (λ bytes. bytes.items) found ≡ scheme url.now) }
 {
@@ -88,7 +89,7 @@ fn scheme(alloc: Global, url: &[u8]) -> Result<Option<Vec<u8>>, AllocError>
     Ok(None)
 }
 
-/// The scheme that begins with a letter and goes on so.
+/// Returns the scheme that begins with this letter and continues with this text.
 fn scheme_from(alloc: Global, letter: u8, url: &[u8]) -> Result<Option<Vec<u8>>, AllocError>
     ensures { IfOk result (λ found. option_map (λ bytes. bytes.items) found ≡ scheme_from (letter ∷ []) url.now) }
 {
@@ -118,7 +119,7 @@ fn is_letter(byte: u8) -> bool
     (b'A' <= byte && byte <= b'Z') || (b'a' <= byte && byte <= b'z')
 }
 
-/// Whether it may stand in a scheme after its first byte.
+/// Whether it may occur in a scheme after its first byte.
 fn is_scheme_byte(byte: u8) -> bool
     ensures { result ≡ is_scheme_byte byte }
 {
@@ -129,14 +130,14 @@ fn is_scheme_byte(byte: u8) -> bool
         || byte == b'.'
 }
 
-/// Whether browsers take it out of an address.
+/// Whether browsers remove it from an address.
 fn is_taken_out(byte: u8) -> bool
     ensures { result ≡ is_taken_out byte }
 {
     byte == b'\t' || byte == b'\n' || byte == b'\r'
 }
 
-/// A letter in lower case.
+/// Returns a letter in lower case.
 pub(crate) fn lower(byte: u8) -> u8
     ensures { result ≡ lower byte }
 {
@@ -147,8 +148,8 @@ pub(crate) fn lower(byte: u8) -> u8
     }
 }
 
-/// An address as it is written in a page: bytes that may not stand in one are percent-encoded, as
-/// CommonMark's examples have it.
+/// Returns an address as it is written in a page: bytes that an address may not contain are
+/// percent-encoded, as in CommonMark's examples.
 ///
 /// The only error is that memory ran out. `a b%20ü` becomes `a%20b%20%C3%BC`.
 pub fn encoded(alloc: Global, url: &str) -> Result<String, AllocError>
@@ -162,7 +163,7 @@ pub fn encoded(alloc: Global, url: &str) -> Result<String, AllocError>
     Ok(out)
 }
 
-/// Appends what stands for a byte in an address.
+/// Appends the percent encoding of a byte in an address.
 #[tactic(auto, unfolding(crate::specs::Urls::percent))]
 fn push_percent(out: &mut String, byte: u8) -> Result<(), AllocError>
     ensures { OnOk result (string_bytes out.new ≡ string_bytes out.old ++ percent byte) }
@@ -175,7 +176,7 @@ fn push_percent(out: &mut String, byte: u8) -> Result<(), AllocError>
     out.push(upper_digit(byte % 16))
 }
 
-/// Whether a byte stands in an address as it is.
+/// Whether a byte is unchanged in an address.
 fn is_url_byte(byte: u8) -> bool
     ensures is { result ≡ is_url_byte byte }
     ensures ascii { IsTrue result → byte < 128 }
@@ -189,7 +190,7 @@ fn is_url_byte(byte: u8) -> bool
         || byte == b'~'
 }
 
-/// A hexadecimal digit, in upper case.
+/// Returns a hexadecimal digit, in upper case.
 fn upper_digit(value: u8) -> char
     requires { value < 16 }
     ensures { result ≡ upper_digit value }

@@ -1,4 +1,4 @@
-//! What the tests ask.
+//! The comparisons of the tests.
 
 use markdown::{Constructs, ParseOptions, to_mdast};
 use markdown_html::{HtmlOptions, to_html};
@@ -6,12 +6,12 @@ use markdown_nodes::mdast::Node;
 use std::alloc::{AllocError, Global};
 use std::process::Abort;
 
-/// Stops the test where a text is not the one that it must be.
+/// Stops the test if a text is not the expected one.
 pub fn same(rt: &impl Abort, found: &str, want: &str) {
     assert_eq!(rt; found, want);
 }
 
-/// Stops the test where the page of a document, read with all constructs, is another one.
+/// Stops the test if the page of a document, read with all constructs, is not the expected one.
 pub fn shows(rt: &impl Abort, alloc: Global, document: &str, page: &str) -> Result<(), AllocError> {
     let options = ParseOptions {
         constructs: Constructs::everything(),
@@ -21,7 +21,7 @@ pub fn shows(rt: &impl Abort, alloc: Global, document: &str, page: &str) -> Resu
     writes(rt, alloc, &tree, page)
 }
 
-/// Stops the test where the page of a tree is another one.
+/// Stops the test if the page of a tree is not the expected one.
 pub fn writes(rt: &impl Abort, alloc: Global, tree: &Node, page: &str) -> Result<(), AllocError> {
     let found = to_html(alloc, tree, &HtmlOptions::default())?;
     same(rt, found.as_str(), page);

@@ -18,7 +18,7 @@ fn one(rt: HostRuntime) -> Result<(), AllocError> {
     )
 }
 
-/// Footnotes stand in the order of their first calls. A second call has a number of its own.
+/// Footnotes are in the order of their first calls. A second call has a number of its own.
 #[test]
 fn calls(rt: HostRuntime) -> Result<(), AllocError> {
     let alloc = rt.alloc();

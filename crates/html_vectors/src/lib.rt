@@ -1,5 +1,5 @@
-//! Tests of the HTML of documents and of trees made by hand. The pages are worked by hand, after the rules of
-//! mdast-util-to-hast and the lines of CommonMark's examples.
+//! Tests of the HTML of documents and of trees made by hand. The pages are worked out by hand,
+//! after the rules of mdast-util-to-hast and the lines of CommonMark's examples.
 #![tactic(auto)]
 
 #[cfg(test)]

@@ -30,14 +30,14 @@ static TEXTS: [&str; 16] = [
     "ü\u{202e}",
 ];
 
-/// Numbers that look random, by a linear congruence.
+/// Pseudo-random numbers, from a linear congruence.
 #[derive(Drop)]
 struct Dice {
     state: u64,
 }
 
 impl Dice {
-    /// A number below another.
+    /// Returns a number below another.
     fn below(&mut self, sides: u8) -> u8 {
         self.state = self
             .state
@@ -49,12 +49,12 @@ impl Dice {
         u8::try_from(number).unwrap_or(0)
     }
 
-    /// Whether one of two sides is up.
+    /// Returns the result of a coin flip.
     fn flips(&mut self) -> bool {
         self.below(2) == 0
     }
 
-    /// One of the texts.
+    /// Returns one of the texts.
     fn text(&mut self, alloc: Global) -> Result<String, AllocError> {
         let text = TEXTS
             .get(usize::from(self.below(16)))
@@ -63,7 +63,7 @@ impl Dice {
         String::from_str(alloc, text)
     }
 
-    /// One of the texts, or none.
+    /// Returns one of the texts, or none.
     fn option(&mut self, alloc: Global) -> Result<Option<String>, AllocError> {
         if self.flips() {
             return Ok(None);
@@ -71,7 +71,7 @@ impl Dice {
         Ok(Some(self.text(alloc)?))
     }
 
-    /// How some columns are aligned.
+    /// Returns the alignments of some columns.
     fn align(&mut self, alloc: Global) -> Result<Vec<AlignKind>, AllocError> {
         let mut align = Vec::new(alloc);
         for _ in 0..self.below(3) {
@@ -85,7 +85,7 @@ impl Dice {
         Ok(align)
     }
 
-    /// A kind of reference.
+    /// Returns a kind of reference.
     fn reference(&mut self) -> ReferenceKind {
         match self.below(3) {
             0 => ReferenceKind::Shortcut,
@@ -94,7 +94,7 @@ impl Dice {
         }
     }
 
-    /// A node of any kind, which has these children if it is a parent.
+    /// Returns a node of any kind, which has these children if it is a parent.
     fn node(&mut self, alloc: Global, children: Vec<Node>) -> Result<Node, AllocError> {
         let position = None;
         Ok(match self.below(29) {
@@ -135,7 +135,7 @@ impl Dice {
         })
     }
 
-    /// A node with texts.
+    /// Returns a node with texts.
     fn texts(&mut self, alloc: Global, children: Vec<Node>) -> Result<Node, AllocError> {
         let position = None;
         let value = self.text(alloc)?;
@@ -161,7 +161,7 @@ impl Dice {
         })
     }
 
-    /// A node with an address or an identifier.
+    /// Returns a node with an address or an identifier.
     fn resources(
         &mut self,
         alloc: Global,
@@ -218,7 +218,7 @@ impl Dice {
         })
     }
 
-    /// Takes up to three of some nodes, and puts a node in their place.
+    /// Takes up to three of the nodes, and puts a node in their place.
     fn grow(&mut self, alloc: Global, nodes: &mut Vec<Node>) -> Result<(), AllocError> {
         let mut children = Vec::new(alloc);
         for _ in 0..self.below(4) {

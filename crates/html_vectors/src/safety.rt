@@ -1,4 +1,4 @@
-//! What does not come through: raw HTML, addresses with schemes of their own, and quotes.
+//! What does not pass: raw HTML, addresses with schemes of their own, and quotes.
 
 use crate::expect::{same, shows};
 use markdown::{ParseOptions, to_mdast};
@@ -26,8 +26,8 @@ fn raw_html(rt: HostRuntime) -> Result<(), AllocError> {
     Ok(())
 }
 
-/// Documents, and their pages with GFM's filter of tags. Its own example (653) has some of its names in a
-/// block and some in a paragraph, as these have.
+/// Documents, and their pages with GFM's filter of tags. As in GFM's own example (653), some of the
+/// names are in a block and some in a paragraph.
 static FILTERED: [(&str, &str); 6] = [
     (
         "<em> <title> <Style>\n",

@@ -1,8 +1,8 @@
-//! A reader of the tags of a page. It knows no reference to `html_text`.
+//! A reader of the tags of a page. It is independent of `html_text`.
 
 use std::alloc::Global;
 
-/// The elements that may stand in a page, and the attributes that each may have.
+/// The elements that a page may contain, and the attributes that each may have.
 static ELEMENTS: [(&str, &[&str]); 29] = [
     ("p", &[]),
     ("blockquote", &[]),
@@ -47,7 +47,8 @@ static ELEMENTS: [(&str, &[&str]); 29] = [
     ("input", &["type", "checked", "disabled"]),
 ];
 
-/// Reads a page to its end. Each `<` begins a tag and each `>` ends one; what may not stand is a fault.
+/// Reads a page to its end. Each `<` begins a tag and each `>` ends one; anything not allowed is a
+/// fault.
 pub fn read(alloc: Global, page: &str) -> Result<(), &'static str> {
     let mut pieces = page.split('<');
     if pieces.next().is_some_and(|text| text.contains('>')) {
@@ -70,7 +71,7 @@ pub fn read(alloc: Global, page: &str) -> Result<(), &'static str> {
     }
 }
 
-/// Reads a tag, where these elements are open.
+/// Reads a tag inside these open elements.
 fn read_tag<'a>(tag: &'a str, up: &mut Vec<&'a str>) -> Result<(), &'static str> {
     if let Some(name) = tag.strip_prefix("/") {
         return match up.pop() {
@@ -96,7 +97,7 @@ fn read_tag<'a>(tag: &'a str, up: &mut Vec<&'a str>) -> Result<(), &'static str>
     Ok(())
 }
 
-/// Reads attributes, of which only these may stand: a name, and a value in quotes.
+/// Reads attributes, and allows only these: a name, and a value in quotes.
 fn read_attributes(attributes: &str, allowed: &[&str]) -> Result<(), &'static str> {
     let mut is_name = true;
     for part in attributes.split('"') {

@@ -1,4 +1,4 @@
-//! The pages of trees that no document has.
+//! The pages of trees that no document produces.
 
 use crate::expect::writes;
 use markdown_nodes::mdast::{
@@ -88,7 +88,7 @@ fn row_of(alloc: Global, value: &str) -> Result<Node, AllocError> {
     }))
 }
 
-/// An item alone is that of a loose list. A language of two words is no class.
+/// An item alone is that of a loose list. A language of two words is not a class.
 #[test]
 fn items_and_code(rt: HostRuntime) -> Result<(), AllocError> {
     let alloc = rt.alloc();
@@ -132,7 +132,7 @@ fn starts_and_calls(rt: HostRuntime) -> Result<(), AllocError> {
     writes(&rt, alloc, &call, "[^&lt;]")
 }
 
-/// A hundred thousand emphases, each in the one before.
+/// A hundred thousand nested emphases.
 #[test]
 fn deep(rt: HostRuntime) -> Result<(), AllocError> {
     let alloc = rt.alloc();

@@ -1,4 +1,5 @@
-//! A second program: `links FILE..` prints the links of each markdown file, with their places and addresses.
+//! The second example program: `links FILE..` prints the links of each markdown file, with their
+//! places and addresses.
 //!
 //! A link by reference has the address of the definition that it refers to.
 #![tactic(auto)]
@@ -18,7 +19,8 @@ fn main(rt: HostRuntime) -> io::Result<()> {
     Ok(())
 }
 
-/// A line for each link of a tree: the name of the document, the line of the link, its text and its address.
+/// Returns one line for each link of a tree: the name of the document, the line of the link, its
+/// text and its address.
 fn links(alloc: Global, name: &str, tree: &Node) -> Result<String, AllocError> {
     let defined = defined(alloc, tree)?;
     let mut lines = String::new(alloc);
@@ -33,7 +35,8 @@ fn links(alloc: Global, name: &str, tree: &Node) -> Result<String, AllocError> {
     Ok(lines)
 }
 
-/// The addresses that a tree defines, by identifier. The first definition of an identifier counts.
+/// Returns the addresses that a tree defines, by identifier. The first definition of an identifier
+/// counts.
 fn defined<'a>(alloc: Global, tree: &'a Node) -> Result<BTreeMap<&'a str, &'a str>, AllocError> {
     let mut urls = BTreeMap::new(alloc);
     let mut walk = Walk::new(alloc, tree);
@@ -46,7 +49,7 @@ fn defined<'a>(alloc: Global, tree: &'a Node) -> Result<BTreeMap<&'a str, &'a st
     Ok(urls)
 }
 
-/// The address of a link, and `None` for any other node.
+/// Returns the address of a link, and `None` for any other node.
 fn url<'a>(defined: &BTreeMap<&'a str, &'a str>, node: &'a Node) -> Option<&'a str> {
     match node {
         Node::Link(link) => Some(link.url.as_str()),

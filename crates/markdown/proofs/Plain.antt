@@ -3,7 +3,7 @@ use Rattle.std.proofs.Common.{Bool, List, None, Option, Some, [], ap, append-nil
 use Rattle.std.specs.List.{list_all}
 use Rattle.std.specs.Str.{is_utf8}
 use Rattle.std.proofs.lemmas.List.Folds.{list_all-append}
-use Rattle.markdown_texts.specs.Texts.{starts_with_byte}
+use Rattle.markdown_events.specs.Texts.{starts_with_byte}
 use Rattle.markdown_events.specs.Forest.{Forest, empty, is_empty, span}
 use Rattle.markdown_events.specs.Slices.{between, edge, slice}
 use Rattle.markdown_events.specs.declared.event.Name.TheVariants as names

@@ -15,7 +15,7 @@ use Rattle.markdown_grammar.specs.Document.{Source}
 use Rattle.markdown_grammar.specs.Meaning.{extent, last_end}
 use Rattle.markdown_nodes.specs.View.{view}
 use Rattle.markdown_nodes.specs.declared.mdast.Node.{Node}
-use Rattle.positions.specs.declared.unist.Point.{Point as Place}
+use Rattle.markdown_events.specs.declared.unist.Point.{Point as Place}
 use Rattle.markdown.specs.Roots.{whole_document}
 
 -- ---- The last event

@@ -1,7 +1,7 @@
--- Plain text: data and line endings alone, of which each byte stands for itself.
+-- Plain text: only data and line endings, in which each byte stands for itself.
 use Rattle.std.specs.Prelude.{Bool, List, Some, [], is_some, not, slice_range, true, ℕ, ◌&&◌, ◌==◌, ◌||◌, ◌∷◌, ◌≡◌}
 use Rattle.std.specs.List.{list_all}
-use Rattle.markdown_texts.specs.Texts.{starts_with_byte}
+use Rattle.markdown_events.specs.Texts.{starts_with_byte}
 use Rattle.markdown_events.specs.Forest.{Forest, empty, span}
 use Rattle.markdown_events.specs.Slices.{between, slice}
 use Rattle.markdown_events.specs.declared.event.Name.TheVariants as names
@@ -9,25 +9,25 @@ use Rattle.markdown_events.specs.declared.event.Point.{Point}
 use Rattle.markdown_nodes.specs.Tree.{Tree, nothing, paragraph, root, text}
 use Rattle.markdown_grammar.specs.Decorated.{node_at}
 
--- a span that begins and ends in no tab, and whose bytes are a text
+-- a span that begins and ends outside tabs, and whose bytes are a text
 pub record IsPlainSpan (bytes : List ℕ) (start end : Point) : Type 0 where
   pub begins : start.vs ≡ 0
   pub ends : end.vs ≡ 0
   pub is_text : is_some (slice bytes start end) ≡ true
 
--- data and line endings with nothing in them, one after the other, from one point to another
+-- data and line endings with nothing in them, one after another, from one point to another
 abbrev pub ArePlain : List ℕ → Point → Forest → Point → Type 0
 ArePlain bytes from empty to = from ≡ to
 ArePlain bytes from (span names.Data start end empty rest) to = (from ≡ start) × IsPlainSpan bytes start end × ArePlain bytes end rest to
 ArePlain bytes from (span names.LineEnding start end empty rest) to = (from ≡ start) × IsPlainSpan bytes start end × ArePlain bytes end rest to
 ArePlain bytes from _ to = ⊥
 
--- bytes that a value has as they are: no NUL among them, and a carriage return only before a line feed
+-- bytes that are their own value: no NUL, and a CR only before an LF
 abbrev pub is_verbatim : List ℕ → Bool
 is_verbatim [] = true
 is_verbatim (b ∷ bytes) = not (b == 0) && (not (b == 13) || starts_with_byte 10 bytes) && is_verbatim bytes
 
--- such are the bytes from one point to another, and none is hidden
+-- the bytes from one point to another are their own value, and none of them is hidden
 pub record StandForThemselves (hidden : List Bool) (bytes : List ℕ) (from to : Point) : Type 0 where
   pub verbatim : is_verbatim (slice_range bytes from.index to.index) ≡ true
   pub none_hidden : list_all not (slice_range hidden from.index to.index) ≡ true

@@ -17,14 +17,14 @@ use markdown_options::ParseOptions;
 use markdown_text::document::{Reading, write};
 use std::alloc::{AllocError, Global};
 
-/// The events of a document: where each span begins and where it ends (the names are those of
-/// micromark). The only error is that memory ran out. A document of 2^61 bytes or more is refused as one
-/// for which memory ran out: its columns might not fit 64 bits.
+/// Returns the events of a document: where each span begins and where it ends (the names are those
+/// of micromark). The only error is that memory ran out. A document of 2^61 bytes or more is
+/// refused as one for which memory ran out: its columns might not fit 64 bits.
 ///
-/// The list is that of a forest which the grammar accepts. Its tokens, the spans that hold no span,
-/// are the document, from the first byte to the last. In each event `line` and `column` count from 1,
-/// and `index` counts bytes from 0; a tab goes to the next column that is one more than a multiple of
-/// four. A construct that is off in the options has no span.
+/// The list is that of a forest that the grammar accepts. Its tokens, the spans that contain no
+/// span, tile the document from the first byte to the last. In each event `line` and `column` count
+/// from 1, and `index` counts bytes from 0; a tab goes to the next column that is one more than a
+/// multiple of four. A construct that is off in the options has no span.
 ///
 /// The document `Hi` has four: a paragraph begins at 1:1, and data in it, and both end at 1:3.
 pub fn to_events(
@@ -32,7 +32,7 @@ pub fn to_events(
     value: &str,
     options: &ParseOptions,
 ) -> Result<Vec<Event>, AllocError>
-    // The grammar accepts the events, their tokens tile the document, and each stands at a true point.
+    // The grammar accepts the events, their tokens tile the document, and each is at a true point.
     ensures finished { IfOk result (λ events. IsFinished (source value.now html) events.items) }
     // A construct that is off has no span.
     ensures on { IfOk result (λ events. AreOn options.now.constructs events.items) }
@@ -44,7 +44,7 @@ pub fn to_events(
     }
 }
 
-/// A writer that has written a document to its end.
+/// Returns a writer that has written a document to its end.
 fn written<'d>(
     alloc: Global,
     document: &'d [u8],

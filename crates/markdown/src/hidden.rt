@@ -1,4 +1,4 @@
-//! Hidden bytes: they stand within a label or the cell of a table, and are no part of what these say.
+//! Hidden bytes: they are within a label or the cell of a table, but are not part of its content.
 
 ghost use Rattle.std.specs.Prelude.{◌≡◌, ◌<◌, ◌+◌, ◌++◌, ◌-◌, ◌^◌, IfOk, OnOk, drop, length, take};
 ghost use Rattle.markdown.specs.Hidden.{cell_after, escapes, flags_at, hidden, hidden_by, hidden_from, is_label, labels_after, with_set};
@@ -6,12 +6,13 @@ ghost use Rattle.markdown.specs.Hidden.{cell_after, escapes, flags_at, hidden, h
 use markdown_events::event::{Event, Kind, Name};
 use std::alloc::{AllocError, Global};
 
-/// A flag for each byte of a document with these events, which says whether it is hidden; or no flag,
-/// where none is. `Document::hiding` of `markdown_tree` takes them, for whoever makes a tree of the
-/// events of [`to_events`](crate::to_events). The only error is that memory ran out.
+/// Returns a flag for each byte of a document with these events, which says whether it is hidden,
+/// or no flags if no byte is. If you make a tree from the events of
+/// [`to_events`](crate::to_events), pass the flags to `Document::hiding` of `markdown_tree`. The
+/// only error is that memory ran out.
 ///
-/// Hidden is the marker of a block quote within a label that goes over lines (CommonMark), and in the
-/// cell of a table a backslash before a pipe (GFM).
+/// The hidden bytes are the marker of a block quote within a label that spans lines (CommonMark),
+/// and a backslash before a pipe in the cell of a table (GFM).
 ///
 /// In `> [a⏎> b]` the second `>` is hidden.
 pub fn hidden_bytes(alloc: Global, bytes: &[u8], events: &[Event]) -> Result<Vec<bool>, AllocError>
@@ -21,7 +22,7 @@ pub fn hidden_bytes(alloc: Global, bytes: &[u8], events: &[Event]) -> Result<Vec
     flags_at(alloc, bytes.len(), &offsets)
 }
 
-/// The offsets of the hidden bytes.
+/// Returns the offsets of the hidden bytes.
 fn hidden_offsets(alloc: Global, bytes: &[u8], events: &[Event]) -> Result<Vec<usize>, AllocError>
     ensures { IfOk result (λ offsets. offsets.items ≡ hidden_from bytes.now 0 0 events.now) }
 {
@@ -38,8 +39,8 @@ fn hidden_offsets(alloc: Global, bytes: &[u8], events: &[Event]) -> Result<Vec<u
     Ok(offsets)
 }
 
-/// Adds the offsets that an event hides, where so many labels are open, and the cell that is open began
-/// at an offset.
+/// Adds the offsets that an event hides, given how many labels are open and where the open cell
+/// began.
 fn add_hidden(
     offsets: &mut Vec<usize>,
     bytes: &[u8],
@@ -58,7 +59,7 @@ fn add_hidden(
     Ok(())
 }
 
-/// How many labels are open after an event.
+/// Returns how many labels are open after an event.
 fn labels_after(labels: usize, event: &Event) -> usize
     requires { labels < 2 ^ 64 - 1 }
     ensures { result ≡ labels_after labels event.now.kind event.now.name }
@@ -70,7 +71,7 @@ fn labels_after(labels: usize, event: &Event) -> usize
     }
 }
 
-/// Whether definitions and references are matched by the bytes of a span.
+/// Whether definitions and references are matched by the bytes of a span with this name.
 fn is_label(name: Name) -> bool
     ensures { result ≡ is_label name }
 {
@@ -83,7 +84,7 @@ fn is_label(name: Name) -> bool
     )
 }
 
-/// Where the cell began that is open after an event.
+/// Returns where the cell began that is open after an event.
 fn cell_after(cell: usize, event: &Event) -> usize
     ensures { result ≡ cell_after cell event.now.kind event.now.name event.now.point.index }
 {
@@ -93,7 +94,7 @@ fn cell_after(cell: usize, event: &Event) -> usize
     }
 }
 
-/// The bytes from one offset to another, as far as there are any.
+/// Returns the bytes from one offset to another, or those of them that exist.
 fn part(bytes: &[u8], start: usize, end: usize) -> &[u8]
     ensures { result.now ≡ take (end - start) (drop start bytes.now) }
 {
@@ -118,7 +119,8 @@ fn add_escapes(offsets: &mut Vec<usize>, text: &[u8], start: usize) -> Result<()
     Ok(())
 }
 
-/// A flag for each of so many bytes, set at these offsets; or no flag, where there is no offset.
+/// Returns a flag for each of `count` bytes, set at these offsets, or no flags if there is no
+/// offset.
 fn flags_at(alloc: Global, count: usize, offsets: &[usize]) -> Result<Vec<bool>, AllocError>
     ensures { IfOk result (λ flags. flags.items ≡ flags_at count offsets.now) }
 {

@@ -12,8 +12,8 @@ ghost use Rattle.markdown_grammar.specs.Ordered.{IsOrdered, NeverGoesBack};
 ghost use Rattle.markdown_nodes.specs.Tree.{only};
 ghost use Rattle.markdown_options.specs.Spans.{AreOn};
 ghost use Rattle.markdown_nodes.specs.View.{view};
-ghost use Rattle.positions.specs.declared.message.Fault.TheVariants as faults;
-ghost use Rattle.positions.specs.declared.message.Message.{Message};
+ghost use Rattle.markdown_events.specs.declared.message.Fault.TheVariants as faults;
+ghost use Rattle.markdown_events.specs.declared.message.Message.{Message};
 
 use crate::events::to_events;
 use crate::hidden::hidden_bytes;
@@ -26,28 +26,30 @@ use markdown_options::ParseOptions;
 use markdown_tree::to_mdast::{Document, Steps, compile_document};
 use std::alloc::{AllocError, Global};
 
-/// The syntax tree of a document, as mdast has it.
+/// Returns the mdast syntax tree of a document.
 ///
-/// It is the meaning of the events that [`to_events`] gives, with whole values: tabs that a marker of a
-/// list shares are spaces in code, and NUL is U+FFFD (CommonMark). Hidden bytes are left out: the marker
-/// of a block quote from a label over lines (CommonMark), and in a table the backslash before a pipe
-/// (GFM). In positions `line` and `column` count from 1, and `offset` counts bytes from 0.
+/// It is the meaning of the events of [`to_events`], with whole values: a tab that a list marker
+/// shares becomes spaces in code, and NUL becomes U+FFFD (CommonMark). Hidden bytes are left out:
+/// the marker of a block quote from a label over lines (CommonMark), and the backslash before a
+/// pipe in a table (GFM). In positions `line` and `column` count from 1, and `offset` counts bytes
+/// from 0.
 ///
 /// The only error is that memory ran out, as in `to_events`.
 ///
 /// `to_mdast(alloc, "# Hi", &ParseOptions::default())?` is a root with a heading of depth 1.
 pub fn to_mdast(alloc: Global, value: &str, options: &ParseOptions) -> Result<Node, AllocError>
-    // The tree is the meaning of finished events, with whole values and without what is hidden. No event is of a
-    // construct that is off.
+    // The tree is the meaning of finished events, with whole values and without hidden bytes. No
+    // event is of a construct that is off.
     ensures tree { IfOk result (λ tree. (events : List Event) × IsFinished (source value.now html) events
         × AreOn options.now.constructs events
         × IsMeaning tree events (source_hiding (hidden value.now events) value.now html)) }
-    // Its root reaches from the first byte of the document to the last.
+    // Its root extends from the first byte of the document to the last.
     ensures root { IfOk result (λ tree. (view tree).position ≡ Some (whole_document value.now)) }
-    // Spans nest and siblings stand in order, but for the starts in the first paragraphs of task items.
+    // Nodes nest and siblings are in order, except for the starts in the first paragraphs of task
+    // items.
     ensures ordered { IfOk result (λ tree. IsOrdered (only (view tree))) }
 {
-    // For the proof: so the tree is ordered, and no message comes.
+    // For the proof: the tree is therefore ordered, and there is no message.
     offsets_never_go_back();
     no_message_comes();
     let events = to_events(alloc, value, options)?;
@@ -57,22 +59,24 @@ pub fn to_mdast(alloc: Global, value: &str, options: &ParseOptions) -> Result<No
     }
 }
 
-/// The syntax tree of a document and its events, whoever made them.
+/// Returns the syntax tree of a document and its events, from any tokenizer.
 ///
-/// It does what [`to_mdast`] does, with these events in place of those of [`to_events`]: values are whole,
-/// and hidden bytes are left out. For the events of `to_events` it gives the tree of `to_mdast`.
+/// It does what [`to_mdast`] does, with these events in place of those of [`to_events`]: values are
+/// whole, and hidden bytes are left out. For the events of `to_events` it returns the tree of
+/// `to_mdast`.
 ///
-/// `Fault::Message` says which rule the events break, as for `compile` of the crate `markdown_tree`, and
-/// `Fault::Memory` that memory ran out.
+/// `Fault::Message` says which rule the events break, as for `compile` of the crate
+/// `markdown_tree`, and `Fault::Memory` that memory ran out.
 ///
-/// For `Hi` and the events of a paragraph with one data span it is a root with a paragraph with a text.
+/// For `Hi` and the events of a paragraph with one data span it is a root with a paragraph with a
+/// text.
 pub fn compile_events(alloc: Global, value: &str, events: &[Event]) -> Result<Node, Fault>
     // A tree is the meaning of an accepted forest that has these events.
     ensures found { IfOk result (λ tree. IsMeaning tree events.now (source_hiding (hidden value.now events.now) value.now html)) }
-    // A message comes only where there is no such forest.
+    // There is a message only if there is no such forest.
     ensures refused { IfErr result (λ fault. FailsRightly fault events.now (source_hiding (hidden value.now events.now) value.now html)) }
-    // Where the offsets never go back, spans nest and siblings stand in order, but for the starts in the first
-    // paragraphs of task items.
+    // If the offsets never go back, nodes nest and siblings are in order, except for the starts in
+    // the first paragraphs of task items.
     ensures ordered { IfOk result (λ tree. NeverGoesBack events.now → IsOrdered (only (view tree))) }
 {
     let bytes = value.as_bytes();
@@ -81,7 +85,7 @@ pub fn compile_events(alloc: Global, value: &str, events: &[Event]) -> Result<No
     compile_document(alloc, &mut Steps::new(events), &document, &HtmlReferences)
 }
 
-/// The error that memory ran out, where a fault is no message.
+/// Returns the error that memory ran out, if a fault is not a message.
 fn memory_error(fault: Fault) -> AllocError
     requires { (message : Message) → fault ≢ faults.Message message }
 {

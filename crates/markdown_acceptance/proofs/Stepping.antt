@@ -14,7 +14,7 @@ use Rattle.markdown_events.specs.declared.role.Role.TheVariants.{Significant as 
 use Rattle.markdown_grammar.specs.Document.{Source}
 use Rattle.markdown_grammar.specs.Refusals.{ErrorAt}
 use Rattle.markdown_grammar.specs.declared.error_kind.ErrorKind.TheVariants.{Held, Unbalanced}
-use Rattle.markdown_steps.proofs.Booleans.{and-true}
+use Rattle.markdown_events.proofs.Booleans.{and-true}
 use Rattle.markdown_steps.proofs.Outcomes.{done, ok, ok-bind, ok-checked, same_name_refl, when, when-then, when-when}
 use Rattle.markdown_steps.specs.Checks.{passes, ◌>>=◌}
 use Rattle.markdown_steps.specs.ChildFacts.{ChildFacts}

@@ -12,7 +12,7 @@ use Rattle.markdown_grammar.specs.Items.{is_frontmatter, is_line_ending, is_tabl
 use Rattle.markdown_grammar.specs.Values.{is_read}
 use Rattle.markdown_grammar.specs.declared.error_kind.ErrorKind.{ErrorKind}
 use Rattle.markdown_grammar.specs.declared.error_kind.ErrorKind.TheVariants.{InvalidSlice, Misplaced}
-use Rattle.markdown_steps.proofs.Booleans.{and-true}
+use Rattle.markdown_events.proofs.Booleans.{and-true}
 use Rattle.markdown_steps.proofs.ItemSteps.{passes-rules}
 use Rattle.markdown_steps.specs.Checks.{passes}
 use Rattle.markdown_steps.specs.Compiler.{ContainerState, all_stood, allows_after, enter_checks, entered, exit_checks, has_stood, nothing_yet}

@@ -1,4 +1,4 @@
--- What each call asks of the open spans, and what it makes of them: the words for a caller that owes that nothing is refused.
+-- The condition of each call on the open spans, and the open spans after it. For a caller that must prove that no call is refused.
 use Rattle.std.specs.Prelude.{Bool, Err, List, None, Option, Result, Some, [], false, true, ℕ, ◌&&◌, ◌∷◌, ◌≡◌}
 use Rattle.markdown_events.specs.Around.{in_the_open, may_begin, under}
 use Rattle.markdown_events.specs.Forest.{exit}
@@ -19,7 +19,7 @@ use Rattle.markdown_acceptance.specs.declared.open_spans.Frame.{Frame}
 use Rattle.markdown_acceptance.specs.declared.open_spans.Outer.{Outer}
 use Rattle.markdown_acceptance.specs.declared.site.Site.{Site}
 
--- where a call is a misfit, this holds
+-- this holds if the call is a misfit
 abbrev pub IfMisfit : {X : Type 0} → Result X WriteError → Type 0 → Type 0
 IfMisfit (Err errors.Misfit) P = P
 IfMisfit _ P = Unit {0}
@@ -34,12 +34,12 @@ may_open_as bytes site (significant what) point = may_enter bytes site what poin
 abbrev pub may_open : List ℕ → Stack → Name → Point → Bool
 may_open bytes spans name point = may_begin spans.around (role_of name) && may_open_as bytes spans.site (role_of name) point
 
--- of a significant span: what it is, and the site at which it stands
+-- for a significant span: what it is, and the site at which it begins
 abbrev pub outer_of : Role → Site → Option Outer
 outer_of (transparent k) site = None
 outer_of (significant what) site = Some (record { what = what; site = site })
 
--- the site in a span: that of a transparent one is the site around it
+-- the site in a span; in a transparent span it is the site around it
 abbrev pub IsInside : Role → Site → Site → Type 0
 IsInside (transparent k) site new = new ≡ site
 IsInside (significant what) site new = IsEntered what site new
@@ -50,13 +50,13 @@ pub record Opened (name : Name) (point : Point) (old new : Stack) : Type 0 where
   pub around : new.around ≡ under old.around (role_of name)
   pub site : IsInside (role_of name) old.site new.site
 
--- ---- A token: a span in which nothing stands
+-- ---- A token: a span with nothing in it
 
 abbrev pub may_write_as : Source → Site → Role → Point → Point → Bool
 may_write_as s site (transparent k) start end = true
 may_write_as s site (significant what) start end = may_enter s.bytes site what start && (takes_empty site what && reads s site what start end)
 
--- a token may stand
+-- a token may be written
 abbrev pub may_write : Source → Stack → Name → Point → Point → Bool
 may_write s spans name start end = may_begin spans.around (role_of name) && may_write_as s spans.site (role_of name) start end
 
@@ -81,7 +81,7 @@ may_close_as s (Some outer) start own end = is_complete own && reads s outer.sit
 abbrev pub may_close : Source → Stack → Point → Bool
 may_close s spans end = elim spans.frames [ [] ↦ false | f ∷ fs ↦ may_close_as s f.outer f.start spans.site end ]
 
--- the site after a span, by the one in it
+-- the site after a span, from the one in it
 abbrev pub IsOutside : Option Outer → Site → Site → Type 0
 IsOutside None own new = new ≡ own
 IsOutside (Some outer) own new = IsAfter outer.what own.is_marked own.is_numbered outer.site new
@@ -99,7 +99,7 @@ exit_of spans end = elim spans.frames [ [] ↦ [] | f ∷ fs ↦ exit f.name end
 
 -- ---- The root
 
--- no span is open, and any content may stand
+-- no span is open, and any content may come
 pub record AtRoot (spans : Stack) : Type 0 where
   pub frames : spans.frames ≡ []
   pub around : spans.around ≡ in_the_open

@@ -1,4 +1,4 @@
--- The content models of the code, as the grammar has them.
+-- The content models of the code, as those of the grammar.
 use Rattle.markdown_acceptance.specs.declared.content_model.ContentModel.{ContentModel}
 use Rattle.markdown_acceptance.specs.declared.content_model.ContentModel.TheVariants as models
 use Rattle.markdown_grammar.specs.Grammar as grammar

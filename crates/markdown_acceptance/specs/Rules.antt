@@ -1,4 +1,4 @@
--- What the rules of a container ask, by the parts that have stood in it.
+-- The rules of a container, given the parts that have occurred in it.
 use Rattle.std.specs.Prelude.{Bool, false, true}
 use Rattle.std.specs.List.{list_all, list_any}
 use Rattle.markdown_events.specs.declared.role.ItemKind.{ItemKind}
@@ -11,7 +11,7 @@ use Rattle.markdown_steps.specs.Compiler.{allows_after}
 abbrev pub takes : ContentModel → (Part → Bool) → ItemKind → Bool
 takes h stood what = list_all (λ rule. allows_after (λ ps. list_any stood ps) rule what) (rules h)
 
--- what has to stand in the container has stood: a part, or in an ordered list a number
+-- the container has what it requires: a part, or for an ordered list a number
 abbrev pub has_required : ContentModel → (Part → Bool) → Bool → Bool
 has_required character_reference stood numbered = stood parts.CharacterReferenceValue
 has_required heading_atx stood numbered = stood parts.HeadingAtxSequence
@@ -21,6 +21,6 @@ has_required math_flow stood numbered = stood parts.MathFlowFence
 has_required list_ordered stood numbered = numbered
 has_required _ stood numbered = true
 
--- nothing has to stand in it
+-- the container requires nothing
 abbrev pub requires_nothing : ContentModel → Bool
 requires_nothing h = has_required h (λ p. false) false

@@ -1,4 +1,4 @@
--- What the open spans are to the steps of a compilation.
+-- How the open spans correspond to the states of a compilation.
 use Rattle.std.specs.Prelude.{List, None, Ok, Option, Some, [], is_some, ◌≡◌, ◌∷◌, ◌++◌}
 use Rattle.markdown_events.specs.Forest.{Forest, events_of}
 use Rattle.markdown_events.specs.declared.event.Event.{Event}
@@ -15,7 +15,7 @@ use Rattle.markdown_acceptance.specs.declared.open_spans.Frame.{Frame}
 use Rattle.markdown_acceptance.specs.declared.open_spans.Outer.{Outer}
 use Rattle.markdown_acceptance.specs.declared.site.Site.{Site}
 
--- a site shows what acceptance asks of a container
+-- a site agrees with a container on everything that acceptance depends on
 pub record Shows (site : Site) (container : ContainerState) : Type 0 where
   pub initial_model : container.initial_model ≡ grammar_model site.initial_model
   pub model : container.model ≡ grammar_model site.model
@@ -25,47 +25,48 @@ pub record Shows (site : Site) (container : ContainerState) : Type 0 where
   pub mark : is_some container.inner.mark ≡ site.is_marked
   pub value : is_some container.inner.value ≡ site.is_numbered
 
--- the same of a significant span, and the container around it
+-- an outer site agrees with a significant span and the container around it
 abbrev pub ShowsOuter : Option Outer → Option (ItemKind × ContainerState) → Type 0
 ShowsOuter None None = Unit {0}
 ShowsOuter (Some outer) (Some around) = (around.0 ≡ outer.what) × Shows outer.site around.1
 ShowsOuter _ _ = ⊥
 
--- the same of an open span
+-- a frame agrees with an open span
 pub record ShowsSpan (frame : Frame) (span : OpenSpan) : Type 0 where
   pub name : span.name ≡ frame.name
   pub start : span.start ≡ frame.start
   pub around : span.around ≡ frame.around
   pub outer : ShowsOuter frame.outer span.outer
 
--- the same of all open spans, the innermost first
+-- all frames agree with the open spans, the innermost first
 abbrev pub ShowsAll : List Frame → List OpenSpan → Type 0
 ShowsAll [] [] = Unit {0}
 ShowsAll (frame ∷ frames) (span ∷ spans) = ShowsSpan frame span × ShowsAll frames spans
 ShowsAll _ _ = ⊥
 
--- the same of a state
+-- a stack agrees with a state
 pub record ShowsState (spans : Stack) (st : State) : Type 0 where
   pub frames : ShowsAll spans.frames st.frames
   pub around : st.around ≡ spans.around
   pub top : Shows spans.site st.top
 
--- events lead from one stack to another: the steps take them from each state that the first shows to one that the second shows
+-- events lead from one stack to another: from every state that agrees with the first stack, the steps lead to one
+-- that agrees with the second
 abbrev pub Leads : Source → List Event → Stack → Stack → Type 0
 Leads s events old new = (st : State) → ShowsState old st → (next : State) × (run s events st ≡ Ok next) × ShowsState new next
 
--- the steps take these events from the start, and then these spans are open
+-- the steps accept these events from the start, and the stack agrees with the state after them
 pub record Tracks (s : Source) (events : List Event) (spans : Stack) : Type 0 where
   pub state : State
   pub runs : run s events opening ≡ Ok state
   pub shows : ShowsState spans state
 
--- events are those of a forest that the grammar accepts
+-- the events are those of a forest that the grammar accepts
 pub record AreAccepted (s : Source) (events : List Event) : Type 0 where
   pub forest : Forest
   pub from_events : events_of forest ≡ events
   pub accepted : Accepted s forest
 
--- no list of events that begins so is that of a forest which the grammar accepts
+-- no forest that the grammar accepts has events that begin with these
 abbrev pub IsHopeless : Source → List Event → Type 0
 IsHopeless s events = (forest : Forest) (rest : List Event) → events_of forest ≡ events ++ rest → Accepted s forest → ⊥

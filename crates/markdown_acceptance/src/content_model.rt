@@ -1,4 +1,4 @@
-//! The content models of the grammar: what a container takes.
+//! The content models of the grammar: what a container accepts.
 
 ghost use Rattle.std.specs.Prelude.{◌≡◌};
 ghost use Rattle.markdown_acceptance.specs.ContentModels.{grammar_model};
@@ -11,9 +11,9 @@ use markdown_events::role::{Content, ItemKind, Part};
 
 mod rules;
 
-/// What a container takes: the rules that the items in it keep (ours; `docs/GRAMMAR.md` has them).
+/// What a container accepts: the rules for the items in it (ours; `docs/GRAMMAR.md` has them).
 ///
-/// A paragraph in a block quote is `ContentModel::AnyContent`: it takes any content, and no part.
+/// A paragraph in a block quote is `ContentModel::AnyContent`: it accepts any content, and no part.
 #[derive(Clone, Copy, PartialEq, Eq, Debug)]
 pub enum ContentModel {
     /// Any content, and no part.
@@ -38,19 +38,19 @@ pub enum ContentModel {
     MathFence,
     /// Nothing.
     Leaf,
-    /// An ordered list, one item of which has a number.
+    /// An ordered list, in which one item must have a number.
     ListOrdered,
-    /// An item of an unordered list, in which no check mark has stood.
+    /// An item of an unordered list, without a check mark so far.
     ListItem,
-    /// An item of an ordered list, in which no check mark has stood.
+    /// An item of an ordered list, without a check mark so far.
     NumberedItem,
-    /// An item of an unordered list, in which a check mark has stood.
+    /// An item of an unordered list, after a check mark.
     MarkedItem,
-    /// An item of an ordered list, in which a check mark has stood.
+    /// An item of an ordered list, after a check mark.
     MarkedNumberedItem,
-    /// A paragraph of an item in which no check mark has stood: it takes one.
+    /// A paragraph of an item without a check mark so far: it accepts one.
     TaskParagraph,
-    /// A paragraph of an item in which a check mark has stood.
+    /// A paragraph of an item after a check mark.
     MarkedParagraph,
     /// `[^a]: b`: an identifier, and content.
     FootnoteDefinition,
@@ -71,7 +71,7 @@ pub enum ContentModel {
 }
 
 impl ContentModel {
-    /// The content model of an item in a container of this content model.
+    /// Returns the content model of an item in a container of this content model.
     ///
     /// `ContentModel::AnyContent.inside(item)` is `ContentModel::Media` for a link.
     pub fn inside(self, what: ItemKind) -> ContentModel
@@ -83,7 +83,7 @@ impl ContentModel {
         }
     }
 
-    /// The content model of content in it.
+    /// Returns the content model of content in it.
     fn inside_content(self, content: Content) -> ContentModel
         ensures { grammar_model result ≡ content_model (grammar_model self) content }
     {
@@ -118,7 +118,7 @@ impl ContentModel {
         }
     }
 
-    /// The content model of a list item in it.
+    /// Returns the content model of a list item in it.
     fn item(self) -> ContentModel
         ensures { grammar_model result ≡ content_model (grammar_model self) contents.ListItem }
     {
@@ -128,7 +128,7 @@ impl ContentModel {
         }
     }
 
-    /// The content model of a paragraph in it.
+    /// Returns the content model of a paragraph in it.
     fn paragraph(self) -> ContentModel
         ensures { grammar_model result ≡ content_model (grammar_model self) contents.Paragraph }
     {
@@ -141,7 +141,7 @@ impl ContentModel {
         }
     }
 
-    /// The content model of a part in it.
+    /// Returns the content model of a part in it.
     fn inside_part(self, part: Part) -> ContentModel
         ensures { grammar_model result ≡ part_model (grammar_model self) part }
     {
@@ -166,7 +166,7 @@ impl ContentModel {
         }
     }
 
-    /// The content model of a fence of code in it.
+    /// Returns the content model of a fence of code in it.
     fn code_fence(self) -> ContentModel
         ensures { grammar_model result ≡ part_model (grammar_model self) parts.CodeFencedFence }
     {
@@ -176,7 +176,7 @@ impl ContentModel {
         }
     }
 
-    /// The content model of a fence of math in it.
+    /// Returns the content model of a fence of math in it.
     fn math_fence(self) -> ContentModel
         ensures { grammar_model result ≡ part_model (grammar_model self) parts.MathFlowFence }
     {
@@ -186,8 +186,8 @@ impl ContentModel {
         }
     }
 
-    /// The content model of what follows an item in the container, by whether the item gave a check
-    /// mark.
+    /// Returns the content model for what follows an item in the container. `is_marked` says
+    /// whether the item contributed a check mark.
     ///
     /// `ContentModel::CodeFenced.after(item, false)` is `ContentModel::CodeBuffer` for a fence.
     pub fn after(self, what: ItemKind, is_marked: bool) -> ContentModel
@@ -202,7 +202,7 @@ impl ContentModel {
         }
     }
 
-    /// The content model after a fence of code.
+    /// Returns the content model after a fence of code.
     fn after_code_fence(self, is_marked: bool) -> ContentModel
         ensures { grammar_model result ≡ model_after (grammar_model self) (item_kinds.Part parts.CodeFencedFence) is_marked }
     {
@@ -212,7 +212,7 @@ impl ContentModel {
         }
     }
 
-    /// The content model after a fence of math.
+    /// Returns the content model after a fence of math.
     fn after_math_fence(self, is_marked: bool) -> ContentModel
         ensures { grammar_model result ≡ model_after (grammar_model self) (item_kinds.Part parts.MathFlowFence) is_marked }
     {
@@ -222,7 +222,7 @@ impl ContentModel {
         }
     }
 
-    /// The content model after the sequence of an ATX heading.
+    /// Returns the content model after the sequence of an ATX heading.
     fn after_sequence(self, is_marked: bool) -> ContentModel
         ensures { grammar_model result ≡ model_after (grammar_model self) (item_kinds.Part parts.HeadingAtxSequence) is_marked }
     {
@@ -232,7 +232,7 @@ impl ContentModel {
         }
     }
 
-    /// The content model after a paragraph.
+    /// Returns the content model after a paragraph.
     fn after_paragraph(self, is_marked: bool) -> ContentModel
         ensures { grammar_model result ≡ model_after (grammar_model self) (item_kinds.Content contents.Paragraph) is_marked }
     {

@@ -1,4 +1,4 @@
-//! Why a span was not taken.
+//! Why a span was not accepted.
 
 ghost use Rattle.std.specs.Prelude.{◌≡◌, alloc_error};
 ghost use Rattle.markdown_acceptance.specs.declared.error.WriteError.TheVariants.{Memory};
@@ -12,7 +12,7 @@ use std::alloc::{AllocError, AllocFailed};
 pub enum WriteError {
     /// Memory ran out.
     Memory(AllocError),
-    /// The grammar takes no such span here, or the document has no room for it.
+    /// The grammar does not accept such a span here, or the document has no room for it.
     Misfit,
 }
 

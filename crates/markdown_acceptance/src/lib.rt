@@ -1,8 +1,8 @@
-//! Which spans may begin, end and stand where, by the grammar. No tree is made.
+//! Which spans may begin, end and occur at each point, by the grammar. No tree is made.
 //!
 //! [`open_spans::OpenSpans`] are the spans that are open. They keep of the items what acceptance
-//! asks, and take a span exactly where a stated test is true. What they take, the steps of a
-//! compilation take, and no accepted list of events goes on with what they refuse ([`laws`]).
+//! depends on, and accept a span exactly if a stated test is true. The steps of a compilation take
+//! what they accept, and no accepted list of events continues with what they refuse ([`laws`]).
 #![tactic(auto)]
 
 pub mod content_model;

@@ -1,4 +1,4 @@
-//! The spans that are open, as far as acceptance asks.
+//! The open spans, with what acceptance depends on.
 
 ghost use Rattle.std.specs.Prelude.{◌≡◌, ◌∷◌, IfOk, OnErr, OnOk, [], false, true};
 ghost use Rattle.markdown_acceptance.specs.Calls.{
@@ -25,10 +25,10 @@ ghost use Rattle.markdown_steps.specs.Compiler.{opening};
 use crate::error::WriteError;
 use crate::site::Site;
 use character_references::references::References;
-use markdown_builder::slice::Document;
 use markdown_events::around::Around;
 use markdown_events::event::{Name, Point};
 use markdown_events::role::{ItemKind, Role, TransparentKind};
+use markdown_parts::slice::Document;
 use std::alloc::Global;
 use std::marker::Model;
 
@@ -40,7 +40,7 @@ use std::marker::Model;
 pub struct Outer {
     /// What it is.
     pub what: ItemKind,
-    /// Where it stands.
+    /// Where it is.
     pub site: Site,
 }
 
@@ -53,22 +53,22 @@ pub struct Frame {
     pub name: Name,
     /// Where it begins.
     pub start: Point,
-    /// What is around it.
+    /// The context around it.
     pub around: Around,
-    /// Of a significant span: what it is, and where it stands.
+    /// For a significant span: what it is, and where it is.
     pub outer: Option<Outer>,
 }
 
-/// The open spans, and where the next one stands (ours).
+/// The open spans, and the site of the next one (ours).
 ///
 /// Before the first event none is open. Only the innermost one can be closed.
 #[derive(Drop)]
 pub struct OpenSpans {
     /// The open spans, the innermost last.
     frames: Vec<Frame>,
-    /// What is around the next span.
+    /// The context of the next span.
     around: Around,
-    /// Where the next span stands. In a transparent span this is the site around it.
+    /// The site of the next span. In a transparent span this is the site around it.
     site: Site,
 }
 
@@ -82,9 +82,9 @@ impl Model for OpenSpans {
 }
 
 impl OpenSpans {
-    /// Before the first event: no span is open.
+    /// Returns the open spans before the first event: none.
     ///
-    /// It takes no memory. `OpenSpans::new(alloc).is_done()` is true.
+    /// It allocates no memory. `OpenSpans::new(alloc).is_done()` is true.
     pub fn new(alloc: Global) -> OpenSpans
         ensures shows { ShowsState result opening }
         ensures root { AtRoot result }
@@ -110,8 +110,8 @@ impl OpenSpans {
     /// Opens a span at a point.
     ///
     /// At the root it opens a `Name::Paragraph`. A `Name::LabelText` there is a
-    /// `WriteError::Misfit`, since the root takes no label. An error leaves the open spans as they
-    /// were.
+    /// `WriteError::Misfit`, since the root accepts no label. After an error the open spans are
+    /// unchanged.
     pub fn enter(
         &mut self,
         document: &Document<'_>,
@@ -190,11 +190,11 @@ impl OpenSpans {
         Ok(())
     }
 
-    /// Closes the innermost span at a point, and gives its name.
+    /// Closes the innermost span at a point, and returns its name.
     ///
-    /// In a paragraph it gives `Name::Paragraph`. The call is a `WriteError::Misfit` where no span
-    /// is open, where the span lacks what must stand in it, where a break in it waits for its line
-    /// ending, and where its value cannot be read. An error leaves the open spans as they were.
+    /// In a paragraph it returns `Name::Paragraph`. The call is a `WriteError::Misfit` if no span
+    /// is open, if the span lacks a required part, if a break in it waits for its line ending, or
+    /// if its value cannot be read. After an error the open spans are unchanged.
     pub fn exit<R: References>(
         &mut self,
         alloc: Global,
@@ -218,7 +218,7 @@ impl OpenSpans {
         Ok(frame.name)
     }
 
-    /// The site after the innermost span, which ends at a point.
+    /// Returns the site after the innermost span, which ends at a point.
     fn site_after<R: References>(
         &self,
         alloc: Global,
@@ -244,11 +244,11 @@ impl OpenSpans {
         Ok(site)
     }
 
-    /// Takes a token: a span from one point to another in which nothing stands.
+    /// Takes a token: a span from one point to another that contains nothing.
     ///
-    /// In a paragraph it takes data. The call is a `WriteError::Misfit` where the span may not be
-    /// opened, where something must stand in it, and where its value cannot be read. An error
-    /// leaves the open spans as they were.
+    /// In a paragraph it takes data. The call is a `WriteError::Misfit` if the span may not be
+    /// opened, if it requires a part, or if its value cannot be read. After an error the open spans
+    /// are unchanged.
     pub fn token<R: References>(
         &mut self,
         alloc: Global,

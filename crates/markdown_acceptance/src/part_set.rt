@@ -7,17 +7,17 @@ ghost use Rattle.markdown_grammar.specs.Items.{same_part};
 
 use markdown_events::role::Part;
 
-/// A set of parts: those that have stood in a container (ours).
+/// A set of parts: those that have occurred in a container (ours).
 ///
 /// In a link it is empty at first, and after the label it has `Part::LabelText`.
 #[derive(Clone, Copy)]
 pub struct PartSet {
-    /// Whether it has each part, by the number of the part.
+    /// Whether it has each part, indexed by the number of the part.
     members: [bool; 27],
 }
 
 impl PartSet {
-    /// The set without a part.
+    /// Returns the empty set.
     ///
     /// `PartSet::new().contains(Part::LabelText)` is false.
     pub fn new() -> PartSet
@@ -39,7 +39,7 @@ impl PartSet {
 
     /// Adds a part.
     ///
-    /// After `parts.insert(Part::LabelText)` the set has this part, and those that it had.
+    /// After `parts.insert(Part::LabelText)` the set has this part, and all that it had before.
     pub fn insert(&mut self, part: Part)
         ensures { (other : Part) → contains self.new other ≡ (contains self.old other || same_part other part) }
     {

@@ -1,4 +1,4 @@
-//! Where the next span stands: its container, as far as acceptance asks.
+//! The site of the next span: its container, with what acceptance depends on.
 
 ghost use Rattle.std.specs.Prelude.{◌≡◌, None};
 ghost use Rattle.markdown_acceptance.specs.ContentModels.{grammar_model};
@@ -12,24 +12,24 @@ ghost use Rattle.markdown_acceptance.specs.Sites.{
   may_enter,
   takes_empty,
 };
-ghost use Rattle.markdown_builder.specs.PartsSoFar.{place_with};
+ghost use Rattle.markdown_parts.specs.PartsSoFar.{place_with};
 ghost use Rattle.markdown_grammar.specs.Attributes.{inherited_at_root};
 ghost use Rattle.markdown_grammar.specs.Grammar.{any_content};
 ghost use Rattle.markdown_grammar.specs.Items as Kinds;
 
 use crate::content_model::ContentModel;
 use crate::part_set::PartSet;
-use markdown_builder::items::{
-    has_line_endings, has_line_endings_after, is_frontmatter, is_line_ending, is_table,
-};
-use markdown_builder::slice::{Document, byte_at};
 use markdown_events::event::Point;
 use markdown_events::role::{Content, ItemKind, Part};
+use markdown_parts::items::{
+    has_line_endings, has_line_endings_after, is_frontmatter, is_line_ending, is_table,
+};
+use markdown_parts::slice::{Document, byte_at};
 
 mod values;
 
-/// Where the next span stands: the content model of its container, the place, and what the items
-/// before it gave (ours).
+/// The site of the next span: the content model of its container, the place, and what the items
+/// before it contributed (ours).
 ///
 /// In a paragraph, after a hard break, `after_break` is true, and only a line ending may come.
 #[derive(Clone, Copy)]
@@ -46,25 +46,25 @@ pub struct Site {
     pub marker: Option<u8>,
     /// Whether the last item is a hard break, which its line ending must follow.
     pub after_break: bool,
-    /// Which parts have stood in the container.
+    /// Which parts have occurred in the container.
     pub stood: PartSet,
-    /// Whether an item gave a check mark.
+    /// Whether an item contributed a check mark.
     pub is_marked: bool,
-    /// Whether an item gave a number.
+    /// Whether an item contributed a number.
     pub is_numbered: bool,
 }
 
 impl Site {
-    /// The site before the first event.
+    /// Returns the site before the first event.
     ///
-    /// Its container takes any content, and line endings are no text there.
+    /// Its container accepts any content, and line endings are not text there.
     pub fn at_root() -> Site
         ensures { IsFresh any_content inherited_at_root result }
     {
         Site::fresh(ContentModel::AnyContent, false, false)
     }
 
-    /// The site in a container of this content model, before any item.
+    /// Returns the site in a container of this content model, before any item.
     fn fresh(model: ContentModel, line_endings: bool, in_table: bool) -> Site
         ensures { IsFresh (grammar_model model) (place_with line_endings in_table None) result }
     {
@@ -81,9 +81,9 @@ impl Site {
         }
     }
 
-    /// Whether an item may begin here. A line ending has to follow a break, the container has to
-    /// take the item after what has stood in it, a table may not be in a table, and the first byte
-    /// of frontmatter has to be in the document.
+    /// Whether an item may begin here. After a break only a line ending may. The container must
+    /// accept the item after its items so far, a table may not be in a table, and the first byte of
+    /// frontmatter must be in the document.
     ///
     /// At the root a paragraph may, and a label may not.
     pub fn may_enter(&self, document: &Document<'_>, what: ItemKind, start: Point) -> bool
@@ -101,7 +101,7 @@ impl Site {
         !is_frontmatter(what) || byte_at(document, start).is_some()
     }
 
-    /// Whether the container may end: what must stand in it has stood, and no break waits.
+    /// Whether the container may end: it has what it requires, and no break waits.
     ///
     /// An ATX heading without a sequence may not.
     pub fn is_complete(&self) -> bool
@@ -113,7 +113,7 @@ impl Site {
                 .has_required(&self.stood, self.is_numbered)
     }
 
-    /// Whether an item in which nothing stands may end here.
+    /// Whether an item that contains nothing may end here.
     ///
     /// Data may, and an ATX heading may not.
     pub fn takes_empty(&self, what: ItemKind) -> bool
@@ -122,9 +122,9 @@ impl Site {
         self.model.inside(what).requires_nothing()
     }
 
-    /// The site in an item that begins here.
+    /// Returns the site in an item that begins here.
     ///
-    /// In a table, `in_table` is true of it.
+    /// In a table, `in_table` is true for it.
     pub fn entered(&self, what: ItemKind) -> Site
         ensures { IsEntered what self.now result }
     {
@@ -135,7 +135,7 @@ impl Site {
         )
     }
 
-    /// Goes on after an item, by whether a check mark and a number were given to it.
+    /// Continues after an item, given whether a check mark and a number were contributed to it.
     ///
     /// After a hard break, `after_break` is true.
     pub fn take(&mut self, what: ItemKind, is_marked: bool, is_numbered: bool)
@@ -160,7 +160,7 @@ fn is_hard_break(what: ItemKind) -> bool
     matches!(what, ItemKind::Content(Content::HardBreak))
 }
 
-/// The byte that a marker of a character reference stands for.
+/// Returns the byte that a marker of a character reference stands for.
 fn marker_of(what: ItemKind) -> Option<u8>
     ensures { result ≡ Kinds.marker_of what }
 {
@@ -172,7 +172,8 @@ fn marker_of(what: ItemKind) -> Option<u8>
     }
 }
 
-/// Whether an item gives a check mark to its container, by whether one was given to it.
+/// Whether an item contributes a check mark to its container, given whether one was contributed to
+/// it.
 fn gives_mark(what: ItemKind, inner: bool) -> bool
     ensures { result ≡ gives_mark what inner }
 {
@@ -183,7 +184,7 @@ fn gives_mark(what: ItemKind, inner: bool) -> bool
     }
 }
 
-/// Whether an item gives a number to its container, by whether one was given to it.
+/// Whether an item contributes a number to its container, given whether one was contributed to it.
 fn gives_number(what: ItemKind, inner: bool) -> bool
     ensures { result ≡ gives_number what inner }
 {

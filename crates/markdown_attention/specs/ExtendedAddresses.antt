@@ -1,4 +1,5 @@
--- Extended autolinks (GFM): the address after www. or a scheme, which is a domain and a path, and the whole. Each rule stands here in our words.
+-- Extended autolinks (GFM): the address after www. or a scheme, which is a domain and a path, and the whole autolink.
+-- Each rule is in our words.
 use Rattle.std.specs.Prelude.{◌≡◌, ◌<◌, ◌≤◌, ◌+◌, ℕ, Bool, true, false, cond, not, ◌&&◌, ◌||◌, ◌==◌, nat_le, ◌++◌, List, [], ◌∷◌, Option, Some, None, codes, drop, length, take}
 use Rattle.std.specs.Str.{IsUtf8, all_scalars, encode_utf8_all}
 use Rattle.commonmark_syntax.specs.Blocks.{has, without_last}
@@ -11,8 +12,8 @@ use Rattle.markdown_attention.specs.declared.character_kind.CharacterKind.{Chara
 use Rattle.markdown_attention.specs.declared.character_kind.CharacterKind.TheVariants.{Other}
 use Rattle.markdown_attention.specs.declared.extended_autolink_address.RefusedDomain.{RefusedDomain}
 
--- The characters of a segment: letters, digits, hyphens and underscores. As a letter counts any character that is neither
--- white space nor punctuation (micromark).
+-- The characters of a segment: letters, digits, hyphens and underscores. Any character that is neither white space nor
+-- punctuation counts as a letter (micromark).
 abbrev pub is_other : CharacterKind → Bool
 is_other Other = true
 is_other _ = false
@@ -20,7 +21,7 @@ is_other _ = false
 abbrev pub is_of_segment : ℕ → Bool
 is_of_segment c = is_one_of (codes "-_") c || (not (is_gfm_white_space c) && is_other (kind_of c))
 
--- The segments that the characters of a text begin with, and single periods between them: a period goes on where a
+-- The segments at the start of a text's characters, with single periods between them: a period belongs to them if a
 -- segment begins after it.
 abbrev pub goes_on : ℕ → List ℕ → Bool
 goes_on c u = is_of_segment c || ((c == 46) && begins_with is_of_segment u)
@@ -32,8 +33,8 @@ later_segments (c ∷ u) = cond (goes_on c u) (c ∷ later_segments u) []
 abbrev pub segments : List ℕ → List ℕ
 segments s = cond (begins_with is_of_segment s) (later_segments s) []
 
--- The domain is these, but the underscores at its end, and the periods between them, are no part of it where the address
--- would end with them, since only what may not end an autolink comes after it (micromark).
+-- These segments are the domain, except in one case: the underscores at their end, and the periods between these, do not
+-- belong to it if only what may not end an autolink would come after the rest (micromark).
 abbrev pub is_period_or_underscore : ℕ → Bool
 is_period_or_underscore c = is_one_of (codes "._") c
 
@@ -43,7 +44,7 @@ stem whole = without_last is_period_or_underscore whole
 abbrev pub domain : (in_bracket : Bool) → (text whole : List ℕ) → List ℕ
 domain in_bracket text whole = cond (is_trail (path in_bracket (drop (length (stem whole)) text))) (stem whole) whole
 
--- A domain has one period at least, and no underscore in its last two segments.
+-- A domain has at least one period, and no underscore in its last two segments.
 abbrev pub last_two_segments : List ℕ → List ℕ
 last_two_segments [] = []
 last_two_segments (c ∷ u) = cond (nat_le (how_many 46 (c ∷ u)) 1) (c ∷ u) (last_two_segments u)
@@ -51,8 +52,8 @@ last_two_segments (c ∷ u) = cond (nat_le (how_many 46 (c ∷ u)) 1) (c ∷ u) 
 abbrev pub is_domain : List ℕ → Bool
 is_domain w = has 46 w && not (has 95 (last_two_segments w))
 
--- The address at the start of a text, of which the segments that it begins with are given: its domain, if it is one, and
--- the path after that without the punctuation at its end.
+-- The address at the start of a text, given the segments there: its domain, if it is one, and the path after that without
+-- the punctuation at its end.
 abbrev pub with_path : (in_bracket : Bool) → (text domain : List ℕ) → List ℕ
 with_path in_bracket text domain = domain ++ trimmed (path in_bracket (drop (length domain) text))
 
@@ -69,8 +70,8 @@ abbrev pub may_follow : List ℕ → Bool
 may_follow [] = true
 may_follow (c ∷ w) = ends_with may_come_before (c ∷ w)
 
--- So many bytes at an offset of a content are an extended autolink: it may follow what stands before it, it begins as it
--- has to, and after its beginning stands an address.
+-- This many bytes at an offset of a content are an extended autolink: it may follow what comes before it, it begins as it
+-- must, and an address comes after that beginning.
 pub record IsExtendedAutolink (in_bracket : Bool) (content : List ℕ) (at size : ℕ) : Type 0 where
   pub follows : may_follow (take at content) ≡ true
   pub start : ℕ
@@ -82,16 +83,16 @@ pub record IsExtendedAutolink (in_bracket : Bool) (content : List ℕ) (at size 
   pub there : address in_bracket (encode_utf8_all characters) (encode_utf8_all (segments characters)) ≡ Some domain_and_path
   pub whole : size ≡ start + length domain_and_path
 
--- No extended autolink stands at an offset of a content.
+-- No extended autolink is at an offset of a content.
 abbrev pub HasNoExtendedAutolink : (in_bracket : Bool) → (content : List ℕ) → (at : ℕ) → Type 0
 HasNoExtendedAutolink in_bracket content at = (size : ℕ) → IsExtendedAutolink in_bracket content at size → ⊥
 
--- What is remembered of a domain that is refused for an underscore: up to that underscore no address begins, from an offset
--- of the content on.
+-- No address begins between two offsets of a content. This is remembered of a domain that is refused for an underscore, up to
+-- that underscore.
 abbrev pub IsBarred : (in_bracket : Bool) → (content : List ℕ) → (from to : ℕ) → Type 0
 IsBarred in_bracket content from to = (i : ℕ) (characters : List ℕ) → from ≤ i → i < to → all_scalars characters ≡ true → drop i content ≡ encode_utf8_all characters
     → address in_bracket (drop i content) (encode_utf8_all (segments characters)) ≡ None
 
--- The domain that the scanner keeps is refused: that holds of it, where the content is UTF-8.
+-- No address begins in the refused domain that the scanner keeps, if the content is UTF-8.
 abbrev pub IsRefused : (content : List ℕ) → RefusedDomain → Type 0
 IsRefused content refused = IsUtf8 content → IsBarred refused.in_bracket content refused.start refused.end

@@ -1,4 +1,4 @@
--- The page of delimiter runs: what the characters beside a run are to it, and what it can open and close by that.
+-- Delimiter runs: the kinds of the characters beside a run, and what the run can open and close because of them.
 use Rattle.std.specs.Prelude.{◌≡◌, ◌++◌, ℕ, List, [], Bool, true, false, not, ◌&&◌, ◌||◌, if◌then◌else◌, ◌==◌, nat_lt}
 use Rattle.std.specs.Char.{IsScalar, encode_utf8, is_ascii_punctuation}
 use Rattle.ucd_category.specs.GeneralCategory.{general_category}
@@ -9,8 +9,7 @@ use Rattle.ucd_category.specs.declared.GeneralCategoryGroup.TheVariants as group
 use Rattle.markdown_attention.specs.declared.character_kind.CharacterKind.{CharacterKind}
 use Rattle.markdown_attention.specs.declared.character_kind.CharacterKind.TheVariants.{Whitespace, Punctuation, Other}
 
--- Of ASCII, white space is a tab, a line feed, a form feed, a carriage return and a space. The null character is read as U+FFFD,
--- which is a symbol.
+-- ASCII white space is a tab, an LF, a form feed, a CR and a space. The null character is read as U+FFFD, which is a symbol.
 abbrev pub ascii_kind : ℕ → CharacterKind
 ascii_kind c =
     if c == 0 then Punctuation
@@ -18,7 +17,7 @@ ascii_kind c =
     else if is_ascii_punctuation c then Punctuation
     else Other
 
--- Beyond ASCII the general category says it: Zs is white space, P and S are punctuation.
+-- Beyond ASCII the general category decides: Zs is white space, P and S are punctuation.
 abbrev pub category_kind : GeneralCategory → CharacterKind
 category_kind SpaceSeparator = Whitespace
 category_kind category = if in_group groups.Punctuation category || in_group groups.Symbol category then Punctuation else Other
@@ -34,7 +33,7 @@ abbrev pub is_punctuation : CharacterKind → Bool
 is_punctuation Punctuation = true
 is_punctuation _ = false
 
--- The kinds of the characters at the end of a text and at the start of another one: at the start and at the end of a text stands
+-- The kinds of the characters at the end of one text and at the start of another. Before the start and after the end there is
 -- white space.
 pub record Beside (front rest : List ℕ) (before after : CharacterKind) : Type 0 where
   pub start : front ≡ [] → before ≡ Whitespace
@@ -42,7 +41,7 @@ pub record Beside (front rest : List ℕ) (before after : CharacterKind) : Type 
   pub end : rest ≡ [] → after ≡ Whitespace
   pub after_is : (c : ℕ) (text : List ℕ) → IsScalar c → rest ≡ encode_utf8 c ++ text → after ≡ kind_of c
 
--- A run is left-flanking if no white space follows it, and if punctuation follows it, then only where white space or punctuation
+-- A run is left-flanking if no white space follows it, and if punctuation follows it, only when white space or punctuation
 -- comes before it.
 abbrev pub is_left_flanking : (before after : CharacterKind) → Bool
 is_left_flanking before after = not (is_whitespace after) && (not (is_punctuation after) || (is_whitespace before || is_punctuation before))
@@ -51,8 +50,8 @@ is_left_flanking before after = not (is_whitespace after) && (not (is_punctuatio
 abbrev pub is_right_flanking : (before after : CharacterKind) → Bool
 is_right_flanking before after = is_left_flanking after before
 
--- A run can open emphasis if it is left-flanking; one of underscores, which may stand in words, only if it is not right-flanking,
--- or punctuation comes before it (rules 1, 2, 5 and 6 of emphasis and strong emphasis).
+-- A run can open emphasis if it is left-flanking; one of underscores, which may occur within words, only if it is not
+-- right-flanking, or punctuation comes before it (rules 1, 2, 5 and 6 of emphasis and strong emphasis).
 abbrev pub can_open : (marker : ℕ) → (before after : CharacterKind) → Bool
 can_open marker before after = is_left_flanking before after && (not (marker == 95) || (not (is_right_flanking before after) || is_punctuation before))
 
@@ -61,7 +60,7 @@ can_open marker before after = is_left_flanking before after && (not (marker == 
 abbrev pub can_close : (marker : ℕ) → (before after : CharacterKind) → Bool
 can_close marker before after = is_right_flanking before after && (not (marker == 95) || (not (is_left_flanking before after) || is_punctuation after))
 
--- what a run between two texts can open and close
+-- a run between two texts can open and close what the characters beside it allow
 pub record Flanked (marker : ℕ) (front rest : List ℕ) (opens closes : Bool) : Type 0 where
   pub before : CharacterKind
   pub after : CharacterKind

@@ -1,9 +1,9 @@
--- What holds of emphasis, whatever the runs.
+-- Laws of emphasis, for all runs.
 use Rattle.std.specs.Prelude.{◌≡◌, List}
 use Rattle.markdown_attention.specs.Emphasis.{DelimiterRun, Pair, Resolves}
 use Rattle.markdown_attention.specs.Nesting.{AreNested, Follow}
 
--- Runs make one list of pairs.
+-- Runs make only one list of pairs.
 abbrev pub HaveOneResult : Type 0
 HaveOneResult = (runs : List DelimiterRun) (pairs others : List Pair) → Resolves runs pairs → Resolves runs others → pairs ≡ others
 

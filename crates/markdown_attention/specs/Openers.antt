@@ -4,13 +4,13 @@ use Rattle.markdown_attention.specs.Emphasis.{DelimiterRun, NoneOpens, closed, i
 use Rattle.markdown_attention.specs.Runs.{IsDelimiterRun, marked}
 use Rattle.markdown_attention.specs.declared.delimiter.Delimiter.{Delimiter}
 
--- The class of a closing run: the runs of a class go with the same opening runs.
+-- The class of a closing run: all runs of a class go with the same opening runs.
 abbrev pub class_of : DelimiterRun → ℕ
 class_of run =
     if run.marker == 126 then run.size % 2
     else (if run.marker == 95 then 2 else 8) + (run.size % 3 + (if run.can_open then 3 else 0))
 
--- Of each class, so many runs at the bottom are no openers.
+-- For each class, this many runs at the bottom are not openers.
 abbrev pub AreBottoms : (bottoms : List ℕ) (runs : List DelimiterRun) → Type 0
 AreBottoms bottoms runs = (closer : DelimiterRun) → IsDelimiterRun closer → NoneOpens (take (slice_index bottoms (class_of closer)) runs) closer
 
@@ -23,13 +23,13 @@ abbrev pub AreOpeners : List DelimiterRun → Type 0
 AreOpeners [] = Unit {0}
 AreOpeners (run ∷ runs) = (IsDelimiterRun run × (run.can_open ≡ true) × (0 < run.left)) × AreOpeners runs
 
--- A stack of runs that may open something, and bottoms that hold of it.
+-- A stack of runs that may open something, with bottoms that are right for it.
 pub record IsSound (bottoms : List ℕ) (runs : List DelimiterRun) : Type 0 where
   pub openers : AreOpeners runs
   pub bottoms_are : AreBottoms bottoms runs
   pub within : AreWithin bottoms runs
 
--- The top of so many runs is the nearest opener of `closer`.
+-- The top of this many runs is the nearest opener of `closer`.
 pub record IsNearest (runs : List DelimiterRun) (closer : DelimiterRun) (height : ℕ) : Type 0 where
   pub before : List DelimiterRun
   pub opener : DelimiterRun

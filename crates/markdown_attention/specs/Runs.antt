@@ -1,4 +1,4 @@
--- The runs of the program as those of the page, and what is marked in a content from their pairs.
+-- The runs of the program as those of the definitions, and the delimiters that their pairs set in a content.
 use Rattle.std.specs.Prelude.{Bool, true, false, ℕ, ◌≡◌, ◌<◌, ◌⊎◌, ◌||◌, if◌then◌else◌, ◌+◌, ◌-◌, ◌==◌, List, [], ◌∷◌, map, slice_set}
 use Rattle.std.specs.List.{All}
 use Rattle.markdown_attention.specs.Emphasis.{DelimiterRun, Pair, Resolves}
@@ -8,7 +8,7 @@ use Rattle.markdown_attention.specs.declared.delimiter.Delimiter.{Delimiter}
 use Rattle.markdown_attention.specs.declared.delimiter.Delimiter.TheVariants.{Opening, Closing}
 use Rattle.markdown_attention.specs.declared.run.Run.{Run}
 
--- The run of the page.
+-- A run of the program, as one of the definitions.
 abbrev pub view : Run → DelimiterRun
 view run = record {
   marker = run.marker;
@@ -22,7 +22,7 @@ view run = record {
 abbrev pub views : List Run → List DelimiterRun
 views runs = map view runs
 
--- A run of so many markers at an offset, of which none is taken yet.
+-- A run of this many markers at an offset, none of them taken yet.
 pub record IsWhole (run : DelimiterRun) (marker at size : ℕ) (opens closes : Bool) : Type 0 where
   pub marker_is : run.marker ≡ marker
   pub size_is : run.size ≡ size
@@ -31,21 +31,21 @@ pub record IsWhole (run : DelimiterRun) (marker at size : ℕ) (opens closes : B
   pub opens_is : run.can_open ≡ opens
   pub closes_is : run.can_close ≡ closes
 
--- So many of a marker are a run of delimiters: stars or underscores, and one or two tildes (GFM).
+-- This many of a marker are a delimiter run: asterisks or underscores, and one or two tildes (GFM).
 abbrev pub are_markers : (marker size : ℕ) → Bool
 are_markers marker size = if marker == 126 then (size == 1) || (size == 2) else (marker == 95) || (marker == 42)
 
 abbrev pub IsDelimiterRun : DelimiterRun → Type 0
 IsDelimiterRun run = are_markers run.marker run.size ≡ true
 
--- A run of delimiters of which some are left.
+-- A delimiter run with remaining markers.
 abbrev pub IsReady : DelimiterRun → Type 0
 IsReady run = IsDelimiterRun run × (0 < run.left)
 
 abbrev pub AreReady : List Run → Type 0
 AreReady runs = All (λ (run : Run). IsReady (view run)) runs
 
--- What is set where the sequences of pairs begin.
+-- The delimiters of a content, with those of the pairs set where their sequences begin.
 abbrev pub marked : List Pair → List Delimiter → List Delimiter
 marked [] delimiters = delimiters
 marked (pair ∷ pairs) delimiters = marked pairs (slice_set (slice_set delimiters pair.opening (Opening pair.kind)) pair.closing (Closing pair.kind))
@@ -63,12 +63,12 @@ is_struck Strong = false
 is_struck Strikethrough = true
 is_struck DoubleStrikethrough = true
 
--- A run of `runs` has the marker that makes this kind.
+-- A run of `runs` has a marker that makes this kind.
 abbrev pub HasMarkerOf : (runs : List DelimiterRun) → AttentionKind → Type 0
 HasMarkerOf [] kind = ⊥
 HasMarkerOf (run ∷ runs) kind = ((run.marker == 126) ≡ is_struck kind) ⊎ HasMarkerOf runs kind
 
--- Pairs are marked whose kinds `runs` have the markers of: all of their pairs, or some of them where memory ran out.
+-- Pairs are marked, and `runs` have the markers for their kinds: all pairs of the runs, or some of them if memory ran out.
 pub record AreMarked (runs : List DelimiterRun) (old new : List Delimiter) : Type 0 where
   pub pairs : List Pair
   pub kinds : All (λ (pair : Pair). HasMarkerOf runs pair.kind) pairs

@@ -1,11 +1,11 @@
--- Runs that are taken one after the other.
+-- Runs that are taken one after another.
 use Rattle.std.specs.Prelude.{◌≡◌, true, List, [], ◌∷◌, ◌++◌, filter}
 use Rattle.markdown_attention.specs.Emphasis.{DelimiterRun, NoneOpens, Pair, closed, is_opener_of, kept, opened, paired, strength}
 use Rattle.markdown_attention.specs.Runs.{marked}
 use Rattle.markdown_attention.specs.declared.delimiter.Delimiter.{Delimiter}
 
 -- From `taken` and `runs`, those that are taken and those to come, to `last` and `left`: a run that has an opener among those taken
--- makes a pair with the nearest one, and any other is taken.
+-- makes a pair with the nearest one, and any other run is taken.
 pub data Takes : (taken runs : List DelimiterRun) (pairs : List Pair) (last left : List DelimiterRun) → Type 0 where
   stay : (taken runs : List DelimiterRun) → Takes taken runs [] taken runs
   keep : (taken : List DelimiterRun) (run : DelimiterRun) (rest : List DelimiterRun) (pairs : List Pair) (last left : List DelimiterRun)
@@ -15,7 +15,7 @@ pub data Takes : (taken runs : List DelimiterRun) (pairs : List Pair) (last left
       → Takes (before ++ kept (opened (strength opener run) opener)) (kept (closed (strength opener run) run) ++ rest) pairs last left
       → Takes (before ++ (opener ∷ between)) (run ∷ rest) (paired opener run ∷ pairs) last left
 
--- Those of `taken` that may open something.
+-- The runs of `taken` that may open something.
 abbrev pub openers : (taken : List DelimiterRun) → List DelimiterRun
 openers taken = filter (λ run. run.can_open) taken
 

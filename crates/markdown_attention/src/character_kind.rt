@@ -21,7 +21,8 @@ pub enum CharacterKind {
     Other,
 }
 
-/// The kind of the character that bytes end with. Where they end with none, it is `Other`.
+/// Returns the kind of the character that bytes end with. If they end with no character, it is
+/// `Other`.
 ///
 /// For `a b` it is [`CharacterKind::Other`].
 pub fn kind_before(bytes: &[u8]) -> CharacterKind
@@ -31,7 +32,8 @@ pub fn kind_before(bytes: &[u8]) -> CharacterKind
     kind_after(last_character(bytes))
 }
 
-/// The kind of the character that bytes begin with. Where they begin with none, it is `Other`.
+/// Returns the kind of the character that bytes begin with. If they begin with no character, it is
+/// `Other`.
 ///
 /// For `- a` it is [`CharacterKind::Punctuation`].
 pub fn kind_after(bytes: &[u8]) -> CharacterKind
@@ -45,7 +47,8 @@ pub fn kind_after(bytes: &[u8]) -> CharacterKind
     }
 }
 
-/// The kind of a character of ASCII. U+0000 is read as U+FFFD, which is a symbol (CommonMark).
+/// Returns the kind of an ASCII character. U+0000 is read as U+FFFD, which is a symbol
+/// (CommonMark).
 fn ascii_kind(byte: u8) -> CharacterKind
     ensures { result ≡ ascii_kind byte }
 {
@@ -57,7 +60,8 @@ fn ascii_kind(byte: u8) -> CharacterKind
     }
 }
 
-/// The kind of a character beyond ASCII. Bytes that are none are of the kind `Other`.
+/// Returns the kind of a character beyond ASCII. Bytes that are not a character have the kind
+/// `Other`.
 fn character_kind(character: Option<char>) -> CharacterKind
     ensures { (c : ℕ) → character ≡ Some c → 128 ≤ c → result ≡ kind_of c }
 {
@@ -67,7 +71,7 @@ fn character_kind(character: Option<char>) -> CharacterKind
     }
 }
 
-/// The kind of the characters of a category.
+/// Returns the kind of the characters of a category.
 fn category_kind(category: GeneralCategory) -> CharacterKind
     ensures { result ≡ category_kind category }
 {
@@ -82,7 +86,7 @@ fn category_kind(category: GeneralCategory) -> CharacterKind
     }
 }
 
-/// The character that bytes begin with.
+/// Returns the character that bytes begin with.
 fn first_character(bytes: &[u8]) -> Option<char>
     ensures { (c : ℕ) → (rest : List ℕ) → IsScalar c → bytes.now ≡ encode_utf8 c ++ rest → result ≡ Some c }
 {
@@ -93,7 +97,7 @@ fn first_character(bytes: &[u8]) -> Option<char>
     }
 }
 
-/// How many bytes a character has that begins with this one.
+/// Returns how many bytes a character has that begins with this one.
 fn character_size(first: u8) -> usize
     ensures { result ≡ 1 + continuation_len first }
 {
@@ -105,10 +109,11 @@ fn character_size(first: u8) -> usize
     }
 }
 
-/// The most bytes that a character of UTF-8 has.
+/// The greatest number of bytes in a UTF-8 character.
 const BYTES_MOST: usize = 4;
 
-/// The bytes of the character that bytes end with. They are empty where the bytes end with none.
+/// Returns the bytes of the character that bytes end with, or no bytes if they end with no
+/// character.
 fn last_character(bytes: &[u8]) -> &[u8]
     ensures none { bytes.now ≡ [] → result.now ≡ [] }
     ensures character { (front : List ℕ) → (c : ℕ) → IsScalar c → bytes.now ≡ front ++ encode_utf8 c → result.now ≡ encode_utf8 c }

@@ -10,14 +10,14 @@ pub enum AttentionKind {
     Emphasis,
     /// Strong emphasis: `**a**`.
     Strong,
-    /// Struck text by single tildes: `~a~`.
+    /// Strikethrough with single tildes: `~a~`.
     Strikethrough,
-    /// Struck text by double tildes: `~~a~~`.
+    /// Strikethrough with double tildes: `~~a~~`.
     DoubleStrikethrough,
 }
 
 impl AttentionKind {
-    /// How many markers each of its sequences has.
+    /// Returns how many markers each of its sequences has.
     ///
     /// Strong emphasis has 2.
     pub fn size(self) -> usize
@@ -30,10 +30,10 @@ impl AttentionKind {
     }
 }
 
-/// What begins at a marker of a run. Only the first marker of a sequence says something.
+/// What begins at a marker of a run. All markers of a sequence but the first are `Data`.
 #[derive(Clone, Copy, PartialEq, Eq, Debug)]
 pub enum Delimiter {
-    /// Nothing: it is data, or goes on with a sequence.
+    /// Nothing: it is data, or continues a sequence.
     Data,
     /// A sequence that opens this.
     Opening(AttentionKind),

@@ -1,4 +1,4 @@
-//! Emphasis, strong emphasis (CommonMark) and struck text (GFM).
+//! Emphasis, strong emphasis (CommonMark) and strikethrough (GFM).
 
 ghost use Rattle.std.specs.Prelude.{OnOk};
 ghost use Rattle.markdown_attention.specs.Runs.{AreMarked, AreReady, AreResolved, views};

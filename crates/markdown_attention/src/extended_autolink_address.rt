@@ -1,4 +1,4 @@
-//! Addresses of extended autolinks: a domain, a path, and no punctuation at their end (GFM).
+//! Addresses of extended autolinks: a domain and a path, without punctuation at their end (GFM).
 
 ghost use Rattle.std.specs.Prelude.{◌≡◌, ◌≤◌, ◌<◌, ◌+◌, ◌-◌, ℕ, IfSome, IsFalse, IsTrue, List, MatchOption, None, Some, drop, false, length, slice_index, take, true};
 ghost use Rattle.std.specs.Str.{IsUtf8, all_scalars, encode_utf8_all};
@@ -12,19 +12,20 @@ use commonmark_syntax::extended_autolink_path;
 
 /// A domain that was refused for an underscore. No address begins in it before that underscore.
 ///
-/// It is not read again. All searches together are linear, since no bracket opens or closes within a domain.
+/// It is not read again. All searches together are linear, since no bracket opens or closes within
+/// a domain.
 #[derive(Clone, Copy, PartialEq, Eq, Debug)]
 pub struct RefusedDomain {
     /// Whether a bracket is open before it.
     in_bracket: bool,
-    /// The offset in the content at which it begins.
+    /// The offset in the content where it begins.
     start: usize,
     /// The offset of the underscore.
     end: usize,
 }
 
 impl RefusedDomain {
-    /// No domain was refused yet.
+    /// Returns the state in which no domain has been refused yet.
     pub fn new() -> RefusedDomain
         ensures { (content : List ℕ) → page.IsRefused content result }
     {
@@ -35,7 +36,7 @@ impl RefusedDomain {
         }
     }
 
-    /// Whether no address begins at an offset, as far as is known.
+    /// Whether it is known that no address begins at an offset.
     fn covers(&self, at: usize, in_bracket: bool) -> bool
         ensures bracket { IsTrue result → self.now.in_bracket ≡ in_bracket }
         ensures start { IsTrue result → self.now.start ≤ at }
@@ -46,10 +47,10 @@ impl RefusedDomain {
     }
 }
 
-/// The length of the address that begins at an offset of a content. With `in_bracket` a bracket is open
-/// before it.
+/// Returns the length of the address that begins at an offset of a content. With `in_bracket` a
+/// bracket is open before it.
 ///
-/// Where its domain is refused for an underscore, that is kept in `refused`.
+/// If its domain is refused for an underscore, that is stored in `refused`.
 pub fn scan(
     content: &[u8],
     at: usize,
@@ -85,8 +86,9 @@ pub fn scan(
     Some(size + extended_autolink_path::scan(after(text, size), in_bracket))
 }
 
-/// The size of the domain that a text begins with, with segments of this size. Underscores at its end are no
-/// part of it where the address would end with them (micromark), nor are the periods between them.
+/// Returns the size of the domain that a text begins with, given that its segments have this size.
+/// Underscores at its end are not part of it if the address would end with them (micromark), nor
+/// are the periods between them.
 fn domain_size(text: &[u8], whole: usize, in_bracket: bool) -> usize
     requires { whole ≤ length text.now }
     ensures exact { take result text.now ≡ page.domain in_bracket text.now (take whole text.now) }
@@ -100,7 +102,7 @@ fn domain_size(text: &[u8], whole: usize, in_bracket: bool) -> usize
     }
 }
 
-/// The size of segments without the periods and underscores at their end.
+/// Returns the size of segments without the periods and underscores at their end.
 fn stem_size(segments: &[u8]) -> usize
     ensures exact { take result segments.now ≡ page.stem segments.now }
     ensures most { result ≤ length segments.now }
@@ -115,7 +117,7 @@ fn is_period_or_underscore(byte: u8) -> bool
     byte == b'.' || byte == b'_'
 }
 
-/// The offset of the last underscore in the last two segments of a domain.
+/// Returns the offset of the last underscore in the last two segments of a domain.
 fn last_underscore(domain: &[u8]) -> Option<usize>
     ensures { MatchOption result (has 95 (page.last_two_segments domain.now) ≡ false) (λ place. (place < length domain.now) × (slice_index domain.now place ≡ 95) × (has 95 (page.last_two_segments domain.now) ≡ true)) }
 {
@@ -127,7 +129,7 @@ fn last_underscore(domain: &[u8]) -> Option<usize>
     }
 }
 
-/// The size of the last two segments of a domain.
+/// Returns the size of the last two segments of a domain.
 fn last_two_size(domain: &[u8]) -> usize
     ensures exact { drop (length domain.now - result) domain.now ≡ page.last_two_segments domain.now }
     ensures most { result ≤ length domain.now }

@@ -11,7 +11,8 @@ use crate::character_kind::{CharacterKind, kind_after};
 use commonmark_syntax::bytes::{after, count_while, is_continuation};
 use commonmark_syntax::class::{Class, WhiteSpace};
 
-/// The size of the segments that a text begins with, and of the single periods between them.
+/// Returns the size of the segments that a text begins with, and of the single periods between
+/// them.
 ///
 /// In `a.b..c` it is 3.
 pub fn size(text: &[u8]) -> usize
@@ -25,7 +26,7 @@ pub fn size(text: &[u8]) -> usize
     text.len() - past_segments(text).len()
 }
 
-/// After the segments that a text goes on with.
+/// Returns the text after the segments that it continues with.
 fn past_segments(text: &[u8]) -> &[u8]
     ensures exact { (characters : List ℕ) → all_scalars characters ≡ true → text.now ≡ encode_utf8_all characters → take (length text.now - length result.now) text.now ≡ encode_utf8_all (page.later_segments characters) }
     ensures most { length result.now ≤ length text.now }
@@ -38,7 +39,7 @@ fn past_segments(text: &[u8]) -> &[u8]
     rest
 }
 
-/// After a character of a segment, or a period before one.
+/// Returns the text after a character of a segment, or after a period before one.
 fn past_character(text: &[u8]) -> Option<&[u8]>
     ensures exact { (characters : List ℕ) → all_scalars characters ≡ true → text.now ≡ encode_utf8_all characters → MatchOption result (page.later_segments characters ≡ []) (λ rest. (c : ℕ) × (u : List ℕ) × (characters ≡ c ∷ u) × (page.goes_on c u ≡ true) × (rest.now ≡ encode_utf8_all u)) }
     ensures rest { IfSome result (λ rest. rest.now ≡ drop (length text.now - length rest.now) text.now) }
@@ -63,7 +64,7 @@ fn is_period(text: &[u8]) -> bool
     }
 }
 
-/// After the character that a text begins with.
+/// Returns the text after the character that it begins with.
 fn after_character(text: &[u8]) -> &[u8]
     ensures exact { (c : ℕ) → (u : List ℕ) → IsScalar c → text.now ≡ encode_utf8 c ++ encode_utf8_all u → result.now ≡ encode_utf8_all u }
     ensures rest { result.now ≡ drop (length text.now - length result.now) text.now }
@@ -75,8 +76,9 @@ fn after_character(text: &[u8]) -> &[u8]
     after(later, count_while(later, is_continuation))
 }
 
-/// Whether a text begins with what a segment is made of: a letter or a digit, a hyphen or an underscore
-/// (GFM). Any character that is neither white space nor punctuation counts as a letter (micromark).
+/// Whether a text begins with a character of a segment: a letter or a digit, a hyphen or an
+/// underscore (GFM). Any character that is neither white space nor punctuation counts as a letter
+/// (micromark).
 fn begins_segment(text: &[u8]) -> bool
     ensures exact { (characters : List ℕ) → all_scalars characters ≡ true → text.now ≡ encode_utf8_all characters → result ≡ begins_with page.is_of_segment characters }
     ensures some { IsTrue result → 0 < length text.now }

@@ -1,4 +1,5 @@
-//! What stands beside a run of delimiters, and what the run can open and close by that (CommonMark).
+//! The characters beside a run of delimiters, and what the run can therefore open and close
+//! (CommonMark).
 
 ghost use Rattle.std.specs.Prelude.{◌≡◌};
 ghost use Rattle.markdown_attention.specs.Flanking as page;
@@ -10,14 +11,14 @@ use crate::character_kind::{CharacterKind, kind_after, kind_before};
 /// The run in `a* b` has [`CharacterKind::Other`] before it and [`CharacterKind::Whitespace`] after it.
 #[derive(Clone, Copy, PartialEq, Eq, Debug)]
 pub struct Flanks {
-    /// That of the character before the run.
+    /// The kind of the character before the run.
     pub before: CharacterKind,
-    /// That of the character after it.
+    /// The kind of the character after it.
     pub after: CharacterKind,
 }
 
 impl Flanks {
-    /// Those of a run between two texts.
+    /// Returns the flanks of a run between two texts.
     ///
     /// Between `a` and ` b` they are [`CharacterKind::Other`] and [`CharacterKind::Whitespace`].
     pub fn between(front: &[u8], rest: &[u8]) -> Flanks
@@ -31,7 +32,7 @@ impl Flanks {
 
     /// Whether a run of this marker can open emphasis (CommonMark, rules 1, 2, 5 and 6).
     ///
-    /// That in ` *a` can, and that in `a_b` cannot.
+    /// The run in ` *a` can, and the one in `a_b` cannot.
     pub fn can_open(self, marker: u8) -> bool
         ensures { result ≡ page.can_open marker self.before self.after }
     {
@@ -43,7 +44,7 @@ impl Flanks {
 
     /// Whether a run of this marker can close emphasis (CommonMark, rules 3, 4, 7 and 8).
     ///
-    /// That in `a* ` can, and that in `a_b` cannot.
+    /// The run in `a* ` can, and the one in `a_b` cannot.
     pub fn can_close(self, marker: u8) -> bool
         ensures { result ≡ page.can_close marker self.before self.after }
     {

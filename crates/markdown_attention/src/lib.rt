@@ -1,9 +1,10 @@
-//! What depends on Unicode's classes: runs of delimiters, for emphasis, strong emphasis (CommonMark) and struck text
-//! (GFM), and the addresses of extended autolinks (GFM).
+//! Constructs that depend on Unicode's classes: runs of delimiters, for emphasis, strong emphasis
+//! (CommonMark) and strikethrough (GFM), and the addresses of extended autolinks (GFM).
 //!
-//! `specs/Flanking.antt` and `specs/Emphasis.antt` are the page of runs: which characters count as white space and
-//! punctuation, which runs are flanking, and which can open and close emphasis; and which pairs runs make.
-//! `specs/ExtendedAddresses.antt` is that of extended autolinks and their addresses.
+//! `specs/Flanking.antt` and `specs/Emphasis.antt` are the page of runs: which characters count as
+//! white space and punctuation, which runs are flanking, which can open and close emphasis, and
+//! which pairs runs make. `specs/ExtendedAddresses.antt` is the page of extended autolinks and
+//! their addresses.
 #![tactic(auto)]
 
 pub mod character_kind;

@@ -14,7 +14,7 @@ const CLASSES: usize = 14;
 pub struct Openers {
     /// The runs.
     stack: Vec<Run>,
-    /// For each class of closing runs, how many runs at the bottom open none of it.
+    /// For each class of closing runs, how many runs at the bottom do not open one of that class.
     bottoms: [usize; CLASSES],
 }
 
@@ -24,7 +24,7 @@ impl Openers {
     ghost use Rattle.markdown_attention.specs.Openers.{IsClosed, IsNearest, IsPaired, IsSound, MayClose, class_of};
     ghost use Rattle.markdown_attention.specs.Runs.{AreReady, IsDelimiterRun, IsReady, marked, view, views};
 
-    /// None.
+    /// Returns an empty stack.
     pub fn new(alloc: Global) -> Openers
         ensures stack { result.stack.items ≡ [] }
         ensures bottoms { (class : ℕ) → slice_index result.bottoms class ≡ 0 }
@@ -81,7 +81,7 @@ impl Openers {
         Ok(())
     }
 
-    /// Closes all that a run can close.
+    /// Closes everything that a run can close.
     fn close_all(&mut self, run: &mut Run, delimiters: &mut Vec<Delimiter>)
         requires run { MayClose (view run.old) }
         requires sound { IsSound self.old.bottoms (views self.old.stack.items) }
@@ -97,7 +97,7 @@ impl Openers {
         }
     }
 
-    /// Makes a pair of a closing run and its nearest opener, if it has one.
+    /// Pairs a closing run with its nearest opener, if it has one.
     fn close_nearest(&mut self, closer: &mut Run, delimiters: &mut Vec<Delimiter>) -> bool
         requires closer { MayClose (view closer.old) }
         requires sound { IsSound self.old.bottoms (views self.old.stack.items) }
@@ -117,7 +117,7 @@ impl Openers {
         true
     }
 
-    /// How many runs there are up to the nearest opener of a closing one.
+    /// Returns how many runs there are up to the nearest opener of a closing one.
     fn height_for(&self, closer: &Run) -> Option<usize>
         requires closer { MayClose (view closer.now) }
         requires sound { IsSound self.now.bottoms (views self.now.stack.items) }
@@ -135,14 +135,14 @@ impl Openers {
         None
     }
 
-    /// How many runs at the bottom are known not to open a closing one.
+    /// Returns how many runs at the bottom are known not to open a closing one.
     fn bottom_for(&self, closer: &Run) -> usize
         ensures { result ≡ slice_index self.now.bottoms (class_of (view closer.now)) }
     {
         self.bottoms[closer.class()]
     }
 
-    /// Keeps in mind that no run opens a closing one.
+    /// Records that no run opens a closing one.
     fn raise_bottom(&mut self, closer: &Run)
         ensures stack { self.new.stack ≡ self.old.stack }
         ensures here { slice_index self.new.bottoms (class_of (view closer.now)) ≡ length self.old.stack.items }
@@ -151,7 +151,7 @@ impl Openers {
         self.bottoms[closer.class()] = self.stack.len();
     }
 
-    /// Makes a pair of the run on top and a closing one.
+    /// Pairs the run on top with a closing one.
     fn pair(&mut self, closer: &mut Run, delimiters: &mut Vec<Delimiter>)
         ensures paired { (before : List DelimiterRun) → (opener : DelimiterRun) → views self.old.stack.items ≡ before ++ (opener ∷ []) → 0 < opener.left → 0 < (view closer.old).left → IsPaired before opener (view closer.old) (views self.new.stack.items) (view closer.new) delimiters.old.items delimiters.new.items }
         ensures bottoms { (class : ℕ) → slice_index self.new.bottoms class ≡ min (slice_index self.old.bottoms class) (length self.new.stack.items) }

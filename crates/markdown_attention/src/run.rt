@@ -8,11 +8,11 @@ use crate::flanks::Flanks;
 /// A run of delimiters. Closing sequences are taken from its start, and opening ones from its end.
 #[derive(Clone, Copy, PartialEq, Eq, Debug)]
 pub struct Run {
-    /// The byte of which it is a run.
+    /// The byte of its markers.
     marker: u8,
-    /// The offset at which it begins.
+    /// The offset where it begins.
     start: usize,
-    /// The offset at which it ends.
+    /// The offset where it ends.
     end: usize,
     /// How many markers close something.
     closing: usize,
@@ -32,9 +32,10 @@ impl Run {
     ghost use Rattle.markdown_attention.specs.Openers.{class_of};
     ghost use Rattle.markdown_attention.specs.Runs.{IsWhole, view};
 
-    /// The run of a marker from one offset to another. What it can open and close is what its flanks say.
+    /// Returns the run of a marker from one offset to another. Its flanks say what it can open and
+    /// close.
     ///
-    /// That from 0 to 1 in `*a` can open something.
+    /// The run from 0 to 1 in `*a` can open something.
     pub fn new(marker: u8, start: usize, end: usize, flanks: Flanks) -> Run
         requires { start ≤ end }
         ensures { IsWhole (view result) marker start (end - start) (page.can_open marker flanks.before flanks.after) (page.can_close marker flanks.before flanks.after) }
@@ -64,14 +65,14 @@ impl Run {
         self.can_close
     }
 
-    /// How many markers it has.
+    /// Returns how many markers it has.
     pub(crate) fn size(&self) -> usize
         ensures { result ≡ self.now.end - self.now.start }
     {
         self.end - self.start
     }
 
-    /// How many markers are not taken yet.
+    /// Returns how many markers are not taken yet.
     pub(crate) fn left(&self) -> usize
         ensures { result ≡ self.now.end - self.now.start - (self.now.closing + self.now.opening) }
     {
@@ -94,7 +95,7 @@ impl Run {
             || (self.size() % 3 + closer.size() % 3) % 3 != 0
     }
 
-    /// What this run, as the opening one, makes with a closing one.
+    /// Returns what this run, as the opening one, makes with a closing one.
     pub(crate) fn kind_with(&self, closer: &Run) -> AttentionKind
         ensures { result ≡ kind_with (view self.now) (view closer.now) }
     {
@@ -107,7 +108,7 @@ impl Run {
         }
     }
 
-    /// Takes so many markers that close something, and gives the offset at which they begin.
+    /// Takes this number of markers that close something, and returns the offset where they begin.
     pub(crate) fn close(&mut self, size: usize) -> usize
         requires { size ≤ self.old.end - self.old.start - (self.old.closing + self.old.opening) }
         ensures run { view self.new ≡ closed size (view self.old) }
@@ -118,7 +119,7 @@ impl Run {
         at
     }
 
-    /// Takes so many markers that open something, and gives the offset at which they begin.
+    /// Takes this number of markers that open something, and returns the offset where they begin.
     pub(crate) fn open(&mut self, size: usize) -> usize
         requires { size ≤ self.old.end - self.old.start - (self.old.closing + self.old.opening) }
         ensures run { view self.new ≡ opened size (view self.old) }
@@ -128,8 +129,8 @@ impl Run {
         self.end - self.opening
     }
 
-    /// The class of this run among closing ones: an opening run goes with all runs of a class, or with
-    /// none.
+    /// Returns the class of this run among closing ones: an opening run goes with all runs of a
+    /// class, or with none.
     pub(crate) fn class(&self) -> usize
         ensures class { result ≡ class_of (view self.now) }
         ensures most { result < 14 }

@@ -1,4 +1,4 @@
--- What the program keeps of the columns of the open table, as the steps say it.
+-- The columns of the open table that the program keeps, as those of the steps.
 use Rattle.markdown_blocks.specs.declared.table.Columns.{Columns as OpenColumns}
 use Rattle.markdown_blocks.specs.declared.table.Rows.{Rows as OpenRows}
 use Rattle.markdown_blocks.specs.declared.table.Rows.TheVariants as rows

@@ -1,3 +1,5 @@
+pub mod Fences
+pub mod RawTexts
 pub mod TaskWalks
 pub mod Columns
 pub mod Parents

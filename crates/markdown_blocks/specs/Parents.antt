@@ -1,11 +1,11 @@
--- Spans that give a node with children, and nothing else.
+-- Spans whose node has children and nothing else.
 use Rattle.std.specs.Prelude.{Bool, false, true}
 use Rattle.markdown_events.specs.declared.role.Content.{Content}
 use Rattle.markdown_events.specs.declared.role.Content.TheVariants as contents
 use Rattle.markdown_nodes.specs.Tree as tree
 use Rattle.markdown_nodes.specs.Tree.{Label as TreeLabel}
 
--- a node that has children, and nothing else
+-- a span whose node has children and nothing else
 abbrev pub is_parent : Content → Bool
 is_parent contents.BlockQuote = true
 is_parent contents.Emphasis = true
@@ -16,7 +16,7 @@ is_parent contents.TableRow = true
 is_parent contents.TableCell = true
 is_parent _ = false
 
--- the kind of a parent
+-- the label of such a node
 abbrev pub parent_label : Content → TreeLabel
 parent_label contents.BlockQuote = tree.blockquote
 parent_label contents.Emphasis = tree.emphasis

@@ -1,11 +1,11 @@
 //! Headings (CommonMark, "ATX headings" and "Setext headings").
 //!
-//! The original: `on_enter_heading`, `on_exit_heading_atx_sequence`,
+//! In markdown-rs: `on_enter_heading`, `on_exit_heading_atx_sequence`,
 //! `on_exit_heading_setext_underline_sequence`, `on_exit_heading_setext_text`.
 
 ghost use Rattle.std.specs.Prelude.{◌≡◌, IfSome, None, Some, is_some};
 ghost use Rattle.markdown_blocks.specs.Headings.{atx, heading_label, setext};
-ghost use Rattle.markdown_builder.specs.PartsSoFar.{GainsText, IsFresh, IsNode, Makes, Reads, misfit_in};
+ghost use Rattle.markdown_parts.specs.PartsSoFar.{GainsText, IsFresh, IsNode, Makes, Reads, misfit_in};
 ghost use Rattle.markdown_events.specs.declared.role.ItemKind.TheVariants as item_kinds;
 ghost use Rattle.markdown_events.specs.declared.role.Part.TheVariants as parts;
 ghost use Rattle.markdown_grammar.specs.Document.{is_depth};
@@ -14,15 +14,15 @@ ghost use Rattle.markdown_grammar.specs.declared.error_kind.ErrorKind.TheVariant
 ghost use Rattle.markdown_nodes.specs.Tree.{Trees};
 ghost use Rattle.markdown_nodes.specs.View.{views};
 
-use markdown_builder::misfits::at_most_one;
-use markdown_builder::slice::{Document, byte_at, length_between};
 use markdown_grammar::error_kind::{ErrorKind, Stop};
 use markdown_nodes::event::Point;
 use markdown_nodes::mdast::{Heading, Node};
 use markdown_nodes::role::{Content, ItemKind, Part};
 use markdown_nodes::unist::Position;
+use markdown_parts::misfits::at_most_one;
+use markdown_parts::slice::{Document, byte_at, length_between};
 
-/// What has stood in an ATX heading: the depth that its first sequence of number signs gives.
+/// The parts of an ATX heading so far: the depth from its first sequence of number signs.
 ///
 /// In `## a` it is 2.
 #[derive(Clone, Copy)]
@@ -31,15 +31,15 @@ pub struct AtxParts {
 }
 
 impl AtxParts {
-    /// An ATX heading at its enter, as at the `#` of `# a`.
+    /// Returns an ATX heading at its enter, at the `#` of `# a`.
     pub fn new() -> AtxParts
         ensures { IsFresh (atx result) models.heading_atx }
     {
         AtxParts { depth: None }
     }
 
-    /// The rule that is violated if this item may not stand here: an ATX heading takes content and
-    /// sequences of number signs. Any other part is `ErrorKind::Misplaced`.
+    /// Returns the rule that this item would violate here, if any. An ATX heading accepts content
+    /// and sequences of number signs. Any other part is `ErrorKind::Misplaced`.
     pub fn misfit(&self, what: ItemKind) -> Option<ErrorKind>
         ensures { result ≡ misfit_in (atx self.now) what }
     {
@@ -49,8 +49,8 @@ impl AtxParts {
         }
     }
 
-    /// Takes a sequence of number signs: the length of the first one is the depth, and one after the
-    /// text, as in `# a #`, gives nothing. A first sequence that lies outside the document is refused as
+    /// Stores a sequence of number signs. The length of the first one is the depth, and one after
+    /// the text, as in `# a #`, has no effect. A first sequence outside the document is refused as
     /// `ErrorKind::InvalidSlice`, and one that is not 1 to 6 bytes long as
     /// `ErrorKind::HeadingDepth`.
     pub fn take_sequence(
@@ -74,7 +74,7 @@ impl AtxParts {
         Ok(())
     }
 
-    /// The node of an ATX heading. Where no sequence has stood the heading is refused as
+    /// Returns the node of an ATX heading. If there was no sequence, the heading is refused as
     /// `ErrorKind::HeadingDepth`.
     pub fn node(self, children: Vec<Node>, position: Position) -> Result<Node, Stop>
         ensures { Makes result (is_some self.depth) HeadingDepth (IsNode (heading_label self.depth) (views children.items) position) }
@@ -83,8 +83,8 @@ impl AtxParts {
     }
 }
 
-/// What has stood in a setext heading: the depth that its underline gives, and whether its text has
-/// stood.
+/// The parts of a setext heading so far: the depth from its underline, and whether its text has
+/// occurred.
 ///
 /// With the underline `===` the depth is 1, and with `---` it is 2.
 #[derive(Clone, Copy)]
@@ -94,7 +94,7 @@ pub struct SetextParts {
 }
 
 impl SetextParts {
-    /// A setext heading at its enter.
+    /// Returns a setext heading at its enter.
     pub fn new() -> SetextParts
         ensures { IsFresh (setext result) models.heading_setext }
     {
@@ -104,9 +104,9 @@ impl SetextParts {
         }
     }
 
-    /// The rule that is violated if this item may not stand here: a setext heading takes one text, one
-    /// underline, line endings, and other content before its text. A second text or underline is
-    /// `ErrorKind::Repeated`, any other item `ErrorKind::Misplaced`.
+    /// Returns the rule that this item would violate here, if any. A setext heading accepts one
+    /// text, one underline, line endings, and other content before its text. A second text or
+    /// underline is `ErrorKind::Repeated`, any other item `ErrorKind::Misplaced`.
     pub fn misfit(&self, what: ItemKind) -> Option<ErrorKind>
         ensures { result ≡ misfit_in (setext self.now) what }
     {
@@ -121,7 +121,7 @@ impl SetextParts {
         }
     }
 
-    /// Takes the underline: with hyphens the depth is 2, else 1. One that begins outside the
+    /// Stores the underline: with hyphens the depth is 2, otherwise 1. One that begins outside the
     /// document is refused as `ErrorKind::InvalidSlice`.
     pub fn take_underline(
         &mut self,
@@ -139,7 +139,7 @@ impl SetextParts {
         Ok(())
     }
 
-    /// Takes the text. The nodes made in it are those of the heading.
+    /// Records the text. The nodes made in it are those of the heading.
     pub fn take_text(&mut self)
         requires { misfit_in (setext self.old) (item_kinds.Part parts.HeadingSetextText) ≡ None }
         ensures { (ts : Trees) → GainsText parts.HeadingSetextText ts (setext self.old) (setext self.new) }
@@ -147,7 +147,7 @@ impl SetextParts {
         self.has_text = true;
     }
 
-    /// The node of a setext heading. Where no underline has stood the heading is refused as
+    /// Returns the node of a setext heading. If there was no underline, the heading is refused as
     /// `ErrorKind::HeadingDepth`.
     pub fn node(self, children: Vec<Node>, position: Position) -> Result<Node, Stop>
         ensures { Makes result (is_some self.depth) HeadingDepth (IsNode (heading_label self.depth) (views children.items) position) }
@@ -156,7 +156,7 @@ impl SetextParts {
     }
 }
 
-/// The depth that a sequence of this length gives: from 1 to 6 it is the length.
+/// Returns the depth for a sequence of this length: from 1 to 6 it is the length.
 fn depth_of(length: usize) -> Option<u8>
     ensures value { IfSome result (λ depth. depth ≡ length) }
     ensures variant { is_some result ≡ is_depth (Some length) }
@@ -167,8 +167,7 @@ fn depth_of(length: usize) -> Option<u8>
     }
 }
 
-/// The node of a heading, which has to have a depth.
-#[tactic(auto, using(crate::proofs::Headings::heading_made))]
+/// Returns the node of a heading, which must have a depth.
 fn heading(children: Vec<Node>, position: Position, depth: Option<u8>) -> Result<Node, Stop>
     ensures { Makes result (is_some depth) HeadingDepth (IsNode (heading_label depth) (views children.items) position) }
 {

@@ -1,9 +1,16 @@
-//! Blocks that hold nodes: what may stand in each, the parts that it keeps, and the node that it gives
-//! at its exit; and the plain containers, which blocks share with inlines.
+//! Block constructs (CommonMark, "Leaf blocks" and "Container blocks"; GFM): what each accepts, the
+//! parts that it keeps, and the node at its exit.
+//!
+//! Constructs that blocks share with inlines are here, too: plain containers (`parent`), code, math
+//! and HTML.
 #![tactic(auto)]
 
+pub mod code;
+pub mod frontmatter;
 pub mod heading;
+pub mod html;
 pub mod list;
+pub mod math;
 pub mod parent;
 pub mod table;
 mod task;

@@ -1,14 +1,14 @@
-//! Plain containers: block quotes, paragraphs (CommonMark, "Block quotes" and "Paragraphs"), emphasis
-//! and strong emphasis ("Emphasis and strong emphasis"), strikethrough, table rows and table cells
-//! (GFM).
+//! Plain containers: block quotes, paragraphs (CommonMark, "Block quotes" and "Paragraphs"),
+//! emphasis and strong emphasis ("Emphasis and strong emphasis"), strikethrough, table rows and
+//! table cells (GFM).
 //!
-//! The original: `on_enter_block_quote`, `on_enter_paragraph`, `on_enter_emphasis`,
+//! In markdown-rs: `on_enter_block_quote`, `on_enter_paragraph`, `on_enter_emphasis`,
 //! `on_enter_strong`, `on_enter_gfm_strikethrough`, `on_enter_gfm_table_row`,
 //! `on_enter_gfm_table_cell`.
 
 ghost use Rattle.std.specs.Prelude.{◌≡◌, true};
 ghost use Rattle.markdown_blocks.specs.Parents.{is_parent, parent_label};
-ghost use Rattle.markdown_builder.specs.PartsSoFar.{placed};
+ghost use Rattle.markdown_parts.specs.PartsSoFar.{placed};
 ghost use Rattle.markdown_nodes.specs.View.{view, views};
 
 use markdown_nodes::mdast::{
@@ -17,7 +17,7 @@ use markdown_nodes::mdast::{
 use markdown_nodes::role::Content;
 use markdown_nodes::unist::Position;
 
-/// Whether a span gives a node that has children and no other fields.
+/// Whether the node of a span has children and no other fields.
 pub fn is_parent(content: Content) -> bool
     ensures { result ≡ is_parent content }
 {
@@ -33,7 +33,7 @@ pub fn is_parent(content: Content) -> bool
     )
 }
 
-/// The node of a span that gives one with children and no other fields.
+/// Returns the node of a span whose node has children and no other fields.
 pub fn parent(content: Content, children: Vec<Node>, position: Position) -> Node
     requires { is_parent content ≡ true }
     ensures { view result ≡ placed (parent_label content) (views children.items) position }

@@ -1,21 +1,21 @@
 //! Tables (GFM, "Tables"): how their columns are aligned, and their node.
 //!
-//! The original: `on_enter_gfm_table`, `on_exit_gfm_table`. What it reads again at a table's enter
-//! (`gfm_table_align`) is kept here as the events come.
+//! In markdown-rs: `on_enter_gfm_table`, `on_exit_gfm_table`. It reads the alignment again at a
+//! table's enter (`gfm_table_align`); here it is kept as the events come.
 
 ghost use Rattle.std.specs.Prelude.{◌≡◌, OnOk};
 ghost use Rattle.markdown_blocks.specs.Columns.{columns_of};
-ghost use Rattle.markdown_builder.specs.Marks.{marks_of};
-ghost use Rattle.markdown_builder.specs.PartsSoFar.{placed};
+ghost use Rattle.markdown_parts.specs.Marks.{marks_of};
+ghost use Rattle.markdown_parts.specs.PartsSoFar.{placed};
 ghost use Rattle.markdown_events.specs.declared.role.Role.TheVariants as roles;
 ghost use Rattle.markdown_nodes.specs.Tree as tree;
 ghost use Rattle.markdown_nodes.specs.View.{view, views};
 ghost use Rattle.markdown_steps.specs.Columns.{columns_entered, columns_left, no_columns};
 
-use markdown_builder::marks::Marks;
 use markdown_nodes::mdast::{AlignKind, Node, Table};
 use markdown_nodes::role::{Content, ItemKind, Role, TransparentKind};
 use markdown_nodes::unist::Position;
+use markdown_parts::marks::Marks;
 use std::alloc::{AllocError, Global};
 use std::mem;
 
@@ -30,8 +30,8 @@ pub enum Rows {
     After,
 }
 
-/// How the columns of the open table are aligned: one entry for each cell of its first delimiter row.
-/// Tables do not stand in tables, so that there is one of these for all tables of a document.
+/// How the columns of the open table are aligned: one entry for each cell of its first delimiter
+/// row. Tables do not nest, so one of these is enough for all tables of a document.
 #[derive(Drop)]
 pub struct Columns {
     pub rows: Rows,
@@ -39,7 +39,7 @@ pub struct Columns {
 }
 
 impl Columns {
-    /// The columns at the enter of a table, and outside tables: none.
+    /// Returns the columns at the enter of a table, and outside tables: none.
     pub fn new(alloc: Global) -> Columns
         ensures { columns_of result ≡ no_columns }
     {
@@ -49,8 +49,8 @@ impl Columns {
         }
     }
 
-    /// Takes the enter of a span of this role, in a table or not. At the enter of a table there are no
-    /// entries, and at that of the table's first delimiter row the row is open.
+    /// Handles the enter of a span of this role, in a table or not. At the enter of a table there
+    /// are no entries, and at that of the table's first delimiter row the row is open.
     pub fn enter(&mut self, alloc: Global, in_table: bool, role: Role)
         ensures { columns_of self.new ≡ columns_entered in_table role (columns_of self.old) }
     {
@@ -65,8 +65,8 @@ impl Columns {
         }
     }
 
-    /// Takes the exit of a transparent span, with what the spans in it said: a cell of the open row
-    /// gives an entry. The only error is that memory ran out.
+    /// Handles the exit of a transparent span, with what is known of the spans in it: a cell of the
+    /// open row adds an entry. The only error is that memory ran out.
     pub fn exit(&mut self, kind: TransparentKind, inner: Marks) -> Result<(), AllocError>
         ensures { OnOk result (columns_of self.new ≡ columns_left (roles.Transparent kind) (marks_of inner) (columns_of self.old)) }
     {
@@ -81,7 +81,7 @@ impl Columns {
         Ok(())
     }
 
-    /// Takes the entries out, at the exit of the table.
+    /// Removes and returns the entries, at the exit of the table.
     pub fn take(&mut self, alloc: Global) -> Vec<AlignKind>
         ensures entries { result.items ≡ self.old.kinds.items }
         ensures columns { columns_of self.new ≡ no_columns }
@@ -91,7 +91,7 @@ impl Columns {
     }
 }
 
-/// The node of a table, with how its columns are aligned.
+/// Returns the node of a table with this alignment of its columns.
 pub fn table(children: Vec<Node>, position: Position, align: Vec<AlignKind>) -> Node
     ensures { view result ≡ placed (tree.table align.items) (views children.items) position }
 {

@@ -1,4 +1,4 @@
-//! What a check mark takes off the text after it.
+//! What a check mark removes from the text after it.
 
 ghost use Rattle.std.specs.Prelude.{◌≡◌, ◌<◌, IfNone, MatchOption, drop, option_map, string_bytes};
 ghost use Rattle.std.specs.Vec.{vec_len};
@@ -7,13 +7,13 @@ ghost use Rattle.markdown_nodes.specs.View.{views};
 ghost use Rattle.markdown_blocks.specs.TaskWalks.{first_cut, paragraph_before, text_cut};
 ghost use Rattle.markdown_grammar.specs.Tasks.{after_blank, from_point, next_column, on_next_line, task};
 
-use markdown_builder::texts::remove_byte;
 use markdown_nodes::mdast::{Node, Paragraph, Text};
 use markdown_nodes::unist::{Point, Position};
+use markdown_parts::texts::remove_byte;
 
-/// Takes the blank after a check mark off the nodes of its item: where the first node is a paragraph
-/// that begins with a text, that text loses one tab, space or line ending (GFM, task list items).
-/// The paragraph starts where the text then does, and the text goes where nothing is left of it.
+/// Removes the blank after a check mark from the nodes of its item. If the first node is a
+/// paragraph that begins with a text, that text loses one tab, space or line ending (GFM, task list
+/// items). The paragraph then starts where the text does, and an empty text is removed.
 ///
 /// The paragraph of `[x] a` begins with the text ` a`, which becomes `a`.
 pub fn trim(nodes: &mut Vec<Node>)
@@ -26,7 +26,7 @@ pub fn trim(nodes: &mut Vec<Node>)
     }
 }
 
-/// Takes the blank after a check mark off a paragraph.
+/// Removes the blank after a check mark from a paragraph.
 fn trim_paragraph(paragraph: &mut Paragraph)
     ensures { (rest : Trees) → paragraph_before paragraph.new rest ≡ task (paragraph_before paragraph.old rest) }
 {
@@ -35,7 +35,8 @@ fn trim_paragraph(paragraph: &mut Paragraph)
     }
 }
 
-/// Takes the blank off the first of these nodes, if it is a text, and returns where they start then.
+/// Removes the blank from the first of these nodes, if it is a text, and returns where they start
+/// then.
 fn trim_first(nodes: &mut Vec<Node>) -> Option<Point>
     ensures cut { option_map (λ start. (views nodes.new.items, start)) result ≡ first_cut (views nodes.old.items) }
     ensures kept { IfNone result (views nodes.new.items ≡ views nodes.old.items) }
@@ -51,7 +52,7 @@ fn trim_first(nodes: &mut Vec<Node>) -> Option<Point>
     Some(start)
 }
 
-/// Takes the first node away.
+/// Removes the first node.
 fn remove_node(nodes: &mut Vec<Node>)
     requires { 0 < vec_len nodes.old }
     ensures { nodes.new.items ≡ drop 1 nodes.old.items }
@@ -59,7 +60,7 @@ fn remove_node(nodes: &mut Vec<Node>)
     nodes.remove(0);
 }
 
-/// Takes the blank off a text with a position, and returns where it starts then.
+/// Removes the blank from a text with a position, and returns where it starts then.
 fn trim_text(text: &mut Text) -> Option<Point>
     ensures cut { option_map (λ start. (string_bytes text.new.value, start)) result
         ≡ text_cut (string_bytes text.old.value) text.old.position }
@@ -74,8 +75,8 @@ fn trim_text(text: &mut Text) -> Option<Point>
     Some(start)
 }
 
-/// Takes one tab, space or line ending off the beginning of a text that starts at this point, a CRLF
-/// as one, and returns where the rest starts.
+/// Removes one tab, space or line ending from the beginning of a text that starts at this point, a
+/// CRLF as one, and returns where the rest starts.
 fn trim_front(value: &mut String, start: Point) -> Point
     ensures { (string_bytes value.new, result) ≡ after_blank (string_bytes value.old) start }
 {
@@ -97,7 +98,7 @@ fn trim_front(value: &mut String, start: Point) -> Point
     }
 }
 
-/// The point after one byte that ends no line.
+/// Returns the point after one byte that ends no line.
 fn next_column(point: Point) -> Point
     ensures { result ≡ next_column point }
 {
@@ -108,7 +109,7 @@ fn next_column(point: Point) -> Point
     }
 }
 
-/// The point after a line ending of this many bytes.
+/// Returns the point after a line ending of this many bytes.
 fn on_next_line(width: usize, point: Point) -> Point
     ensures { result ≡ on_next_line width point }
 {
@@ -119,7 +120,7 @@ fn on_next_line(width: usize, point: Point) -> Point
     }
 }
 
-/// A position with another start.
+/// Returns a position with another start.
 fn starting_at(position: Option<Position>, start: Point) -> Option<Position>
     ensures { result ≡ from_point start position }
 {

@@ -17,34 +17,34 @@ use Rattle.markdown_steps.specs.Compiler.{label_with, part_with}
 use Rattle.markdown_grammar.specs.Attributes.{mark_given, value_given}
 use Rattle.markdown_grammar.specs.Grammar.{ContentModel, any_content, model_after, list_item, numbered_item}
 use Rattle.markdown_containers.specs.Containers.{Keeps, current_model_of, is_model_of, label_of, mark_of, part_of, summary_with, value_of}
-use Rattle.markdown_literals.specs.Fences.{fence_of, in_code_fence, in_math_fence}
+use Rattle.markdown_blocks.specs.Fences.{fence_of, in_code_fence, in_math_fence}
 use Rattle.markdown_inlines.specs.Labels.{label_kept, label_nodes}
 use Rattle.markdown_inlines.specs.Media.{reference_of, resource_of}
-use Rattle.markdown_builder.specs.PartsSoFar.{ending}
-use Rattle.markdown_steps.specs.Summaries.{Summary, PartSummary, Path, into, itself, path_to}
+use Rattle.markdown_parts.specs.PartsSoFar.{ending}
+use Rattle.markdown_steps.specs.Summaries.{Summary, PartSummary, PartPath, into, itself, path_to}
 use Rattle.markdown_grammar.specs.Attributes.{Place}
 use Rattle.markdown_grammar.specs.Document.{Source}
 
 -- nothing stands below a part that is not there
-below_ending : (k : Option PartSummary) (way : Path) → k ≡ None → ending k way ≡ None
+below_ending : (k : Option PartSummary) (way : PartPath) → k ≡ None → ending k way ≡ None
 below_ending k itself h = h
 below_ending k (into p way) h = refl
 
-below_resource : (t : Target) (way : Path) → resource_of t itself ≡ None → resource_of t way ≡ None
+below_resource : (t : Target) (way : PartPath) → resource_of t itself ≡ None → resource_of t way ≡ None
 below_resource (targets.Resource r) way h = let z : ⊥ = cc in absurd z
 below_resource targets.Label way h = refl
 below_resource (targets.Reference r) way h = refl
 
-below_reference : (t : Target) (way : Path) → reference_of t itself ≡ None → reference_of t way ≡ None
+below_reference : (t : Target) (way : PartPath) → reference_of t itself ≡ None → reference_of t way ≡ None
 below_reference (targets.Reference r) way h = let z : ⊥ = cc in absurd z
 below_reference targets.Label way h = refl
 below_reference (targets.Resource r) way h = refl
 
-below_fence : {A : Type 0} (inside : A → Path → Option PartSummary) (f : Option A) (way : Path) → fence_of inside f itself ≡ None → fence_of inside f way ≡ None
+below_fence : {A : Type 0} (inside : A → PartPath → Option PartSummary) (f : Option A) (way : PartPath) → fence_of inside f itself ≡ None → fence_of inside f way ≡ None
 below_fence inside None way h = refl
 below_fence inside (Some f) way h = let z : ⊥ = cc in absurd z
 
-pub below_none : (h : Container) (q : Part) (way : Path) → part_of h (path_to q) ≡ None → part_of h (into q way) ≡ None
+pub below_none : (h : Container) (q : Part) (way : PartPath) → part_of h (path_to q) ≡ None → part_of h (into q way) ≡ None
 below_none (containers.Autolink x) parts.AutolinkEmail way none = below_ending _ way none
 below_none (containers.Autolink x) parts.AutolinkProtocol way none = below_ending _ way none
 below_none (containers.Media x) parts.LabelText way none = below_ending _ way none
@@ -85,7 +85,7 @@ same_below : (old : Option PartSummary) (kept : Option PartSummary) → (old ≡
 same_below (Some k) kept below = refl
 same_below None kept below = below refl
 
-content_parts : (s : Source) (p : Place) (c : Content) (a b : Point) (i : Summary) (h : Container) (way : Path) → part_of h way ≡ part_with s p (content c) a b i (part_of h) way
+content_parts : (s : Source) (p : Place) (c : Content) (a b : Point) (i : Summary) (h : Container) (way : PartPath) → part_of h way ≡ part_with s p (content c) a b i (part_of h) way
 content_parts s p c a b i h itself = itself_none h
 content_parts s p c a b i h (into q way) = same_below (part_of h (path_to q)) (part_of h (into q way)) (below_none h q way)
 

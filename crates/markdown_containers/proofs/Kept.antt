@@ -1,8 +1,8 @@
 -- What a container keeps, by what its construct says of itself.
 use Rattle.std.proofs.Common.{◌≡◌, ◌≢◌, List, Option, None, Some, Result, refl, sym, subst, true, false, ℕ}
-use Rattle.markdown_literals.specs.declared.code.CodeFenceParts.{CodeFenceParts}
-use Rattle.markdown_literals.specs.declared.math.MathFenceParts.{MathFenceParts}
-use Rattle.markdown_builder.specs.PartsSoFar.{after_if}
+use Rattle.markdown_blocks.specs.declared.code.CodeFenceParts.{CodeFenceParts}
+use Rattle.markdown_blocks.specs.declared.math.MathFenceParts.{MathFenceParts}
+use Rattle.markdown_parts.specs.PartsSoFar.{after_if}
 use Rattle.markdown_containers.specs.Containers.{Keeps, KeepsPart, KeepsWords, current_model_of, is_part_model, is_text_part, part_of, summary_with}
 use Rattle.markdown_containers.specs.declared.container.Container.{Container}
 use Rattle.markdown_containers.specs.declared.container.Container.TheVariants as containers
@@ -20,7 +20,7 @@ use Rattle.markdown_grammar.specs.Values.{is_read}
 use Rattle.markdown_grammar.specs.declared.error_kind.Stop.{Stop}
 use Rattle.markdown_nodes.specs.Tree.{Trees}
 use Rattle.markdown_steps.specs.Compiler.{nothing_yet, part_with}
-use Rattle.markdown_steps.specs.Summaries.{Path, Summary, into, itself}
+use Rattle.markdown_steps.specs.Summaries.{PartPath, Summary, into, itself}
 use Rattle.markdown_steps.specs.Visits.{visits_at_end}
 
 -- a part that is read and kept, where it is known which part it is, and which container takes it
@@ -57,7 +57,7 @@ content_kept s p a b ts what inner j old h new is-inner is-old kept =
 
 -- ---- Fences after the first
 
-code_parts : (s : Source) (p : Place) (a b : Point) (f : CodeFenceParts) (way : Path)
+code_parts : (s : Source) (p : Place) (a b : Point) (f : CodeFenceParts) (way : PartPath)
     → part_of (containers.CodeFenced (record { fence = Some f })) way ≡ part_with s p (part parts.CodeFencedFence) a b nothing_yet (part_of (containers.CodeFenced (record { fence = Some f }))) way
 code_parts s p a b f itself = refl
 code_parts s p a b f (into parts.CodeFencedFence way) = refl
@@ -70,7 +70,7 @@ later_code_fence s p a b (Some f) later =
     record { initial_model = refl; current_model = refl; marker = refl; kept = code_parts s p a b f; label = refl; mark = refl; value = refl }
 later_code_fence s p a b None later = let z : ⊥ = cc in absurd z
 
-math_parts : (s : Source) (p : Place) (a b : Point) (f : MathFenceParts) (way : Path)
+math_parts : (s : Source) (p : Place) (a b : Point) (f : MathFenceParts) (way : PartPath)
     → part_of (containers.MathFlow (record { fence = Some f })) way ≡ part_with s p (part parts.MathFlowFence) a b nothing_yet (part_of (containers.MathFlow (record { fence = Some f }))) way
 math_parts s p a b f itself = refl
 math_parts s p a b f (into parts.MathFlowFence way) = refl

@@ -7,7 +7,7 @@ use Rattle.markdown_nodes.specs.Tree.{Label, Tree, Trees, join, node, nothing, o
 use Rattle.markdown_nodes.specs.View.{views}
 use Rattle.markdown_nodes.proofs.Joining.{join-nothing}
 use Rattle.markdown_events.specs.declared.event.Point.{Point}
-use Rattle.positions.specs.declared.unist.Position.{Position}
+use Rattle.markdown_events.specs.declared.unist.Position.{Position}
 use Rattle.markdown_events.specs.declared.role.ItemKind.{ItemKind}
 use Rattle.markdown_events.specs.declared.role.ItemKind.TheVariants.{Content as content}
 use Rattle.markdown_events.specs.declared.role.Content.{Content}
@@ -19,7 +19,7 @@ use Rattle.markdown_grammar.specs.LineEndings.{ending_read}
 use Rattle.markdown_grammar.specs.Refusals.{value_error}
 use Rattle.markdown_grammar.specs.Grammar.{leaf}
 use Rattle.markdown_containers.specs.Containers.{Keeps, current_model_of}
-use Rattle.markdown_literals.specs.Autolinks.{is_literal}
+use Rattle.markdown_inlines.specs.Autolinks.{is_literal}
 use Rattle.markdown_grammar.specs.Items.{is_hard_break, is_line_ending}
 use Rattle.markdown_steps.specs.SummaryNodes.{node_of}
 use Rattle.markdown_steps.specs.Summaries.{Summary}

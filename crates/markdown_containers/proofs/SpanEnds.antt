@@ -20,7 +20,7 @@ use Rattle.markdown_steps.specs.Compiler.{all_stood}
 use Rattle.markdown_grammar.specs.Grammar.{ContentModel, any_content}
 use Rattle.markdown_containers.specs.Containers.{Keeps, is_model_of, current_model_of, initial_model_of}
 use Rattle.markdown_blocks.specs.Parents.{is_parent, parent_label}
-use Rattle.markdown_builder.specs.PartsSoFar.{placed}
+use Rattle.markdown_parts.specs.PartsSoFar.{placed}
 use Rattle.markdown_grammar.specs.Items.{is_hard_break}
 use Rattle.markdown_grammar.specs.Nodes.{Media, image_label, link_label}
 use Rattle.markdown_steps.specs.SummaryNodes.{autolink}
@@ -35,7 +35,7 @@ use Rattle.markdown_grammar.specs.Document.{Source}
 use Rattle.markdown_grammar.specs.declared.error_kind.Stop.{Stop}
 use Rattle.markdown_grammar.specs.declared.error_kind.Stop.TheVariants as stops
 use Rattle.markdown_containers.specs.ContainerStates.{Stops, ended_with, container_state_of, summary_of_container, place_of}
-use Rattle.markdown_builder.specs.PartsSoFar.{Makes}
+use Rattle.markdown_parts.specs.PartsSoFar.{Makes}
 use Rattle.markdown_steps.specs.Consequences.{is_text}
 
 -- what one more item makes of a container, where no break is before it and it is none
@@ -187,7 +187,3 @@ unfolding leave
 part_unread s in_table top initial_model place i q a b children complete read =
     let out : Result ContainerState ErrorAt = Ok (with_child s (container_state_of in_table None top) (part q) a b children i) in
     λ t. cond (complete t) (cond (read t) out (refused (value_error s (part q) a b) b)) (refused (missing_error initial_model) b)
-
--- the nodes stay where nothing is put
-pub none_put : (ts : Trees) → ts ≡ join ts nothing
-none_put ts = sym (join-nothing ts)

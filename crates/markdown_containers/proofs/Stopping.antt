@@ -8,22 +8,13 @@ use Rattle.markdown_grammar.specs.declared.error_kind.Stop.TheVariants as stops
 use Rattle.markdown_grammar.specs.Refusals.{ErrorAt}
 use Rattle.markdown_steps.specs.Checks.{refused}
 use Rattle.markdown_containers.specs.ContainerStates.{Gives, Stops}
-use Rattle.markdown_builder.specs.PartsSoFar.{Makes}
+use Rattle.markdown_parts.specs.PartsSoFar.{Makes}
 
 -- a stop that is passed on
 pub passed_on : {X Y : Type 0} (seen : X → Y) (b : Point) (r : Result X Stop) (stop : Stop) (expected : Result Y ErrorAt)
     → IsErr r × IsErrAnd r (λ e. e ≡ stop) → Stops stop b expected → Gives seen b r expected
 passed_on seen b (Ok x) stop expected h stops = let z : ⊥ = cc in absurd z
 passed_on seen b (Err e) stop expected h stops = subst (λ (x : Stop). Stops x b expected) (sym h.1) stops
-
--- a refusal that is passed on
-pub refused_on : {X Y : Type 0} (seen : X → Y) (b : Point) (r : Result X Stop) (stop : Stop) (why : ErrorKind) (expected : Result Y ErrorAt)
-    → IsErr r × IsErrAnd r (λ e. e ≡ stop) → stop ≡ stops.Refused why → expected ≡ refused why b → Gives seen b r expected
-refused_on seen b r stop why expected h is refuses = passed_on seen b r stop expected h (subst (λ (x : Stop). Stops x b expected) (sym is) refuses)
-
-pub nothing_on_err : {X : Type 0} (r : Result X Stop) (P : Type 0) → IsErr r → OnOk r P
-nothing_on_err (Ok x) P h = let z : ⊥ = cc in absurd z
-nothing_on_err (Err e) P h = tt
 
 -- a thing that is made, or lacks what has to stand there
 pub made_gives : {X Y : Type 0} (seen : X → Y) (b : Point) (r : Result X Stop) (complete : Bool) (why : ErrorKind) (Is : X → Type 0) (expected : Result Y ErrorAt)

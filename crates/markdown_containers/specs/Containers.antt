@@ -1,10 +1,10 @@
--- What an open span is to the items in it: what has stood in it so far, by its construct.
+-- Open spans as containers: the parts so far in a span, by its construct.
 use Rattle.std.specs.Prelude.{◌≢◌, List, Option, Result, false, true, Bool, ℕ}
-use Rattle.markdown_definitions.specs.Definitions.{definition, footnote_definition}
-use Rattle.markdown_literals.specs.Fences.{code_fence, code_fenced, math_fence, math_flow}
+use Rattle.markdown_inlines.specs.Definitions.{definition, footnote_definition}
+use Rattle.markdown_blocks.specs.Fences.{code_fence, code_fenced, math_fence, math_flow}
 use Rattle.markdown_blocks.specs.Headings.{atx, setext}
 use Rattle.markdown_blocks.specs.Lists.{list_item, marked_paragraph, numbered_item, ordered_list, task_paragraph}
-use Rattle.markdown_builder.specs.PartsSoFar.{Gains, GainsWords, IsFresh as IsFreshIn, Makes, PartsSoFar, misfit_in, place_with, summary_in, without_parts}
+use Rattle.markdown_parts.specs.PartsSoFar.{Gains, GainsWords, IsFresh as IsFreshIn, Makes, PartsSoFar, misfit_in, place_with, summary_in, without_parts}
 use Rattle.markdown_containers.specs.declared.container.Container.{Container}
 use Rattle.markdown_containers.specs.declared.container.Container.TheVariants as containers
 use Rattle.markdown_events.specs.declared.event.Point.{Point}
@@ -22,18 +22,18 @@ use Rattle.markdown_grammar.specs.Refusals.{value_error}
 use Rattle.markdown_grammar.specs.Values.{is_read}
 use Rattle.markdown_grammar.specs.declared.error_kind.ErrorKind.{ErrorKind}
 use Rattle.markdown_grammar.specs.declared.error_kind.Stop.{Stop}
-use Rattle.markdown_literals.specs.Autolinks.{autolink}
+use Rattle.markdown_inlines.specs.Autolinks.{autolink}
 use Rattle.markdown_inlines.specs.CharacterReferences.{character_reference}
-use Rattle.markdown_definitions.specs.FootnoteCalls.{footnote_call}
+use Rattle.markdown_inlines.specs.FootnoteCalls.{footnote_call}
 use Rattle.markdown_inlines.specs.Media.{media, reference, resource}
 use Rattle.markdown_nodes.specs.Tree.{Trees}
-use Rattle.markdown_steps.specs.Summaries.{PartSummary, Path, Summary}
+use Rattle.markdown_steps.specs.Summaries.{PartSummary, PartPath, Summary}
 
--- a span in which any content may stand, and no part
+-- a span that may contain any content, and no part
 abbrev pub any_content : PartsSoFar
 any_content = without_parts models.any_content
 
--- what has stood in a container, by its construct
+-- the parts so far of a container, by its construct
 abbrev pub parts_of : Container → PartsSoFar
 parts_of containers.AnyContent = any_content
 parts_of (containers.Autolink x) = autolink x
@@ -56,65 +56,65 @@ parts_of (containers.HeadingSetext x) = setext x
 parts_of (containers.CodeFenced x) = code_fenced x
 parts_of (containers.MathFlow x) = math_flow x
 
--- the content model with which it began
+-- the content model of a container at first
 abbrev pub initial_model_of : Container → ContentModel
-initial_model_of h = (parts_of h).initial_model
+initial_model_of container = (parts_of container).initial_model
 
--- the content model that it has now
+-- the content model of a container now
 abbrev pub current_model_of : Container → ContentModel
-current_model_of h = (parts_of h).current_model
+current_model_of container = (parts_of container).current_model
 
--- what is kept of the part at the end of a path
-abbrev pub part_of : Container → Path → Option PartSummary
-part_of h = (parts_of h).part
+-- the summary of the part at the end of a path
+abbrev pub part_of : Container → PartPath → Option PartSummary
+part_of container = (parts_of container).part
 
 -- the byte of the last marker of a character reference
 abbrev pub marker_of : Container → Option ℕ
-marker_of h = (parts_of h).marker
+marker_of container = (parts_of container).marker
 
 -- the mark of an item, or of a paragraph in one
 abbrev pub mark_of : Container → Option Bool
-mark_of h = (parts_of h).mark
+mark_of container = (parts_of container).mark
 
--- the number of an item, or of the first such in a list
+-- the number of an item, or the number of the first item of a list that has one
 abbrev pub value_of : Container → Option ℕ
-value_of h = (parts_of h).value
+value_of container = (parts_of container).value
 
 -- the nodes of the label of a container that has one
 abbrev pub label_of : Container → Trees
-label_of h = (parts_of h).label
+label_of container = (parts_of container).label
 
--- the rule of a container that one more item violates, if it violates one
+-- the error for the rule of a container that one more item violates, if it violates one
 abbrev pub misfit_of : Container → ItemKind → Option ErrorKind
-misfit_of h what = misfit_in (parts_of h) what
+misfit_of container what = misfit_in (parts_of container) what
 
--- nothing is kept in a container yet, which has this content model
+-- nothing is kept yet in a container with this content model
 abbrev pub IsFresh : Container → ContentModel → Type 0
-IsFresh h begun = IsFreshIn (parts_of h) begun
+IsFresh container begun = IsFreshIn (parts_of container) begun
 
--- what such a container keeps, with these nodes
+-- the summary of a container, with these nodes
 abbrev pub summary_with : Container → Trees → Summary
-summary_with h ts = summary_in (parts_of h) ts
+summary_with container ts = summary_in (parts_of container) ts
 
--- what a container keeps in which any content may stand, with these nodes
+-- the summary of a container for any content, with these nodes
 abbrev pub summary_of_nodes : Trees → Summary
 summary_of_nodes ts = summary_with containers.AnyContent ts
 
--- after one more item the container keeps this
+-- the change of a container by one more item
 abbrev pub Keeps : Source → Place → ItemKind → Point → Point → Summary → Container → Container → Type 0
 Keeps s p what a b i old new = Gains s p what a b i (parts_of old) (parts_of new)
 
--- the same wherever the item stands, and whatever nodes are in it
+-- this change, wherever the item is, and whatever nodes are in it
 abbrev pub KeepsAnywhere : ItemKind → Container → Container → Container → Type 0
 KeepsAnywhere what inner old new = (s : Source) (p : Place) (a b : Point) (ts : Trees) → Keeps s p what a b (summary_with inner ts) old new
 
--- a part with these items in it is read and kept, or refused where it cannot be read
+-- a part with this summary is read and kept, or refused if it cannot be read
 abbrev pub KeepsPart : {X : Type 0} → Source → Part → Point → Point → Summary → Container → Container → Result X Stop → Type 0
 KeepsPart s q a b i old new result =
     (line_endings in_table : Bool) → let p : Place = place_with line_endings in_table (marker_of old) in
     Makes result (is_read s (current_model_of old) p false (item_kinds.Part q) a b) (value_error s (item_kinds.Part q) a b) (λ _. Keeps s p (item_kinds.Part q) a b i old new)
 
--- the same of a part with these nodes in it, whatever the decoder knows
+-- a part with these nodes is read and kept, or refused, whatever the decoder knows
 abbrev pub KeepsNodes : {X : Type 0} → Given → Part → Point → Point → Trees → Container → Container → Result X Stop → Type 0
 KeepsNodes given q a b ts old new result =
     (text : List ℕ → ℕ → Option (List ℕ)) → KeepsPart (source_of given text) q a b (summary_of_nodes ts) old new result
@@ -123,9 +123,9 @@ KeepsNodes given q a b ts old new result =
 abbrev pub KeepsWords : Part → List ℕ → Container → Container → Type 0
 KeepsWords q text old new = GainsWords q text (parts_of old) (parts_of new)
 
--- ---- Content models by what has them
+-- ---- The content models of content and of parts
 
--- a content model that content may have
+-- a content model that this content may have
 abbrev pub is_model_of : Content → ContentModel → Bool
 is_model_of contents.CharacterReference models.character_reference = true
 is_model_of contents.Autolink models.autolink = true
@@ -159,7 +159,7 @@ is_model_of contents.MathText models.any_content = true
 is_model_of contents.Strong models.any_content = true
 is_model_of _ _ = false
 
--- a content model that a part may have, but that of the leaves
+-- a content model that this part may have, other than that of leaves
 abbrev pub is_part_model : Part → ContentModel → Bool
 is_part_model parts.Resource models.resource = true
 is_part_model parts.Reference models.reference = true
@@ -179,11 +179,11 @@ is_part_model parts.MathFlowFenceMeta models.any_content = true
 is_part_model parts.HeadingSetextText models.any_content = true
 is_part_model _ _ = false
 
--- a part that is a leaf in no content model
+-- a part that is not a leaf in any content model
 abbrev pub IsNoLeaf : Part → Type 0
 IsNoLeaf q = (m : ContentModel) → models.part_model m q ≢ models.leaf
 
--- a part that is a text, and nothing else is looked at in it
+-- a part of which only the text is used
 abbrev pub is_text_part : Part → Bool
 is_text_part parts.DefinitionDestinationString = true
 is_text_part parts.DefinitionTitleString = true
@@ -194,7 +194,7 @@ is_text_part parts.CodeFencedFenceMeta = true
 is_text_part parts.MathFlowFenceMeta = true
 is_text_part _ = false
 
--- a part that is a label in itself, and names a definition
+-- a part that is itself a label, and names a definition
 abbrev pub is_label_string : Part → Bool
 is_label_string parts.ReferenceString = true
 is_label_string parts.DefinitionLabelString = true

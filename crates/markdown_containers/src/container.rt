@@ -1,4 +1,4 @@
-//! What an open span is to the items in it: one arm for each construct.
+//! What an open span is to the items in it, with one arm for each construct.
 
 ghost use Rattle.std.specs.Prelude.{◌≡◌, ◌≢◌, ◌≤◌, ◌+◌, None, Option, false, string_bytes, true};
 ghost use Rattle.markdown_containers.specs.Containers.{
@@ -31,33 +31,33 @@ ghost use Rattle.markdown_steps.specs.Compiler.{nothing_yet};
 ghost use Rattle.markdown_steps.specs.Visits.{visits_at_end};
 
 use character_references::references::References;
+use markdown_blocks::code::{CodeFenceParts, CodeFencedParts};
 use markdown_blocks::heading::{AtxParts, SetextParts};
 use markdown_blocks::list::{
     ListItemParts, NumberedItemParts, OrderedListParts, TaskParagraphParts,
     misfit_in_marked_paragraph,
 };
-use markdown_builder::buffer::values_of;
-use markdown_builder::slice::Document;
-use markdown_definitions::definition::DefinitionParts;
-use markdown_definitions::footnote_call::FootnoteCallParts;
-use markdown_definitions::footnote_definition::FootnoteDefinitionParts;
+use markdown_blocks::math::{MathFenceParts, MathFlowParts};
 use markdown_grammar::error_kind::{ErrorKind, Stop};
+use markdown_inlines::autolink::AutolinkParts;
 use markdown_inlines::character_reference::{CharacterReferenceParts, Marker};
+use markdown_inlines::definition::DefinitionParts;
+use markdown_inlines::footnote_call::FootnoteCallParts;
+use markdown_inlines::footnote_definition::FootnoteDefinitionParts;
 use markdown_inlines::media::{MediaParts, ReferenceParts, ResourceParts};
-use markdown_literals::autolink::AutolinkParts;
-use markdown_literals::code::{CodeFenceParts, CodeFencedParts};
-use markdown_literals::math::{MathFenceParts, MathFlowParts};
+use markdown_nodes::count::Count;
 use markdown_nodes::event::Point;
 use markdown_nodes::mdast::Node;
 use markdown_nodes::role::{Content, ItemKind, Part};
-use markdown_nodes::steps::Steps;
+use markdown_parts::buffer::values_of;
+use markdown_parts::slice::Document;
 use std::alloc::Global;
 
-/// What an open significant span is to the items in it, with the parts that have stood in it. Each
-/// content model of the grammar but that of the leaves is one of these.
+/// What an open significant span is to the items in it, with its parts so far. Each content model
+/// of the grammar, except that of the leaves, is one of these.
 #[derive(Drop)]
 pub enum Container<'a> {
-    /// It takes any content, and no part.
+    /// It accepts any content, and no part.
     AnyContent,
     Autolink(AutolinkParts<'a>),
     /// A link or an image.
@@ -90,7 +90,7 @@ pub enum Container<'a> {
 }
 
 impl<'a> Container<'a> {
-    /// The rule that is violated if this item may not stand here.
+    /// Returns the rule that this item would violate here, if any.
     pub fn misfit(&self, what: ItemKind) -> Option<ErrorKind>
         ensures { result ≡ misfit_of self.now what }
     {
@@ -123,8 +123,8 @@ impl<'a> Container<'a> {
 }
 
 impl<'a> Container<'a> {
-    /// Whether this container takes a span as a leaf, in which no items stand. A fence after the first is
-    /// one.
+    /// Whether this container takes a span as a leaf, which contains no items. A fence after the
+    /// first is one.
     pub fn takes_as_leaf(&self, what: ItemKind) -> bool
         ensures leaf { result ≡ true → models.model_of (current_model_of self.now) what ≡ models.leaf }
         ensures container { result ≡ false → models.model_of (current_model_of self.now) what ≢ models.leaf }
@@ -147,7 +147,8 @@ impl<'a> Container<'a> {
         }
     }
 
-    /// Whether this is fenced code without a fence so far, so that the next fence is the first.
+    /// Whether this is fenced code without a fence so far, which means that the next fence is the
+    /// first.
     fn awaits_code_fence(&self) -> bool
         ensures leaf { result ≡ false → models.part_model (current_model_of self.now) parts.CodeFencedFence ≡ models.leaf }
         ensures container { result ≡ true → models.part_model (current_model_of self.now) parts.CodeFencedFence ≢ models.leaf }
@@ -158,7 +159,8 @@ impl<'a> Container<'a> {
         }
     }
 
-    /// Whether this is a block of math without a fence so far, so that the next fence is the first.
+    /// Whether this is a block of math without a fence so far, which means that the next fence is
+    /// the first.
     fn awaits_math_fence(&self) -> bool
         ensures leaf { result ≡ false → models.part_model (current_model_of self.now) parts.MathFlowFence ≡ models.leaf }
         ensures container { result ≡ true → models.part_model (current_model_of self.now) parts.MathFlowFence ≢ models.leaf }
@@ -169,7 +171,8 @@ impl<'a> Container<'a> {
         }
     }
 
-    /// What a span that is no leaf is to the items in it, at its enter in this container.
+    /// Returns what a span that is not a leaf is to the items in it, at its enter in this
+    /// container.
     pub fn opened(&self, what: ItemKind) -> Container<'a>
         requires { models.model_of (current_model_of self.now) what ≢ models.leaf }
         ensures { IsFresh result (models.model_of (current_model_of self.now) what) }
@@ -180,7 +183,7 @@ impl<'a> Container<'a> {
         }
     }
 
-    /// What a span of content that is no leaf is to the items in it.
+    /// Returns what a span of content that is not a leaf is to the items in it.
     fn opened_by_content(&self, content: Content) -> Container<'a>
         requires { models.content_model (current_model_of self.now) content ≢ models.leaf }
         ensures { IsFresh result (models.content_model (current_model_of self.now) content) }
@@ -208,7 +211,7 @@ impl<'a> Container<'a> {
         }
     }
 
-    /// An item, which has a number in an ordered list.
+    /// Returns an item, which has a number in an ordered list.
     fn opened_item(&self) -> Container<'a>
         ensures { IsFresh result (models.content_model (current_model_of self.now) contents.ListItem) }
     {
@@ -218,7 +221,7 @@ impl<'a> Container<'a> {
         }
     }
 
-    /// A paragraph, which may have a mark in an item without one.
+    /// Returns a paragraph, which may have a mark in an item without one.
     fn opened_paragraph(&self) -> Container<'a>
         ensures { IsFresh result (models.content_model (current_model_of self.now) contents.Paragraph) }
     {
@@ -232,7 +235,7 @@ impl<'a> Container<'a> {
         }
     }
 
-    /// What a part that is no leaf is to the items in it.
+    /// Returns what a part that is not a leaf is to the items in it.
     fn opened_by_part(&self, part: Part) -> Container<'a>
         requires { models.part_model (current_model_of self.now) part ≢ models.leaf }
         ensures { IsFresh result (models.part_model (current_model_of self.now) part) }
@@ -249,7 +252,7 @@ impl<'a> Container<'a> {
 }
 
 impl<'a> Container<'a> {
-    /// Takes a part in which nothing stands: a marker, a mark, a value or a sequence.
+    /// Takes a part that contains nothing: a marker, a mark, a value or a sequence.
     pub fn take_leaf_part<R: References>(
         &mut self,
         alloc: Global,
@@ -308,12 +311,12 @@ impl<'a> Container<'a> {
         }
     }
 
-    /// Takes a part in which content stood: a label, a destination, a title, or what comes after a
+    /// Takes a part that contained content: a label, a destination, a title, or the text after a
     /// fence.
     pub fn take_text(
         &mut self,
         alloc: Global,
-        steps: &mut Steps<'_>,
+        steps: &mut Count,
         document: &Document<'a>,
         part: Part,
         nodes: Vec<Node>,
@@ -324,8 +327,7 @@ impl<'a> Container<'a> {
         requires heading { part ≢ parts.HeadingSetextText }
         requires fits { misfit_of self.old (item_kinds.Part part) ≡ None }
         ensures taken { KeepsNodes document.now part start end (views nodes.items) self.old self.new result }
-        ensures list { steps.new.events ≡ steps.old.events }
-        ensures bound { steps.new.count ≤ steps.old.count + visits_at_end (item_kinds.Part part) (summary_of_nodes (views nodes.items)) }
+        ensures bound { steps.new.number ≤ steps.old.number + visits_at_end (item_kinds.Part part) (summary_of_nodes (views nodes.items)) }
     {
         match part {
             Part::LabelText => self.take_label(alloc, document, nodes, start, end),
@@ -365,7 +367,7 @@ impl<'a> Container<'a> {
     fn take_identified(
         &mut self,
         alloc: Global,
-        steps: &mut Steps<'_>,
+        steps: &mut Count,
         document: &Document<'_>,
         part: Part,
         nodes: Vec<Node>,
@@ -375,8 +377,7 @@ impl<'a> Container<'a> {
         requires such { is_label_string part ≡ true }
         requires fits { misfit_of self.old (item_kinds.Part part) ≡ None }
         ensures taken { KeepsNodes document.now part start end (views nodes.items) self.old self.new result }
-        ensures list { steps.new.events ≡ steps.old.events }
-        ensures bound { steps.new.count ≤ steps.old.count + node_count (views nodes.items) }
+        ensures bound { steps.new.number ≤ steps.old.number + node_count (views nodes.items) }
     {
         match (self, part) {
             (Container::Reference(parts), Part::ReferenceString) => {
@@ -392,7 +393,7 @@ impl<'a> Container<'a> {
         }
     }
 
-    /// Takes the text of a part of which nothing else is read.
+    /// Takes the text of a part from which nothing else is read.
     fn take_value(&mut self, part: Part, text: String)
         requires such { is_text_part part ≡ true }
         requires fits { misfit_of self.old (item_kinds.Part part) ≡ None }
@@ -416,7 +417,7 @@ impl<'a> Container<'a> {
 }
 
 impl<'a> Container<'a> {
-    /// Takes the text of a heading over its underline.
+    /// Takes the text of a heading above its underline.
     pub fn take_heading_text(&mut self)
         requires { misfit_of self.old (item_kinds.Part parts.HeadingSetextText) ≡ None }
         ensures { KeepsAnywhere (item_kinds.Part parts.HeadingSetextText) containers.AnyContent self.old self.new }
@@ -455,7 +456,8 @@ impl<'a> Container<'a> {
 }
 
 impl<'a> Container<'a> {
-    /// Takes what content gives besides its node: a paragraph the mark in it, and an item its number.
+    /// Takes what content contributes besides its node: the mark in a paragraph, and the number of
+    /// an item.
     pub fn take_content(&mut self, content: Content, inner: &Container<'_>)
         requires initial_model { initial_model_of inner.now ≡ models.content_model (current_model_of self.old) content }
         requires such { is_model_of content (initial_model_of inner.now) ≡ true }
@@ -468,7 +470,7 @@ impl<'a> Container<'a> {
         }
     }
 
-    /// The mark of a paragraph is that of its item.
+    /// Takes the mark of a paragraph, which becomes that of its item.
     fn take_paragraph(&mut self, inner: &Container<'_>)
         requires initial_model { initial_model_of inner.now ≡ models.content_model (current_model_of self.old) contents.Paragraph }
         requires such { is_model_of contents.Paragraph (initial_model_of inner.now) ≡ true }
@@ -485,7 +487,7 @@ impl<'a> Container<'a> {
         }
     }
 
-    /// The first number of an item is that of its list.
+    /// Takes the number of an item, which becomes that of its list if it is the first.
     fn take_item(&mut self, inner: &Container<'_>)
         requires initial_model { initial_model_of inner.now ≡ models.content_model (current_model_of self.old) contents.ListItem }
         requires such { is_model_of contents.ListItem (initial_model_of inner.now) ≡ true }
@@ -502,7 +504,7 @@ impl<'a> Container<'a> {
     }
 }
 
-/// Whether content is a leaf, which it is in each container or in none.
+/// Whether content is a leaf, which does not depend on the container.
 fn is_leaf(content: Content) -> bool
     ensures leaf { result ≡ true → (h : ContentModel) → models.content_model h content ≡ models.leaf }
     ensures container { result ≡ false → (h : ContentModel) → models.content_model h content ≢ models.leaf }
@@ -519,7 +521,7 @@ fn is_leaf(content: Content) -> bool
     )
 }
 
-/// Whether a part is a leaf. Of a fence its container says that.
+/// Whether a part is a leaf. For a fence the container decides.
 fn is_leaf_part(part: Part) -> bool
     ensures leaf { result ≡ true → (h : ContentModel) → models.part_model h part ≡ models.leaf }
     ensures container { result ≡ false → part ≢ parts.CodeFencedFence → part ≢ parts.MathFlowFence → IsNoLeaf part }

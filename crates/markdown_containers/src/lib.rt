@@ -1,5 +1,5 @@
-//! The open containers: what may stand in an open span, what it takes at the exit of each span in it, and
-//! the node that it gives at its own.
+//! The open containers: which items an open span accepts, what it takes at the exit of each span in
+//! it, and the node at its own exit.
 #![tactic(auto)]
 
 pub mod container;

@@ -1,4 +1,4 @@
-//! An open span with the nodes made in it: what it takes at the exit of each span in it.
+//! An open span with the nodes made in it, and what it takes at the exit of each span in it.
 
 ghost use Rattle.std.specs.Prelude.{◌≡◌, ◌≢◌, ◌≤◌, ◌+◌, ◌&&◌, ◌||◌, IfOk, None, Ok, OnOk, Option, Some, false, is_some, not, true};
 ghost use Rattle.markdown_blocks.specs.Parents.{is_parent};
@@ -35,39 +35,39 @@ ghost use Rattle.markdown_grammar.specs.Document.{Source, source_of};
 ghost use Rattle.markdown_grammar.specs.Grammar as models;
 ghost use Rattle.markdown_grammar.specs.Hidden.{hides};
 ghost use Rattle.markdown_grammar.specs.Items.{is_line_ending};
-ghost use Rattle.markdown_literals.specs.Autolinks.{is_literal};
+ghost use Rattle.markdown_inlines.specs.Autolinks.{is_literal};
 ghost use Rattle.markdown_nodes.specs.Tree.{join};
 ghost use Rattle.markdown_nodes.specs.View.{views};
 ghost use Rattle.markdown_steps.specs.Columns.{Columns as TableColumns};
 ghost use Rattle.markdown_steps.specs.Visits.{visits_at_end};
-ghost use Rattle.nest.specs.Nest.{IsPut, innermost};
+ghost use Rattle.markdown_parts.specs.Nest.{IsPut, innermost};
 
 use crate::container::Container;
 use character_references::references::References;
+use markdown_blocks::code::{indented_code, inline_code};
+use markdown_blocks::frontmatter::frontmatter;
+use markdown_blocks::html::html;
 use markdown_blocks::list::{ListItemParts, NumberedItemParts, list_item, unordered_list};
+use markdown_blocks::math::inline_math;
 use markdown_blocks::parent::parent;
 use markdown_blocks::table::{Columns, table};
 use markdown_blocks::thematic_break::thematic_break;
-use markdown_builder::items::has_line_endings_after;
-use markdown_builder::marks::Marks;
-use markdown_builder::slice::{Document, byte_at, position_of};
 use markdown_grammar::error_kind::Stop;
+use markdown_inlines::autolink::literal;
 use markdown_inlines::text::{hard_break, put_line_ending, put_slice};
-use markdown_joining::{append, put, put_text};
-use markdown_literals::autolink::literal;
-use markdown_literals::code::{indented_code, inline_code};
-use markdown_literals::frontmatter::frontmatter;
-use markdown_literals::html::html;
-use markdown_literals::math::inline_math;
+use markdown_nodes::count::Count;
 use markdown_nodes::event::Point;
 use markdown_nodes::mdast::Node;
 use markdown_nodes::role::{Content, ItemKind, Part};
-use markdown_nodes::steps::Steps;
 use markdown_nodes::unist::Position;
-use nest::Nest;
+use markdown_parts::items::has_line_endings_after;
+use markdown_parts::joining::{append, put, put_text};
+use markdown_parts::marks::Marks;
+use markdown_parts::nest::Nest;
+use markdown_parts::slice::{Document, byte_at, position_of};
 use std::alloc::{AllocError, Global};
 
-/// An open significant span that is no leaf, or the root, with the nodes made in it so far.
+/// An open significant span that is not a leaf, or the root, with the nodes made in it so far.
 #[derive(Drop)]
 pub struct OpenContainer<'a> {
     pub container: Container<'a>,
@@ -76,20 +76,20 @@ pub struct OpenContainer<'a> {
     pub nodes: Vec<Node>,
 }
 
-/// A span that ends, and what its node asks of where it stands.
+/// A span that ends, and the surroundings that its node depends on.
 #[derive(Clone, Copy)]
 pub struct Ending {
     pub start: Point,
     pub end: Point,
     /// Whether a table is around it.
     pub in_table: bool,
-    /// What the spans in it said.
+    /// What is known of the spans in it.
     pub marks: Marks,
 }
 
 impl<'a> OpenContainer<'a> {
-    /// Takes a leaf that has ended. `pending` is the break that waits for its line ending, if one
-    /// does.
+    /// Takes a leaf that has ended. `pending` is the break that waits for its line ending, if there
+    /// is one.
     pub fn take_leaf<R: References>(
         &mut self,
         pending: &mut Option<Position>,
@@ -112,7 +112,7 @@ impl<'a> OpenContainer<'a> {
         }
     }
 
-    /// Takes content that is a leaf, which gives nodes.
+    /// Takes content that is a leaf, and becomes nodes.
     fn take_leaf_content(
         &mut self,
         pending: &mut Option<Position>,
@@ -140,7 +140,7 @@ impl<'a> OpenContainer<'a> {
         }
     }
 
-    /// Takes a part that is a leaf, of which the container keeps what it asks for.
+    /// Takes a part that is a leaf. The container keeps what it needs of it.
     fn take_leaf_part<R: References>(
         &mut self,
         alloc: Global,
@@ -165,7 +165,7 @@ impl<'a> OpenContainer<'a> {
         taken
     }
 
-    /// Takes a run of characters: a text.
+    /// Takes a run of characters, which becomes a text.
     fn take_data(
         &mut self,
         alloc: Global,
@@ -177,7 +177,7 @@ impl<'a> OpenContainer<'a> {
         put_slice(alloc, &mut self.nodes, document, ending.start, ending.end)
     }
 
-    /// Takes an address that stands in the text as it is: a link to it.
+    /// Takes an autolink literal, which becomes a link.
     fn take_literal(
         &mut self,
         alloc: Global,
@@ -202,8 +202,8 @@ impl<'a> OpenContainer<'a> {
         Ok(())
     }
 
-    /// Takes a line ending. After a break that waits for it, it ends the break, which is then a node:
-    /// in mdast a break reaches over its line ending. Else it is text, where line endings are.
+    /// Takes a line ending. If a break waits for it, it ends the break, which is then a node: in
+    /// mdast a break includes its line ending. Otherwise it is text, where line endings are text.
     fn take_line_ending(
         &mut self,
         pending: &mut Option<Position>,
@@ -226,11 +226,11 @@ impl<'a> OpenContainer<'a> {
 }
 
 impl<'a> OpenContainer<'a> {
-    /// Takes a part that has ended, in which any content stood.
+    /// Takes a part that has ended, whose container accepts any content.
     pub fn take_any_part(
         &mut self,
         alloc: Global,
-        steps: &mut Steps<'_>,
+        steps: &mut Count,
         document: &Document<'a>,
         part: Part,
         nodes: Vec<Node>,
@@ -239,8 +239,7 @@ impl<'a> OpenContainer<'a> {
         requires such { is_part_model part models.any_content ≡ true }
         requires fits { misfit_of self.old.container (item_kinds.Part part) ≡ None }
         ensures left { TakesText document.now part (views nodes.items) ending self.old self.new result }
-        ensures list { steps.new.events ≡ steps.old.events }
-        ensures bound { steps.new.count ≤ steps.old.count + visits_at_end (item_kinds.Part part) (summary_of_nodes (views nodes.items)) }
+        ensures bound { steps.new.number ≤ steps.old.number + visits_at_end (item_kinds.Part part) (summary_of_nodes (views nodes.items)) }
     {
         match part {
             Part::HeadingSetextText => Ok(self.take_heading_text(nodes)?),
@@ -248,8 +247,8 @@ impl<'a> OpenContainer<'a> {
         }
     }
 
-    /// Takes the text of a heading over its underline, whose nodes are the heading's. After it line
-    /// endings are no text.
+    /// Takes the text of a heading above its underline, whose nodes are the heading's. After it
+    /// line endings are not text.
     fn take_heading_text(&mut self, nodes: Vec<Node>) -> Result<(), AllocError>
         requires { misfit_of self.old.container (item_kinds.Part parts.HeadingSetextText) ≡ None }
         ensures { OnOk result (TakesNodes (item_kinds.Part parts.HeadingSetextText) (views nodes.items) self.old self.new) }
@@ -260,12 +259,12 @@ impl<'a> OpenContainer<'a> {
         Ok(())
     }
 
-    /// Takes a part in which content stood: a label, a destination, a title, or what comes after a
+    /// Takes a part that contained content: a label, a destination, a title, or the text after a
     /// fence.
     fn take_text(
         &mut self,
         alloc: Global,
-        steps: &mut Steps<'_>,
+        steps: &mut Count,
         document: &Document<'a>,
         part: Part,
         nodes: Vec<Node>,
@@ -275,8 +274,7 @@ impl<'a> OpenContainer<'a> {
         requires heading { part ≢ parts.HeadingSetextText }
         requires fits { misfit_of self.old.container (item_kinds.Part part) ≡ None }
         ensures left { TakesText document.now part (views nodes.items) ending self.old self.new result }
-        ensures list { steps.new.events ≡ steps.old.events }
-        ensures bound { steps.new.count ≤ steps.old.count + visits_at_end (item_kinds.Part part) (summary_of_nodes (views nodes.items)) }
+        ensures bound { steps.new.number ≤ steps.old.number + visits_at_end (item_kinds.Part part) (summary_of_nodes (views nodes.items)) }
     {
         self.container.take_text(
             alloc,
@@ -303,7 +301,8 @@ impl<'a> OpenContainer<'a> {
     }
 }
 
-/// The nodes of the innermost of open containers: those of the root, once all spans have ended.
+/// Returns the nodes of the innermost of open containers: those of the root, once all spans have
+/// ended.
 #[inline(always)]
 pub fn innermost_nodes(containers: Nest<OpenContainer<'_>>) -> Vec<Node>
     ensures { result ≡ (innermost containers.entry).nodes }
@@ -323,7 +322,7 @@ impl<'a> OpenContainer<'a> {
 }
 
 impl OpenContainer<'_> {
-    /// The nodes made in it, once the span has ended.
+    /// Returns the nodes made in it, once the span has ended.
     #[inline(always)]
     pub fn into_nodes(self) -> Vec<Node>
         ensures { result ≡ self.entry.nodes }
@@ -332,7 +331,7 @@ impl OpenContainer<'_> {
         nodes
     }
 
-    /// Takes a parent that has ended, of which nothing but nodes is kept.
+    /// Takes a parent that has ended, of which only the nodes are kept.
     pub fn take_parent(
         &mut self,
         content: Content,
@@ -350,11 +349,12 @@ impl OpenContainer<'_> {
 }
 
 impl<'a> OpenContainer<'a> {
-    /// Takes content that has ended, in which any content stood, and which is no parent: its node.
+    /// Takes content that has ended and is not a parent, whose container accepts any content. It
+    /// becomes a node.
     pub fn take_any_content(
         &mut self,
         alloc: Global,
-        steps: &mut Steps<'_>,
+        steps: &mut Count,
         document: &Document<'_>,
         columns: &mut Columns,
         content: Content,
@@ -365,19 +365,18 @@ impl<'a> OpenContainer<'a> {
         requires no_parent { is_parent content ≡ false }
         ensures left { TakesAnyContent document.now content nodes ending (columns_of columns.old) self.old self.new result }
         ensures columns { OnOk result (LeavesColumns content ending.marks columns.old columns.new) }
-        ensures list { steps.new.events ≡ steps.old.events }
-        ensures bound { steps.new.count ≤ steps.old.count + visits_at_end (item_kinds.Content content) (summary_of_nodes (views nodes.items)) }
+        ensures bound { steps.new.number ≤ steps.old.number + visits_at_end (item_kinds.Content content) (summary_of_nodes (views nodes.items)) }
     {
         let node = any_content_node(alloc, steps, document, columns, content, nodes, ending)?;
         put(&mut self.nodes, node)?;
         Ok(())
     }
 
-    /// Takes content with parts of its own that has ended: its node, and what else it gives.
+    /// Takes content with parts of its own that has ended: its node, and what else it contributes.
     pub fn take_content(
         &mut self,
         alloc: Global,
-        steps: &mut Steps<'_>,
+        steps: &mut Count,
         document: &Document<'_>,
         content: Content,
         own: OpenContainer<'_>,
@@ -387,8 +386,7 @@ impl<'a> OpenContainer<'a> {
         requires such { is_model_of content (initial_model_of own.container) ≡ true }
         requires other { own.container ≢ containers.AnyContent }
         ensures left { (columns : TableColumns) → TakesContent document.now content own.entry ending columns self.old self.new result }
-        ensures list { steps.new.events ≡ steps.old.events }
-        ensures bound { steps.new.count ≤ steps.old.count + content_visits content own.entry + 1 }
+        ensures bound { steps.new.number ≤ steps.old.number + content_visits content own.entry + 1 }
     {
         self.container.take_content(content, &own.container);
         match content {
@@ -428,11 +426,12 @@ impl<'a> OpenContainer<'a> {
 }
 
 impl<'a> OpenContainer<'a> {
-    /// The node of a span of content with parts of its own, at its exit, if what has to stand in it does.
+    /// Returns the node of a span of content with parts of its own, at its exit, if it has its
+    /// required parts.
     fn node(
         self,
         alloc: Global,
-        steps: &mut Steps<'_>,
+        steps: &mut Count,
         document: &Document<'_>,
         content: Content,
         ending: Ending,
@@ -441,8 +440,7 @@ impl<'a> OpenContainer<'a> {
         requires reference { content ≢ contents.CharacterReference }
         requires other { self.container ≢ containers.AnyContent }
         ensures node { MakesOf self.entry result (λ node. (columns : TableColumns) → IsNodeOf document.now content ending columns (summary_of_container self.entry) node) }
-        ensures list { steps.new.events ≡ steps.old.events }
-        ensures bound { steps.new.count ≤ steps.old.count + content_visits content self.entry + 1 }
+        ensures bound { steps.new.number ≤ steps.old.number + content_visits content self.entry + 1 }
     {
         let OpenContainer {
             container,
@@ -487,19 +485,19 @@ impl<'a> OpenContainer<'a> {
     }
 }
 
-/// Whether the backslashes before pipes go from inline code and math: in a table, but where bytes are
-/// hidden they are among these.
+/// Whether the backslashes before pipes are removed from inline code and math. This is done in a
+/// table, unless there are hidden bytes: then the backslashes are among them.
 fn unescapes(document: &Document<'_>, ending: Ending) -> bool
     ensures { result ≡ (ending.in_table && not (hides document.now.hidden)) }
 {
     ending.in_table && !document.hides()
 }
 
-/// The node of content in which any content may stand, and which is no parent.
+/// Returns the node of content that may contain any content, and is not a parent.
 #[tactic(auto, unfolding(markdown_nodes::specs::View::view))]
 fn any_content_node(
     alloc: Global,
-    steps: &mut Steps<'_>,
+    steps: &mut Count,
     document: &Document<'_>,
     columns: &mut Columns,
     content: Content,
@@ -510,8 +508,7 @@ fn any_content_node(
     requires no_parent { is_parent content ≡ false }
     ensures node { IfOk result (IsNodeOf document.now content ending (columns_of columns.old) (summary_of_nodes (views nodes.items))) }
     ensures columns { OnOk result (LeavesColumns content ending.marks columns.old columns.new) }
-    ensures list { steps.new.events ≡ steps.old.events }
-    ensures bound { steps.new.count ≤ steps.old.count + visits_at_end (item_kinds.Content content) (summary_of_nodes (views nodes.items)) }
+    ensures bound { steps.new.number ≤ steps.old.number + visits_at_end (item_kinds.Content content) (summary_of_nodes (views nodes.items)) }
 {
     let position = position_of(ending.start, ending.end);
     match content {

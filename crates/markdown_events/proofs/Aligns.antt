@@ -16,9 +16,10 @@ use Rattle.markdown_events.specs.Names.{role_of}
 use Rattle.markdown_events.specs.Forest.{Forest, empty, span, events_of, enter, exit, lacks, may_contain, is_well_formed, is_delimiter_row, is_delimiter_cell_value}
 use Rattle.markdown_events.specs.Spread.{is_delimiter_marker, begins_with, last_first, reversed_onto, first_row, align_kind_of, entries, align}
 use Rattle.markdown_events.specs.Walks.{cells_walk, first_after, table_walk}
+use Rattle.markdown_events.proofs.Booleans.{and-left, and-right}
 use Rattle.markdown_events.proofs.Loose.{regroup, after_enter}
 use Rattle.markdown_events.specs.Begins.{BeginsWith}
-use Rattle.markdown_events.proofs.Spans.{and_left, and_right, not_true, may_row, may_value}
+use Rattle.markdown_events.proofs.Spans.{not_true, may_row, may_value}
 
 abbrev row_of : Name → Bool
 row_of n = is_delimiter_row (role_of n)
@@ -35,13 +36,13 @@ last_name empty b = b
 last_name (span n s t c r) b = last_name r n
 
 head_of : (f : Role → Bool) (n : Name) (a b : Point) (c r : Forest) → lacks f (span n a b c r) ≡ true → f (role_of n) ≡ false
-head_of f n a b c r h = not_true _ (and_left (not (f (role_of n))) (lacks f c) (and_left (not (f (role_of n)) && lacks f c) (lacks f r) h))
+head_of f n a b c r h = not_true _ (and-left (not (f (role_of n))) (lacks f c) (and-left (not (f (role_of n)) && lacks f c) (lacks f r) h))
 
 under_of : (f : Role → Bool) (n : Name) (a b : Point) (c r : Forest) → lacks f (span n a b c r) ≡ true → lacks f c ≡ true
-under_of f n a b c r h = and_right (not (f (role_of n))) (lacks f c) (and_left (not (f (role_of n)) && lacks f c) (lacks f r) h)
+under_of f n a b c r h = and-right (not (f (role_of n))) (lacks f c) (and-left (not (f (role_of n)) && lacks f c) (lacks f r) h)
 
 after_of : (f : Role → Bool) (n : Name) (a b : Point) (c r : Forest) → lacks f (span n a b c r) ≡ true → lacks f r ≡ true
-after_of f n a b c r h = and_right (not (f (role_of n)) && lacks f c) (lacks f r) h
+after_of f n a b c r h = and-right (not (f (role_of n)) && lacks f c) (lacks f r) h
 
 last_not : (f : Forest) (b : Name) → lacks is_delimiter_cell_value f ≡ true → cell_of b ≡ false → cell_of (last_name f b) ≡ false
 last_not empty b h e = e
@@ -139,13 +140,13 @@ abbrev Walked : Forest → Name → Bool → List Event → Type 0
 Walked f before first more = (b : Name) × (x : Bool) × (cells_walk (events_of f ++ more) before first ≡ entries f ++ cells_walk more b x)
 
 shape_c : (n : Name) (a b : Point) (c r : Forest) → is_well_formed (span n a b c r) ≡ true → is_well_formed c ≡ true
-shape_c n a b c r h = and_right (may_contain (role_of n) c) (is_well_formed c) (and_left (may_contain (role_of n) c && is_well_formed c) (is_well_formed r) h)
+shape_c n a b c r h = and-right (may_contain (role_of n) c) (is_well_formed c) (and-left (may_contain (role_of n) c && is_well_formed c) (is_well_formed r) h)
 
 shape_r : (n : Name) (a b : Point) (c r : Forest) → is_well_formed (span n a b c r) ≡ true → is_well_formed r ≡ true
-shape_r n a b c r h = and_right (may_contain (role_of n) c && is_well_formed c) (is_well_formed r) h
+shape_r n a b c r h = and-right (may_contain (role_of n) c && is_well_formed c) (is_well_formed r) h
 
 shape_may : (n : Name) (a b : Point) (c r : Forest) → is_well_formed (span n a b c r) ≡ true → may_contain (role_of n) c ≡ true
-shape_may n a b c r h = and_left (may_contain (role_of n) c) (is_well_formed c) (and_left (may_contain (role_of n) c && is_well_formed c) (is_well_formed r) h)
+shape_may n a b c r h = and-left (may_contain (role_of n) c) (is_well_formed c) (and-left (may_contain (role_of n) c && is_well_formed c) (is_well_formed r) h)
 
 row_span : (n : Name) (a b : Point) (c r : Forest) (before : Name) (first : Bool) (more : List Event)
     → lacks is_delimiter_row (span n a b c r) ≡ true → is_well_formed (span n a b c r) ≡ true

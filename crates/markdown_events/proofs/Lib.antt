@@ -1,3 +1,8 @@
+pub mod Booleans
+mod Decimals
+pub mod Cuts
+pub mod LineEndings
+pub mod Collapsing
 pub mod Spellings
 pub mod Unique
 pub mod Loose

@@ -17,6 +17,7 @@ use Rattle.markdown_events.specs.Names.{is_same_name, role_of}
 use Rattle.markdown_events.specs.Forest.{Forest, empty, span, events_of, enter, exit, is_empty, lacks, may_contain, is_well_formed, is_delimiter_row, is_delimiter_cell_value}
 use Rattle.markdown_events.specs.Walks.{around_of, run, move, can_enter}
 use Rattle.markdown_events.specs.Around.{is_sealed}
+use Rattle.markdown_events.proofs.Booleans.{and-both, and-left, and-right}
 use Rattle.markdown_events.proofs.Loose.{regroup}
 
 abbrev row_of : Name → Bool
@@ -35,17 +36,6 @@ pub same_is : (m n : Name) → is_same_name m n ≡ true → m ≡ n
 same_is m n h = same_true the_type (search rules) m n h
 
 -- ---- Bools
-
-pub and_left : (a b : Bool) → (a && b) ≡ true → a ≡ true
-and_left true b h = refl
-and_left false b h = h
-
-pub and_right : (a b : Bool) → (a && b) ≡ true → b ≡ true
-and_right true b h = h
-and_right false b h = absurd cc
-
-and_both : (a b : Bool) → a ≡ true → b ≡ true → (a && b) ≡ true
-and_both a b h g = rw (h, g) refl
 
 or_true : (b : Bool) → (b || true) ≡ true
 or_true true = refl
@@ -109,40 +99,40 @@ may_value r c h e = let z : false ≡ true = e in absurd (let w : ⊥ = cc in w)
 pub from_fits : (row cell : Bool) (f : Forest) → fits row cell f ≡ true → Fit row cell f
 from_fits row cell empty h = record { shape = refl; rows = λ e. refl; cells = λ e. refl }
 from_fits row cell (span n a b c r) h =
-    let x1 = and_left (not (row && row_of n)) _ h in
-    let h2 = and_right (not (row && row_of n)) _ h in
-    let x2 = and_left (not (cell && cell_of n)) _ h2 in
-    let h3 = and_right (not (cell && cell_of n)) _ h2 in
-    let x3 = and_left (not (closed_of n) || is_empty c) _ h3 in
-    let h4 = and_right (not (closed_of n) || is_empty c) _ h3 in
-    let fc = from_fits (row || row_of n) (cell || cell_of n) c (and_left _ (fits row cell r) h4) in
-    let fr = from_fits row cell r (and_right (fits (row || row_of n) (cell || cell_of n) c) _ h4) in
+    let x1 = and-left (not (row && row_of n)) _ h in
+    let h2 = and-right (not (row && row_of n)) _ h in
+    let x2 = and-left (not (cell && cell_of n)) _ h2 in
+    let h3 = and-right (not (cell && cell_of n)) _ h2 in
+    let x3 = and-left (not (closed_of n) || is_empty c) _ h3 in
+    let h4 = and-right (not (closed_of n) || is_empty c) _ h3 in
+    let fc = from_fits (row || row_of n) (cell || cell_of n) c (and-left _ (fits row cell r) h4) in
+    let fr = from_fits row cell r (and-right (fits (row || row_of n) (cell || cell_of n) c) _ h4) in
     record {
-      shape = and_both _ _ (and_both _ _ (may_of (role_of n) c x3 (λ e. fc.rows (or_right row _ e)) (λ e. fc.cells (or_right cell _ e))) fc.shape) fr.shape;
-      rows = λ e. and_both _ _ (and_both _ _ (not_other row _ x1 e) (fc.rows (ap (λ x. x || row_of n) e))) (fr.rows e);
-      cells = λ e. and_both _ _ (and_both _ _ (not_other cell _ x2 e) (fc.cells (ap (λ x. x || cell_of n) e))) (fr.cells e);
+      shape = and-both _ _ (and-both _ _ (may_of (role_of n) c x3 (λ e. fc.rows (or_right row _ e)) (λ e. fc.cells (or_right cell _ e))) fc.shape) fr.shape;
+      rows = λ e. and-both _ _ (and-both _ _ (not_other row _ x1 e) (fc.rows (ap (λ x. x || row_of n) e))) (fr.rows e);
+      cells = λ e. and-both _ _ (and-both _ _ (not_other cell _ x2 e) (fc.cells (ap (λ x. x || cell_of n) e))) (fr.cells e);
     }
 
 pub to_fits : (row cell : Bool) (f : Forest) → Fit row cell f → fits row cell f ≡ true
 to_fits row cell empty h = refl
 to_fits row cell (span n a b c r) h =
-    let front = and_left (may_contain (role_of n) c && is_well_formed c) (is_well_formed r) h.shape in
-    let may = and_left (may_contain (role_of n) c) (is_well_formed c) front in
-    let rows : row ≡ true → (not (row_of n) && lacks is_delimiter_row c) ≡ true = λ t. and_left (not (row_of n) && lacks is_delimiter_row c) (lacks is_delimiter_row r) (h.rows t) in
-    let cells : cell ≡ true → (not (cell_of n) && lacks is_delimiter_cell_value c) ≡ true = λ t. and_left (not (cell_of n) && lacks is_delimiter_cell_value c) (lacks is_delimiter_cell_value r) (h.cells t) in
+    let front = and-left (may_contain (role_of n) c && is_well_formed c) (is_well_formed r) h.shape in
+    let may = and-left (may_contain (role_of n) c) (is_well_formed c) front in
+    let rows : row ≡ true → (not (row_of n) && lacks is_delimiter_row c) ≡ true = λ t. and-left (not (row_of n) && lacks is_delimiter_row c) (lacks is_delimiter_row r) (h.rows t) in
+    let cells : cell ≡ true → (not (cell_of n) && lacks is_delimiter_cell_value c) ≡ true = λ t. and-left (not (cell_of n) && lacks is_delimiter_cell_value c) (lacks is_delimiter_cell_value r) (h.cells t) in
     let fc : Fit (row || row_of n) (cell || cell_of n) c = record {
-      shape = and_right (may_contain (role_of n) c) (is_well_formed c) front;
-      rows = λ e. either row (row_of n) (lacks is_delimiter_row c ≡ true) e (λ t. and_right (not (row_of n)) (lacks is_delimiter_row c) (rows t)) (λ t. may_row (role_of n) c may t);
-      cells = λ e. either cell (cell_of n) (lacks is_delimiter_cell_value c ≡ true) e (λ t. and_right (not (cell_of n)) (lacks is_delimiter_cell_value c) (cells t)) (λ t. may_value (role_of n) c may t);
+      shape = and-right (may_contain (role_of n) c) (is_well_formed c) front;
+      rows = λ e. either row (row_of n) (lacks is_delimiter_row c ≡ true) e (λ t. and-right (not (row_of n)) (lacks is_delimiter_row c) (rows t)) (λ t. may_row (role_of n) c may t);
+      cells = λ e. either cell (cell_of n) (lacks is_delimiter_cell_value c ≡ true) e (λ t. and-right (not (cell_of n)) (lacks is_delimiter_cell_value c) (cells t)) (λ t. may_value (role_of n) c may t);
     } in
     let fr : Fit row cell r = record {
-      shape = and_right (may_contain (role_of n) c && is_well_formed c) (is_well_formed r) h.shape;
-      rows = λ t. and_right (not (row_of n) && lacks is_delimiter_row c) (lacks is_delimiter_row r) (h.rows t);
-      cells = λ t. and_right (not (cell_of n) && lacks is_delimiter_cell_value c) (lacks is_delimiter_cell_value r) (h.cells t);
+      shape = and-right (may_contain (role_of n) c && is_well_formed c) (is_well_formed r) h.shape;
+      rows = λ t. and-right (not (row_of n) && lacks is_delimiter_row c) (lacks is_delimiter_row r) (h.rows t);
+      cells = λ t. and-right (not (cell_of n) && lacks is_delimiter_cell_value c) (lacks is_delimiter_cell_value r) (h.cells t);
     } in
-    and_both _ _ (not_both row _ (λ t. and_left (not (row_of n)) (lacks is_delimiter_row c) (rows t)))
-    (and_both _ _ (not_both cell _ (λ t. and_left (not (cell_of n)) (lacks is_delimiter_cell_value c) (cells t)))
-    (and_both _ _ (may_closed (role_of n) c may) (and_both _ _ (to_fits _ _ c fc) (to_fits _ _ r fr))))
+    and-both _ _ (not_both row _ (λ t. and-left (not (row_of n)) (lacks is_delimiter_row c) (rows t)))
+    (and-both _ _ (not_both cell _ (λ t. and-left (not (cell_of n)) (lacks is_delimiter_cell_value c) (cells t)))
+    (and-both _ _ (may_closed (role_of n) c may) (and-both _ _ (to_fits _ _ c fc) (to_fits _ _ r fr))))
 
 -- ---- The walk over a spelling
 
@@ -176,14 +166,14 @@ walks empty n st k more free h = let z : k ≡ k + 0 = omega arith in ap (λ x. 
 walks (span m s t c r) n st k more free h =
     let row = (around_of (n ∷ st)).in_row in
     let cell = (around_of (n ∷ st)).in_value in
-    let x1 = and_left (not (row && row_of m)) _ h in
-    let h2 = and_right (not (row && row_of m)) _ h in
-    let x2 = and_left (not (cell && cell_of m)) _ h2 in
-    let h3 = and_right (not (cell && cell_of m)) _ h2 in
-    let x3 = and_left (not (closed_of m) || is_empty c) _ h3 in
-    let h4 = and_right (not (closed_of m) || is_empty c) _ h3 in
-    let fc = and_left (fits (row || row_of m) (cell || cell_of m) c) (fits row cell r) h4 in
-    let fr = and_right (fits (row || row_of m) (cell || cell_of m) c) _ h4 in
+    let x1 = and-left (not (row && row_of m)) _ h in
+    let h2 = and-right (not (row && row_of m)) _ h in
+    let x2 = and-left (not (cell && cell_of m)) _ h2 in
+    let h3 = and-right (not (cell && cell_of m)) _ h2 in
+    let x3 = and-left (not (closed_of m) || is_empty c) _ h3 in
+    let h4 = and-right (not (closed_of m) || is_empty c) _ h3 in
+    let fc = and-left (fits (row || row_of m) (cell || cell_of m) c) (fits row cell r) h4 in
+    let fr = and-right (fits (row || row_of m) (cell || cell_of m) c) _ h4 in
     let tail = exit m t ∷ (events_of r ++ more) in
     enters (closed_of n) row cell (row_of m) (cell_of m) (run ((events_of c ++ (exit m t ∷ events_of r)) ++ more) (m ∷ n ∷ st) (k + 1)) free x1 x2
     ∙ ap (λ es. run es (m ∷ n ∷ st) (k + 1)) (regroup m t (events_of c) (events_of r) more)
@@ -196,9 +186,9 @@ walks (span m s t c r) n st k more free h =
 pub walked : (n : Name) (a b : Point) (c : Forest) (more : List Event) → is_well_formed (span n a b c empty) ≡ true
     → run (enter n a ∷ (events_of c ++ (exit n b ∷ more))) [] 0 ≡ Some (1 + length (events_of c))
 walked n a b c more h =
-    let both = and_left (may_contain (role_of n) c && is_well_formed c) true h in
-    let may = and_left (may_contain (role_of n) c) (is_well_formed c) both in
-    let shape = and_right (may_contain (role_of n) c) (is_well_formed c) both in
+    let both = and-left (may_contain (role_of n) c && is_well_formed c) true h in
+    let may = and-left (may_contain (role_of n) c) (is_well_formed c) both in
+    let shape = and-right (may_contain (role_of n) c) (is_well_formed c) both in
     let fit : fits (false || row_of n) (false || cell_of n) c ≡ true = to_fits (row_of n) (cell_of n) c (record { shape = shape; rows = λ t. may_row (role_of n) c may t; cells = λ t. may_value (role_of n) c may t }) in
     inner n c [] 1 (exit n b ∷ more) (may_closed (role_of n) c may) (λ e. walks c n [] 1 (exit n b ∷ more) e fit) (closed_of n) refl
     ∙ ap (λ x. cond x (Some (1 + length (events_of c))) None) (same_refl n)
@@ -233,15 +223,15 @@ deeper : (m n : Name) (s : Point) (st : List Name) (es : List Event) (k : ℕ) �
 deeper m n s st es k can (c1, p1, tail1, e1, good1, a1, k1, (c2, p2, tail2, e2, good2, a2, k2, rest)) =
     let row = not ((around_of (n ∷ st)).in_row && row_of m) in
     let cell = not ((around_of (n ∷ st)).in_value && cell_of m) in
-    let before = and_left (not (closed_of n) && row) cell can in
-    let free : is_sealed (role_of n) ≡ false = not_true _ (and_left (not (closed_of n)) row before) in
+    let before = and-left (not (closed_of n) && row) cell can in
+    let free : is_sealed (role_of n) ≡ false = not_true _ (and-left (not (closed_of n)) row before) in
     let spelled : enter m s ∷ es ≡ events_of (span m s p1 c1 c2) ++ (exit n p2 ∷ tail2) =
     ap (λ x. enter m s ∷ x) (e1 ∙ ap (λ x. events_of c1 ++ (exit m p1 ∷ x)) e2 ∙ sym (append_assoc (events_of c1) (exit m p1 ∷ events_of c2) (exit n p2 ∷ tail2))) in (
       span m s p1 c1 c2,
       p2,
       tail2,
       spelled,
-      (all_of _ _ _ _ (and_right (not (closed_of n)) row before) (and_right (not (closed_of n) && row) cell can) good1.1 good1.0 _ good2.0, open_any n (span m s p1 c1 c2) free),
+      (all_of _ _ _ _ (and-right (not (closed_of n)) row before) (and-right (not (closed_of n) && row) cell can) good1.1 good1.0 _ good2.0, open_any n (span m s p1 c1 c2) free),
       a2,
       nested (events_of c1) (events_of c2) (exit m p1) k k a1 a2 k1 k2,
       rest,
@@ -291,7 +281,7 @@ front Enter n a es j h =
       c,
       tail,
       ap (λ x. enter n a ∷ x) (spelled ∙ sym (regroup n p (events_of c) [] tail)),
-      and_both _ true (and_both _ _ may fit.shape) refl,
+      and-both _ true (and-both _ _ may fit.shape) refl,
       omega (arith, length-append (events_of c) (exit n p ∷ []), none, long, count),
     )
 front Exit n a es j h = absurd (let w : ⊥ = cc in w)

@@ -1,4 +1,4 @@
--- How the alignments of columns are called.
+-- The names of column alignments.
 use Rattle.std.specs.Prelude.{ℕ, List, codes}
 use Rattle.markdown_events.specs.declared.infer.AlignKind.{AlignKind}
 use Rattle.markdown_events.specs.declared.infer.AlignKind.TheVariants as kinds

@@ -1,4 +1,4 @@
--- What is around a span, transparent or significant, and which spans may begin there.
+-- The surroundings of a span, transparent or significant, and which spans may begin there.
 use Rattle.std.specs.Prelude.{Bool, true, false, not, ◌&&◌, ◌||◌}
 use Rattle.markdown_events.specs.Forest.{is_delimiter_cell_value, is_delimiter_row}
 use Rattle.markdown_events.specs.declared.around.Around.{Around}
@@ -8,7 +8,7 @@ use Rattle.markdown_events.specs.declared.role.TransparentKind.TheVariants as tr
 use Rattle.markdown_events.specs.declared.role.Role.{Role}
 use Rattle.markdown_events.specs.declared.role.Role.TheVariants.{Transparent as transparent, Significant as significant}
 
--- the roles whose spans may not hold any span
+-- a role whose spans may not contain any span
 abbrev pub is_sealed : Role → Bool
 is_sealed (significant (content contents.LineEnding)) = true
 is_sealed (transparent transparents.BlankLineEnding) = true
@@ -19,10 +19,10 @@ is_sealed _ = false
 abbrev pub in_the_open : Around
 in_the_open = record { in_sealed = false; in_row = false; in_value = false }
 
--- a span of that role may begin here
+-- a span of this role may begin here
 abbrev pub may_begin : Around → Role → Bool
 may_begin a role = (not a.in_sealed && not (a.in_row && is_delimiter_row role)) && not (a.in_value && is_delimiter_cell_value role)
 
--- what is around the spans in a span of that role
+-- the surroundings of the spans in a span of this role
 abbrev pub under : Around → Role → Around
 under a role = record { in_sealed = is_sealed role; in_row = a.in_row || is_delimiter_row role; in_value = a.in_value || is_delimiter_cell_value role }

@@ -24,17 +24,17 @@ enter name point = record { kind = Enter; name = name; point = point }
 abbrev pub exit : Name → Point → Event
 exit name point = record { kind = Exit; name = name; point = point }
 
--- for each span its enter, what is in it, and its exit
+-- for each span: its enter, the events of the spans in it, and its exit
 abbrev pub events_of : Forest → List Event
 events_of empty = []
 events_of (span name start end children rest) = enter name start ∷ (events_of children ++ (exit name end ∷ events_of rest))
 
--- no span
+-- whether there is no span
 abbrev pub is_empty : Forest → Bool
 is_empty empty = true
 is_empty (span _ _ _ _ _) = false
 
--- no span of the forest, at any depth, has such a role
+-- no span of the forest, at any depth, has a role that passes the test
 abbrev pub lacks : (Role → Bool) → Forest → Bool
 lacks test empty = true
 lacks test (span name _ _ children rest) = not (test (role_of name)) && lacks test children && lacks test rest
@@ -49,7 +49,7 @@ abbrev pub is_delimiter_cell_value : Role → Bool
 is_delimiter_cell_value (transparent transparents.DelimiterCellValue) = true
 is_delimiter_cell_value _ = false
 
--- line endings, blank line endings and spaces hold nothing; delimiter rows, and delimiter cell values, do not nest
+-- line endings, blank line endings and spaces contain nothing; delimiter rows do not nest, and delimiter cell values do not nest
 abbrev pub may_contain : Role → Forest → Bool
 may_contain (significant (content contents.LineEnding)) children = is_empty children
 may_contain (transparent transparents.BlankLineEnding) children = is_empty children
@@ -58,7 +58,7 @@ may_contain (transparent transparents.DelimiterRow) children = lacks is_delimite
 may_contain (transparent transparents.DelimiterCellValue) children = lacks is_delimiter_cell_value children
 may_contain _ children = true
 
--- each span holds only what it may
+-- each span contains only what it may
 abbrev pub is_well_formed : Forest → Bool
 is_well_formed empty = true
 is_well_formed (span name _ _ children rest) = may_contain (role_of name) children && is_well_formed children && is_well_formed rest

@@ -1,3 +1,7 @@
+pub mod Places
+pub mod Messages
+pub mod Texts
+pub mod TextWalks
 pub mod Names
 pub mod Spelling
 pub mod Alignments

@@ -1,4 +1,4 @@
--- What each name is to the tree.
+-- The role of each name.
 use Rattle.std.specs.Prelude.{Bool}
 use denote.Enum.Bare.{sameb}
 use Rattle.markdown_events.specs.contracts.event.Name.{the_type}
@@ -11,7 +11,8 @@ use Rattle.markdown_events.specs.declared.role.Content.TheVariants as contents
 use Rattle.markdown_events.specs.declared.role.Part.TheVariants as parts
 use Rattle.markdown_events.specs.declared.role.TransparentKind.TheVariants as transparents
 
--- 73 names are significant, and 68 transparent; of these no rule names the 61 of the kind Other, whose spans still count as children
+-- 73 names are significant and 68 transparent; of the transparent ones 61 have the kind Other:
+-- no rule names them, but their spans still count as children
 abbrev pub role_of : Name → Role
 role_of name.Data = significant (content contents.Data)
 role_of name.CharacterEscapeValue = significant (content contents.Data)
@@ -95,6 +96,6 @@ role_of name.GfmTableDelimiterCellValue = transparent transparents.DelimiterCell
 role_of name.GfmTableDelimiterMarker = transparent transparents.DelimiterMarker
 role_of _ = transparent transparents.Other
 
--- whether two names are one
+-- whether two names are the same
 abbrev pub is_same_name : Name → Name → Bool
 is_same_name = sameb the_type

@@ -5,7 +5,7 @@ use Rattle.markdown_events.specs.declared.event.Name.{Name}
 use Rattle.markdown_events.specs.declared.event.Name.TheVariants as name
 use Rattle.markdown_events.specs.declared.event.TheConstants.{NAMES_BY_LENGTH}
 
--- a name is written as its own word
+-- the spelling of a name
 abbrev pub spelling : Name → List ℕ
 spelling name.Data = codes "Data"
 spelling name.CharacterEscapeValue = codes "CharacterEscapeValue"
@@ -149,15 +149,15 @@ spelling name.StrongSequence = codes "StrongSequence"
 spelling name.StrongText = codes "StrongText"
 spelling name.ThematicBreakSequence = codes "ThematicBreakSequence"
 
--- the first name of a list that is spelled so
+-- the first name in a list that has this spelling
 abbrev pub first_spelled : List Name → List ℕ → Option Name
 first_spelled [] text = None
 first_spelled (n ∷ names) text = if bytes_eq (spelling n) text then Some n else first_spelled names text
 
--- the same in the row of that length
+-- the first name that has this spelling in the row for its length
 abbrev pub name_of_length : List (List Name) → List ℕ → Option Name
 name_of_length rows text = first_spelled (slice_index_or rows (length text) []) text
 
--- the name that is spelled so
+-- the name that has this spelling
 unfoldable pub name_of : List ℕ → Option Name
 name_of text = name_of_length (map (λ (row : record { now : List Name }). row.now) NAMES_BY_LENGTH) text

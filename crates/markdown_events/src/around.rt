@@ -1,26 +1,26 @@
-//! What is around a span, as far as well-formedness asks: for the crates of this repository.
+//! The context that well-formedness depends on. For the crates of this repository.
 
 ghost use Rattle.std.specs.Prelude.{◌≡◌};
 ghost use Rattle.markdown_events.specs.Around.{in_the_open, may_begin, under};
 
 use crate::role::{Role, TransparentKind};
 
-/// What is around a span, as far as well-formedness asks (ours). It is there for the crates of this
-/// repository; whoever compiles events needs none.
+/// The context of a span that well-formedness depends on (ours). It is for the crates of this
+/// repository; you do not need it to compile events.
 ///
 /// In a `GfmTableDelimiterRow`, `in_row` is true at any depth, and no other such row may begin.
 #[derive(Clone, Copy, PartialEq, Eq, Debug)]
 pub struct Around {
-    /// The innermost open span may contain no span.
+    /// Whether the innermost open span may contain no span.
     pub in_sealed: bool,
-    /// A delimiter row is open.
+    /// Whether a delimiter row is open.
     pub in_row: bool,
-    /// A delimiter cell value is open.
+    /// Whether a delimiter cell value is open.
     pub in_value: bool,
 }
 
 impl Around {
-    /// What is around a span where no span is open.
+    /// Returns the context in which no span is open.
     ///
     /// A span of any role may begin there.
     pub fn in_the_open() -> Around
@@ -33,7 +33,7 @@ impl Around {
         }
     }
 
-    /// Whether a span of the role may begin here: none directly in a span that is sealed
+    /// Whether a span of the role may begin here. None may begin directly in a span that is sealed
     /// ([`Role::is_sealed`]), no delimiter row inside a delimiter row, and no delimiter cell value
     /// inside a delimiter cell value.
     ///
@@ -50,7 +50,7 @@ impl Around {
         }
     }
 
-    /// What is around the spans in a span of this role that begins here.
+    /// Returns the context inside a span of this role that begins here.
     ///
     /// In a delimiter row with no span around it, `in_row` alone is true.
     #[inline]

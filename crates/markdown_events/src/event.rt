@@ -1,4 +1,4 @@
-//! Events: the flat list of enters and exits that a tokenizer gives for a document (micromark).
+//! Events: the flat list of enters and exits that a tokenizer produces for a document (micromark).
 
 ghost use Rattle.std.specs.Prelude.{◌≡◌, ◌↔◌, IsTrue, Some, map};
 ghost use Rattle.markdown_events.specs.Spelling.{spelling, first_spelled, name_of_length, name_of};
@@ -27,7 +27,7 @@ pub enum Kind {
 /// The name of a span: what the tokenizer found there (micromark, by the names of the crate
 /// `markdown`).
 ///
-/// [`Name::role`] says what a name is to the tree, and [`Name::text`] how it is written. The tables
+/// [`Name::role`] says what a name is to the tree, and [`Name::text`] how it is spelled. The tables
 /// of `docs/EVENTS.md` have an example of each.
 ///
 /// In the document `*a*` the whole is a `Name::Emphasis`, each star a `Name::EmphasisSequence`, and
@@ -53,7 +53,7 @@ pub enum Name {
     CharacterReferenceMarkerNumeric,
     CharacterReferenceMarkerHexadecimal,
     CharacterReferenceValue,
-    // Parts whose nodes give a text or a label.
+    // Parts whose nodes become a text or a label.
     CodeFencedFenceInfo,
     CodeFencedFenceMeta,
     DefinitionDestinationString,
@@ -65,7 +65,7 @@ pub enum Name {
     ReferenceString,
     ResourceDestinationString,
     ResourceTitleString,
-    // Spans that give a node.
+    // Spans that become a node.
     Autolink,
     BlockQuote,
     CodeFenced,
@@ -122,7 +122,7 @@ pub enum Name {
     GfmTableDelimiterRow,
     GfmTableDelimiterCellValue,
     GfmTableDelimiterMarker,
-    // Transparent names that no rule names: `TransparentKind::Other`.
+    // Transparent names that no rule mentions: `TransparentKind::Other`.
     AttentionSequence,
     AutolinkMarker,
     BlockQuoteMarker,
@@ -186,8 +186,8 @@ pub enum Name {
     ThematicBreakSequence,
 }
 
-/// The names by the length of their spelling, which is the index: the more frequent ones of a
-/// length stand first.
+/// The names by the length of their spelling, which is the index. The more frequent names of a
+/// length come first.
 static NAMES_BY_LENGTH: [&[Name]; 36] = [
     &[],
     &[],
@@ -374,7 +374,7 @@ static NAMES_BY_LENGTH: [&[Name]; 36] = [
     &[Name::CharacterReferenceMarkerHexadecimal],
 ];
 
-/// `{:?}` writes the name as it is written in an event line.
+/// `{:?}` writes the name as in an event line.
 impl fmt::Debug for Name {
     ghost debug_output = { λ name. Some (spelling name) };
 
@@ -384,7 +384,7 @@ impl fmt::Debug for Name {
 }
 
 impl Name {
-    /// The name as it is written in an event line.
+    /// Returns the name as it is written in an event line.
     ///
     /// `Name::BlockQuote.text()` is `BlockQuote`.
     pub fn text(self) -> &'static str
@@ -535,8 +535,8 @@ impl Name {
         }
     }
 
-    /// Whether two names are the same, as `==` says, with a contract of its own for the crates of
-    /// this repository.
+    /// Whether two names are the same, like `==`, with a contract of its own for the crates of this
+    /// repository.
     ///
     /// `Name::Data.is(Name::Data)` is true, and `Name::HtmlFlow.is(Name::HtmlText)` is false.
     pub fn is(self, other: Name) -> bool
@@ -546,7 +546,7 @@ impl Name {
         self == other
     }
 
-    /// The name that is written like this, or none. Case matters: `data` is no name.
+    /// Returns the name with this spelling, or none. Case matters: `data` is not a name.
     ///
     /// `Name::find("Data")` is `Some(Name::Data)`, and `Name::find("Nope")` is `None`.
     pub fn find(text: &str) -> Option<Name>
@@ -556,7 +556,7 @@ impl Name {
         Name::find_bytes(text.as_bytes())
     }
 
-    /// The same as [`find`](Name::find) for bytes, which need not be UTF-8.
+    /// Does what [`find`](Name::find) does for bytes, which need not be UTF-8.
     ///
     /// `Name::find_bytes(b"Data")` is `Some(Name::Data)`.
     pub fn find_bytes(text: &[u8]) -> Option<Name>
@@ -567,7 +567,7 @@ impl Name {
     }
 }
 
-/// The name of that spelling in the row of its length.
+/// Returns the name with this spelling in the row of its length.
 fn find_in_rows(rows: &[&[Name]], text: &[u8]) -> Option<Name>
     ensures { result ≡ name_of_length (map (λ row. row.now) rows.now) text.now }
 {
@@ -577,7 +577,7 @@ fn find_in_rows(rows: &[&[Name]], text: &[u8]) -> Option<Name>
     }
 }
 
-/// The first name of a row that is spelled so.
+/// Returns the first name of a row with this spelling.
 fn find_in_row(names: &[Name], text: &[u8]) -> Option<Name>
     ensures { result ≡ first_spelled names.now text.now }
 {
@@ -589,25 +589,25 @@ fn find_in_row(names: &[Name], text: &[u8]) -> Option<Name>
     None
 }
 
-/// A place in a document, as the tokenizer of the crate `markdown` has it.
+/// A place in a document, as in the tokenizer of the crate `markdown`.
 ///
-/// In the document `Hi` the point after the `H` is
-/// `Point { line: 1, column: 2, index: 1, vs: 0 }`.
+/// In the document `Hi` the point after the `H` is `Point { line: 1, column: 2, index: 1, vs: 0 }`.
 #[derive(Clone, Copy, PartialEq, Eq, Debug)]
 pub struct Point {
     /// The line, counted from 1. It is not compared with the document.
     pub line: usize,
-    /// The column, counted from 1, in whatever unit the tokenizer counts.
+    /// The column, counted from 1, in the unit that the tokenizer counts.
     pub column: usize,
     /// The offset: how many bytes of the document come before the point, counted from 0.
     pub index: usize,
-    /// Virtual spaces: of a point within a tab, how many of the tab's columns come before the point,
-    /// and otherwise 0.
+    /// Virtual spaces: for a point within a tab, how many of the tab's columns come before the
+    /// point; otherwise 0.
     pub vs: usize,
 }
 
 impl Point {
-    /// The point as unist has it: the index is the offset, and virtual spaces are dropped.
+    /// Returns the point in the form of unist: the index is the offset, and virtual spaces are
+    /// dropped.
     ///
     /// `Point { line: 1, column: 3, index: 2, vs: 1 }.to_unist()` is `unist::Point::new(1, 3, 2)`.
     pub fn to_unist(&self) -> unist::Point
@@ -623,7 +623,7 @@ impl Point {
 /// `point` is the start of the document.
 #[derive(Clone, Copy, PartialEq, Eq, Debug)]
 pub struct Event {
-    /// Whether it is the enter or the exit.
+    /// Whether it is an enter or an exit.
     pub kind: Kind,
     /// The name of the span.
     pub name: Name,

@@ -1,8 +1,8 @@
-//! Fields of nodes that are read off the events of a whole span: whether a list or an item is spread,
-//! and how the columns of a table are aligned.
+//! Fields of nodes that are read from the events of a whole span: whether a list or an item is
+//! spread, and how the columns of a table are aligned.
 //!
-//! Each function asks that the event at the index is the enter of what it is about, and that a
-//! well-formed span begins there, which [`span_begins`](crate::event::span_begins) finds out.
+//! Each function requires that the event at the index enters the right kind of span, and that a
+//! well-formed span begins there. Use [`span_begins`](crate::event::span_begins) to check this.
 
 ghost use Rattle.std.specs.Prelude.{◌≡◌, IsOk, IfOk, false, []};
 ghost use Rattle.markdown_events.specs.declared.event.Name.TheVariants as names;
@@ -36,7 +36,7 @@ pub enum AlignKind {
     Right,
     /// Center: `| :-: |`.
     Center,
-    /// None is given: `| --- |`.
+    /// No alignment: `| --- |`.
     None,
 }
 
@@ -58,17 +58,17 @@ impl fmt::Debug for AlignKind {
 
 /// Whether the list whose enter is at this index, counted from 0, is loose.
 ///
-/// It is loose where a blank line ending that is its direct child counts. Such a blank line ending
-/// counts unless the sibling directly before it is an item without content at its end: an item whose
-/// last child, one `SpaceOrTab` skipped, is its prefix, or a block quote that ends with its own
-/// prefix. With `include_items`, a loose item, as [`list_item_loose`] says, makes the list loose too:
-/// these are the loose lists of CommonMark, and mdast's `spread` of a list leaves the items out.
-/// Which blank lines do not count is a rule of markdown-rs. This cannot fail, and takes no memory. The
-/// event at the index has to be the enter of a list, and a well-formed span has to begin there, as
-/// [`span_begins`](crate::event::span_begins) tells.
+/// It is loose if a blank line ending that is its direct child counts. Such a blank line ending
+/// counts unless the sibling directly before it is an item without content at its end: an item
+/// whose last child, one `SpaceOrTab` skipped, is its prefix, or a block quote that ends with its
+/// own prefix. With `include_items`, a loose item, as in [`list_item_loose`], makes the list loose
+/// too: these are the loose lists of CommonMark, and mdast's `spread` of a list leaves the items
+/// out. Which blank lines do not count is a rule of markdown-rs. This cannot fail, and allocates no
+/// memory. The event at the index must be the enter of a list, and a well-formed span must begin
+/// there (see [`span_begins`](crate::event::span_begins)).
 ///
-/// A list of an item with a paragraph, a blank line ending and another item is loose. It is not
-/// where the first item has only its prefix.
+/// A list of an item with a paragraph, a blank line ending and another item is loose. It is not if
+/// the first item has only its prefix.
 pub fn list_loose(events: &[Event], index: usize, include_items: bool) -> bool
     requires span { Begins events.now index }
     requires name { IsListAt events.now index }
@@ -80,11 +80,11 @@ pub fn list_loose(events: &[Event], index: usize, include_items: bool) -> bool
 
 /// Whether the list item whose enter is at this index, counted from 0, is loose.
 ///
-/// It is loose where a blank line ending that is its direct child counts. Such a blank line ending
+/// It is loose if a blank line ending that is its direct child counts. Such a blank line ending
 /// counts unless the sibling before it, one `SpaceOrTab` skipped, is the item's prefix. This is
-/// mdast's `spread` of a list item; that an item may begin with a blank line is CommonMark's. This
-/// cannot fail, and takes no memory. The event at the index has to be the enter of a list item, and a
-/// well-formed span has to begin there, as [`span_begins`](crate::event::span_begins) tells.
+/// mdast's `spread` of a list item; that an item may begin with a blank line is CommonMark's rule.
+/// This cannot fail, and allocates no memory. The event at the index must be the enter of a list
+/// item, and a well-formed span must begin there (see [`span_begins`](crate::event::span_begins)).
 ///
 /// An item of a prefix, a paragraph and a blank line ending is loose, and one of a prefix and a
 /// blank line ending is not.
@@ -97,16 +97,16 @@ pub fn list_item_loose(events: &[Event], index: usize) -> bool
     item_walk(&events[index + 1..])
 }
 
-/// The alignment of each column of the table whose enter is at this index, counted from 0.
+/// Returns the alignment of each column of the table whose enter is at this index, counted from 0.
 ///
-/// Each delimiter cell value inside the table's first delimiter row gives one entry, in order:
-/// `Center` where its first and its last child are colons, even if they are one and the same, `Left`
-/// where only the first is, `Right` where only the last is, and otherwise `None` (GFM). A table
-/// without a delimiter row has no entries. The only error is that memory ran out, and a table
-/// without entries takes no memory. The event at the index has to be the enter of a table, and a
-/// well-formed span has to begin there, as [`span_begins`](crate::event::span_begins) tells.
+/// Each delimiter cell value inside the table's first delimiter row makes one entry, in order:
+/// `Center` if its first and its last child are colons, even if they are one and the same, `Left`
+/// if only the first is, `Right` if only the last is, and otherwise `None` (GFM). A table without a
+/// delimiter row has no entries. The only error is that memory ran out, and a table without entries
+/// allocates no memory. The event at the index must be the enter of a table, and a well-formed span
+/// must begin there (see [`span_begins`](crate::event::span_begins)).
 ///
-/// A table with the delimiter row `| :-- | - |` gives `[AlignKind::Left, AlignKind::None]`.
+/// A table with the delimiter row `| :-- | - |` has `[AlignKind::Left, AlignKind::None]`.
 pub fn gfm_table_align(
     alloc: Global,
     events: &[Event],
@@ -122,8 +122,8 @@ pub fn gfm_table_align(
     table_align(alloc, &events[index + 1..])
 }
 
-/// Whether the last child is of the kind that is asked for, and whether it is when one `SpaceOrTab` at
-/// the end is skipped.
+/// Whether the last child is of a given kind, and whether it is when one `SpaceOrTab` at the end is
+/// skipped.
 #[derive(Clone, Copy)]
 struct Child {
     direct: bool,
@@ -131,7 +131,7 @@ struct Child {
 }
 
 impl Child {
-    /// Before the first child.
+    /// Returns the state before the first child.
     fn none() -> Child
         ensures { result ≡ no_child }
     {
@@ -142,7 +142,8 @@ impl Child {
     }
 }
 
-/// What is known of the last child after one more child, which has this name and is of the kind or not.
+/// Returns what is known of the last child after one more child. That child has this name, and is
+/// of the given kind if `is_it`.
 fn child_exited(before: Child, is_it: bool, name: Name) -> Child
     ensures { result ≡ child_exited before is_it name }
 {
@@ -185,23 +186,23 @@ fn item_walk(events: &[Event]) -> bool
     false
 }
 
-/// What the children of a list, of its last child and of that one's last child end with.
+/// How the children of a list end, and the children of its last child and of that one's last child.
 #[derive(Clone, Copy)]
 struct Ends {
-    /// The list ends with an item without content at its end.
+    /// Whether the list ends with an item without content at its end.
     bare: bool,
-    /// Its last child is open, and is an item in which blank lines count.
+    /// Whether its last child is open, and is an item in which blank lines count.
     counts: bool,
-    /// That child ends with its prefix.
+    /// Whether that child ends with its prefix.
     prefix: Child,
-    /// That child ends with what an item without content ends with.
+    /// Whether that child ends as an item without content does.
     inner: Child,
-    /// The last child of that child ends with the prefix of a block quote.
+    /// Whether the last child of that child ends with the prefix of a block quote.
     quote: bool,
 }
 
 impl Ends {
-    /// Before the first child.
+    /// Returns the state before the first child.
     fn none() -> Ends
         ensures { result ≡ no_ends }
     {
@@ -215,7 +216,7 @@ impl Ends {
     }
 }
 
-/// Whether a blank line that stands so deep in the list makes it loose.
+/// Whether a blank line at this depth in the list makes it loose.
 fn counts_blank(ends: Ends, depth: usize) -> bool
     ensures { result ≡ counts_blank ends depth }
 {
@@ -226,7 +227,7 @@ fn counts_blank(ends: Ends, depth: usize) -> bool
     }
 }
 
-/// The ends of the list after the enter of a span that stands so deep in it.
+/// Returns the ends of the list after the enter of a span at this depth in it.
 fn list_entered(ends: Ends, depth: usize, include_items: bool, name: Name) -> Ends
     ensures { result ≡ list_entered ends depth include_items name }
 {
@@ -240,7 +241,7 @@ fn list_entered(ends: Ends, depth: usize, include_items: bool, name: Name) -> En
     }
 }
 
-/// The ends of the list after the exit of a span that stands so deep in it.
+/// Returns the ends of the list after the exit of a span at this depth in it.
 fn list_exited(ends: Ends, depth: usize, name: Name) -> Ends
     ensures { result ≡ list_exited ends depth name }
 {
@@ -298,7 +299,7 @@ fn list_walk(events: &[Event], include_items: bool) -> bool
     }
 }
 
-/// How a column is aligned, by whether its delimiter begins with a colon, and whether it ends so.
+/// Returns how a column is aligned, by whether its delimiter begins and ends with a colon.
 fn align_kind_of(first: bool, last: bool) -> AlignKind
     ensures { result ≡ align_kind_of first last }
 {
@@ -310,7 +311,7 @@ fn align_kind_of(first: bool, last: bool) -> AlignKind
     }
 }
 
-/// Whether the last cell value begins with a marker, after one event more, of this name.
+/// Whether the last cell value begins with a marker, after one more event, with this name.
 fn first_after(before: Name, first: bool, name: Name) -> bool
     ensures { result ≡ first_after before first name }
 {
@@ -321,7 +322,7 @@ fn first_after(before: Name, first: bool, name: Name) -> bool
     }
 }
 
-/// How the columns are aligned, from the events of the delimiter row after its enter.
+/// Returns how the columns are aligned, from the events of the delimiter row after its enter.
 fn row_align(alloc: Global, events: &[Event]) -> Result<Vec<AlignKind>, AllocError>
     ensures value { IfOk result (λ kinds.
         kinds.items ≡ cells_walk events.now names.GfmTableDelimiterRow false) }
@@ -350,7 +351,7 @@ fn row_align(alloc: Global, events: &[Event]) -> Result<Vec<AlignKind>, AllocErr
     }
 }
 
-/// How the columns are aligned, from the events of the table after its enter.
+/// Returns how the columns are aligned, from the events of the table after its enter.
 fn table_align(alloc: Global, events: &[Event]) -> Result<Vec<AlignKind>, AllocError>
     ensures value { IfOk result (λ kinds. kinds.items ≡ table_walk events.now 0) }
     ensures memory { table_walk events.now 0 ≡ [] → IsOk result }

@@ -1,19 +1,20 @@
-//! The events of a tokenizer, and what is read from them without the grammar: names and what each is
-//! to the tree, points, spans of a flat list, spread and alignment; and the one reader of a list, which
-//! counts.
+//! The events of a tokenizer, and what is read from them without the grammar: names and what each
+//! is to the tree, points, spans of a flat list, spread and alignment. It also has the one reader
+//! of a list, which counts steps.
 //!
-//! The modules of `positions` and `markdown_texts` (points of unist, numbers in decimal digits, messages
-//! and texts) are passed on. The crate `markdown_nodes` passes all of these on, each under its name, and
-//! the law among its own.
+//! What needs no event is here, too: points and positions of unist (`unist`), messages with a place
+//! (`message`), numbers in decimal digits (`decimal`), and transformations of texts (`text`). The
+//! crate `markdown_nodes` re-exports these modules, each under its name.
 #![tactic(auto)]
 
 pub mod around;
-mod count;
+pub mod count;
+pub mod decimal;
 pub mod event;
 pub mod infer;
 pub mod laws;
+pub mod message;
 pub mod role;
 pub mod steps;
-
-pub use markdown_texts::text;
-pub use positions::{decimal, message, unist};
+pub mod text;
+pub mod unist;

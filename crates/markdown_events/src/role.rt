@@ -1,4 +1,4 @@
-//! What each name is to the tree. The other crates ask of names only their roles, their spelling, and
+//! What each name is to the tree. The other crates use only the roles of names, their spelling, and
 //! whether two are the same. One name is written elsewhere: `row_align` in `infer` begins with
 //! `Name::GfmTableDelimiterRow`, which says that nothing comes before in the row.
 
@@ -11,11 +11,11 @@ ghost use Rattle.markdown_events.specs.Walks.{is_list_item, is_block_quote};
 
 use crate::event::Name;
 
-/// A transparent name: its span gives no node, and the spans in it count as if they were in the span
+/// A transparent name: its span has no node, and the spans in it count as if they were in the span
 /// around it. Some kinds say whether a list is loose and how a table is aligned (ours).
 ///
-/// `Name::EmphasisText.role()` is `Role::Transparent(TransparentKind::Other)`: the spans in it count as
-/// if they were directly in the emphasis.
+/// `Name::EmphasisText.role()` is `Role::Transparent(TransparentKind::Other)`: the spans in it
+/// count as if they were directly in the emphasis.
 #[derive(Clone, Copy, PartialEq, Eq, Debug)]
 pub enum TransparentKind {
     /// The line ending of a blank line (CommonMark, blank lines).
@@ -32,19 +32,20 @@ pub enum TransparentKind {
     DelimiterCellValue,
     /// A colon in a delimiter cell value (GFM).
     DelimiterMarker,
-    /// Any other, which no rule names. Its span still counts as a child: where it is the first or the
-    /// last child of a delimiter cell value, no colon is; and where it comes directly before a blank
-    /// line ending, or last in an item or in the block quote at the end of one, no prefix does.
+    /// Any other, which no rule mentions. Its span still counts as a child. If it is the first or
+    /// the last child of a delimiter cell value, then a colon is not. If it comes directly before a
+    /// blank line ending, or last in an item or in the block quote at the end of one, then a prefix
+    /// does not.
     Other,
 }
 
-/// What content an item is: an item that containers of content take any number of times (ours). Names
-/// that mean the same to the tree are one.
+/// What content an item is: an item that containers of content accept any number of times (ours).
+/// Names that mean the same to the tree share one variant.
 ///
 /// `Name::HardBreakEscape` and `Name::HardBreakTrailing` are both `Content::HardBreak`.
 #[derive(Clone, Copy, PartialEq, Eq, Debug)]
 pub enum Content {
-    /// Text as it is written.
+    /// Text as written.
     Data,
     /// A character reference, by name or by number: `&amp;`.
     CharacterReference,
@@ -97,10 +98,10 @@ pub enum Content {
     LineEnding,
 }
 
-/// What part an item is: an item that only some containers take, and that gives a field of the
+/// What part an item is: an item that only some containers accept, and that becomes a field of the
 /// container's node (ours).
 ///
-/// `Part::LabelText` is taken by a link, an image and a footnote call alone.
+/// Only a link, an image and a footnote call accept `Part::LabelText`.
 #[derive(Clone, Copy, PartialEq, Eq, Debug)]
 pub enum Part {
     /// The email address of an autolink: `a@b.c` in `<a@b.c>`.
@@ -117,7 +118,7 @@ pub enum Part {
     CharacterReferenceValue,
     /// The first word after a code fence, which is the language.
     CodeFencedFenceInfo,
-    /// What comes after that word on the line of the fence.
+    /// The rest of the line of the fence after that word.
     CodeFencedFenceMeta,
     /// `b` in `[a]: b "c"`.
     DefinitionDestinationString,
@@ -129,7 +130,7 @@ pub enum Part {
     FootnoteDefinitionLabelString,
     /// What is in the first brackets of a link, an image or a footnote call: `a` in `[a][b]`.
     LabelText,
-    /// What comes after a math fence on its line.
+    /// The rest of the line after a math fence.
     MathFlowFenceMeta,
     /// `b` in `[a][b]`.
     ReferenceString,
@@ -159,16 +160,16 @@ pub enum Part {
     Resource,
 }
 
-/// What an item is: content, or a part (ours). An item is a span whose name is significant: it matters
-/// to the tree.
+/// What an item is: content, or a part (ours). An item is a span whose name is significant: it
+/// matters to the tree.
 ///
-/// `ItemKind::Content(Content::Paragraph)` gives a node, and `ItemKind::Part(Part::LabelText)` gives its
-/// container a label.
+/// `ItemKind::Content(Content::Paragraph)` becomes a node, and `ItemKind::Part(Part::LabelText)` is
+/// the label of its container.
 #[derive(Clone, Copy, PartialEq, Eq, Debug)]
 pub enum ItemKind {
-    /// It stands for a node.
+    /// It becomes a node.
     Content(Content),
-    /// It says something of the container that it stands in.
+    /// It says something about its container.
     Part(Part),
 }
 
@@ -178,14 +179,14 @@ pub enum ItemKind {
 /// `Name::Paragraph` is `Role::Significant(ItemKind::Content(Content::Paragraph))`.
 #[derive(Clone, Copy, PartialEq, Eq, Debug)]
 pub enum Role {
-    /// It gives no node and no field: the spans in it count as those of the span around it.
+    /// It has no node and no field: the spans in it count as those of the span around it.
     Transparent(TransparentKind),
     /// It matters to the tree, as content or as a part.
     Significant(ItemKind),
 }
 
 impl Name {
-    /// What the name is to the tree.
+    /// Returns what the name is to the tree.
     ///
     /// `Name::HtmlText.role()` is `Role::Significant(ItemKind::Content(Content::Html))`, as is that
     /// of `Name::HtmlFlow`.
@@ -316,7 +317,7 @@ impl Name {
                 TransparentKind::DelimiterCellValue,
             ),
             Name::GfmTableDelimiterMarker => Role::Transparent(TransparentKind::DelimiterMarker),
-            // Four arms with one body: the prover takes no more than sixteen names of an arm apart.
+            // Four arms with one body: the prover can tell at most sixteen names of an arm apart.
             Name::AttentionSequence
             | Name::AutolinkMarker
             | Name::BlockQuoteMarker
@@ -411,14 +412,14 @@ impl Role {
         matches!(self, Role::Transparent(TransparentKind::SpaceOrTab))
     }
 
-    /// Whether it is what stands before the content of a list item.
+    /// Whether it is the prefix of a list item, before its content.
     pub(crate) fn is_item_prefix(self) -> bool
         ensures { result ≡ is_item_prefix self }
     {
         matches!(self, Role::Transparent(TransparentKind::ListItemPrefix))
     }
 
-    /// Whether it is what stands before the content of a block quote.
+    /// Whether it is the prefix of a block quote, before its content.
     pub(crate) fn is_quote_prefix(self) -> bool
         ensures { result ≡ is_quote_prefix self }
     {

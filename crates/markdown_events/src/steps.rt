@@ -1,4 +1,4 @@
-//! A reader of a list of events that counts what `compile` does, for its contract.
+//! A reader of a list of events that counts the steps of `compile`, for its contract.
 
 ghost use Rattle.std.specs.Prelude.{◌≡◌, ◌+◌, ◌^◌, ◌<◌, slice_get, IfSome};
 ghost use Rattle.markdown_events.specs.Steps.{steps_of};
@@ -7,7 +7,7 @@ use crate::count::Count;
 use crate::event::Event;
 use std::marker::Model;
 
-/// A list of events, and the number of steps that were taken over it (ours).
+/// A list of events, and the number of steps taken over it (ours).
 ///
 /// A step is one read of an event, or one descent from a node to a child. The number is a natural
 /// number without a limit. Contracts see it as `count`, and the list as `events`; at run time it
@@ -17,7 +17,8 @@ use std::marker::Model;
 #[derive(Drop)]
 pub struct Steps<'a> {
     events: &'a [Event],
-    count: Count,
+    /// The number of steps so far. A function that reads no event takes this alone.
+    pub count: Count,
 }
 
 impl<'a> Model for Steps<'a> {
@@ -29,7 +30,7 @@ impl<'a> Model for Steps<'a> {
 }
 
 impl<'a> Steps<'a> {
-    /// A list of events, with no step taken.
+    /// Returns a reader of a list of events, with no step taken.
     ///
     /// `Steps::new(&[]).read(0)` is `None`.
     pub fn new(events: &'a [Event]) -> Steps<'a>
@@ -42,19 +43,8 @@ impl<'a> Steps<'a> {
         }
     }
 
-    /// One step: a descent from a node to a child.
-    ///
-    /// `steps.tick()` changes nothing but the count.
-    #[inline(always)]
-    pub fn tick(&mut self)
-        ensures list { self.new.events ≡ self.old.events }
-        ensures count { self.new.count ≡ self.old.count + 1 }
-    {
-        self.count = self.count.next();
-    }
-
-    /// The event at an index, counted from 0, where it stands in the list, in one step. Past the end of
-    /// the list it is `None`, and no step is taken.
+    /// Returns the event at an index, counted from 0, in one step. Past the end of the list it is
+    /// `None`, and no step is taken.
     ///
     /// `Steps::new(&events).read(0)` is the first event.
     #[inline]
@@ -65,7 +55,7 @@ impl<'a> Steps<'a> {
         ensures count { self.new.count ≡ self.old.count + steps_of result }
     {
         let event = self.events.get(index)?;
-        self.tick();
+        self.count.tick();
         Some(*event)
     }
 }

@@ -28,10 +28,6 @@ pub prefix_exited : (ordered : Bool) → exited (item ordered) (before_number or
 prefix_exited true = refl
 prefix_exited false = refl
 
-pub item_exited : (ordered : Bool) → exited (flow ordered) (in_list ordered) (role_of names.ListItem) ≡ Some (after_item ordered)
-item_exited true = refl
-item_exited false = refl
-
 pub list_exited : (ordered n : Bool) → exited (after_item ordered) (flow n) (role_of (list_name ordered)) ≡ Some (flow n)
 list_exited true n = refl
 list_exited false n = refl

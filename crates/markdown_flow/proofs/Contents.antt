@@ -56,14 +56,6 @@ kept_last source prefixes prefix from kept same start end tiles between =
 
 -- ---- One line after the other
 
-pub next_kept : (lines : List KeptLine) (i : ℕ) (kept : KeptLine) → i < length lines → kept ≡ get_or lines i kept → drop i lines ≡ kept ∷ drop (i + 1) lines
-next_kept lines i kept less is = drop-cons lines i kept less ∙ (λ t. (sym is) t ∷ drop ((sym (add-one i)) t) lines)
-
--- the first of the lines that are left
-pub first_kept : (source : Source) (prefixes : List Piece) (from : Spot) (left : List KeptLine) (kept : KeptLine) (later : List KeptLine) → left ≡ kept ∷ later → AreKept source prefixes from left
-    → Kept source prefixes from kept × AreKept source prefixes (next_of kept.line) later
-first_kept source prefixes from left kept later is all = subst (λ (ls : List KeptLine). AreKept source prefixes from ls) is all
-
 -- ---- The last line, and those before it
 
 pub kept_before : (source : Source) (prefixes : List Piece) (from : Spot) (lines : List KeptLine) (last : KeptLine) → AreKept source prefixes from (lines ++ last ∷ []) → AreKept source prefixes from lines × Kept source prefixes (after_lines from lines) last

@@ -26,7 +26,3 @@ reads_begun output input line lines at same taken none =
       prefix = subst (λ (ls : List KeptLine). Tiles (document_of output) (after_lines (spot output.cursor) ls) input.prefix.items (spot_in input.line)) (sym none)
           (subst (λ (ps : List Piece). Tiles (document_of output) (spot output.cursor) ps (spot_in input.line)) (sym taken) (at.spot ∙ ap spot_in (sym same)));
     }
-
--- of a leaf of which lines are kept there may be some
-pub may_keep : (leaf : Leaf) (lines : List KeptLine) → keeps_lines leaf ≡ true → keeps_lines leaf ≡ false → lines ≡ []
-may_keep leaf lines keeps keeps_none = absurd cc

@@ -1,4 +1,4 @@
--- The open leaf, and the lines that are kept of it.
+-- The open leaf, and the lines that are kept for it.
 use Rattle.std.specs.Prelude.{Bool, List, OnOk, Result, [], false, true, ◌≡◌}
 use Rattle.event_writer.specs.Stages.{Enclosing}
 use Rattle.markdown_pieces.specs.Tilings.{Spot}
@@ -10,19 +10,19 @@ use Rattle.markdown_flow.specs.declared.leaf.Leaf.{Leaf}
 use Rattle.markdown_flow.specs.declared.leaf.Leaf.TheVariants.{CodeIndented, Paragraph}
 use Rattle.markdown_flow.specs.declared.output.Output.{Output}
 
--- lines are kept of a leaf
+-- lines are kept for a leaf
 abbrev pub keeps_lines : Leaf → Bool
 keeps_lines Paragraph = true
 keeps_lines CodeIndented = true
 keeps_lines _ = false
 
--- the pieces tile the document up to the lines that are kept of the open leaf
+-- the pieces tile the document up to the kept lines of the open leaf
 pub record StandsWith (flow : Flow) (output : Output) : Type 0 where
   pub stands : Stands output
   pub kept : AreKept (source_of output) flow.content.prefixes.items (spot output.cursor) flow.content.lines.items
   pub none : keeps_lines flow.leaf ≡ false → flow.content.lines.items ≡ []
 
--- where the line after these begins
+-- the start of the line after the kept lines
 abbrev pub end_with : Flow → Output → Spot
 end_with flow output = after_lines (spot output.cursor) flow.content.lines.items
 
@@ -30,6 +30,6 @@ end_with flow output = after_lines (spot output.cursor) flow.content.lines.items
 abbrev pub OpensIn : Flow → Output → Bool → List Enclosing → Type 0
 OpensIn flow output n outer = Opens output (in_leaf flow.leaf n outer)
 
--- a call leads from one leaf to another, among the same containers, unless it fails
+-- a call leads from one leaf to another in the same containers, unless it fails
 abbrev pub LeadsOn : {X E : Type 0} → Result X E → Flow → Flow → Output → Output → Type 0
 LeadsOn result old new before after = (n : Bool) → (outer : List Enclosing) → OpensIn old before n outer → OnOk result (OpensIn new after n outer)

@@ -2,7 +2,7 @@
 use Rattle.std.specs.Prelude.{length, ◌<◌, ◌≡◌, ◌≤◌, ◌⊎◌}
 use Rattle.markdown_flow.specs.declared.line.Line.{Line}
 
--- the cursor has moved on in its line, or stands where it did
+-- the cursor has moved forward in its line, or is where it was
 pub record HasMoved (old new : Line) : Type 0 where
   pub source : new.source ≡ old.source
   pub start : new.start ≡ old.start

@@ -8,23 +8,23 @@ use Rattle.markdown_flow.specs.declared.container.Container.{Container}
 use Rattle.markdown_flow.specs.declared.document.Reader.{Reader}
 use Rattle.markdown_pieces.specs.Walks.{State, at, inside}
 
--- among the blocks of the innermost of these containers
+-- among the blocks in the innermost of these containers
 abbrev pub in_containers : List Container → State
 in_containers cs = at (flow (number_in false cs)) (outer_in false [] cs)
 
--- among those of one more
+-- among the blocks in one more container
 abbrev pub in_last : Container → List Container → State
 in_last c cs = at (flow (has_number c)) (in_container c (number_in false cs) (outer_in false [] cs))
 
--- among those of an item
+-- among the blocks in one more item
 abbrev pub in_last_item : Bool → List Container → State
 in_last_item ordered cs = at (flow ordered) (in_item ordered (number_in false cs) (outer_in false [] cs))
 
--- in a list among them, before an item
+-- in a list in the innermost container, before an item
 abbrev pub in_list_of : Bool → List Container → State
 in_list_of ordered cs = at (in_list ordered) (inside (list_name ordered) (flow (number_in false cs)) (outer_in false [] cs))
 
--- the same where a list goes on with an item of a marker, and else among the blocks
+-- before an item with this marker if a list continues with one, otherwise among the blocks
 abbrev pub goes_on : Bool → Option ℕ → List Container → State
 goes_on false marker cs = in_containers cs
 goes_on true None cs = in_containers cs

@@ -1,4 +1,4 @@
--- Rows of tables: how a cell stands at the start of one.
+-- Rows of tables: the first cell of a row.
 use Rattle.std.specs.Prelude.{List, [], drop, length, take, ℕ, ◌≡◌, ◌⊎◌}
 use Rattle.std.specs.Str.{IsAscii}
 use Rattle.commonmark_syntax.specs.Cuts.{IsCut}
@@ -9,11 +9,11 @@ use Rattle.markdown_flow.specs.declared.gfm_table_row.Cell.{Cell}
 abbrev pub from_text : List ℕ → Cell → List ℕ
 from_text row cell = after_spaces (drop cell.divider_size row)
 
--- what comes after the text, and the white space there
+-- the row after the text of the cell, and after the white space there
 abbrev pub after_text : List ℕ → Cell → List ℕ
 after_text row cell = after_spaces (drop (length cell.text.now) (from_text row cell))
 
--- a cell is the first of a row: its text may be cut out, and the next cell comes after it, or nothing but a divider and white space
+-- a cell is the first of a row: its text may be cut out, and after it comes the next cell, or only ASCII if there is none
 pub record IsFirst (row : List ℕ) (cell : Cell) : Type 0 where
   pub divider : IsAscii (take cell.divider_size row)
   pub text : cell.text.now ≡ take (length cell.text.now) (from_text row cell)

@@ -18,7 +18,8 @@ use commonmark_syntax::block_quote_marker;
 use markdown_events::event::Name;
 use std::alloc::AllocError;
 
-/// Whether a block quote begins at the cursor of a line (CommonMark). Never, with `block_quote` off.
+/// Whether a block quote begins at the cursor of a line (CommonMark). Always false with
+/// `block_quote` off.
 pub fn begins(line: &Line<'_>) -> bool
     ensures on { result ≡ true → (constructs_in line.now).block_quote ≡ true }
     ensures yes { result ≡ true → Leaves block_quote_marker line.now.text.now (drop 1 line.now.text.now) }
@@ -37,7 +38,7 @@ fn has_marker(line: &Line<'_>) -> bool
     !line.is_indented() && block_quote_marker::is_at(line.text())
 }
 
-/// Whether a block quote goes on in a line (CommonMark). If it does, its prefix is read.
+/// Whether a block quote continues in a line (CommonMark). If it does, its prefix is read.
 pub fn continues(input: &mut Input<'_>) -> Result<bool, AllocError>
     ensures reads { (source : Source) → (from : Spot) → Reads source from input.old → OnOk result (Reads source from input.new) }
     ensures moved { OnOk result (HasMoved input.old.line input.new.line) }
@@ -51,7 +52,7 @@ pub fn continues(input: &mut Input<'_>) -> Result<bool, AllocError>
     Ok(true)
 }
 
-/// Writes the start of a block quote at the cursor of the line that is read.
+/// Writes the start of a block quote at the cursor of the current line.
 pub fn open<'d>(input: &mut Input<'d>, output: &mut Output<'d>) -> Result<(), AllocError>
     requires writes { Writes output.old }
     requires at { IsAt output.old.cursor input.old.line }

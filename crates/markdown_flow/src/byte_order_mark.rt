@@ -12,7 +12,7 @@ use std::alloc::AllocError;
 /// The mark U+FEFF in UTF-8.
 const BYTE_ORDER_MARK: &[u8] = b"\xef\xbb\xbf";
 
-/// Writes the mark that a document begins with, if it does, and gives what comes after it in the first line.
+/// Writes the mark that a document begins with, if it does, and returns the rest of the first line.
 pub fn write<'d>(first: Line<'d>, output: &mut Output<'d>) -> Result<Line<'d>, AllocError>
     requires stands { Stands output.old }
     requires source { first.source ≡ source_of output.old }

@@ -19,8 +19,8 @@ use commonmark_syntax::info_string::language_size;
 use markdown_events::event::Name;
 use std::alloc::AllocError;
 
-/// The fence of code that a line opens, if it opens one: backticks with none after them, or tildes
-/// (CommonMark). Always `None` with `code_fenced` off.
+/// Returns the code fence that a line opens, if it opens one: backticks with none after them, or
+/// tildes (CommonMark). Always `None` with `code_fenced` off.
 ///
 /// In `~~~ a` it has three tildes.
 pub fn begins(line: &Line<'_>) -> Option<Fence>
@@ -41,7 +41,7 @@ pub fn begins(line: &Line<'_>) -> Option<Fence>
     })
 }
 
-/// Writes the line of a fence of so many signs, after the white space that it begins with.
+/// Writes the line of a fence of `size` signs, after the white space that it begins with.
 pub fn open(size: usize, output: &mut Output<'_>) -> Result<(), AllocError>
     requires writes { Writes output.old }
     requires cut { IsCut (rest_of output.old) size }
@@ -57,7 +57,7 @@ pub fn open(size: usize, output: &mut Output<'_>) -> Result<(), AllocError>
     output.exit(Name::CodeFencedFence)
 }
 
-/// Writes the line of a fence of so many signs, which closes.
+/// Writes the line of a closing fence of `size` signs.
 pub fn close(size: usize, output: &mut Output<'_>) -> Result<(), AllocError>
     requires writes { Writes output.old }
     requires cut { IsCut (text_of output.old) size }
@@ -70,7 +70,7 @@ pub fn close(size: usize, output: &mut Output<'_>) -> Result<(), AllocError>
     output.exit(Name::CodeFenced)
 }
 
-/// Writes the language and the meta of the info string of a fence, with which the line ends (micromark).
+/// Writes the language and the meta of the info string of a fence, which end the line (micromark).
 pub fn write_info(output: &mut Output<'_>) -> Result<(), AllocError>
     requires { Writes output.old }
     ensures written { OnOk result (WritesOut output.old output.new) }

@@ -15,8 +15,8 @@ use crate::output::Output;
 use markdown_events::event::Name;
 use std::alloc::AllocError;
 
-/// Whether a line begins indented code: it has four columns of white space or more, and something after them
-/// (CommonMark). Never, with `code_indented` off.
+/// Whether a line begins indented code: it has four columns of white space or more, and something
+/// after them (CommonMark). Always false with `code_indented` off.
 pub fn begins(line: &Line<'_>) -> bool
     ensures exact { (constructs_in line.now).code_indented ≡ true → result ≡ begins_indented_code line.now.columns line.now.rest.now }
     ensures on { result ≡ true → (constructs_in line.now).code_indented ≡ true }

@@ -30,7 +30,7 @@ pub enum ContainerStart {
     BlockQuote,
     /// The marker of an item.
     ListItem(ItemStart),
-    /// The label of a footnote definition, which has so many bytes.
+    /// The label of a footnote definition, with its size in bytes.
     FootnoteDefinition(usize),
 }
 
@@ -38,7 +38,7 @@ impl Container {
     ghost use Rattle.event_writer.specs.Stages.{Enclosing};
     ghost use Rattle.markdown_flow.specs.Containers.{has_number, in_container};
 
-    /// Whether it goes on in a line. If it does, its prefix is read.
+    /// Whether it continues in a line. If it does, its prefix is read.
     pub fn continues(&mut self, input: &mut Input<'_>) -> Result<bool, AllocError>
         ensures reads { (source : Source) → (from : Spot) → Reads source from input.old → OnOk result (Reads source from input.new) }
         ensures moved { OnOk result (HasMoved input.old.line input.new.line) }
@@ -52,7 +52,7 @@ impl Container {
         }
     }
 
-    /// Whether it is an item that has ended, while its list may go on.
+    /// Whether it is an item that has ended, while its list may continue.
     pub fn is_ended_item(&self) -> bool {
         match self {
             Container::ListItem(item) => item.is_ended(),
@@ -64,8 +64,8 @@ impl Container {
 impl ContainerStart {
     ghost use Rattle.markdown_flow.specs.Starts.{IsContainerStart, marker_of};
 
-    /// The container that begins at the cursor of a line, if one does. Not every item can interrupt a
-    /// paragraph (CommonMark).
+    /// Returns the container that begins at the cursor of a line, if one does. Not every item can
+    /// interrupt a paragraph (CommonMark).
     pub fn find(line: &Line<'_>, interrupts: bool) -> Option<ContainerStart>
         ensures { IfSome result (λ start. IsContainerStart start line.now) }
     {
@@ -82,7 +82,7 @@ impl ContainerStart {
         }
     }
 
-    /// The marker of the item that begins, if it is one.
+    /// Returns the marker of the item that begins, if it is one.
     pub fn marker(self) -> Option<u8>
         ensures { result ≡ marker_of self }
     {

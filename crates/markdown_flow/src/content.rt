@@ -1,5 +1,6 @@
-//! Content: lines that are kept until it is known what they are (micromark). They are those of a paragraph,
-//! which may turn out to be definitions, a heading or a table, and blank lines after indented code.
+//! Content: lines that are kept until it is known what they are (micromark). They are the lines of
+//! a paragraph, which may turn out to be definitions, a heading or a table, and blank lines after
+//! indented code.
 
 ghost use Rattle.std.specs.Prelude.{Bool, List, [], OnOk, IfSome, length, true, ◌≡◌, ◌≤◌};
 ghost use Rattle.event_writer.specs.Stages.{Enclosing, Stage, inlines, takes_line_endings};
@@ -23,11 +24,11 @@ use std::alloc::{AllocError, Global};
 pub struct KeptLine<'d> {
     /// The line, with its cursor after its prefix.
     pub line: Line<'d>,
-    /// How many containers there are up to the last one that has a marker in it.
+    /// How many containers there are, up to the last one with a marker in this line.
     pub depth: usize,
     /// How many pieces of prefixes come before its own.
     prefix_start: usize,
-    /// How many pieces of prefixes there are up to the last of its own.
+    /// How many pieces of prefixes there are, up to the last of its own.
     prefix_end: usize,
 }
 
@@ -41,7 +42,7 @@ pub struct Content<'d> {
 }
 
 impl<'d> Content<'d> {
-    /// No lines.
+    /// Returns no lines.
     pub fn new(alloc: Global) -> Content<'d>
         ensures { result.lines.items ≡ [] }
     {
@@ -51,14 +52,14 @@ impl<'d> Content<'d> {
         }
     }
 
-    /// The lines.
+    /// Returns the lines.
     pub fn lines(&self) -> &[KeptLine<'d>]
         ensures { result.now ≡ self.now.lines.items }
     {
         self.lines.as_slice()
     }
 
-    /// The pieces of the prefix of a line.
+    /// Returns the pieces of the prefix of a line.
     pub fn prefix_of(&self, kept: &KeptLine<'d>) -> &[Piece]
         ensures { kept.now.prefix_start ≤ kept.now.prefix_end → kept.now.prefix_end ≤ length self.now.prefixes.items → result.now ≡ prefix_of self.now.prefixes.items kept.now }
     {
@@ -76,7 +77,7 @@ impl<'d> Content<'d> {
         self.prefixes.clear();
     }
 
-    /// Keeps the line that is read, with its prefix.
+    /// Keeps the current line, with its prefix.
     pub fn keep(&mut self, input: &mut Input<'d>) -> Result<(), AllocError>
         ensures kept { (source : Source) → (from : Spot)
             → AreKept source self.old.prefixes.items from self.old.lines.items
@@ -96,7 +97,7 @@ impl<'d> Content<'d> {
         Ok(())
     }
 
-    /// Writes a span with the text of the line that is written in it, and of lines after that.
+    /// Writes a span with the text of the current line, and of the lines after it.
     pub fn write_text(
         &self,
         name: Name,

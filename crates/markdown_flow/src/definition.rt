@@ -1,4 +1,4 @@
-//! Definitions of links: how they are found (CommonMark).
+//! Link reference definitions: how they are found (CommonMark).
 
 ghost use Rattle.std.specs.Prelude.{IfSome, MatchOption, drop, length, ◌≡◌, ◌≤◌, ◌<◌, ◌+◌, ◌^◌};
 ghost use Rattle.commonmark_syntax.specs.Cuts.{IsCut};
@@ -28,18 +28,18 @@ pub struct Part {
     ghost string_end_first: { string_end ≤ end },
 }
 
-/// A definition. Its offsets are those in the text.
+/// A definition. Its fields are offsets in the text.
 #[derive(Clone, Copy)]
 pub struct Definition {
     /// Its label, with its brackets.
     pub label: Part,
     /// Where the colon after its label ends.
     pub marker_end: usize,
-    /// Its destination, with its angle brackets where it has them.
+    /// Its destination, with its angle brackets if it has them.
     pub destination: Part,
     /// Its title with its marks, if it has one.
     pub title: Option<Part>,
-    /// Where the line feed stands that ends its last line.
+    /// The offset of the line feed that ends its last line.
     pub end: usize,
     ghost label_first: { label.end ≤ end },
     ghost marker_first: { marker_end ≤ end },
@@ -47,7 +47,7 @@ pub struct Definition {
 }
 
 impl Part {
-    /// A part of so many bytes that has a mark of one byte on each side.
+    /// Returns a part of `size` bytes that has a mark of one byte on each side.
     fn marked(start: usize, size: usize) -> Part
         requires filled { 0 < size }
         requires fits { start + size < 2 ^ 64 }
@@ -65,7 +65,7 @@ impl Part {
         }
     }
 
-    /// A part of so many bytes that has no marks.
+    /// Returns a part of `size` bytes that has no marks.
     fn bare(start: usize, size: usize) -> Part
         requires fits { start + size < 2 ^ 64 }
         ensures start { result.start ≡ start }
@@ -93,8 +93,8 @@ impl Part {
     }
 }
 
-/// The definition that begins at an offset of a text, if one does. Each line of the text ends with a
-/// line feed.
+/// Returns the definition that begins at an offset of a text, if one does. Each line of the text
+/// ends with a line feed.
 ///
 /// In `[a]: b "c"` and a line feed it begins at 0 and ends at 10.
 pub fn scan(text: &[u8], start: usize) -> Option<Definition>
@@ -129,7 +129,7 @@ pub fn scan(text: &[u8], start: usize) -> Option<Definition>
     })
 }
 
-/// The destination that begins at an offset of a text.
+/// Returns the destination that begins at an offset of a text.
 fn scan_destination(text: &[u8], start: usize) -> Option<Part>
     requires { IsCut text.now start }
     ensures exact { MatchOption result (IsNoDestination (drop start text.now)) (λ found. LeavesDestination (drop start text.now) (drop found.end text.now)) }
@@ -145,8 +145,8 @@ fn scan_destination(text: &[u8], start: usize) -> Option<Part>
     })
 }
 
-/// The title that comes after white space at an offset of a text. Only spaces and tabs may come after it in
-/// its last line (CommonMark).
+/// Returns the title that comes after white space at an offset of a text. Only spaces and tabs may
+/// come after it in its last line (CommonMark).
 fn scan_title(text: &[u8], offset: usize) -> Option<Part>
     ensures exact { MatchOption result (IsNotAt page.titled_end (drop offset text.now)) (λ found. read page.titled_end (drop offset text.now) ≡ read page.line_end (drop found.end text.now)) }
     ensures closed { IfSome result (λ found. IsAt page.line_end (drop found.end text.now)) }
@@ -165,7 +165,8 @@ fn scan_title(text: &[u8], offset: usize) -> Option<Part>
     Some(title)
 }
 
-/// The offset of the line feed that ends a line, if only spaces and tabs come before it from an offset on.
+/// Returns the offset of the line feed that ends a line, if only spaces and tabs come before it
+/// from an offset on.
 fn line_end(text: &[u8], offset: usize) -> Option<usize>
     ensures exact { Reading page.line_end (drop offset text.now) (λ end. drop (end + 1) text.now) result }
     ensures most { IfSome result (λ end. end < length text.now) }

@@ -1,4 +1,4 @@
-//! Definitions of links, as pieces (micromark).
+//! Link reference definitions, as pieces (micromark).
 
 ghost use Rattle.std.specs.Prelude.{List, OnOk, IfOk, IfSome, Some, length, true, ◌≡◌, ◌≤◌, ◌<◌, ◌+◌, ◌-◌};
 ghost use Rattle.commonmark_syntax.specs.Cuts.{IsCut};
@@ -23,7 +23,8 @@ use markdown_events::event::Name;
 use markdown_pieces::piece::PieceKind;
 use std::alloc::{AllocError, Global};
 
-/// The text of lines without their prefixes. Each line ends with a line feed, the last one too.
+/// Returns the text of lines without their prefixes. Each line ends with a line feed, including the
+/// last.
 fn join(alloc: Global, lines: &[KeptLine<'_>]) -> Result<Vec<u8>, AllocError>
     ensures { IfOk result (λ text. text.items ≡ joined lines.now) }
 {
@@ -38,20 +39,20 @@ fn join(alloc: Global, lines: &[KeptLine<'_>]) -> Result<Vec<u8>, AllocError>
 /// Writes the parts of definitions, across the ends of lines.
 #[derive(Drop)]
 struct PartWriter<'o, 'c, 'd> {
-    /// The content that the lines are of.
+    /// The content of the lines.
     content: &'c Content<'d>,
     /// The text of the lines, with a line feed for each.
     text: &'o [u8],
-    /// The lines that are left, from the one that is being written on.
+    /// The remaining lines, from the one that is being written on.
     lines: &'c [KeptLine<'d>],
-    /// The offset in the text up to which all is written.
+    /// The offset in the text up to which everything is written.
     at: usize,
 }
 
-/// Writes the definitions that lines of a content begin with, and gives the lines after them. Each
-/// definition is added to what the document defines. The only error is that memory ran out.
+/// Writes the definitions that lines of a content begin with, and returns the lines after them.
+/// Each definition is added to what the document defines. The only error is that memory ran out.
 ///
-/// Of the lines `[a]: b` and `c` it gives `c`.
+/// For the lines `[a]: b` and `c` it returns `c`.
 pub fn write<'c, 'd>(
     alloc: Global,
     content: &'c Content<'d>,
@@ -86,7 +87,7 @@ pub fn write<'c, 'd>(
 
 /// Whether a definition may begin in the first of these lines.
 fn may_begin(lines: &[KeptLine<'_>]) -> bool
-    // The construct is on in the source of which the lines are kept.
+    // The construct is on in the source of the kept lines.
     ensures { result ≡ true → (source : Source) → (prefixes : List Piece) → (from : Spot) → AreKept source prefixes from lines.now → source.constructs.now.definition ≡ true }
 {
     match lines.first() {
@@ -137,7 +138,7 @@ impl<'d> PartWriter<'_, '_, 'd> {
         Ok(())
     }
 
-    /// Begins the first of the lines that are left, of which there is one.
+    /// Begins the first of the remaining lines, of which there is one.
     fn begin_line(&mut self, output: &mut Output<'d>) -> Result<(), AllocError>
         requires before { IsBeforeLine self.old output.old }
         requires some { 0 < length self.old.lines.now }
@@ -165,7 +166,7 @@ impl<'d> PartWriter<'_, '_, 'd> {
         output.white_space()
     }
 
-    /// Ends the line, and goes to the next one.
+    /// Ends the line, and moves to the next one.
     fn end_line(&mut self, output: &mut Output<'d>) -> Result<(), AllocError>
         requires text { IsInText self.old output.old }
         requires ended { left output.old.cursor ≡ 0 }
@@ -183,7 +184,7 @@ impl<'d> PartWriter<'_, '_, 'd> {
         Ok(())
     }
 
-    /// Writes pieces of a kind up to an offset of the text, and what stands at line endings on the way.
+    /// Writes pieces of a kind up to an offset of the text, and what is at line endings on the way.
     fn part(
         &mut self,
         kind: PieceKind,
@@ -230,7 +231,7 @@ impl<'d> PartWriter<'_, '_, 'd> {
         self.write_in_line(kind, size, output)
     }
 
-    /// Writes a piece of so many bytes of the line.
+    /// Writes a piece of `size` bytes of the line.
     fn write_in_line(
         &mut self,
         kind: PieceKind,
@@ -255,7 +256,7 @@ impl<'d> PartWriter<'_, '_, 'd> {
         Ok(())
     }
 
-    /// Writes a span with the string of a part in it, unless that is empty.
+    /// Writes a span with the string of a part in it, unless the string is empty.
     fn write_string(
         &mut self,
         name: Name,
@@ -325,7 +326,7 @@ impl<'d> PartWriter<'_, '_, 'd> {
         output.exit(Name::DefinitionDestination)
     }
 
-    /// Writes the address of a destination in a span of a name, which is transparent.
+    /// Writes the address of a destination in a span with this name, which is transparent.
     fn write_address(
         &mut self,
         name: Name,

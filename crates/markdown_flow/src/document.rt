@@ -1,4 +1,4 @@
-//! Documents: the containers that are open, and what a line does to them (micromark).
+//! Documents: the open containers, and what a line does to them (micromark).
 
 ghost use Rattle.std.specs.Prelude.{[], None, OnOk, IfOk, IfSome, IfNone, Some, length, ◌≡◌, ◌≤◌, ◌<◌, ◌-◌, false, true};
 ghost use Rattle.event_writer.specs.Stages.{flow};
@@ -27,7 +27,7 @@ use markdown_pieces::identifiers::Identifiers;
 use markdown_pieces::piece::Piece;
 use std::alloc::{AllocError, Global};
 
-/// The block structure of a document: what [`read`] gives.
+/// The block structure of a document: the result of [`read`].
 #[derive(Drop)]
 pub struct Blocks {
     /// The pieces of the document, in order. Each begins where the one before it ends.
@@ -36,19 +36,21 @@ pub struct Blocks {
     pub identifiers: Identifiers,
 }
 
-/// Reads the block structure of a document: CommonMark, and what the options add to it. The only error is
-/// that memory ran out. A document of 2^61 bytes or more is refused as one for which memory ran out: its
-/// columns might not fit 64 bits.
+/// Reads the block structure of a document: CommonMark, and what the options add to it. The only
+/// error is that memory ran out. A document of 2^61 bytes or more is refused as one for which
+/// memory ran out: its columns might not fit 64 bits.
 ///
-/// Offsets count bytes from 0. A construct that is off in the options has no span. Each line is matched
-/// against the containers that are open in it. All other work is linear in the size of the document.
+/// Offsets count bytes from 0. A construct that is off in the options has no span. Each line is
+/// matched against the containers that are open in it. All other work is linear in the size of the
+/// document.
 ///
-/// Of `# a` the pieces are those that [`Piece`] shows, and there are no identifiers.
+/// The pieces of `# a` are those that [`Piece`] shows, and there are no identifiers.
 pub fn read(alloc: Global, document: &[u8], options: &ParseOptions) -> Result<Blocks, AllocError>
-    // The pieces tile the document: they go from its first byte to its last, and no token leaves its line.
-    // Each token ends where a character does, and what is read of it can be read.
+    // The pieces tile the document: they extend from its first byte to its last, and no token
+    // leaves its line. Each token ends at the end of a character, and each value that is read of it
+    // can be read.
     ensures tiles { IfOk result (λ blocks. Tiles document.now origin blocks.pieces.items (record { offset = length document.now; virtual_spaces = 0 })) }
-    // The spans nest, each stands where the grammar takes it, and none is left open.
+    // The spans nest, each is where the grammar accepts it, and none is left open.
     ensures nest { IfOk result (λ blocks. Walks start blocks.pieces.items start) }
     // A construct that is off has no span.
     ensures on { IfOk result (λ blocks. AreOn options.now.constructs blocks.pieces.items) }
@@ -89,7 +91,7 @@ struct Reader<'d> {
 }
 
 impl<'d> Reader<'d> {
-    /// Nothing of a document is read.
+    /// Returns a reader that has read nothing of a document.
     fn new(alloc: Global, source: Source<'d>) -> Reader<'d>
         ensures stands { StandsWith result.flow result.output }
         ensures none { result.flow.content.lines.items ≡ [] }
@@ -106,7 +108,7 @@ impl<'d> Reader<'d> {
         }
     }
 
-    /// Reads what may stand at the start of a document alone, and gives the line that comes after it.
+    /// Reads what may occur only at the start of a document, and returns the line after it.
     fn start(&mut self, source: Source<'d>) -> Result<Option<Line<'d>>, AllocError>
         requires stands { StandsWith self.old.flow self.old.output }
         requires source { source_of self.old.output ≡ source }
@@ -134,7 +136,7 @@ impl<'d> Reader<'d> {
         }
     }
 
-    /// Reads the lines from one on.
+    /// Reads the lines, starting with this one.
     fn lines(&mut self, first: Input<'d>) -> Result<(), AllocError>
         requires stands { StandsWith self.old.flow self.old.output }
         requires reads { Reads (source_of self.old.output) (end_with self.old.flow self.old.output) first }
@@ -183,7 +185,7 @@ impl<'d> Reader<'d> {
         self.flow.line(input, &mut self.output)
     }
 
-    /// Reads the prefixes of the open containers, and says how many of these go on.
+    /// Reads the prefixes of the open containers, and returns how many of these continue.
     #[tactic(auto, using(crate::proofs::Moves::moved_on, crate::proofs::Moves::stays))]
     fn continue_containers(&mut self, input: &mut Input<'d>) -> Result<usize, AllocError>
         requires { OpensAll self.old }
@@ -201,7 +203,7 @@ impl<'d> Reader<'d> {
         Ok(self.containers.len())
     }
 
-    /// Reads the prefix of the open container of that number, and says whether it goes on.
+    /// Reads the prefix of the open container with that number, and returns whether it continues.
     fn continue_container(
         &mut self,
         number: usize,
@@ -228,8 +230,8 @@ impl<'d> Reader<'d> {
         Ok(true)
     }
 
-    /// Whether the container of that number is the last one, and an item that has ended while its list may
-    /// go on.
+    /// Whether the container with that number is the last one, and an item that has ended while its
+    /// list may continue.
     fn waits_at(&self, number: usize) -> bool {
         match self.containers.as_slice().get(number..) {
             Some([container]) => container.is_ended_item(),
@@ -237,7 +239,8 @@ impl<'d> Reader<'d> {
         }
     }
 
-    /// Reads the containers that begin in a line, after so many that go on, and says whether there are any.
+    /// Reads the containers that begin in a line, after the `matched` ones that continue, and
+    /// returns whether there are any.
     fn open_containers(&mut self, matched: usize, input: &mut Input<'d>) -> Result<bool, AllocError>
         requires stands { StandsWith self.old.flow self.old.output }
         requires reads { Reads (source_of self.old.output) (end_with self.old.flow self.old.output) input.old }
@@ -263,7 +266,7 @@ impl<'d> Reader<'d> {
         Ok(true)
     }
 
-    /// Reads the first container that begins in a line, after so many that go on.
+    /// Reads the first container that begins in a line, after the `matched` ones that continue.
     fn open_first(
         &mut self,
         matched: usize,
@@ -291,8 +294,8 @@ impl<'d> Reader<'d> {
         self.open(first, input)
     }
 
-    /// Reads an item, which is the first container that begins in a line. It is the next one of its list, or
-    /// begins another (CommonMark).
+    /// Reads an item that is the first container that begins in a line. It is the next item of its
+    /// list, or begins another list (CommonMark).
     fn open_first_item(
         &mut self,
         matched: usize,
@@ -321,7 +324,7 @@ impl<'d> Reader<'d> {
         self.open(ContainerStart::ListItem(item), input)
     }
 
-    /// Ends the leaf before a container that begins after so many that go on.
+    /// Ends the leaf before a container that begins after the `matched` ones that continue.
     fn close_flow(&mut self, matched: usize) -> Result<(), AllocError>
         requires stands { StandsWith self.old.flow self.old.output }
         requires opens { OpensAll self.old }
@@ -338,7 +341,7 @@ impl<'d> Reader<'d> {
         self.flow.flush(&mut self.output)
     }
 
-    /// Ends all containers but the first `keep`.
+    /// Ends all containers except the first `keep`.
     fn close_containers(&mut self, keep: usize) -> Result<(), AllocError>
         requires stands { Stands self.old.output }
         requires opens { Opens self.old.output (in_containers self.old.containers.items) }
@@ -354,8 +357,8 @@ impl<'d> Reader<'d> {
         Ok(())
     }
 
-    /// Ends all containers but the first `keep`. Says whether the list of the outermost of them goes on, with
-    /// an item of that marker.
+    /// Ends all containers except the first `keep`. Returns whether the list of the outermost of
+    /// them continues, with an item of that marker.
     fn close_to_list(&mut self, keep: usize, marker: u8) -> Result<bool, AllocError>
         requires stands { Stands self.old.output }
         requires opens { Opens self.old.output (in_containers self.old.containers.items) }
@@ -385,8 +388,8 @@ impl<'d> Reader<'d> {
         Ok(())
     }
 
-    /// Ends the last container, and the list of an item, unless it goes on with an item of that marker: says
-    /// whether it does.
+    /// Ends the last container, and the list of an item, unless the list continues with an item of
+    /// that marker. Returns whether it does.
     fn close_container(&mut self, marker: Option<u8>) -> Result<bool, AllocError>
         requires stands { Stands self.old.output }
         requires opens { Opens self.old.output (in_containers self.old.containers.items) }
@@ -414,8 +417,8 @@ impl<'d> Reader<'d> {
         }
     }
 
-    /// Ends the item that was the last container, and its list, unless it goes on with an item of that
-    /// marker: says whether it does.
+    /// Ends the item that was the last container, and its list, unless the list continues with an
+    /// item of that marker. Returns whether it does.
     fn close_item(&mut self, item: &Item, marker: Option<u8>) -> Result<bool, AllocError>
         requires stands { Stands self.old.output }
         requires opens { Opens self.old.output (in_last_item (is_ordered item.now.marker) self.old.containers.items) }
@@ -487,7 +490,7 @@ impl<'d> Reader<'d> {
         self.push(Container::ListItem(item), input)
     }
 
-    /// Keeps a container whose start is read.
+    /// Adds a container whose start has been read.
     fn push(&mut self, container: Container, input: &mut Input<'d>) -> Result<(), AllocError>
         requires { Opens self.old.output (in_last container self.old.containers.items) }
         ensures output { self.new.output ≡ self.old.output }
@@ -501,7 +504,7 @@ impl<'d> Reader<'d> {
         Ok(())
     }
 
-    /// Ends all that is open.
+    /// Ends everything that is open.
     fn end(&mut self) -> Result<(), AllocError>
         requires stands { StandsWith self.old.flow self.old.output }
         requires opens { OpensAll self.old }
@@ -515,7 +518,7 @@ impl<'d> Reader<'d> {
         Ok(())
     }
 
-    /// Ends all that is open, and gives what was found.
+    /// Ends everything that is open, and returns the result.
     fn finish(self) -> Result<Blocks, AllocError>
         requires stands { StandsWith self.flow self.output }
         requires opens { OpensAll self }

@@ -1,4 +1,4 @@
-//! Flow: the leaf that is open, and what a line does to it (micromark).
+//! Flow: the open leaf, and what a line does to it (micromark).
 
 ghost use Rattle.std.specs.Prelude.{Bool, List, [], OnOk, IfOk, length, ◌≡◌, ◌<◌, true, false};
 ghost use Rattle.std.specs.Str.{IsAscii};
@@ -24,19 +24,19 @@ use crate::{
 use markdown_events::event::Name;
 use std::alloc::{AllocError, Global};
 
-/// The leaf that is open, with the lines that are kept of it.
+/// The open leaf, with its kept lines.
 #[derive(Drop)]
 pub struct Flow<'d> {
-    /// Where memory comes from.
+    /// The allocator.
     alloc: Global,
     /// The leaf.
     leaf: Leaf,
-    /// The lines of a paragraph, or the blank lines that came last after indented code.
+    /// The lines of a paragraph, or the last blank lines after indented code.
     content: Content<'d>,
 }
 
 impl<'d> Flow<'d> {
-    /// No open leaf.
+    /// Returns no open leaf.
     pub fn new(alloc: Global) -> Flow<'d>
         ensures content { result.content.lines.items ≡ [] }
         ensures leaf { result.leaf ≡ leaves.None }
@@ -60,7 +60,7 @@ impl<'d> Flow<'d> {
         matches!(self.leaf, Leaf::RawFlow { .. } | Leaf::Html(_))
     }
 
-    /// Ends the leaf before the line ending that is held.
+    /// Ends the leaf before the held line ending.
     pub fn close(&mut self, output: &mut Output<'d>) -> Result<(), AllocError>
         requires { StandsWith self.old output.old }
         ensures stands { OnOk result (Stands output.new) }
@@ -76,7 +76,7 @@ impl<'d> Flow<'d> {
         Ok(())
     }
 
-    /// Writes that the leaf ends, with the lines that are kept of it.
+    /// Writes the end of the leaf, with its kept lines.
     fn end_leaf(&self, output: &mut Output<'d>) -> Result<(), AllocError>
         requires { StandsWith self.now output.old }
         ensures stands { OnOk result (Stands output.new) }
@@ -94,7 +94,7 @@ impl<'d> Flow<'d> {
                 output.exit_before_held(Name::CodeIndented)?;
                 blank_line::hold_kept(&self.content, output)
             }
-            // An empty line at the end is one of the lines only if its ending is in the span.
+            // An empty line at the end counts as a line only if its ending is in the span.
             Leaf::RawFlow { fence, ends_empty } if ends_empty => {
                 output.settle()?;
                 fence.end(output)
@@ -105,8 +105,8 @@ impl<'d> Flow<'d> {
         }
     }
 
-    /// Ends the leaf where the document ends, or where a container begins that is not in it: code, math and
-    /// some HTML take the line ending that is held (micromark).
+    /// Ends the leaf at the end of the document, or before a container that is not in it. Code,
+    /// math and some HTML take the held line ending (micromark).
     pub fn flush(&mut self, output: &mut Output<'d>) -> Result<(), AllocError>
         requires { StandsWith self.old output.old }
         ensures stands { OnOk result (Stands output.new) }
@@ -123,7 +123,7 @@ impl<'d> Flow<'d> {
         self.close(output)
     }
 
-    /// Whether the leaf takes the line ending that is held where it is flushed.
+    /// Whether the leaf takes the held line ending when it is flushed.
     fn takes_ending(&self) -> bool {
         match self.leaf {
             Leaf::RawFlow { .. } => true,
@@ -132,8 +132,8 @@ impl<'d> Flow<'d> {
         }
     }
 
-    /// Adds a line that is not in all its containers to a paragraph, if it can be, and says whether it was
-    /// (CommonMark, lazy continuation lines).
+    /// Adds a line that is not in all its containers to a paragraph, if possible, and returns
+    /// whether it did (CommonMark, lazy continuation lines).
     pub fn continue_lazily(
         &mut self,
         input: &mut Input<'d>,
@@ -178,7 +178,7 @@ impl<'d> Flow<'d> {
         }
     }
 
-    /// Ends the line that is written, after which this leaf is open.
+    /// Ends the current line, after which this leaf is open.
     fn go_on(&mut self, leaf: Leaf, output: &mut Output<'d>) -> Result<(), AllocError>
         requires writes { Writes output.old }
         requires ended { output.old.cursor.offset ≡ output.old.cursor.extent.end }
@@ -192,7 +192,7 @@ impl<'d> Flow<'d> {
         output.end_line()
     }
 
-    /// Ends the leaf, and reads the line anew.
+    /// Ends the leaf, and reads the line again.
     fn restart(&mut self, input: &mut Input<'d>, output: &mut Output<'d>) -> Result<(), AllocError>
         requires stands { StandsWith self.old output.old }
         requires reads { Reads (source_of output.old) (end_with self.old output.old) input.old }
@@ -206,7 +206,7 @@ impl<'d> Flow<'d> {
         self.start(input, output)
     }
 
-    /// Reads a line where no leaf is open.
+    /// Reads a line when no leaf is open.
     fn start(&mut self, input: &mut Input<'d>, output: &mut Output<'d>) -> Result<(), AllocError>
         requires stands { Stands output.old }
         requires leaf { self.old.leaf ≡ leaves.None }
@@ -232,7 +232,7 @@ impl<'d> Flow<'d> {
         }
     }
 
-    /// Writes the first line of a leaf that is no paragraph.
+    /// Writes the first line of a leaf that is not a paragraph.
     fn open(
         &mut self,
         start: LeafStart,
@@ -254,7 +254,7 @@ impl<'d> Flow<'d> {
         self.go_on(leaf, output)
     }
 
-    /// Reads a line after one of a paragraph.
+    /// Reads a line after a line of a paragraph.
     fn paragraph_line(
         &mut self,
         input: &mut Input<'d>,
@@ -286,7 +286,7 @@ impl<'d> Flow<'d> {
         Ok(())
     }
 
-    /// Reads an underline of so many signs. Where all lines above it are definitions, it is text
+    /// Reads an underline of `size` signs. If all lines above it are definitions, it is text
     /// (CommonMark).
     fn underline(
         &mut self,
@@ -359,7 +359,7 @@ impl<'d> Flow<'d> {
         self.go_on(Leaf::Table { has_body: false }, output)
     }
 
-    /// Reads a line after one of a table.
+    /// Reads a line after a line of a table.
     fn table_line(
         &mut self,
         has_body: bool,
@@ -383,7 +383,7 @@ impl<'d> Flow<'d> {
         self.go_on(Leaf::Table { has_body: true }, output)
     }
 
-    /// Reads a line after one of indented code.
+    /// Reads a line after a line of indented code.
     fn code_line(
         &mut self,
         input: &mut Input<'d>,
@@ -412,7 +412,7 @@ impl<'d> Flow<'d> {
         self.go_on(Leaf::CodeIndented, output)
     }
 
-    /// Reads a line of a block of HTML.
+    /// Reads a line of an HTML block.
     fn html_line(
         &mut self,
         html: Html,
@@ -435,7 +435,7 @@ impl<'d> Flow<'d> {
         self.go_on(Leaf::Html(html), output)
     }
 
-    /// Reads a line after a fence that opens.
+    /// Reads a line after an opening fence.
     fn raw_line(
         &mut self,
         fence: Fence,
@@ -458,7 +458,8 @@ impl<'d> Flow<'d> {
     }
 }
 
-/// Writes the first line of a leaf that is no paragraph, and gives the leaf that is open after it.
+/// Writes the first line of a leaf that is not a paragraph, and returns the leaf that is open after
+/// it.
 fn write_first<'d>(
     start: LeafStart,
     line: &mut Line<'d>,
@@ -497,7 +498,7 @@ fn write_first<'d>(
     }
 }
 
-/// The leaf that is open after a line that comes after a fence.
+/// Returns the leaf that is open after a line that comes after a fence.
 fn leaf_after(fence: Fence, found: FencedLine) -> Leaf
     ensures { (n : Bool) → (outer : List Enclosing) → in_leaf result n outer ≡ after_fenced found fence.content n outer }
 {

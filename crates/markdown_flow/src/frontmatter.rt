@@ -15,11 +15,11 @@ use commonmark_syntax::frontmatter_fence;
 use markdown_events::event::Name;
 use std::alloc::AllocError;
 
-/// How many signs a fence has (micromark).
+/// The number of signs in a fence (micromark).
 const SIGNS: usize = 3;
 
-/// The sign of the fences of frontmatter that begins in the first line of a document, if there is any
-/// (micromark). Always `None` with `frontmatter` off.
+/// Returns the sign of the fences of frontmatter that begins in the first line of a document, if
+/// there is any (micromark). Always `None` with `frontmatter` off.
 pub fn begins(first: &Line<'_>) -> Option<u8>
     ensures on { IfSome result (λ _. (constructs_in first.now).frontmatter ≡ true) }
     ensures sign { IfSome result (λ sign. sign < 128) }
@@ -53,7 +53,7 @@ fn is_closed(first: &Line<'_>, sign: u8) -> bool {
     false
 }
 
-/// Writes the frontmatter that begins in a line, and gives the line of the fence that closes it.
+/// Writes the frontmatter that begins in a line, and returns the line of its closing fence.
 pub fn write<'d>(first: Line<'d>, sign: u8, output: &mut Output<'d>) -> Result<Line<'d>, AllocError>
     requires stands { Stands output.old }
     requires source { first.source ≡ source_of output.old }
@@ -86,7 +86,7 @@ pub fn write<'d>(first: Line<'d>, sign: u8, output: &mut Output<'d>) -> Result<L
     Ok(line)
 }
 
-/// Writes that the frontmatter ends with the line that is written.
+/// Writes the end of the frontmatter after the current line.
 fn end(output: &mut Output<'_>) -> Result<(), AllocError>
     requires writes { Writes output.old }
     requires ended { output.old.cursor.offset ≡ output.old.cursor.extent.end }

@@ -19,8 +19,9 @@ use commonmark_syntax::footnote_label;
 use markdown_events::event::Name;
 use std::alloc::AllocError;
 
-/// The size of the label of the footnote definition that begins at the cursor of a line, if one does: the
-/// bytes between the caret and the bracket (GFM). Always `None` with `gfm_footnote_definition` off.
+/// Returns the size of the label of the footnote definition that begins at the cursor of a line, if
+/// one does: the bytes between the caret and the bracket (GFM). Always `None` with
+/// `gfm_footnote_definition` off.
 ///
 /// It is 1 in `[^a]: b`.
 pub fn begins(line: &Line<'_>) -> Option<usize>
@@ -35,8 +36,8 @@ pub fn begins(line: &Line<'_>) -> Option<usize>
     Some(size - 4)
 }
 
-/// Whether a footnote definition goes on in a line: one that is blank, or indented by four columns (GFM). If
-/// it does, its indentation is read.
+/// Whether a footnote definition continues in a line: one that is blank, or indented by four
+/// columns (GFM). If it does, its indentation is read.
 pub fn continues(input: &mut Input<'_>) -> Result<bool, AllocError>
     ensures reads { (source : Source) → (from : Spot) → Reads source from input.old → OnOk result (Reads source from input.new) }
     ensures moved { OnOk result (HasMoved input.old.line input.new.line) }
@@ -48,7 +49,7 @@ pub fn continues(input: &mut Input<'_>) -> Result<bool, AllocError>
     Ok(true)
 }
 
-/// Writes the start of a footnote definition with a label of so many bytes, at the cursor of a line.
+/// Writes the start of a footnote definition with a label of `size` bytes, at the cursor of a line.
 pub fn open<'d>(size: usize, line: &mut Line<'d>, output: &mut Output<'d>) -> Result<(), AllocError>
     requires writes { Writes output.old }
     requires at { IsAt output.old.cursor line.old }
@@ -69,7 +70,7 @@ pub fn open<'d>(size: usize, line: &mut Line<'d>, output: &mut Output<'d>) -> Re
     output.exit(Name::GfmFootnoteDefinitionPrefix)
 }
 
-/// Writes a label of so many bytes with its brackets. It is added to what the document defines.
+/// Writes a label of `size` bytes with its brackets. It is added to what the document defines.
 fn write_label(size: usize, output: &mut Output<'_>) -> Result<(), AllocError>
     requires writes { Writes output.old }
     requires label { HasLabel (rest_of output.old) size }

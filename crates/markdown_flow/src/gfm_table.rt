@@ -24,8 +24,8 @@ use commonmark_syntax::delimiter_row;
 use markdown_events::event::Name;
 use std::alloc::AllocError;
 
-/// Whether the last line of a paragraph and the line after it are the head of a table (GFM). Never, with
-/// `gfm_table` off.
+/// Whether the last line of a paragraph and the line after it are the head of a table (GFM). Always
+/// false with `gfm_table` off.
 pub fn begins(header: &Line<'_>, line: &Line<'_>) -> bool
     ensures ascii { result ≡ true → IsAscii line.now.text.now }
     ensures on { result ≡ true → (constructs_in line.now).gfm_table ≡ true }
@@ -39,7 +39,7 @@ pub fn begins(header: &Line<'_>, line: &Line<'_>) -> bool
         && gfm_table_row::count(header.text()) == gfm_table_row::count(line.text())
 }
 
-/// Whether a row is a lone divider, which heads no table (micromark).
+/// Whether a row is a lone divider, which is not the head of a table (micromark).
 fn is_bare_divider(row: &[u8]) -> bool {
     row.starts_with(b"|") && trimmed_size(row) == 1
 }
@@ -125,7 +125,7 @@ fn write_run(name: Name, of: u8, output: &mut Output<'_>) -> Result<(), AllocErr
     output.token(name, size)
 }
 
-/// Writes a row of the body, which is the first one or not.
+/// Writes a row of the body. `has_body` says whether there was one before.
 pub fn write_row(has_body: bool, output: &mut Output<'_>) -> Result<(), AllocError>
     requires { Writes output.old }
     ensures written { OnOk result (WritesOut output.old output.new) }
@@ -138,7 +138,7 @@ pub fn write_row(has_body: bool, output: &mut Output<'_>) -> Result<(), AllocErr
     gfm_table_row::write(output)
 }
 
-/// Writes that a table ends.
+/// Writes the end of a table.
 pub fn end(has_body: bool, output: &mut Output<'_>) -> Result<(), AllocError>
     requires { Stands output.old }
     ensures stands { OnOk result (Stands output.new) }

@@ -1,4 +1,4 @@
-//! Rows of tables: how they are parted into cells (GFM).
+//! Rows of tables: how they are split into cells (GFM).
 
 ghost use Rattle.std.specs.Prelude.{[], OnOk, drop, false, length, slice_index, take, ◌≡◌, ◌≤◌, ◌<◌, ◌⊎◌};
 ghost use Rattle.std.specs.Str.{IsAscii};
@@ -17,16 +17,17 @@ use std::alloc::AllocError;
 /// A cell of a row.
 #[derive(Clone, Copy)]
 pub struct Cell<'d> {
-    /// How many bytes the divider before it has: 0 where there is none.
+    /// The size in bytes of the divider before it, or 0 if there is none.
     divider_size: usize,
     /// Its text, without the white space around it.
     pub text: &'d [u8],
-    /// The end of the row from the divider before the next cell on; empty if there is no next cell.
+    /// The rest of the row from the divider before the next cell on; empty if there is no next
+    /// cell.
     pub next: &'d [u8],
 }
 
 impl<'d> Cell<'d> {
-    /// The first cell of a row, or of an end of a row that begins with a divider.
+    /// Returns the first cell of a row, or of the rest of a row that begins with a divider.
     ///
     /// That of `| a | b |` has the text `a`, and the next is that of `| b |`.
     pub fn first(row: &'d [u8]) -> Cell<'d>
@@ -44,7 +45,7 @@ impl<'d> Cell<'d> {
         }
     }
 
-    /// Writes what comes before its text: a divider, and white space around that.
+    /// Writes what comes before its text: a divider, and the white space around it.
     pub fn write_before(&self, output: &mut Output<'_>) -> Result<(), AllocError>
         requires writes { Writes output.old }
         requires cut { IsCut (text_of output.old) self.now.divider_size }
@@ -57,7 +58,7 @@ impl<'d> Cell<'d> {
         output.white_space()
     }
 
-    /// Writes what comes after its text: white space, and what the row ends with after its last cell.
+    /// Writes what comes after its text: white space, and after the last cell the end of the row.
     pub fn write_after(&self, output: &mut Output<'_>) -> Result<(), AllocError>
         requires writes { Writes output.old }
         requires cut { IsCut (text_of output.old) 1 }
@@ -75,7 +76,7 @@ impl<'d> Cell<'d> {
     }
 }
 
-/// How many bytes the divider that a row begins with has: 0 where there is none.
+/// Returns the size in bytes of the divider that a row begins with, or 0 if there is none.
 fn divider_size(row: &[u8]) -> usize
     ensures within { result ≤ length row.now }
     ensures most { result ≤ 1 }
@@ -87,8 +88,8 @@ fn divider_size(row: &[u8]) -> usize
     }
 }
 
-/// How many bytes the first cell of a row has, with the divider before it. It ends before the next divider
-/// that is not escaped (GFM).
+/// Returns the size in bytes of the first cell of a row, with the divider before it. It ends before
+/// the next divider that is not escaped (GFM).
 fn cell_size(row: &[u8]) -> usize
     ensures most { result ≤ length row.now }
     ensures least { 0 < length row.now → 0 < result }
@@ -105,7 +106,8 @@ fn cell_size(row: &[u8]) -> usize
     row.len()
 }
 
-/// The end of a row from the next cell on, where a divider comes first. A last divider begins no cell.
+/// Returns the rest of a row that begins with a divider, if a cell comes after the divider, or
+/// nothing. A last divider begins no cell.
 fn next_cell(end: &[u8]) -> &[u8]
     ensures less { length result.now ≤ length end.now }
     ensures next { (result.now ≡ end.now) ⊎ ((result.now ≡ []) × IsAscii (drop 1 end.now)) }
@@ -113,7 +115,7 @@ fn next_cell(end: &[u8]) -> &[u8]
     if is_blank(after(end, 1)) { &[] } else { end }
 }
 
-/// How many cells a row has.
+/// Returns how many cells a row has.
 ///
 /// `| a | b |` has 2.
 pub fn count(row: &[u8]) -> usize {
@@ -126,7 +128,7 @@ pub fn count(row: &[u8]) -> usize {
     count
 }
 
-/// Writes the row that a line is, with the white space before it.
+/// Writes the row in a line, with the white space before it.
 pub fn write(output: &mut Output<'_>) -> Result<(), AllocError>
     requires { Writes output.old }
     ensures written { OnOk result (WritesOut output.old output.new) }

@@ -13,8 +13,8 @@ use commonmark_syntax::{atx_closing, atx_opening};
 use markdown_events::event::Name;
 use std::alloc::AllocError;
 
-/// The number of signs that the heading in a line begins with, if there is one (CommonMark). Always `None`
-/// with `heading_atx` off.
+/// Returns the number of signs that the heading in a line begins with, if there is one
+/// (CommonMark). Always `None` with `heading_atx` off.
 ///
 /// It is 2 in `## a`.
 pub fn begins(line: &Line<'_>) -> Option<usize>
@@ -28,7 +28,7 @@ pub fn begins(line: &Line<'_>) -> Option<usize>
     atx_opening::scan(line.text())
 }
 
-/// Writes the heading in a line, which begins with so many signs.
+/// Writes the heading in a line, which begins with `size` signs.
 pub fn write(size: usize, output: &mut Output<'_>) -> Result<(), AllocError>
     requires writes { Writes output.old }
     requires signs { HasSigns (text_of output.old) size }

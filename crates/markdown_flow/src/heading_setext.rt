@@ -17,8 +17,8 @@ use commonmark_syntax::setext_underline;
 use markdown_events::event::Name;
 use std::alloc::AllocError;
 
-/// The number of signs of an underline, if the line is one (CommonMark). Always `None` with `heading_setext`
-/// off.
+/// Returns the number of signs of an underline, if the line is one (CommonMark). Always `None` with
+/// `heading_setext` off.
 ///
 /// It is 3 in `===`.
 pub fn underline(line: &Line<'_>) -> Option<usize>
@@ -34,7 +34,7 @@ pub fn underline(line: &Line<'_>) -> Option<usize>
     setext_underline::scan(line.text())
 }
 
-/// Writes a heading of lines of a content, with an underline of so many signs.
+/// Writes a heading from lines of a content, with an underline of `size` signs.
 pub fn write<'d>(
     content: &Content<'d>,
     first: &KeptLine<'d>,
@@ -66,7 +66,7 @@ pub fn write<'d>(
     output.exit(Name::HeadingSetext)
 }
 
-/// Writes an underline of so many signs.
+/// Writes an underline of `size` signs.
 fn write_underline(size: usize, output: &mut Output<'_>) -> Result<(), AllocError>
     requires writes { Writes output.old }
     requires filled { 0 < size }

@@ -1,4 +1,4 @@
-//! Blocks of HTML (CommonMark).
+//! HTML blocks (CommonMark).
 
 ghost use Rattle.std.specs.Prelude.{Bool, List, OnOk, IfNone, IfOk, IfSome, false, true, ◌≡◌, ◌<◌, ◌⊎◌};
 ghost use Rattle.commonmark_syntax.specs.Language.{IsNotAt};
@@ -14,7 +14,7 @@ use commonmark_syntax::html_block::Kind;
 use markdown_events::event::Name;
 use std::alloc::AllocError;
 
-/// A block of HTML.
+/// An HTML block.
 #[derive(Clone, Copy)]
 pub struct Html {
     /// What it begins with.
@@ -24,8 +24,8 @@ pub struct Html {
 impl Html {
     ghost use Rattle.commonmark_syntax.specs.Html.{HoldsFirst, condition, html_start};
 
-    /// The block of HTML that begins in a line, if one does (CommonMark). The last kind cannot interrupt a
-    /// paragraph. Always `None` with `html_flow` off.
+    /// Returns the HTML block that begins in a line, if one does (CommonMark). The last kind cannot
+    /// interrupt a paragraph. Always `None` with `html_flow` off.
     pub fn find(line: &Line<'_>, interrupts: bool) -> Option<Html>
         ensures on { IfSome result (λ _. (constructs_in line.now).html_flow ≡ true) }
         ensures first { IfSome result (λ html. HoldsFirst html.kind line.now.text.now) }
@@ -46,7 +46,7 @@ impl Html {
         self.kind.ends_at_blank_line()
     }
 
-    /// Writes its first line, and says whether it ends there.
+    /// Writes its first line, and returns whether it ends there.
     pub fn open(self, output: &mut Output<'_>) -> Result<bool, AllocError>
         requires writes { Writes output.old }
         requires on { (constructs_of output.old).html_flow ≡ true }
@@ -59,7 +59,7 @@ impl Html {
         self.write_line(output)
     }
 
-    /// Writes a line of it, and says whether it ends there.
+    /// Writes a line of it, and returns whether it ends there.
     pub fn write_line(self, output: &mut Output<'_>) -> Result<bool, AllocError>
         requires { Writes output.old }
         ensures written { OnOk result (WritesOut output.old output.new) }

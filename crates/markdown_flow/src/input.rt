@@ -1,4 +1,4 @@
-//! The line that is read, and what the open containers took of it.
+//! The current line, and what the open containers took of it.
 
 ghost use Rattle.std.specs.Prelude.{[], OnOk, length, slice_index, ◌≡◌, ◌<◌, ◌++◌};
 
@@ -8,14 +8,14 @@ use markdown_events::event::Name;
 use markdown_pieces::piece::{Piece, PieceKind};
 use std::alloc::{AllocError, Global};
 
-/// A line that is read.
+/// A line that is being read.
 #[derive(Drop)]
 pub struct Input<'d> {
     /// The line, with its cursor after its prefix.
     pub line: Line<'d>,
-    /// How many containers there are up to the last one that has a marker in it.
+    /// How many containers there are, up to the last one with a marker in this line.
     pub depth: usize,
-    /// The pieces of its prefix: of what the open containers took of it.
+    /// The pieces of its prefix: what the open containers took of it.
     prefix: Vec<Piece>,
 }
 
@@ -26,7 +26,7 @@ impl<'d> Input<'d> {
     ghost use Rattle.markdown_pieces.specs.Tilings.{Goes, Spot};
     ghost use Rattle.markdown_pieces.specs.Walks.{IsBetween};
 
-    /// A line of which nothing is read yet.
+    /// Returns a line of which nothing has been read yet.
     pub fn new(alloc: Global, line: Line<'d>) -> Input<'d>
         ensures line { result.line ≡ line.entry }
         ensures prefix { result.prefix.items ≡ [] }
@@ -38,7 +38,7 @@ impl<'d> Input<'d> {
         }
     }
 
-    /// Goes to another line, of which nothing is read yet.
+    /// Moves to another line, of which nothing has been read yet.
     pub fn go_to(&mut self, line: Line<'d>)
         ensures line { self.new.line ≡ line.entry }
         ensures prefix { self.new.prefix ≡ self.old.prefix }
@@ -47,8 +47,8 @@ impl<'d> Input<'d> {
         self.depth = 0;
     }
 
-    /// Moves the cursor over the white space there, a byte, and a column of white space, if there is one. They
-    /// are the prefix of a block quote.
+    /// Moves the cursor over the white space there, a byte, and a column of white space, if there
+    /// is one. They are the prefix of a block quote.
     pub fn block_quote_prefix(&mut self) -> Result<(), AllocError>
         requires some { 0 < length self.old.line.text.now }
         requires ascii { slice_index self.old.line.text.now 0 < 128 }
@@ -61,7 +61,7 @@ impl<'d> Input<'d> {
         self.push(PieceKind::BlockQuotePrefix, line)
     }
 
-    /// Moves the cursor over up to so many columns of white space, which go to the prefix.
+    /// Moves the cursor over up to `columns` columns of white space, which are added to the prefix.
     pub fn columns(&mut self, columns: usize) -> Result<(), AllocError>
         ensures reads { (source : Source) → (from : Spot) → Reads source from self.old → OnOk result (Reads source from self.new) }
         ensures moved { OnOk result (HasMoved self.old.line self.new.line) }
@@ -75,7 +75,8 @@ impl<'d> Input<'d> {
         self.push(PieceKind::Token(Name::SpaceOrTab), line)
     }
 
-    /// Moves the cursor to another place of the line. What is between them goes to the prefix.
+    /// Moves the cursor to another place of the line. What is between the two is added to the
+    /// prefix.
     fn push(&mut self, kind: PieceKind, line: Line<'d>) -> Result<(), AllocError>
         requires source { line.source ≡ self.old.line.source }
         requires goes { Goes self.old.line.source.document.now kind (spot_in self.old.line) (spot_in line) }

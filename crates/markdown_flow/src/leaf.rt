@@ -1,4 +1,4 @@
-//! Leaves: what the flow of a document is made of, but for containers (CommonMark).
+//! Leaves: the blocks of a document that are not containers (CommonMark).
 
 ghost use Rattle.std.specs.Prelude.{IfSome};
 
@@ -7,27 +7,27 @@ use crate::line::Line;
 use crate::raw_flow::Fence;
 use crate::{code_indented, heading_atx, thematic_break};
 
-/// The leaf that is open.
+/// The open leaf.
 #[derive(Clone, Copy)]
 pub enum Leaf {
     /// There is none.
     None,
     /// A paragraph. Its lines are kept, since they may turn out to be definitions, a heading or a table.
     Paragraph,
-    /// Indented code. Blank lines that came last are kept, since they may not be in it.
+    /// Indented code. The last blank lines are kept, since they may not be in it.
     CodeIndented,
     /// Code or math between fences.
     RawFlow {
         /// The fence that opened it.
         fence: Fence,
-        /// Whether there is nothing in its last line.
+        /// Whether its last line is empty.
         ends_empty: bool,
     },
-    /// A block of HTML.
+    /// An HTML block.
     Html(Html),
     /// A table.
     Table {
-        /// Whether a row came after its head.
+        /// Whether it has a row after its head.
         has_body: bool,
     },
 }
@@ -39,18 +39,19 @@ pub enum LeafStart {
     CodeIndented,
     /// A fence.
     RawFlow(Fence),
-    /// A tag, or what else a block of HTML begins with.
+    /// A tag, or another beginning of an HTML block.
     Html(Html),
-    /// So many number signs.
+    /// Number signs, and how many there are.
     HeadingAtx(usize),
-    /// A thematic break, which is all of it.
+    /// A thematic break, which is complete.
     ThematicBreak,
 }
 
 impl LeafStart {
     ghost use Rattle.markdown_flow.specs.Starts.{IsStart};
 
-    /// The leaf that begins at the cursor of a line that is not blank, unless it is a paragraph.
+    /// Returns the leaf that begins at the cursor of a line that is not blank, unless it is a
+    /// paragraph.
     ///
     /// Indented code and some HTML cannot interrupt a paragraph (CommonMark).
     pub fn find(line: &Line<'_>, interrupts: bool) -> Option<LeafStart>

@@ -1,8 +1,8 @@
 //! The block structure of a document: document and flow of micromark.
 //!
-//! [`document::read`] reads a document line by line. It keeps the open containers and the open leaf, and
-//! gives pieces, which tile the document, and the identifiers that it defines. `markdown_text` reads the
-//! inlines in the pieces.
+//! [`document::read`] reads a document line by line. It keeps the open containers and the open
+//! leaf. It returns pieces, which tile the document, and the identifiers that it defines.
+//! `markdown_text` reads the inlines in the pieces.
 #![tactic(auto)]
 
 mod blank_line;

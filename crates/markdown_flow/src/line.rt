@@ -36,27 +36,27 @@ use commonmark_syntax::bytes::{after, is_space_or_tab};
 use commonmark_syntax::thematic_break;
 use markdown_options::Constructs;
 
-/// How many columns lie between two tab stops (CommonMark).
+/// How many columns are between two tab stops (CommonMark).
 pub const TAB_SIZE: usize = 4;
 
-/// A document, and the constructs that it is read with.
+/// A document, and which constructs are on.
 #[derive(Clone, Copy)]
 pub struct Source<'d> {
     /// The bytes of the document.
     pub document: &'d [u8],
-    /// Which constructs there are.
+    /// Which constructs are on.
     pub constructs: &'d Constructs,
     ghost short: { length document.now < 2 ^ 61 },
 }
 
-/// A line of a document, with a cursor that goes over its prefix.
+/// A line of a document, with a cursor that moves over its prefix.
 ///
 /// The *text* of the line is what comes after the cursor and the white space there.
 #[derive(Clone, Copy)]
 pub struct Line<'d> {
     /// The document.
     source: Source<'d>,
-    /// The offset at which the line begins.
+    /// The offset where the line begins.
     start: usize,
     /// The bytes after the cursor, without the line ending.
     rest: &'d [u8],
@@ -64,15 +64,15 @@ pub struct Line<'d> {
     text: &'d [u8],
     /// How many columns come before the cursor.
     columns: usize,
-    /// How many columns of a tab come before the cursor, where that is within the tab, and else 0.
+    /// How many columns of a tab come before the cursor, if it is within the tab, and otherwise 0.
     virtual_spaces: usize,
     /// How many columns of white space come after the cursor.
     indent: usize,
     /// How many bytes at the end are only white space and one of the signs of thematic breaks.
     tail: usize,
-    /// The offset at which the line ends, without its line ending.
+    /// The offset where the line ends, without its line ending.
     end: usize,
-    /// The offset at which the next line begins.
+    /// The offset where the next line begins.
     next: usize,
     ghost whole: { IsRest source.document.now start end next } by { IsRest-prop source.document.now start end next },
     ghost later: { start < next },
@@ -90,7 +90,7 @@ impl<'d> Line<'d> {
     ghost use Rattle.markdown_flow.specs.Moves.{HasMoved};
     ghost use Rattle.markdown_flow.specs.Outputs.{ComesToCut, constructs_in, is_indented};
 
-    /// The line that begins at an offset, or `None` at the end of the document.
+    /// Returns the line that begins at an offset, or `None` at the end of the document.
     pub fn new(source: Source<'d>, start: usize) -> Option<Line<'d>>
         requires { HasColumns source.document.now start 0 0 }
         ensures same { IfSome result (λ line. line.source ≡ source.entry) }
@@ -119,7 +119,7 @@ impl<'d> Line<'d> {
         })
     }
 
-    /// The next line, or `None` at the end of the document.
+    /// Returns the next line, or `None` at the end of the document.
     pub fn following(&self) -> Option<Line<'d>>
         ensures same { IfSome result (λ line. line.source ≡ self.now.source) }
         ensures start { IfSome result (λ line. line.start ≡ self.now.next) }
@@ -133,63 +133,64 @@ impl<'d> Line<'d> {
         Line::new(self.source, self.next)
     }
 
-    /// The document, and the constructs that it is read with.
+    /// Returns the document, and which constructs are on.
     pub fn source(&self) -> Source<'d>
         ensures { result ≡ self.now.source }
     {
         self.source
     }
 
-    /// Which constructs there are.
+    /// Returns which constructs are on.
     pub fn constructs(&self) -> &'d Constructs
         ensures { result.now ≡ self.now.source.constructs.now }
     {
         self.source.constructs
     }
 
-    /// The bytes after the cursor.
+    /// Returns the bytes after the cursor.
     pub fn rest(&self) -> &'d [u8]
         ensures { result.now ≡ self.now.rest.now }
     {
         self.rest
     }
 
-    /// The bytes of the text.
+    /// Returns the bytes of the text.
     pub fn text(&self) -> &'d [u8]
         ensures { result.now ≡ self.now.text.now }
     {
         self.text
     }
 
-    /// The offset of the cursor.
+    /// Returns the offset of the cursor.
     pub fn offset(&self) -> usize
         ensures { result ≡ self.now.end - length self.now.rest.now }
     {
         self.end - self.rest.len()
     }
 
-    /// How many columns of a tab come before the cursor, where that is within the tab, and else 0.
+    /// Returns how many columns of a tab come before the cursor, if it is within the tab, and
+    /// otherwise 0.
     pub fn virtual_spaces(&self) -> usize
         ensures { result ≡ self.now.virtual_spaces }
     {
         self.virtual_spaces
     }
 
-    /// How many columns come before the cursor.
+    /// Returns how many columns come before the cursor.
     pub fn columns(&self) -> usize
         ensures { result ≡ self.now.columns }
     {
         self.columns
     }
 
-    /// The offset at which the line ends, without its line ending.
+    /// Returns the offset where the line ends, without its line ending.
     pub fn end(&self) -> usize
         ensures { result ≡ self.now.end }
     {
         self.end
     }
 
-    /// The offset at which the next line begins.
+    /// Returns the offset where the next line begins.
     pub fn next(&self) -> usize
         ensures { result ≡ self.now.next }
     {
@@ -203,20 +204,20 @@ impl<'d> Line<'d> {
         self.end < self.next
     }
 
-    /// How many columns of white space come after the cursor.
+    /// Returns how many columns of white space come after the cursor.
     pub fn indent(&self) -> usize
         ensures { result ≡ self.now.indent }
     {
         self.indent
     }
 
-    /// Whether nothing but white space comes after the cursor.
+    /// Whether only white space comes after the cursor.
     pub fn is_blank(&self) -> bool {
         self.text.is_empty()
     }
 
-    /// Whether the text is indented like code, so that it is no other block (CommonMark). Never, with
-    /// `code_indented` off (micromark).
+    /// Whether the text is indented like code, and therefore is no other block (CommonMark). Always
+    /// false with `code_indented` off (micromark).
     pub fn is_indented(&self) -> bool
         ensures on { result ≡ true → (constructs_in self.now).code_indented ≡ true }
         ensures exact { result ≡ is_indented self.now }
@@ -226,7 +227,7 @@ impl<'d> Line<'d> {
 
     /// Whether the text has only white space and one of the signs of thematic breaks.
     ///
-    /// This is found once for a line, since each of many nested markers may ask for it.
+    /// This is computed once for a line, since each of many nested markers may need it.
     pub fn is_in_tail(&self) -> bool
         ensures ascii { result ≡ true → IsAscii self.now.text.now }
         ensures exact { result ≡ has_one_sign self.now.text.now }
@@ -234,7 +235,7 @@ impl<'d> Line<'d> {
         self.text.len() <= self.tail
     }
 
-    /// Moves the cursor over up to so many columns of white space.
+    /// Moves the cursor over up to `columns` columns of white space.
     pub fn skip_columns(&mut self, columns: usize)
         ensures moved { HasMoved self.old self.new }
         ensures text { self.new.text ≡ self.old.text }
@@ -273,7 +274,7 @@ impl<'d> Line<'d> {
         self.indent = 0;
     }
 
-    /// Moves the cursor over so many bytes of the text, and the white space before it.
+    /// Moves the cursor over `size` bytes of the text, and the white space before it.
     pub fn skip(&mut self, size: usize)
         ensures moved { HasMoved self.old self.new }
         ensures cut { IsCut self.old.text.now size → ComesToCut self.old self.new }
@@ -289,7 +290,7 @@ impl<'d> Line<'d> {
     }
 }
 
-/// The size of the line that a text begins with, without its line ending (CommonMark).
+/// Returns the size of the line that a text begins with, without its line ending (CommonMark).
 fn line_size(text: &[u8]) -> usize
     ensures within { result ≤ length text.now }
     ensures in_line { IsInLine text.now 0 result }
@@ -303,8 +304,8 @@ fn line_size(text: &[u8]) -> usize
     text.len()
 }
 
-/// What comes after the line ending that a text begins with (CommonMark): a line feed, a carriage return, or
-/// both.
+/// Returns the text after the line ending that it begins with (CommonMark): a line feed, a carriage
+/// return, or both.
 fn after_line_ending(text: &[u8]) -> &[u8]
     requires { 0 < length text.now → EndsLine text.now 0 }
     ensures { length result.now ≡ length text.now - line_ending_length text.now 0 }
@@ -315,7 +316,7 @@ fn after_line_ending(text: &[u8]) -> &[u8]
     }
 }
 
-/// How many columns of white space a text begins with, where so many columns come before it.
+/// Returns how many columns of white space a text begins with, if `columns` columns come before it.
 fn indent_of(text: &[u8], columns: usize) -> usize
     requires { columns + 4 * length text.now < 2 ^ 64 }
     ensures { result ≡ indentation columns text.now }
@@ -330,7 +331,7 @@ fn indent_of(text: &[u8], columns: usize) -> usize
     end - columns
 }
 
-/// How many columns come before what follows a text, where so many come before the text.
+/// Returns how many columns come before what follows a text, if `columns` come before the text.
 fn columns_after(text: &[u8], columns: usize) -> usize
     requires { columns + 4 * length text.now < 2 ^ 64 }
     ensures { result ≡ columns_after columns text.now }
@@ -342,7 +343,7 @@ fn columns_after(text: &[u8], columns: usize) -> usize
     end
 }
 
-/// How many columns a byte takes where so many come before it (CommonMark, tab stops).
+/// Returns how many columns a byte takes, if `columns` come before it (CommonMark, tab stops).
 fn width(byte: u8, columns: usize) -> usize
     ensures value { result ≡ width byte columns }
     ensures least { 0 < result }

@@ -1,4 +1,4 @@
-//! Items, and the lists that they make (CommonMark).
+//! List items, and the lists that they form (CommonMark).
 
 ghost use Rattle.std.specs.Prelude.{List, OnOk, IfNone, IfOk, IfSome, drop, false, nat_lt, slice_index, true, ◌≡◌, ◌<◌, ◌+◌};
 ghost use Rattle.commonmark_syntax.specs.Blocks as blocks;
@@ -21,25 +21,26 @@ use commonmark_syntax::list_marker;
 use markdown_events::event::Name;
 use std::alloc::AllocError;
 
-/// How far an item has come.
+/// The progress of an item.
 #[derive(Clone, Copy, PartialEq, Eq)]
 enum Progress {
-    /// There is nothing in its first line, and no other line yet.
+    /// Its first line is empty, and no other line has come yet.
     BeganBlank,
-    /// There is something in it.
+    /// It is not empty.
     Filled,
-    /// It began blank, and a blank line came next. It has ended, but its list may go on (CommonMark).
+    /// It began blank, and a blank line came next. It has ended, but its list may continue
+    /// (CommonMark).
     Ended,
 }
 
 /// An open item.
 #[derive(Clone, Copy)]
 pub struct Item {
-    /// The bullet, or the delimiter after the number. Items with the same one make a list.
+    /// The bullet, or the delimiter after the number. Items with the same one form a list.
     pub marker: u8,
     /// How many columns its lines are indented.
     size: usize,
-    /// How far it has come.
+    /// Its progress.
     progress: Progress,
 }
 
@@ -53,7 +54,7 @@ pub struct ItemStart {
     ghost counted: { is_ordered marker ≡ nat_lt 0 digits },
 }
 
-/// The name of the list of items with a marker.
+/// Returns the name of the list of items with a marker.
 pub fn list_name(marker: u8) -> Name
     ensures { result ≡ list_name (is_ordered marker) }
 {
@@ -63,9 +64,10 @@ pub fn list_name(marker: u8) -> Name
     }
 }
 
-/// The item that begins at the cursor of a line, if one does. Always `None` with `list_item` off.
+/// Returns the item that begins at the cursor of a line, if one does. Always `None` with
+/// `list_item` off.
 ///
-/// An item can interrupt a paragraph only if it is not blank, and only if its number is 1, where it has one
+/// An item can interrupt a paragraph only if it is not blank, and has no number or the number 1
 /// (CommonMark).
 pub fn begins(line: &Line<'_>, interrupts: bool) -> Option<ItemStart>
     ensures marker { IfSome result (λ start. HasMarker line.now.text.now start.digits) }
@@ -87,7 +89,7 @@ pub fn begins(line: &Line<'_>, interrupts: bool) -> Option<ItemStart>
     Some(ItemStart { marker, digits })
 }
 
-/// Whether the item that a text begins with may begin, where it interrupts a paragraph or not.
+/// Whether the item that a text begins with may begin, given whether it interrupts a paragraph.
 fn may_begin(text: &[u8], interrupts: bool) -> bool
     ensures yes { result ≡ true → interrupts ≡ true → syntax.IsAt blocks.interrupting_list_marker text.now }
     ensures no { result ≡ false → (interrupts ≡ true) × syntax.IsNotAt blocks.interrupting_list_marker text.now }
@@ -96,7 +98,7 @@ fn may_begin(text: &[u8], interrupts: bool) -> bool
 }
 
 impl Item {
-    /// Whether it goes on in a line. If it does, its indentation is read.
+    /// Whether it continues in a line. If it does, its indentation is read.
     pub fn continues(&mut self, input: &mut Input<'_>) -> Result<bool, AllocError>
         ensures reads { (source : Source) → (from : Spot) → Reads source from input.old → OnOk result (Reads source from input.new) }
         ensures moved { OnOk result (HasMoved input.old.line input.new.line) }
@@ -114,13 +116,13 @@ impl Item {
         Ok(true)
     }
 
-    /// Whether it has ended, while its list may go on.
+    /// Whether it has ended, while its list may continue.
     pub fn is_ended(&self) -> bool {
         self.progress == Progress::Ended
     }
 }
 
-/// Writes that an item ends inside so many containers.
+/// Writes the end of an item inside `outside` containers.
 pub fn close(item: &Item, outside: usize, output: &mut Output<'_>) -> Result<(), AllocError>
     requires { Stands output.old }
     ensures stands { OnOk result (Stands output.new) }
@@ -260,8 +262,8 @@ fn write_number<'d>(
     Ok(())
 }
 
-/// How many columns of the white space after a marker belong to the item: all, unless what comes is
-/// indented code (CommonMark).
+/// Returns how many columns of the white space after a marker belong to the item: all, unless
+/// indented code comes next (CommonMark).
 fn padding(indent: usize) -> usize {
     if indent > TAB_SIZE { 1 } else { indent }
 }

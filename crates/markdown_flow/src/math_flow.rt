@@ -20,8 +20,8 @@ use std::alloc::AllocError;
 /// The sign of a fence.
 const SIGN: u8 = b'$';
 
-/// The fence of math that a line opens, if it opens one: dollars with none after them (micromark). Always
-/// `None` with `math_flow` off.
+/// Returns the math fence that a line opens, if it opens one: dollars with none after them
+/// (micromark). Always `None` with `math_flow` off.
 ///
 /// In `$$ a` it has two dollars.
 pub fn begins(line: &Line<'_>) -> Option<Fence>
@@ -41,7 +41,7 @@ pub fn begins(line: &Line<'_>) -> Option<Fence>
     })
 }
 
-/// Writes the line of a fence of so many signs, after the white space that it begins with.
+/// Writes the line of a fence of `size` signs, after the white space that it begins with.
 pub fn open(size: usize, output: &mut Output<'_>) -> Result<(), AllocError>
     requires writes { Writes output.old }
     requires cut { IsCut (rest_of output.old) size }
@@ -57,7 +57,7 @@ pub fn open(size: usize, output: &mut Output<'_>) -> Result<(), AllocError>
     output.exit(Name::MathFlowFence)
 }
 
-/// Writes the line of a fence of so many signs, which closes.
+/// Writes the line of a closing fence of `size` signs.
 pub fn close(size: usize, output: &mut Output<'_>) -> Result<(), AllocError>
     requires writes { Writes output.old }
     requires cut { IsCut (text_of output.old) size }

@@ -1,4 +1,4 @@
-//! The pieces that were made so far, those that wait, and the line that is written.
+//! The pieces made so far, the held ones, and the current line.
 
 ghost use Rattle.std.specs.Prelude.{List, [], OnOk, IfOk, IfSome, Some, true, drop, length, min, ◌≡◌, ◌≢◌, ◌≤◌, ◌<◌, ◌+◌, ◌-◌, slice_range};
 ghost use Rattle.commonmark_syntax.specs.Cuts.{IsCut};
@@ -27,34 +27,34 @@ use std::alloc::{AllocError, Global};
 struct HeldBlank {
     /// How many pieces are held before its ending.
     index: usize,
-    /// It is blank only inside so many containers: the last one of these has a marker in it.
+    /// It is blank only inside this many containers: the last one of these has a marker in it.
     depth: usize,
 }
 
-/// Where a line that is written ends.
+/// The end of the current line.
 #[derive(Clone, Copy)]
 struct Extent<'d> {
-    /// The document, and the constructs that it is read with.
+    /// The document, and which constructs are on.
     source: Source<'d>,
-    /// The offset at which the line ends, without its line ending.
+    /// The offset where the line ends, without its line ending.
     end: usize,
-    /// The offset at which the next line begins.
+    /// The offset where the next line begins.
     next: usize,
 }
 
-/// A place in a line that is written.
+/// A place in the current line.
 #[derive(Clone, Copy)]
 struct Cursor<'d> {
     /// The line.
     extent: Extent<'d>,
     /// The offset.
     offset: usize,
-    /// How many columns of a tab come before it, where it is within the tab, and else 0.
+    /// How many columns of a tab come before it, if it is within the tab, and otherwise 0.
     virtual_spaces: usize,
 }
 
 impl<'d> Cursor<'d> {
-    /// The start of a document, before any line is written.
+    /// Returns the start of a document, before any line is written.
     fn start_of(source: Source<'d>) -> Cursor<'d>
         ensures source { result.extent.source ≡ source.entry }
         ensures spot { spot result ≡ origin }
@@ -70,7 +70,7 @@ impl<'d> Cursor<'d> {
         }
     }
 
-    /// The cursor of a line.
+    /// Returns the cursor of a line.
     fn of(line: &Line<'d>) -> Cursor<'d>
         ensures { IsAt result line.now }
     {
@@ -85,7 +85,7 @@ impl<'d> Cursor<'d> {
         }
     }
 
-    /// What is left of the line, without its ending.
+    /// Returns the rest of the line, without its ending.
     fn rest(self) -> &'d [u8]
         requires { IsPlaceIn self }
         ensures length { length result.now ≡ self.entry.extent.end - self.entry.offset }
@@ -94,7 +94,7 @@ impl<'d> Cursor<'d> {
         &self.extent.source.document[self.offset..self.extent.end]
     }
 
-    /// The place so many bytes later, or the end of the line if there are not so many.
+    /// Returns the place `size` bytes later, or the end of the line if there are not as many.
     fn after(self, size: usize) -> Cursor<'d>
         requires { self.offset ≤ self.extent.end }
         ensures extent { result.extent ≡ self.entry.extent }
@@ -108,7 +108,7 @@ impl<'d> Cursor<'d> {
         }
     }
 
-    /// The start of the next line.
+    /// Returns the start of the next line.
     fn next_line(self) -> Cursor<'d>
         ensures source { result.extent.source ≡ self.entry.extent.source }
         ensures spot { spot result ≡ line_after self.entry }
@@ -125,33 +125,33 @@ impl<'d> Cursor<'d> {
     }
 }
 
-/// Pieces in the making, and the identifiers that were found.
+/// The pieces so far, and the identifiers that were found.
 ///
-/// A line is begun with `begin`, written to its end, and ended with `end_line`. Its tokens are taken from
-/// what is left of it, so none of them leaves it.
+/// A line is begun with `begin`, written to its end, and ended with `end_line`. Its tokens are
+/// taken from the rest of it, so none of them leaves it.
 ///
-/// A piece is *settled* once no span can begin or end before it any more. The ending of the last line of
-/// text and the blank lines after it are *held* until then, since containers that end there end between
-/// these.
+/// A piece is *settled* once no span can begin or end before it any more. The ending of the last
+/// line of text and the blank lines after it are *held* until then, since containers that end there
+/// end between these.
 #[derive(Drop)]
 pub struct Output<'d> {
-    /// Where memory comes from.
+    /// The allocator.
     alloc: Global,
     /// What the document defines.
     identifiers: Identifiers,
-    /// What is settled.
+    /// The settled pieces.
     pieces: Vec<Piece>,
-    /// What is held, from the ending of the last text on.
+    /// The held pieces, from the ending of the last text on.
     held: Vec<Piece>,
-    /// How many of the pieces that are held are settled, too.
+    /// How many of the held pieces are also settled.
     held_start: usize,
-    /// The blank lines that are held. Their depth never grows from one to the next.
+    /// The held blank lines. Their depth never increases from one to the next.
     blanks: Vec<HeldBlank>,
     /// Where the pieces end.
     cursor: Cursor<'d>,
 }
 
-/// A piece that ends at the cursor of a line.
+/// Returns a piece that ends at the cursor of a line.
 pub fn piece_to(kind: PieceKind, line: &Line<'_>) -> Piece
     ensures kind { result.kind ≡ kind }
     ensures end { result.end ≡ line.now.end - length line.now.rest.now }
@@ -165,7 +165,7 @@ pub fn piece_to(kind: PieceKind, line: &Line<'_>) -> Piece
 }
 
 impl<'d> Output<'d> {
-    /// No pieces of a document.
+    /// Returns an output with no pieces of a document.
     pub fn new(alloc: Global, source: Source<'d>) -> Output<'d>
         ensures stands { Stands result }
         ensures source { source_of result ≡ source.entry }
@@ -203,7 +203,7 @@ impl<'d> Output<'d> {
         self.identifiers.define_footnote(self.alloc, label)
     }
 
-    /// Settles what is held.
+    /// Settles the held pieces.
     pub fn settle(&mut self) -> Result<(), AllocError>
         requires { Stands self.old }
         ensures tiles { OnOk result (Tiles (document_of self.old) origin self.new.pieces.items (spot self.old.cursor)) }
@@ -221,7 +221,7 @@ impl<'d> Output<'d> {
         Ok(())
     }
 
-    /// Settles the first pieces that are held, up to a number of them.
+    /// Settles the first `number` held pieces.
     fn settle_to(&mut self, number: usize) -> Result<(), AllocError>
         requires { Stands self.old }
         ensures stands { OnOk result (Stands self.new) }
@@ -237,7 +237,8 @@ impl<'d> Output<'d> {
         Ok(())
     }
 
-    /// Settles what is held, and the prefix of the line that is read. What comes after that is written next.
+    /// Settles the held pieces, and the prefix of the current line. The rest of the line is written
+    /// next.
     pub fn begin(&mut self, input: &mut Input<'d>) -> Result<(), AllocError>
         requires stands { Stands self.old }
         requires reads { Reads (source_of self.old) (spot self.old.cursor) input.old }
@@ -253,7 +254,8 @@ impl<'d> Output<'d> {
         Ok(())
     }
 
-    /// Settles what is held, and the prefix of a line that was kept. What comes after that is written next.
+    /// Settles the held pieces, and the prefix of a kept line. The rest of the line is written
+    /// next.
     pub fn begin_kept(&mut self, prefix: &[Piece], line: &Line<'d>) -> Result<(), AllocError>
         requires stands { Stands self.old }
         requires source { line.now.source ≡ source_of self.old }
@@ -269,7 +271,7 @@ impl<'d> Output<'d> {
         Ok(())
     }
 
-    /// Ends the line that is written, which is not blank: holds its ending, if it has one.
+    /// Ends the current line, which is not blank: holds its ending, if it has one.
     pub fn end_line(&mut self) -> Result<(), AllocError>
         requires writes { Writes self.old }
         requires ended { self.old.cursor.offset ≡ self.old.cursor.extent.end }
@@ -281,7 +283,7 @@ impl<'d> Output<'d> {
         self.hold_ending(PieceKind::LineEnding)
     }
 
-    /// Holds the ending of the line at whose end the cursor is, if it has one.
+    /// Holds the ending of the line whose end the cursor is at, if it has one.
     fn hold_ending(&mut self, kind: PieceKind) -> Result<(), AllocError>
         requires stands { Stands self.old }
         requires place { IsPlaceIn self.old.cursor }
@@ -301,7 +303,7 @@ impl<'d> Output<'d> {
         Ok(())
     }
 
-    /// Holds the blank line that is read.
+    /// Holds the blank line that is being read.
     pub fn hold_blank(&mut self, input: &mut Input<'d>) -> Result<(), AllocError>
         requires stands { Stands self.old }
         requires reads { Reads (source_of self.old) (spot self.old.cursor) input.old }
@@ -317,7 +319,7 @@ impl<'d> Output<'d> {
         self.hold_blank_rest(input.depth)
     }
 
-    /// Holds a blank line that was kept, with its prefix. It is blank only inside so many containers.
+    /// Holds a kept blank line, with its prefix. It is blank only inside `depth` containers.
     pub fn hold_kept_blank(
         &mut self,
         prefix: &[Piece],
@@ -338,7 +340,7 @@ impl<'d> Output<'d> {
         self.hold_blank_rest(depth)
     }
 
-    /// Holds what is left of a blank line. The line is blank only inside so many containers.
+    /// Holds the rest of a blank line. The line is blank only inside `depth` containers.
     fn hold_blank_rest(&mut self, depth: usize) -> Result<(), AllocError>
         requires stands { Stands self.old }
         requires place { IsPlaceIn self.old.cursor }
@@ -353,7 +355,7 @@ impl<'d> Output<'d> {
         self.hold_ending(PieceKind::BlankLineEnding)
     }
 
-    /// Holds what is left of a line as white space, unless nothing is.
+    /// Holds the rest of a line as white space, unless it is empty.
     fn hold_white_space(&mut self) -> Result<(), AllocError>
         requires stands { Stands self.old }
         requires place { IsPlaceIn self.old.cursor }
@@ -373,9 +375,9 @@ impl<'d> Output<'d> {
         Ok(())
     }
 
-    /// Ends a container inside so many others: before the ending of the first of the blank lines that are
-    /// held and are blank outside the container, too. Where there is none it ends before the line ending
-    /// that is held last, which is then not that of a blank line (ours).
+    /// Ends a container inside `outside` others. It ends before the ending of the first held blank
+    /// line that is also blank outside the container. If there is none, it ends before the last
+    /// held line ending, which is then not that of a blank line (ours).
     pub fn exit_container(&mut self, name: Name, outside: usize) -> Result<(), AllocError>
         requires { Stands self.old }
         ensures stands { OnOk result (Stands self.new) }
@@ -398,7 +400,7 @@ impl<'d> Output<'d> {
         self.exit_before_held(name)
     }
 
-    /// How many pieces are held before the line ending that comes last, if one does.
+    /// Returns how many pieces are held before the last line ending, if there is one.
     fn before_last_ending(&self) -> usize {
         match self.held.as_slice() {
             [before @ .., last]
@@ -410,8 +412,8 @@ impl<'d> Output<'d> {
         }
     }
 
-    /// Ends an item that began blank, and that a blank line came after. The line of its marker is the first
-    /// of those that are held as blank, and is none outside the item.
+    /// Ends an item that began blank, and was followed by a blank line. The line of its marker is
+    /// the first of the lines that are held as blank, but is not blank outside the item.
     pub fn exit_blank_item(&mut self) -> Result<(), AllocError>
         requires { Stands self.old }
         ensures stands { OnOk result (Stands self.new) }
@@ -424,7 +426,7 @@ impl<'d> Output<'d> {
         self.exit_before_held(Name::ListItem)
     }
 
-    /// Makes a line ending that is held one of a line that is not blank.
+    /// Changes a held line ending to that of a line that is not blank.
     fn make_filled(&mut self, index: usize)
         requires { Stands self.old }
         ensures stands { Stands self.new }
@@ -438,7 +440,7 @@ impl<'d> Output<'d> {
         }
     }
 
-    /// Adds a piece of the line that is written, which ends at a place.
+    /// Adds a piece of the current line, which ends at a place.
     fn push(&mut self, piece: Piece, cursor: Cursor<'d>) -> Result<(), AllocError>
         requires writes { Writes self.old }
         requires source { cursor.extent.source ≡ source_of self.old }
@@ -469,7 +471,7 @@ impl<'d> Output<'d> {
         Ok(())
     }
 
-    /// Ends a span in the line that is written.
+    /// Ends a span in the current line.
     pub fn exit(&mut self, name: Name) -> Result<(), AllocError>
         requires { Writes self.old }
         ensures writes { OnOk result (Writes self.new) }
@@ -479,7 +481,7 @@ impl<'d> Output<'d> {
         self.exit_before_held(name)
     }
 
-    /// Ends a span after the settled pieces, before those that are held.
+    /// Ends a span after the settled pieces, before the held ones.
     pub fn exit_before_held(&mut self, name: Name) -> Result<(), AllocError>
         requires { Stands self.old }
         ensures stands { OnOk result (Stands self.new) }
@@ -492,7 +494,7 @@ impl<'d> Output<'d> {
         Ok(())
     }
 
-    /// A piece that has no length, after the settled pieces.
+    /// Returns a piece that has no length, after the settled pieces.
     fn at_end(&self, kind: PieceKind) -> Piece
         ensures kind { result.kind ≡ kind }
         ensures end { end_of result ≡ end_from origin self.now.pieces.items }
@@ -503,7 +505,7 @@ impl<'d> Output<'d> {
         }
     }
 
-    /// What is left of the line that is written, without its ending.
+    /// Returns the rest of the current line, without its ending.
     pub fn rest(&self) -> &'d [u8]
         requires { Writes self.now }
         ensures length { length result.now ≡ self.now.cursor.extent.end - self.now.cursor.offset }
@@ -512,7 +514,7 @@ impl<'d> Output<'d> {
         self.cursor.rest()
     }
 
-    /// Adds a piece of so many bytes of the line, unless it would be empty.
+    /// Adds a piece of `size` bytes of the line, unless it would be empty.
     pub fn part(&mut self, kind: PieceKind, size: usize) -> Result<(), AllocError>
         requires writes { Writes self.old }
         requires kind { IsToken kind }
@@ -533,7 +535,7 @@ impl<'d> Output<'d> {
         Ok(())
     }
 
-    /// Adds a span of so many bytes of the line with no span in it, unless it would be empty.
+    /// Adds a span of `size` bytes of the line that contains no span, unless it would be empty.
     pub fn token(&mut self, name: Name, size: usize) -> Result<(), AllocError>
         requires writes { Writes self.old }
         requires plain { IsPlain name }
@@ -549,7 +551,7 @@ impl<'d> Output<'d> {
         self.part(PieceKind::Token(name), size)
     }
 
-    /// Adds the sequence that opens a heading: so many bytes of the line, of which there are as many.
+    /// Adds the sequence that opens a heading: `size` bytes of the line, which has as many.
     pub fn opening_sequence(&mut self, size: usize) -> Result<(), AllocError>
         requires writes { Writes self.old }
         requires least { 0 < size }
@@ -568,7 +570,7 @@ impl<'d> Output<'d> {
         )
     }
 
-    /// Adds a span of the rest of the line with no span in it, unless it would be empty.
+    /// Adds a span of the rest of the line that contains no span, unless it would be empty.
     pub fn token_of_rest(&mut self, name: Name) -> Result<(), AllocError>
         requires writes { Writes self.old }
         requires plain { IsPlain name }
@@ -597,7 +599,8 @@ impl<'d> Output<'d> {
         Ok(())
     }
 
-    /// Adds a span with a part of a content in it, of so many bytes of the line, unless it would be empty.
+    /// Adds a span with a part of a content in it, of `size` bytes of the line, unless it would be
+    /// empty.
     pub fn string(&mut self, name: Name, size: usize) -> Result<(), AllocError>
         requires writes { Writes self.old }
         requires on { IsAlwaysOn (Enter name) }
@@ -621,7 +624,7 @@ impl<'d> Output<'d> {
         Ok(())
     }
 
-    /// Adds a span up to the cursor of the line that is written, with no span in it, unless it would be
+    /// Adds a span up to the cursor of the current line that contains no span, unless it would be
     /// empty.
     pub fn token_to(&mut self, name: Name, line: &Line<'d>) -> Result<(), AllocError>
         requires writes { Writes self.old }
@@ -643,7 +646,7 @@ impl<'d> Output<'d> {
         self.push(piece_to(PieceKind::Token(name), line), cursor)
     }
 
-    /// Moves the cursor of the line that is written over up to so many columns of white space, which are
+    /// Moves the cursor of the current line over up to `columns` columns of white space, which are
     /// settled.
     pub fn columns(&mut self, line: &mut Line<'d>, columns: usize) -> Result<(), AllocError>
         requires writes { Writes self.old }
@@ -659,7 +662,7 @@ impl<'d> Output<'d> {
         self.token_to(Name::SpaceOrTab, line)
     }
 
-    /// All pieces, and the identifiers.
+    /// Returns all pieces, and the identifiers.
     pub fn finish(self) -> Result<(Vec<Piece>, Identifiers), AllocError>
         requires { Stands self }
         ensures tiles { IfOk result (λ found. Tiles (document_of self.entry) origin found.0.items (spot self.entry.cursor)) }

@@ -10,7 +10,7 @@ use crate::output::Output;
 use markdown_events::event::Name;
 use std::alloc::{AllocError, Global};
 
-/// Writes lines of a content: definitions, and a paragraph of what comes after them.
+/// Writes lines of a content: definitions, and a paragraph from the lines after them.
 pub fn write<'d>(
     alloc: Global,
     content: &Content<'d>,

@@ -19,7 +19,7 @@ use commonmark_syntax::closing_fence;
 use markdown_events::event::Name;
 use std::alloc::AllocError;
 
-/// What stands between fences.
+/// The content between fences.
 #[derive(Clone, Copy)]
 pub enum RawFlow {
     /// Code.
@@ -28,28 +28,28 @@ pub enum RawFlow {
     Math,
 }
 
-/// A fence that opens.
+/// An opening fence.
 #[derive(Clone, Copy)]
 pub struct Fence {
-    /// What comes after it.
+    /// The content after it.
     pub content: RawFlow,
     /// Its sign.
     pub sign: u8,
     /// How many signs it has.
     pub size: usize,
-    /// How many columns it is indented: white space up to that is no part of the lines after it.
+    /// How many columns it is indented: white space up to that is not part of the lines after it.
     pub indent: usize,
     ghost ascii: { sign < 128 },
 }
 
-/// What a line is that comes after a fence that opens.
+/// What a line after an opening fence is.
 #[derive(Clone, Copy, PartialEq, Eq)]
 pub enum FencedLine {
-    /// The fence that closes.
+    /// The closing fence.
     Closing,
-    /// A line with nothing in it.
+    /// An empty line.
     Empty,
-    /// A line with something in it.
+    /// A line that is not empty.
     Chunk,
 }
 
@@ -57,7 +57,7 @@ impl Fence {
     ghost use Rattle.markdown_options.specs.Spans.{is_on};
     ghost use Rattle.markdown_flow.specs.Leaves.{after_fenced, in_flow, in_raw, raw_name};
 
-    /// The fence that a line opens, if it opens one.
+    /// Returns the fence that a line opens, if it opens one.
     pub fn find(line: &Line<'_>) -> Option<Fence>
         ensures cut { IfSome result (λ fence. IsCut line.now.text.now fence.size) }
         ensures on { IfSome result (λ fence. is_on (constructs_in line.now) (raw_name fence.content) ≡ true) }
@@ -69,7 +69,7 @@ impl Fence {
         }
     }
 
-    /// Writes the line of a fence that opens.
+    /// Writes the line of an opening fence.
     pub fn open(self, output: &mut Output<'_>) -> Result<(), AllocError>
         requires writes { Writes output.old }
         requires cut { IsCut (text_of output.old) self.size }
@@ -84,7 +84,7 @@ impl Fence {
         }
     }
 
-    /// Writes a line after a fence that opens, and says what it is.
+    /// Writes a line after an opening fence, and returns what it is.
     pub fn write_line<'d>(
         self,
         line: &mut Line<'d>,
@@ -120,7 +120,7 @@ impl Fence {
         }
     }
 
-    /// The number of signs of the fence that closes, if the line has it (CommonMark).
+    /// Returns the number of signs of the closing fence, if the line has it (CommonMark).
     fn closing(self, line: &Line<'_>) -> Option<usize>
         ensures cut { IfSome result (λ size. IsCut line.now.text.now size) }
         ensures exact { is_indented line.now ≡ false → MatchOption result (IsNotAt (closing_fence self.sign self.size) line.now.text.now) (λ size. Leaves (closing_fence self.sign self.size) line.now.text.now (drop size line.now.text.now)) }
@@ -131,7 +131,7 @@ impl Fence {
         closing_fence::scan(line.text(), self.sign, self.size)
     }
 
-    /// Writes the line of a fence of so many signs, which closes.
+    /// Writes the line of a closing fence of `size` signs.
     fn close(self, size: usize, output: &mut Output<'_>) -> Result<(), AllocError>
         requires writes { Writes output.old }
         requires cut { IsCut (text_of output.old) size }
@@ -144,7 +144,7 @@ impl Fence {
         }
     }
 
-    /// Writes that the construct ends, before what is held.
+    /// Writes the end of the construct, before the held pieces.
     pub fn end(self, output: &mut Output<'_>) -> Result<(), AllocError>
         requires { Stands output.old }
         ensures stands { OnOk result (Stands output.new) }
@@ -158,7 +158,7 @@ impl Fence {
     }
 }
 
-/// Writes the signs of a fence that closes, which end the line.
+/// Writes the signs of a closing fence, which end the line.
 pub fn write_closing(name: Name, size: usize, output: &mut Output<'_>) -> Result<(), AllocError>
     requires writes { Writes output.old }
     requires plain { IsPlain name }
@@ -172,7 +172,7 @@ pub fn write_closing(name: Name, size: usize, output: &mut Output<'_>) -> Result
     output.token_of_rest(Name::SpaceOrTab)
 }
 
-/// Writes the meta of a fence, with which the line ends. White space after it is no part of it
+/// Writes the meta of a fence, which ends the line. White space after it is not part of it
 /// (CommonMark).
 pub fn write_meta(name: Name, output: &mut Output<'_>) -> Result<(), AllocError>
     requires writes { Writes output.old }

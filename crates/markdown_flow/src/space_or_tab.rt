@@ -6,7 +6,7 @@ ghost use Rattle.markdown_flow.specs.Lines.{after_spaces};
 
 use commonmark_syntax::bytes::{after, count_while, is_space_or_tab};
 
-/// What comes after the spaces and tabs that a text begins with.
+/// Returns the text after the spaces and tabs that it begins with.
 ///
 /// After ` a ` it is `a `.
 pub fn after_spaces(text: &[u8]) -> &[u8]
@@ -21,9 +21,9 @@ pub fn after_spaces(text: &[u8]) -> &[u8]
     &[]
 }
 
-/// Whether a text is nothing but spaces and tabs.
+/// Whether a text contains only spaces and tabs.
 ///
-/// It is true of the empty text.
+/// It is true for the empty text.
 pub fn is_blank(text: &[u8]) -> bool
     ensures { result ≡ true → IsAscii text.now }
 {

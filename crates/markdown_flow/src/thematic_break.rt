@@ -13,7 +13,8 @@ use commonmark_syntax::thematic_break;
 use markdown_events::event::Name;
 use std::alloc::AllocError;
 
-/// Whether the text of a line is a thematic break (CommonMark). Never, with `thematic_break` off.
+/// Whether the text of a line is a thematic break (CommonMark). Always false with `thematic_break`
+/// off.
 pub fn begins(line: &Line<'_>) -> bool
     ensures ascii { result ≡ true → IsAscii line.now.text.now }
     ensures on { result ≡ true → (constructs_in line.now).thematic_break ≡ true }

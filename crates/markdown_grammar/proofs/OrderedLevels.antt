@@ -1,7 +1,7 @@
 -- What is asked of the levels on a stack, one node after the other.
 use Rattle.std.proofs.Common.{◌≡◌, Bool, List, None, Some, [], arith, max, refl, sym, ap, subst, ℕ, ◌++◌, ◌∙◌, ◌∷◌}
 use Rattle.std.proofs.Math.Nat.{le-max_left, le-max_right, max-le}
-use Rattle.positions.specs.declared.unist.Position.{Position}
+use Rattle.markdown_events.specs.declared.unist.Position.{Position}
 use Rattle.markdown_nodes.specs.declared.mdast.Node.{Node}
 use Rattle.markdown_nodes.specs.Access.{label_of, nodes_in, position_of}
 use Rattle.markdown_nodes.specs.Tree.{Label, Tree, Trees, before, node, nothing, only}
@@ -95,9 +95,6 @@ pub record Walks (whole : Bounds) (nodes : List Node) (b : Bounds) (left : List 
   pub asks_level : AsAsked whole (views nodes) → AsAsked b (views left)
   pub asks_levels : AsAsked whole (views nodes) → AllAsAsked levels
 
-pub asks_first : (whole : Bounds) (nodes : List Node) (levels : List Level) → levels ≡ [] → Walks whole nodes whole nodes levels
-asks_first whole nodes levels none = record { tells = λ k _. k; asks_level = λ k. k; asks_levels = λ _. rw none tt }
-
 -- into the first node
 pub asks_down : (whole b b_below : Bounds) (nodes left rest below : List Node) (x : Node) (here : Position) (levels after : List Level) (top : Level) → Walks whole nodes b left levels → left ≡ x ∷ rest → position_of x ≡ Some here → Admits b (label_of x) here → below ≡ nodes_in x → b_below ≡ bounds_in b.standing (label_of x) here → after ≡ levels ++ top ∷ [] → bounds_of top.limits ≡ bounds_after b here → top.nodes.now ≡ rest → Walks whole nodes b_below below after
 asks_down whole b b_below nodes left rest below x here levels after top so_far is at first within same_below pushed same_after holds =
@@ -139,10 +136,6 @@ asks_up whole b nodes left levels after top so_far none popped =
       asks_level = λ k. (keep_pop after top (subst AllAsAsked popped (so_far.asks_levels k))).0;
       asks_levels = λ k. (keep_pop after top (subst AllAsAsked popped (so_far.asks_levels k))).1;
     }
-
--- nothing is left
-pub asks_all : (whole b : Bounds) (nodes left : List Node) (levels : List Level) → Walks whole nodes b left levels → left ≡ [] → levels ≡ [] → AsAsked whole (views nodes)
-asks_all whole b nodes left levels so_far none empty = so_far.tells (subst (λ (l : List Node). AsAsked b (views l)) (sym none) (tt, tt)) (subst AllAsAsked (sym empty) tt)
 
 -- what is asked of the first of the nodes that are left
 pub asks_first_node : (whole b : Bounds) (nodes left rest : List Node) (x : Node) (here : Position) (levels : List Level) → Walks whole nodes b left levels → left ≡ x ∷ rest → position_of x ≡ Some here → AsAsked whole (views nodes) → Admits b (label_of x) here

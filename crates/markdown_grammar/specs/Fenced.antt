@@ -1,23 +1,24 @@
 -- The value of a block between fences: its text without the line endings beside the fences.
 use Rattle.std.specs.Prelude.{Bool, List, None, Option, Some, drop, false, length, nat_lt, not, take, true, ℕ, ◌&&◌, ◌-◌}
 use Rattle.std.specs.List.{list_all}
-use Rattle.markdown_texts.specs.Texts.{trim}
+use Rattle.markdown_events.specs.Texts.{trim}
 use Rattle.markdown_nodes.specs.Tree.{Trees, node, nothing, plain_text}
-use Rattle.positions.specs.declared.unist.Position.{Position}
+use Rattle.markdown_events.specs.declared.unist.Position.{Position}
 use Rattle.markdown_grammar.specs.Document.{Given}
 use Rattle.markdown_grammar.specs.LineEndings.{is_before_line}
 use Rattle.markdown_grammar.specs.declared.values.Values.TheVariants.{AsInDocument, Whole}
 
--- whether bytes begin a line, and nothing else stands in it
+-- whether there are bytes, and each of them may come before the content of a line
 abbrev pub is_line_begun : List ℕ → Bool
 is_line_begun bytes = nat_lt 0 (length bytes) && list_all is_before_line bytes
 
--- whether a block that ends at an offset has one more line after a text at a place, where values are whole: an empty one, which no line ending ends (CommonMark)
+-- whether, with whole values, a block that ends at `end` has one more line after a text at `place`:
+-- an empty line without a line ending (CommonMark)
 abbrev pub has_line_after : Given → Option Position → ℕ → Bool
 has_line_after given None end = false
 has_line_after given (Some place) end = elim given.values [ AsInDocument ↦ false | Whole ↦ is_line_begun (take (end - place.end.offset) (drop place.end.offset given.bytes)) ]
 
--- where a node stands that is alone: what the events of a document give in such a block is one text
+-- the position of a node without siblings: in such a block, the events of a document produce a single text
 abbrev pub only_place : Trees → Option Position
 only_place (node _ _ place nothing) = place
 only_place _ = None

@@ -1,4 +1,4 @@
--- The grammar: how content models are written, which one a span has, what each takes, and what it requires.
+-- The grammar: rules, the content model of each span, the items that each content model accepts, and what it requires.
 use Rattle.std.specs.Prelude.{Bool, List, [], false, is_some, not, true, ◌&&◌, ◌||◌, ◌∷◌}
 use Rattle.std.specs.List.{list_all, list_any}
 use Rattle.markdown_events.specs.declared.role.ItemKind.{ItemKind}
@@ -11,21 +11,21 @@ use Rattle.markdown_grammar.specs.Document.{Source}
 use Rattle.markdown_events.specs.declared.role.Content.TheVariants as contents
 use Rattle.markdown_events.specs.declared.role.Part.TheVariants as parts
 
--- at least one item is such
+-- at least one item passes the test
 abbrev pub any_item : (ItemKind → Bool) → List ItemKind → Bool
 any_item test xs = list_any test xs
 
--- a rule for the items of a container. Each prefix of a list that keeps a rule keeps it, too
+-- a rule for the items of a container; if a list keeps a rule, so does each prefix of the list
 pub data Rule : Type 0 where
-  -- all items are such
+  -- every item passes the test
   only : (ItemKind → Bool) → Rule
-  -- at most one is one of these
+  -- at most one item is one of these parts
   at_most_one : List Part → Rule
-  -- none is
+  -- no item is one of these parts
   none_of : List Part → Rule
-  -- after one of these there are only items such as that
+  -- after any of these parts, every item passes the test
   only_after : List Part → (ItemKind → Bool) → Rule
-  -- before the first of these there are only items such as that
+  -- before the first of these parts, every item passes the test
   only_before : List Part → (ItemKind → Bool) → Rule
 
 -- a list of items keeps a rule
@@ -37,84 +37,84 @@ keeps (none_of ps) (what ∷ xs) = not (is_one_of ps what) && keeps (none_of ps)
 keeps (only_after ps test) (what ∷ xs) = (not (is_one_of ps what) || list_all test xs) && keeps (only_after ps test) xs
 keeps (only_before ps test) (what ∷ xs) = is_one_of ps what || (test what && keeps (only_before ps test) xs)
 
--- which content model
+-- the content models
 pub data ContentModel : Type 0 where
   any_content autolink media footnote_call resource reference definition character_reference
       code_fence math_fence leaf list_ordered list_item numbered_item marked_item marked_numbered_item
       task_paragraph marked_paragraph footnote_definition heading_atx heading_text heading_setext
       code_fenced math_flow code_buffer math_buffer : ContentModel
 
--- the content model of a content name, in a container of that content model
+-- the content model of content, in a container with content model `model`
 abbrev pub content_model : ContentModel → Content → ContentModel
-content_model h contents.Data = leaf
-content_model h contents.AutolinkLiteralEmail = leaf
-content_model h contents.AutolinkLiteralWww = leaf
-content_model h contents.AutolinkLiteralWhole = leaf
-content_model h contents.HardBreak = leaf
-content_model h contents.ThematicBreak = leaf
-content_model h contents.LineEnding = leaf
-content_model h contents.CharacterReference = character_reference
-content_model h contents.Autolink = autolink
-content_model h contents.Link = media
-content_model h contents.Image = media
-content_model h contents.FootnoteCall = footnote_call
-content_model h contents.Definition = definition
-content_model h contents.ListOrdered = list_ordered
+content_model model contents.Data = leaf
+content_model model contents.AutolinkLiteralEmail = leaf
+content_model model contents.AutolinkLiteralWww = leaf
+content_model model contents.AutolinkLiteralWhole = leaf
+content_model model contents.HardBreak = leaf
+content_model model contents.ThematicBreak = leaf
+content_model model contents.LineEnding = leaf
+content_model model contents.CharacterReference = character_reference
+content_model model contents.Autolink = autolink
+content_model model contents.Link = media
+content_model model contents.Image = media
+content_model model contents.FootnoteCall = footnote_call
+content_model model contents.Definition = definition
+content_model model contents.ListOrdered = list_ordered
 content_model list_ordered contents.ListItem = numbered_item
-content_model h contents.ListItem = list_item
+content_model model contents.ListItem = list_item
 content_model list_item contents.Paragraph = task_paragraph
 content_model numbered_item contents.Paragraph = task_paragraph
 content_model marked_item contents.Paragraph = marked_paragraph
 content_model marked_numbered_item contents.Paragraph = marked_paragraph
-content_model h contents.FootnoteDefinition = footnote_definition
-content_model h contents.HeadingAtx = heading_atx
-content_model h contents.HeadingSetext = heading_setext
-content_model h contents.CodeFenced = code_fenced
-content_model h contents.MathFlow = math_flow
-content_model h _ = any_content
+content_model model contents.FootnoteDefinition = footnote_definition
+content_model model contents.HeadingAtx = heading_atx
+content_model model contents.HeadingSetext = heading_setext
+content_model model contents.CodeFenced = code_fenced
+content_model model contents.MathFlow = math_flow
+content_model model _ = any_content
 
--- a fence has its content model only where it is the first of its block
+-- the content model of a part, in a container with content model `model`; a fence is a leaf unless it is the first in its block
 abbrev pub part_model : ContentModel → Part → ContentModel
 part_model code_fenced parts.CodeFencedFence = code_fence
 part_model math_flow parts.MathFlowFence = math_fence
-part_model h parts.CodeFencedFence = leaf
-part_model h parts.MathFlowFence = leaf
-part_model h parts.Resource = resource
-part_model h parts.Reference = reference
-part_model h parts.AutolinkEmail = leaf
-part_model h parts.AutolinkProtocol = leaf
-part_model h parts.CharacterReferenceMarker = leaf
-part_model h parts.CharacterReferenceMarkerNumeric = leaf
-part_model h parts.CharacterReferenceMarkerHexadecimal = leaf
-part_model h parts.CharacterReferenceValue = leaf
-part_model h parts.TaskMarkChecked = leaf
-part_model h parts.TaskMarkUnchecked = leaf
-part_model h parts.HeadingAtxSequence = leaf
-part_model h parts.HeadingSetextUnderlineSequence = leaf
-part_model h parts.ListItemValue = leaf
-part_model h _ = any_content
+part_model model parts.CodeFencedFence = leaf
+part_model model parts.MathFlowFence = leaf
+part_model model parts.Resource = resource
+part_model model parts.Reference = reference
+part_model model parts.AutolinkEmail = leaf
+part_model model parts.AutolinkProtocol = leaf
+part_model model parts.CharacterReferenceMarker = leaf
+part_model model parts.CharacterReferenceMarkerNumeric = leaf
+part_model model parts.CharacterReferenceMarkerHexadecimal = leaf
+part_model model parts.CharacterReferenceValue = leaf
+part_model model parts.TaskMarkChecked = leaf
+part_model model parts.TaskMarkUnchecked = leaf
+part_model model parts.HeadingAtxSequence = leaf
+part_model model parts.HeadingSetextUnderlineSequence = leaf
+part_model model parts.ListItemValue = leaf
+part_model model _ = any_content
 
--- the content model of an item in a container of that content model
+-- the content model of an item, in a container with content model `model`
 abbrev pub model_of : ContentModel → ItemKind → ContentModel
-model_of h (content c) = content_model h c
-model_of h (part p) = part_model h p
+model_of model (content c) = content_model model c
+model_of model (part p) = part_model model p
 
--- an item after a Paragraph, by whether that has a mark
+-- the content model after a Paragraph, by whether that gives a mark
 abbrev pub marked_if : ContentModel → ContentModel → Bool → ContentModel
 marked_if before marked true = marked
 marked_if before marked false = before
 
--- the content model of what follows: after its first fence a block is a buffer, after its first sequence a heading takes any,
--- and an item has one check mark, given by a Paragraph
+-- the content model after an item: a fenced block is a buffer after its first fence, an ATX heading is text after its first sequence,
+-- and a list item is marked after a Paragraph that gives a mark
 abbrev pub model_after : ContentModel → ItemKind → Bool → ContentModel
 model_after code_fenced (part parts.CodeFencedFence) m = code_buffer
 model_after math_flow (part parts.MathFlowFence) m = math_buffer
 model_after heading_atx (part parts.HeadingAtxSequence) m = heading_text
 model_after list_item (content contents.Paragraph) m = marked_if list_item marked_item m
 model_after numbered_item (content contents.Paragraph) m = marked_if numbered_item marked_numbered_item m
-model_after h _ m = h
+model_after model _ m = model
 
--- the three markers that a character reference may have
+-- the three markers of a character reference
 abbrev pub markers : List Part
 markers = parts.CharacterReferenceMarker ∷ parts.CharacterReferenceMarkerNumeric ∷ parts.CharacterReferenceMarkerHexadecimal ∷ []
 
@@ -126,19 +126,19 @@ task_marks = parts.TaskMarkChecked ∷ parts.TaskMarkUnchecked ∷ []
 abbrev pub addresses : List Part
 addresses = parts.AutolinkEmail ∷ parts.AutolinkProtocol ∷ []
 
--- where a Link or an Image points
+-- the two kinds of target of a Link or an Image
 abbrev pub targets : List Part
 targets = parts.Resource ∷ parts.Reference ∷ []
 
--- a container of line endings and of these parts
+-- only line endings and these parts
 abbrev pub parts_alone : List Part → Rule
 parts_alone ps = only (is_line_ending or is_one_of ps)
 
--- a container of content and of these parts
+-- only content and these parts
 abbrev pub content_and : List Part → Rule
 content_and ps = only (is_content or is_one_of ps)
 
--- the rules of each content model, those of what may stand once first
+-- the rules of each content model; those about what may occur only once come first
 abbrev pub rules : ContentModel → List Rule
 rules leaf = only no_item ∷ []
 rules autolink = at_most_one addresses ∷ parts_alone addresses ∷ []
@@ -167,15 +167,15 @@ rules code_fenced = content_and (parts.CodeFencedFence ∷ []) ∷ only_before (
 rules math_flow = content_and (parts.MathFlowFence ∷ []) ∷ only_before (parts.MathFlowFence ∷ []) is_line_ending ∷ []
 rules _ = only is_content ∷ []
 
--- the items so far keep the rules, and there may be more
+-- the items so far keep every rule of the content model; more items may follow
 abbrev pub conforms : ContentModel → List ItemKind → Bool
-conforms h xs = list_all (λ rule. keeps rule xs) (rules h)
+conforms model xs = list_all (λ rule. keeps rule xs) (rules model)
 
--- a part so named stands among the items
+-- this part is among the items
 abbrev pub has_part : Part → Items → Bool
 has_part p xs = any_item (is_part p) (kinds xs)
 
--- what has to stand among the items of the container: a part, or in an ordered list the number of some item
+-- the items include what the content model requires: a part, or for an ordered list a number from one of its items
 abbrev pub has_required : Source → ContentModel → Items → Bool
 has_required s character_reference xs = has_part parts.CharacterReferenceValue xs
 has_required s heading_atx xs = has_part parts.HeadingAtxSequence xs

@@ -1,11 +1,12 @@
--- Hidden bytes: they stand within a span of the document, and are no part of its value. So does the marker of a block quote within a label, and in a table the backslash before a pipe.
+-- Hidden bytes: bytes within a span of the document that are not part of its value. They include the marker of a block quote
+-- within a label, and in a table the backslash before a pipe.
 use Rattle.std.specs.Prelude.{Bool, List, [], if◌then◌else◌, length, nat_lt, ℕ, ◌&&◌, ◌++◌, ◌∷◌}
 
--- a byte, unless it is hidden. Only ASCII can be
+-- a byte, or nothing if it is hidden; only ASCII bytes can be hidden
 abbrev pub visible_byte : Bool → ℕ → List ℕ
 visible_byte hidden b = if hidden && nat_lt b 128 then [] else b ∷ []
 
--- bytes without those that are hidden: a flag for each byte says which are, and where there is no flag none is
+-- the bytes that are not hidden: a flag for each byte says whether it is hidden, and a byte without a flag is visible
 abbrev pub visible : List Bool → List ℕ → List ℕ
 visible flags [] = []
 visible [] (b ∷ bytes) = b ∷ bytes

@@ -1,4 +1,4 @@
--- The items of a span: the significant spans in it, where each transparent span gives way to the items in it; and words for what an item is.
+-- The items of a span: the significant spans in it, with each transparent span replaced by the items in it; and tests on items.
 use Rattle.std.specs.Prelude.{Bool, List, None, Option, Some, [], false, true, ℕ, ◌||◌, ◌∷◌}
 use Rattle.markdown_events.specs.Forest.{Forest, empty, span}
 use Rattle.markdown_events.specs.Names.{role_of}
@@ -13,7 +13,7 @@ use Rattle.markdown_events.specs.declared.role.ItemKind.TheVariants.{Content as 
 use Rattle.markdown_events.specs.declared.role.Content.TheVariants as contents
 use Rattle.markdown_events.specs.declared.role.Part.TheVariants as parts
 
--- a list of significant spans: the first one, its ends, its children as they stand, and its items; and the items after it
+-- a list of significant spans: the first one, its ends, the spans in it, and its items; then the items after it
 pub data Items : Type 0 where
   none : Items
   item : (what : ItemKind) (start end : Point) (children : Forest) (inner rest : Items) → Items
@@ -24,7 +24,7 @@ abbrev pub ◌then◌ : Items → Items → Items
 none then others = others
 (item what start end children inner rest) then others = item what start end children inner (rest then others)
 
--- a span with its items, before the items after it: a transparent span gives way to the items in it
+-- a span with its items, before the items after it; a transparent span is replaced by the items in it
 abbrev pub place_items : Role → Point → Point → Forest → Items → Items → Items
 place_items (significant what) start end children inner rest = item what start end children inner rest
 place_items (transparent _) start end children inner rest = inner then rest
@@ -34,7 +34,7 @@ abbrev pub items : Forest → Items
 items empty = none
 items (span name start end children rest) = place_items (role_of name) start end children (items children) (items rest)
 
--- what the items are, in order
+-- the kinds of the items, in order
 abbrev pub kinds : Items → List ItemKind
 kinds none = []
 kinds (item what _ _ _ _ rest) = what ∷ kinds rest
@@ -43,7 +43,7 @@ kinds (item what _ _ _ _ rest) = what ∷ kinds rest
 abbrev pub same_part : Part → Part → Bool
 same_part first second = sameb the_type first second
 
--- content, and no part
+-- content, not a part
 abbrev pub is_content : ItemKind → Bool
 is_content (content _) = true
 is_content (part _) = false
@@ -68,26 +68,26 @@ abbrev pub is_table : ItemKind → Bool
 is_table (content contents.Table) = true
 is_table _ = false
 
--- that part
+-- this part
 abbrev pub is_part : Part → ItemKind → Bool
 is_part p (content _) = false
 is_part p (part q) = same_part p q
 
--- what passes one test or the other
+-- an item that passes one test or the other
 infixl 20 ◌or◌
 abbrev pub ◌or◌ : (ItemKind → Bool) → (ItemKind → Bool) → ItemKind → Bool
 (p or q) what = p what || q what
 
--- nothing passes
+-- no item passes
 abbrev pub no_item : ItemKind → Bool
 no_item what = false
 
--- one of those parts
+-- one of these parts
 abbrev pub is_one_of : List Part → ItemKind → Bool
 is_one_of [] what = false
 is_one_of (p ∷ ps) what = is_part p what || is_one_of ps what
 
--- the byte that a marker of a character reference stands for
+-- the byte that a character reference marker stands for
 abbrev pub marker_of : ItemKind → Option ℕ
 marker_of (part parts.CharacterReferenceMarker) = Some 38
 marker_of (part parts.CharacterReferenceMarkerNumeric) = Some 35

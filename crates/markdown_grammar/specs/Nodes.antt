@@ -1,4 +1,4 @@
--- The nodes that spans mean, each by its own items.
+-- The nodes that a span means, from its own items.
 use Rattle.std.specs.Prelude.{Bool, List, None, Option, Some, [], codes, false, if◌then◌else◌, is_some, option_map, true, unwrap_or, ℕ, ◌++◌}
 use Rattle.markdown_nodes.specs.Tree.{Label, Trees, nothing, plain_text}
 use Rattle.markdown_events.specs.declared.event.Point.{Point}
@@ -8,7 +8,7 @@ use Rattle.markdown_grammar.specs.Decorated.{Decorated, Found, decorated, first,
 use Rattle.std.specs.Option.{option_and_then, option_or}
 use Rattle.markdown_events.specs.Forest.{Forest}
 use Rattle.markdown_events.specs.Spread.{align, loose, loose_item}
-use Rattle.markdown_texts.specs.Texts.{raw, spaces, trim}
+use Rattle.markdown_events.specs.Texts.{raw, spaces, trim}
 use Rattle.markdown_events.specs.declared.role.ItemKind.{ItemKind}
 use Rattle.markdown_grammar.specs.Document.{Source, given_of, is_byte, length_between, value_read}
 use Rattle.markdown_grammar.specs.Fenced.{fenced}
@@ -21,32 +21,32 @@ use Rattle.markdown_kinds.specs.declared.ReferenceKind.TheVariants as reference_
 use Rattle.markdown_nodes.specs.Tree as tree
 use Rattle.markdown_events.specs.declared.role.Content.TheVariants as contents
 
--- a link to an address, with that address for its text
+-- a link to a scheme and a value, with the value as its text
 abbrev pub linked : List ℕ → List ℕ → Point → Point → Point → Point → Trees
 linked scheme value start end from to = node_at (tree.link (scheme ++ value) None) (node_at (tree.text value) nothing from to) start end
 
--- what a Link and an Image have in common
+-- the target of a Link or an Image
 pub record Media : Type 0 where
-  -- with a Resource, its url and title
+  -- the url and the title of the Resource, if there is one
   pub resource : Option (List ℕ × Option (List ℕ))
   pub kind : ReferenceKind
   pub identifier : List ℕ
   pub label : List ℕ
 
--- a Link with a Resource, a LinkReference without one
+-- a Link with a Resource, otherwise a LinkReference
 abbrev pub link_label : Media → Label
 link_label m = elim m.resource [ Some r ↦ tree.link r.0 r.1 | None ↦ tree.link_reference m.kind m.identifier (Some m.label) ]
 
--- an Image with a Resource, an ImageReference without one
+-- an Image with a Resource, otherwise an ImageReference
 abbrev pub image_label : List ℕ → Media → Label
 image_label alt m = elim m.resource [ Some r ↦ tree.image alt r.0 r.1 | None ↦ tree.image_reference alt m.kind m.identifier (Some m.label) ]
 
--- a Toml or a Yaml
+-- a Toml if true, otherwise a Yaml
 abbrev pub frontmatter : Bool → List ℕ → Label
 frontmatter true value = tree.toml value
 frontmatter false value = tree.yaml value
 
--- a significant span: its ends, where it stands, the spans in it, its items, and the mark and the number that these give
+-- a significant span: its ends, its place, the spans in it, its items, and the mark and the number that its items give
 pub record Span : Type 0 where
   pub start : Point
   pub end : Point
@@ -56,7 +56,7 @@ pub record Span : Type 0 where
   pub mark : Option Bool
   pub number : Option ℕ
 
--- its value
+-- the value of the span
 abbrev pub value_of : Source → Span → List ℕ
 value_of s x = value_read s x.start x.end
 
@@ -64,7 +64,7 @@ value_of s x = value_read s x.start x.end
 abbrev pub content_of : Span → List ℕ
 content_of x = plain_text (nodes_of x.items)
 
--- ---- Its node: a literal has no children, and a parent those that its items give
+-- ---- The node of a span: a literal has no children, a parent has the nodes of its items
 
 abbrev pub literal : Span → Label → Trees
 literal x label = node_at label nothing x.start x.end
@@ -72,29 +72,30 @@ literal x label = node_at label nothing x.start x.end
 abbrev pub parent : Span → Label → Trees
 parent x label = node_at label (nodes_of x.items) x.start x.end
 
--- a link to an address in it, with that address for its text
+-- a link to the address in the span, with that address as its text; an empty link if there is none
 abbrev pub autolink : Source → Span → Option Found → Option Found → Trees
 autolink s x (Some email) _ = linked (codes "mailto:") (value_read s email.start email.end) x.start x.end email.start email.end
 autolink s x None (Some address) = linked [] (value_read s address.start address.end) x.start x.end address.start address.end
 autolink s x None None = literal x (tree.link [] None)
 
--- what the decoder says of the value of a character reference
+-- the decoder's result for the value of a character reference
 abbrev pub character : Source → Decorated → Option (List ℕ)
 character s xs = option_and_then (λ (x : Found). decoded s x.place x.start x.end) (first parts.CharacterReferenceValue xs)
 
--- the depth of a heading: the length of its first sequence, or 2 where its underline begins with a hyphen
+-- the depth of a heading: the length of its first sequence; for a setext heading 2 if its underline starts with a hyphen,
+-- otherwise 1; 0 if that part is missing
 abbrev pub atx_depth : Source → Decorated → ℕ
 atx_depth s xs = unwrap_or (option_and_then (λ (x : Found). length_between s.bytes x.start x.end) (first parts.HeadingAtxSequence xs)) 0
 
 abbrev pub setext_depth : Source → Decorated → ℕ
 setext_depth s xs = unwrap_or (option_map (λ (x : Found). if is_byte s 45 x.start then 2 else 1) (first parts.HeadingSetextUnderlineSequence xs)) 0
 
--- no Reference is a shortcut, one without a string collapsed
+-- the kind of a reference: a shortcut without a Reference, collapsed if the Reference has no string, otherwise full
 abbrev pub kind_of_reference : Decorated → ReferenceKind
 kind_of_reference xs =
     if is_some (first parts.Reference xs) then (if is_some (first parts.ReferenceString (within parts.Reference xs)) then reference_kind.Full else reference_kind.Collapsed) else reference_kind.Shortcut
 
--- where a Link or an Image points: the texts of its Resource, or the kind, the identifier and the label of a reference
+-- the target of a Link or an Image: the texts of its Resource, and the kind, identifier and label as a reference
 abbrev pub target : Source → Decorated → Media
 target s xs =
     let resource : Decorated = within parts.Resource xs in
@@ -106,17 +107,17 @@ target s xs =
       label = or_empty (option_or (text parts.ReferenceString reference) (label_text xs));
     }
 
--- what stands between its fences
+-- the text between the fences
 abbrev pub fenced_of : Source → Span → List ℕ
 fenced_of s x = fenced (given_of s) x.end.index (nodes_of x.items)
 
--- code with the words of its first fence
+-- code, with the info and the meta of its first fence
 abbrev pub fenced_code : Source → Span → Label
 fenced_code s x =
     let fence : Decorated = within parts.CodeFencedFence x.items in
     tree.code (fenced_of s x) (text parts.CodeFencedFenceInfo fence) (text parts.CodeFencedFenceMeta fence)
 
--- a definition of a link, and of a footnote: without a label the identifier is empty
+-- the definition of a link or a footnote; without a label the identifier is empty
 abbrev pub link_definition : Source → Span → Label
 link_definition s x =
     tree.definition (or_empty (text parts.DefinitionDestinationString x.items)) (text parts.DefinitionTitleString x.items)
@@ -125,7 +126,7 @@ link_definition s x =
 abbrev pub note_definition : Source → Span → Label
 note_definition s x = tree.footnote_definition (or_empty (identifier s parts.FootnoteDefinitionLabelString x.items)) (text parts.FootnoteDefinitionLabelString x.items)
 
--- the nodes of one span: one node, or none. A part gives none, but for the text of a heading, which gives those of its items
+-- the nodes of one span: one node or none. A part has none, except the text of a setext heading, which has the nodes of its items
 abbrev pub node_of : Source → ItemKind → Span → Trees
 node_of s (content contents.Data) x = literal x (tree.text (value_of s x))
 node_of s (content contents.CharacterReference) x = literal x (tree.text (or_empty (character s x.items)))
@@ -164,7 +165,7 @@ node_of s (content contents.Link) x = node_at (link_label (target s x.items)) (n
 node_of s (content contents.Image) x = literal x (image_label (or_empty (label_text x.items)) (target s x.items))
 node_of s (part _) x = nothing
 
--- items that begin in a place, each with its node
+-- the items from a place on, each with its nodes
 abbrev pub decorate : Source → Place → Items → Decorated
 decorate s p none = undecorated
 decorate s p (item what start end children inner rest) =

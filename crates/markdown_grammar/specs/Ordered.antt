@@ -2,7 +2,7 @@
 use Rattle.std.specs.Prelude.{Bool, IsFalse, List, None, Some, [], false, true, ℕ, ⊤, ◌∷◌, ◌≤◌}
 use Rattle.markdown_nodes.specs.Tree.{Label, Trees, list_item, node, nothing, paragraph}
 use Rattle.markdown_events.specs.declared.event.Event.{Event}
-use Rattle.positions.specs.declared.unist.Position.{Position}
+use Rattle.markdown_events.specs.declared.unist.Position.{Position}
 
 -- the indexes of the events do not fall, from a number on
 abbrev pub RisesFrom : ℕ → List Event → Type 0

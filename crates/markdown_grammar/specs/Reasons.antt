@@ -1,4 +1,4 @@
--- Why a list of events is refused, in the words of the grammar.
+-- Why a list of events is refused.
 use Rattle.std.specs.Prelude.{Bool, List, [], false, true, ◌++◌, ◌∷◌, ◌≡◌, ◌≢◌, ◌⊎◌}
 use Rattle.markdown_events.specs.Forest.{Forest, empty, is_delimiter_cell_value, is_delimiter_row, events_of}
 use Rattle.markdown_events.specs.Names.{is_same_name, role_of}
@@ -19,58 +19,68 @@ use Rattle.markdown_events.specs.declared.event.Kind.TheVariants.{Enter, Exit}
 use Rattle.markdown_events.specs.declared.role.Role.TheVariants.{Significant as significant}
 use Rattle.markdown_grammar.specs.declared.error_kind.ErrorKind.TheVariants.{Held, InvalidSlice, Misplaced, Unbalanced, UnfinishedBreak}
 
--- the first of the rules that the items violate, and how its container says so
-abbrev pub ViolatesFirst : ContentModel → List Rule → List ItemKind → ErrorKind → Type 0
-ViolatesFirst h [] xs why = ⊥
-ViolatesFirst h (rule ∷ rules) xs why = ((keeps rule xs ≡ false) × (why ≡ rule_error h rule)) ⊎ ((keeps rule xs ≡ true) × ViolatesFirst h rules xs why)
+-- ---- Tests in order
 
--- an item that begins, of whose end and items nothing is known
+-- the first of these tests that fails has this error
+abbrev pub FailsFirst : List (Bool × ErrorKind) → ErrorKind → Type 0
+FailsFirst [] why = ⊥
+FailsFirst (test ∷ tests) why = ((test.0 ≡ false) × (why ≡ test.1)) ⊎ ((test.0 ≡ true) × FailsFirst tests why)
+
+-- one test for each of these rules: whether the items keep it
+abbrev pub rule_tests : ContentModel → List Rule → List ItemKind → List (Bool × ErrorKind)
+rule_tests model [] items = []
+rule_tests model (rule ∷ rules) items = (keeps rule items, rule_error model rule) ∷ rule_tests model rules items
+
+-- an item that begins, before anything is known of its end and its items
 abbrev pub beginning : Site → ItemKind → Point → Occurrence
 beginning site what start = occurrence site what start start none
 
--- what is wrong with an item where it begins: the first of these
-pub data IsWrongAtEnter (s : Source) (site : Site) (what : ItemKind) (start : Point) (why : ErrorKind) : Type 0 where
-  after_a_break : ends_a_break (beginning site what start) ≡ false → why ≡ UnfinishedBreak → IsWrongAtEnter s site what start why
-  against_a_rule : ends_a_break (beginning site what start) ≡ true → ViolatesFirst site.initial_model (rules site.initial_model) (kinds site.before ++ what ∷ []) why → IsWrongAtEnter s site what start why
-  table_in_a_table : ends_a_break (beginning site what start) ≡ true → conforms site.initial_model (kinds site.before ++ what ∷ []) ≡ true → is_no_inner_table (beginning site what start) ≡ false → why ≡ Misplaced
-      → IsWrongAtEnter s site what start why
-  without_its_byte : ends_a_break (beginning site what start) ≡ true → conforms site.initial_model (kinds site.before ++ what ∷ []) ≡ true → is_no_inner_table (beginning site what start) ≡ true
-      → has_its_byte s (beginning site what start) ≡ false → why ≡ InvalidSlice → IsWrongAtEnter s site what start why
+-- the tests of an item where it begins
+abbrev pub enter_tests : Source → Site → ItemKind → Point → List (Bool × ErrorKind)
+enter_tests s site what start =
+    (ends_a_break (beginning site what start), UnfinishedBreak)
+    ∷ (rule_tests site.initial_model (rules site.initial_model) (kinds site.before ++ what ∷ [])
+    ++ ((is_no_inner_table (beginning site what start), Misplaced) ∷ (has_its_byte s (beginning site what start), InvalidSlice) ∷ []))
 
--- what is wrong with an item where it ends: the first of these
-pub data IsWrongAtExit (s : Source) (x : Occurrence) (why : ErrorKind) : Type 0 where
-  break_is_last : contains_no_open_break x ≡ false → why ≡ UnfinishedBreak → IsWrongAtExit s x why
-  without_its_parts : contains_no_open_break x ≡ true → has_its_parts s x ≡ false → why ≡ missing_error (model_of x.model x.what) → IsWrongAtExit s x why
-  without_its_value : contains_no_open_break x ≡ true → has_its_parts s x ≡ true → has_its_value s x ≡ false → why ≡ value_error s x.what x.start x.end → IsWrongAtExit s x why
+-- the tests of an item where it ends
+abbrev pub exit_tests : Source → Occurrence → List (Bool × ErrorKind)
+exit_tests s x =
+    (contains_no_open_break x, UnfinishedBreak)
+    ∷ (has_its_parts s x, missing_error (model_of x.model x.what))
+    ∷ (has_its_value s x, value_error s x.what x.start x.end) ∷ []
 
--- an exit of that name ends the innermost open span
+-- something is wrong with an item where it begins
+abbrev pub IsWrongAtEnter : Source → Site → ItemKind → Point → ErrorKind → Type 0
+IsWrongAtEnter s site what start why = FailsFirst (enter_tests s site what start) why
+
+-- something is wrong with an item where it ends
+abbrev pub IsWrongAtExit : Source → Occurrence → ErrorKind → Type 0
+IsWrongAtExit s x why = FailsFirst (exit_tests s x) why
+
+-- ---- Events
+
+-- an exit with this name ends the innermost open span
 abbrev pub closes : List Ancestor → Name → Bool
 closes [] name = false
 closes (e ∷ path) name = is_same_name e.name name
 
--- why a span of that role may not begin in these: it is a delimiter row or value in one, or it is directly after the enter of a span that holds nothing
-pub data IsHeld (path : List Ancestor) (role : Role) : Type 0 where
-  row_in_a_row : (around_of path).in_row ≡ true → is_delimiter_row role ≡ true → IsHeld path role
-  value_in_a_value : (around_of path).in_value ≡ true → is_delimiter_cell_value role ≡ true → IsHeld path role
-  in_a_sealed_span : (e : Ancestor) (outer : List Ancestor) → path ≡ e ∷ outer → is_sealed (role_of e.name) ≡ true → e.inside ≡ empty → IsHeld path role
-
--- what is wrong with an event after closed spans, and open ones after them
+-- something is wrong with an event, after closed spans and the open spans after them
 pub data IsWrong (s : Source) (forest : Forest) (path : List Ancestor) (event : Event) (why : ErrorKind) : Type 0 where
-  -- a span may not begin in what is around it
-  held : event.kind ≡ Enter → IsHeld path (role_of event.name) → why ≡ Held → IsWrong s forest path event why
+  -- a span begins where it may not begin
+  held : event.kind ≡ Enter → may_begin (around_of path) (role_of event.name) ≡ false → why ≡ Held → IsWrong s forest path event why
   enters : (what : ItemKind) → event.kind ≡ Enter → may_begin (around_of path) (role_of event.name) ≡ true → role_of event.name ≡ significant what
       → conforms (site_of forest path).initial_model (kinds (site_of forest path).before) ≡ true → IsWrongAtEnter s (site_of forest path) what event.point why
       → IsWrong s forest path event why
-  -- no span is open, or another
+  -- a span ends that is not the innermost open one
   unmatched : event.kind ≡ Exit → closes path event.name ≡ false → why ≡ Unbalanced → IsWrong s forest path event why
   exits : (e : Ancestor) (outer : List Ancestor) (what : ItemKind) → event.kind ≡ Exit → path ≡ e ∷ outer → e.name ≡ event.name → role_of e.name ≡ significant what
       → IsWrongAtExit s (occurrence (site_of forest outer) what e.start event.point (items e.inside)) why → IsWrong s forest path event why
 
--- at none of these events anything is wrong
+-- nothing is wrong at any of these events
 abbrev pub NothingIsWrong : Source → List Event → Type 0
 NothingIsWrong s events = (forest : Forest) (path : List Ancestor) (event : Event) (back : List Event) (why : ErrorKind) → events ≡ events_so_far forest path ++ (event ∷ back) → ¬ (IsWrong s forest path event why)
 
--- the point is that of the first event at which something is wrong, and no list that begins with the events up to it is accepted
+-- the error is at the first event where something is wrong, and no list that begins with the events up to it is accepted
 pub record StopsAtFirstError (s : Source) (events : List Event) (m : ErrorAt) : Type 0 where
   pub forest : Forest
   pub path : List Ancestor
@@ -82,7 +92,7 @@ pub record StopsAtFirstError (s : Source) (events : List Event) (m : ErrorAt) : 
   pub fine_before : NothingIsWrong s (events_so_far forest path)
   pub none_accepted : (other : Forest) (others : List Event) → events_of other ≡ events_so_far forest path ++ (event ∷ others) → ¬ (Accepted s other)
 
--- nothing is wrong at an event, but at the end spans are open, or a break is the root's last item, and the point is the last event's
+-- no event is wrong, but the list ends with an open span, or with a break as the root's last item; the error is at the last event
 pub record EndsOpen (s : Source) (events : List Event) (m : ErrorAt) : Type 0 where
   pub forest : Forest
   pub path : List Ancestor

@@ -1,8 +1,8 @@
--- What a refusal says.
+-- Refusals: the rule, the reason and the place in their messages.
 use Rattle.std.specs.Prelude.{List, Some, codes, if◌then◌else◌, is_some, ℕ, ◌≡◌}
 use Rattle.markdown_events.specs.declared.event.Point.{Point}
-use Rattle.positions.specs.declared.message.Fault.{Fault}
-use Rattle.positions.specs.declared.message.Message.{Message}
+use Rattle.markdown_events.specs.declared.message.Fault.{Fault}
+use Rattle.markdown_events.specs.declared.message.Message.{Message}
 use Rattle.markdown_events.specs.Slices.{slice, to_unist}
 use Rattle.markdown_events.specs.declared.role.ItemKind.{ItemKind}
 use Rattle.markdown_events.specs.declared.role.ItemKind.TheVariants.{Part as part}
@@ -11,8 +11,8 @@ use Rattle.markdown_grammar.specs.Document.{Source, length_between}
 use Rattle.markdown_grammar.specs.declared.error_kind.ErrorKind.{ErrorKind}
 use Rattle.markdown_grammar.specs.declared.error_kind.ErrorKind.TheVariants.{HeadingDepth, Held, IncompleteReference, InvalidListValue, InvalidSlice, Misplaced, MissingFence, MissingListValue, Repeated, Unbalanced, UnfinishedBreak, UnknownReference}
 use Rattle.markdown_grammar.specs.declared.error_kind.Stop.{Stop}
-use Rattle.positions.specs.declared.message.Fault.TheVariants as faults
-use Rattle.positions.specs.declared.message.Place.TheVariants as places
+use Rattle.markdown_events.specs.declared.message.Fault.TheVariants as faults
+use Rattle.markdown_events.specs.declared.message.Place.TheVariants as places
 use Rattle.markdown_events.specs.declared.role.Part.TheVariants as parts
 use Rattle.markdown_grammar.specs.declared.error_kind.Stop.TheVariants as stops
 
@@ -46,46 +46,46 @@ reason_of MissingFence = codes "a raw block has no fence"
 reason_of HeadingDepth = codes "a heading has no depth from 1 to 6"
 reason_of UnfinishedBreak = codes "a hard break is not followed by its line ending"
 
--- ---- Which refusal belongs to what is wrong
+-- ---- The error for each violation
 
--- why an item that violates a rule of a container is refused
+-- the error for an item that violates a rule of its container
 abbrev pub rule_error : ContentModel → Rule → ErrorKind
-rule_error h (at_most_one ps) = Repeated
-rule_error h (none_of ps) = Repeated
+rule_error model (at_most_one ps) = Repeated
+rule_error model (none_of ps) = Repeated
 rule_error character_reference (only_before ps test) = IncompleteReference
-rule_error h rule = Misplaced
+rule_error model rule = Misplaced
 
--- why a container is refused that lacks what must stand in it
+-- the error for a container without what it requires
 abbrev pub missing_error : ContentModel → ErrorKind
 missing_error character_reference = IncompleteReference
 missing_error code_fenced = MissingFence
 missing_error math_flow = MissingFence
 missing_error list_ordered = MissingListValue
-missing_error h = HeadingDepth
+missing_error model = HeadingDepth
 
--- why an item is refused that cannot be read
+-- the error for an item whose value cannot be read
 abbrev pub value_error : Source → ItemKind → Point → Point → ErrorKind
 value_error s (part parts.CharacterReferenceValue) a b = if is_some (slice s.bytes a b) then UnknownReference else InvalidSlice
 value_error s (part parts.ListItemValue) a b = if is_some (slice s.bytes a b) then InvalidListValue else InvalidSlice
 value_error s (part parts.HeadingAtxSequence) a b = if is_some (length_between s.bytes a b) then HeadingDepth else InvalidSlice
 value_error s what a b = InvalidSlice
 
--- ---- What the message says
+-- ---- The message
 
--- the message says that the event at this point is refused so
+-- the message says that the event at this point is refused with this error
 pub record Says (message : Message) (error_kind : ErrorKind) (point : Point) : Type 0 where
   pub place : message.place ≡ Some (places.Point (to_unist point))
   pub rule : message.rule_id.now ≡ rule_of error_kind
   pub reason : message.reason.now ≡ reason_of error_kind
   pub source : message.source.now ≡ codes "markdown-rs"
 
--- the answer for an event that was not taken
+-- the fault for an event that was not accepted: a message for a refusal, or the error of memory
 abbrev pub IsFaultOf : Stop → Point → Fault → Type 0
 IsFaultOf (stops.Refused error_kind) point (faults.Message message) = Says message error_kind point
 IsFaultOf (stops.Refused error_kind) point (faults.Memory error) = ⊥
 IsFaultOf (stops.Memory error) point fault = fault ≡ faults.Memory error
 
--- why an event is refused, and its point
+-- an error and its point
 pub record ErrorAt : Type 0 where
   pub error_kind : ErrorKind
   pub point : Point

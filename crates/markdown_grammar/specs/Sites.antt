@@ -34,8 +34,8 @@ inherited_after_all xs p = record { line_endings = line_ending_is_text_after_all
 
 -- the content model after a list of items
 abbrev pub model_after_all : Items → ContentModel → ContentModel
-model_after_all none h = h
-model_after_all (item what _ _ _ inner rest) h = model_after_all rest (model_after h what (is_some (mark inner)))
+model_after_all none model = model
+model_after_all (item what _ _ _ inner rest) model = model_after_all rest (model_after model what (is_some (mark inner)))
 
 -- ---- Open spans
 

@@ -11,21 +11,23 @@ use std::alloc::{AllocError, AllocFailed};
 /// Why a list of events is refused, one variant for each rule (ours; the events are those of the
 /// crate `markdown`).
 ///
-/// `ErrorKind::Unbalanced` is the rule `events-unbalanced`: of a list that leaves a span open, say.
+/// `ErrorKind::Unbalanced` is the rule `events-unbalanced`, for example of a list that leaves a
+/// span open.
 #[derive(Clone, Copy, PartialEq, Eq, Debug)]
 pub enum ErrorKind {
-    /// `events-unbalanced`: an exit that is not the open span's, or a span that is open at the end.
+    /// `events-unbalanced`: an exit that does not match the open span, or a span that is open at
+    /// the end.
     Unbalanced,
-    /// `name-misplaced`: the container does not take the name.
+    /// `name-misplaced`: the container does not accept the name.
     Misplaced,
-    /// `part-repeated`: a part stands again that may stand once.
+    /// `part-repeated`: a part that may occur once occurs again.
     Repeated,
-    /// `span-held`: a span stands inside one that may not contain it.
+    /// `span-held`: a span inside one that may not contain it.
     Held,
-    /// `slice-invalid`: a value that is read is no text of the document, or a sequence or a byte that
-    /// is read is not in it.
+    /// `slice-invalid`: a value that is read is not a text of the document, or a sequence or a byte
+    /// that is read is not in it.
     InvalidSlice,
-    /// `list-value-invalid`: a list value is no number, or too great.
+    /// `list-value-invalid`: a list value is not a number, or is too large.
     InvalidListValue,
     /// `list-value-missing`: no item of an ordered list has a value.
     MissingListValue,
@@ -43,7 +45,7 @@ pub enum ErrorKind {
 }
 
 impl ErrorKind {
-    /// The rule, for a program.
+    /// Returns the rule, for programs.
     fn rule_id(self) -> &'static str
         ensures { result.now ≡ rule_of self }
     {
@@ -63,7 +65,7 @@ impl ErrorKind {
         }
     }
 
-    /// What is wrong, for a reader.
+    /// Returns what is wrong, for people.
     fn reason(self) -> &'static str
         ensures { result.now ≡ reason_of self }
     {
@@ -87,7 +89,7 @@ impl ErrorKind {
 
 /// Why an event was not taken (ours): it is refused, or memory ran out.
 ///
-/// `Stop::Refused(ErrorKind::Held)` is what a span in a line ending gives.
+/// `Stop::Refused(ErrorKind::Held)` is the result of a span in a line ending.
 #[derive(Debug, Drop)]
 pub enum Stop {
     /// It is refused.
@@ -97,10 +99,11 @@ pub enum Stop {
 }
 
 impl Stop {
-    /// The same as an answer, which names the event at this point. Want of memory names none.
+    /// Converts to a `Fault` at this point. If memory ran out, the fault has no point.
     ///
-    /// `Stop::Refused(ErrorKind::Unbalanced).at(point)` is a message of the rule `events-unbalanced`,
-    /// whose place is the line, the column and the offset of the point. It takes no memory.
+    /// `Stop::Refused(ErrorKind::Unbalanced).at(point)` is a message of the rule
+    /// `events-unbalanced`, whose place is the line, the column and the offset of the point. It
+    /// allocates no memory.
     #[inline(never)]
     pub fn at(self, point: Point) -> Fault
         ensures { IsFaultOf self point result }

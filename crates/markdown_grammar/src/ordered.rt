@@ -1,4 +1,4 @@
-//! Whether the nodes of a tree nest and stand in order.
+//! Whether the nodes of a tree nest and are in order.
 
 ghost use Rattle.std.specs.Prelude.{◌≡◌, ◌↔◌, IsTrue};
 ghost use Rattle.markdown_nodes.specs.Access.{label_of, nodes_in};
@@ -12,19 +12,19 @@ use markdown_nodes::mdast::Node;
 use markdown_nodes::unist::Position;
 use std::alloc::Global;
 
-/// Whether the nodes of a tree nest and stand in order. A program that looks for the node at a byte, or
-/// cuts the document where nodes end, may rely on it.
+/// Whether the nodes of a tree nest and are in order. A program that looks for the node at a byte,
+/// or cuts the document where nodes end, may rely on it.
 ///
-/// It is true exactly when every node has a position and, by the offsets, which count bytes from 0,
-/// each child starts and ends within its parent, does not end before it starts, and ends at or
-/// before the start of every later child. The root's own start and end are not compared. In an item
-/// with a mark, the mark and the blank after it were cut off the front of the first paragraph: that
-/// paragraph, and the first node in it, may start after their own ends, and the nodes in it may
-/// start before it. The rule is ours. `compile` of the crate `markdown_tree` gives such trees where
-/// the offsets of the events never go back.
+/// It is true exactly when every node has a position and the following holds by the offsets, which
+/// count bytes from 0. Each child starts and ends within its parent, does not end before it starts,
+/// and ends at or before the start of every later child. The root's own start and end are not
+/// compared. In an item with a mark, the mark and the blank after it were cut off the front of the
+/// first paragraph. There, that paragraph and the first node in it may start after their own ends,
+/// and the nodes in it may start before it. The rule is ours. `compile` of the crate
+/// `markdown_tree` returns such trees if the offsets of the events never go back.
 ///
-/// It looks at each node once, and always answers: it walks with a list of the levels in which nodes
-/// are left, and where that list gets no memory it goes on by a call for the nodes in a node.
+/// It looks at each node once, and always returns an answer. It keeps a list of the levels that
+/// still have nodes, and if there is no memory for that list, it recurses into the nodes in a node.
 ///
 /// A root from 0 to 2 with a text from 0 to 1 and then one from 1 to 2 is ordered; with the two the
 /// other way round it is not.
@@ -43,7 +43,7 @@ pub fn ordered(tree: &Node) -> bool
     }
 }
 
-/// Where a node stands, as far as the mark of a task item matters to where it starts.
+/// Where a node is, as needed to know where the mark of a task item lets it start.
 #[derive(Clone, Copy)]
 enum Standing {
     /// First in an item with a mark.
@@ -55,7 +55,7 @@ enum Standing {
 }
 
 impl Standing {
-    /// Whether a node that stands here is a paragraph that the mark was cut off.
+    /// Whether a node that is here is a paragraph that the mark was cut off.
     fn is_first_paragraph(self, node: &Node) -> bool
         ensures { result ≡ Ordered.is_first_paragraph (standing_of self) (label_of node.now) }
     {
@@ -65,7 +65,7 @@ impl Standing {
         }
     }
 
-    /// Whether a node that stands here may start after its own end.
+    /// Whether a node that is here may start after its own end.
     fn may_start_late(self, node: &Node) -> bool
         ensures { result ≡ Ordered.may_start_late (standing_of self) (label_of node.now) }
     {
@@ -75,7 +75,7 @@ impl Standing {
         }
     }
 
-    /// Where the first child of a node stands that stands here.
+    /// Returns where the first child of a node is, for a node that is here.
     fn first_child(self, node: &Node) -> Standing
         ensures { standing_of result ≡ Ordered.first_child (standing_of self) (label_of node.now) }
     {
@@ -109,12 +109,12 @@ fn is_task(node: &Node) -> bool
     }
 }
 
-/// What is asked of the nodes that are left in a parent, by offsets.
+/// The bounds for the nodes that are left in a parent, by offsets.
 #[derive(Clone, Copy)]
 struct Limits {
-    /// Where the first of them stands.
+    /// Where the first of them is.
     standing: Standing,
-    /// Whether they may start before their parent, which a mark was cut off.
+    /// Whether they may start before their parent, because a mark was cut off it.
     starts_are_free: bool,
     /// Where their parent starts.
     low: usize,
@@ -125,7 +125,7 @@ struct Limits {
 }
 
 impl Limits {
-    /// Whether the first of the nodes, at this position, is as asked.
+    /// Whether the first of the nodes, at this position, is within the limits.
     fn admit(self, node: &Node, here: &Position) -> bool
         ensures { IsTrue result ↔ Admits (bounds_of self) (label_of node.now) here.now }
     {
@@ -140,7 +140,7 @@ impl Limits {
         end <= self.high && self.reached <= start
     }
 
-    /// What is asked of the nodes after the first, which is at this position.
+    /// Returns the limits for the nodes after the first, which is at this position.
     fn after(self, here: &Position) -> Limits
         ensures { bounds_of result ≡ bounds_after (bounds_of self) here.now }
     {
@@ -154,7 +154,7 @@ impl Limits {
     }
 }
 
-/// What is asked of the nodes in a node with this standing and this position.
+/// Returns the limits for the nodes in a node with this standing and this position.
 fn limits_in(standing: Standing, node: &Node, here: &Position) -> Limits
     ensures { bounds_of result ≡ bounds_in (standing_of standing) (label_of node.now) here.now }
 {
@@ -167,14 +167,14 @@ fn limits_in(standing: Standing, node: &Node, here: &Position) -> Limits
     }
 }
 
-/// Nodes that are left in a parent, and what is asked of them.
+/// Nodes that are left in a parent, and their limits.
 #[derive(Clone, Copy)]
 struct Level<'a> {
     limits: Limits,
     nodes: &'a [Node],
 }
 
-/// The nodes in a node with this standing and this position.
+/// Returns the nodes in a node with this standing and this position, with their limits.
 fn level_in<'a>(standing: Standing, node: &'a Node, here: &Position) -> Level<'a>
     ensures limits { bounds_of result.limits ≡ bounds_in (standing_of standing) (label_of node.now) here.now }
     ensures nodes { result.nodes.now ≡ nodes_in node.now }
@@ -185,8 +185,8 @@ fn level_in<'a>(standing: Standing, node: &'a Node, here: &Position) -> Level<'a
     }
 }
 
-/// Whether the nodes of a level are as asked: by a stack of the levels in which nodes are left, and
-/// by a call for the nodes in a node where the stack gets no memory.
+/// Whether the nodes of a level are within their limits. Uses a stack of the levels that still have
+/// nodes, and recurses into the nodes in a node if there is no memory for the stack.
 fn in_order(whole: Level, alloc: Global) -> bool
     ensures { IsTrue result ↔ AsAsked (bounds_of whole.entry.limits) (views whole.entry.nodes.now) }
 {

@@ -14,7 +14,7 @@ use Rattle.markdown_nodes.specs.declared.mdast.Node.{Node}
 use Rattle.markdown_nodes.specs.Access.{label_of}
 use Rattle.markdown_nodes.specs.Tree.{Label, Tree}
 use Rattle.markdown_nodes.specs.View.{view}
-use Rattle.mdast_check.proofs.Steps.{label-is}
+use Rattle.markdown_nodes.proofs.WalkSteps.{label-is}
 use Rattle.markdown_html.specs.Gathered.{held, with_first}
 
 -- what a map has with a text more

@@ -9,7 +9,7 @@ use Rattle.markdown_kinds.specs.declared.ReferenceKind.{ReferenceKind}
 use Rattle.markdown_nodes.specs.Tree.{Label, Tree, Trees, nothing, node, root, paragraph, blockquote, emphasis, strong, delete, table_row, table_cell, thematic_break, «break», text, html as raw_node, inline_code, inline_math, yaml, toml, heading, list, list_item, table, code, math, link, image, link_reference, image_reference, footnote_reference, footnote_definition, definition}
 use Rattle.std.specs.List.{find}
 use Rattle.std.proofs.lemmas.Option.{none-some}
-use Rattle.mdast_check.specs.Walk.{walk, walks}
+use Rattle.markdown_nodes.specs.Walk.{walk, walks}
 use Rattle.mdast_util.specs.Definitions.{definition_in}
 use Rattle.markdown_html.specs.declared.place.Kind.{Kind}
 use Rattle.markdown_html.specs.declared.place.Kind.TheVariants.{Text, Flow, Tight, Hidden, FirstRow, SecondRow, LaterRow, HeaderCell, Cell, Note, Tail}

@@ -5,7 +5,7 @@ use Rattle.markdown_html.specs.Places.{followed, unended, Place}
 use Rattle.markdown_nodes.specs.declared.mdast.Node.{Node}
 use Rattle.markdown_nodes.specs.Access.{label_of}
 use Rattle.markdown_nodes.specs.View.{view, views}
-use Rattle.mdast_check.proofs.Steps.{label-is}
+use Rattle.markdown_nodes.proofs.WalkSteps.{label-is}
 use Rattle.markdown_html.specs.Html.{count, ends_with_paragraph, is_paragraph}
 
 -- how many there are

@@ -17,18 +17,18 @@ use Rattle.markdown_html.specs.declared.source.Raw.TheVariants.{Omit, Escape, Fi
 unfoldable pub attribute : List ℕ → List ℕ → List ℕ
 attribute name value = codes " " ++ name ++ codes "=\"" ++ escaped value ++ codes "\""
 
--- the attribute of a title, where there is one
+-- the attribute of a title, if there is one
 unfoldable pub title_attribute : Option (List ℕ) → List ℕ
 title_attribute None = []
 title_attribute (Some title) = attribute (codes "title") title
 
--- whether addresses may have any scheme: where raw HTML passes
+-- whether addresses may have any scheme: if raw HTML passes
 abbrev pub passes : Raw → Bool
 passes Filter = true
 passes Pass = true
 passes _ = false
 
--- an address that may stand, encoded, and nothing in place of any other
+-- an address that is allowed, encoded; nothing in place of any other address
 unfoldable pub link_url : Raw → List ℕ → List ℕ
 link_url raw url = if passes raw || is_safe_link (encoded url) then encoded url else []
 
@@ -43,13 +43,13 @@ link_start raw url title = codes "<a" ++ attribute (codes "href") (link_url raw 
 unfoldable pub image_tag : Raw → (alt url : List ℕ) → Option (List ℕ) → List ℕ
 image_tag raw alt url title = codes "<img" ++ attribute (codes "src") (image_url raw url) ++ attribute (codes "alt") alt ++ title_attribute title ++ codes " />"
 
--- the end of a reference that nothing defines, as it is written in a document
+-- the end of a reference that nothing defines, as a document has it
 unfoldable pub reference_end : ReferenceKind → (identifier : List ℕ) → (label : Option (List ℕ)) → List ℕ
 reference_end Shortcut identifier label = codes "]"
 reference_end Collapsed identifier label = codes "][]"
 reference_end Full identifier label = codes "][" ++ unwrap_or label identifier ++ codes "]"
 
--- the name of a heading of a depth
+-- the name of the element for a heading of this depth
 unfoldable pub heading_name : ℕ → List ℕ
 heading_name depth =
     if nat_le depth 1 then codes "h1"
@@ -59,11 +59,11 @@ heading_name depth =
     else (if depth == 5 then codes "h5"
     else codes "h6"))))
 
--- a number; none is greater than the greatest of 64 bits
+-- a number, at most the largest 64-bit number
 unfoldable pub numeral : ℕ → List ℕ
 numeral n = decimal (min n (2 ^ 64 - 1))
 
--- the number that a list starts with, where it is not 1
+-- the attribute for the number that a list starts with, if it is not 1
 unfoldable pub start_attribute : Option ℕ → List ℕ
 start_attribute None = []
 start_attribute (Some start) = if start == 1 then [] else attribute (codes "start") (numeral start)
@@ -73,12 +73,12 @@ unfoldable pub list_start : Bool → Option ℕ → List ℕ
 list_start true start = codes "<ol" ++ start_attribute start ++ codes ">\n"
 list_start false start = codes "<ul>\n"
 
--- its end
+-- the end of a list
 unfoldable pub list_end : Bool → List ℕ
 list_end true = codes "</ol>\n"
 list_end false = codes "</ul>\n"
 
--- the mark of a task
+-- the check box of a task
 unfoldable pub check_box : Option Bool → List ℕ
 check_box None = []
 check_box (Some true) = codes "<input type=\"checkbox\" checked=\"\" disabled=\"\" /> "
@@ -89,7 +89,7 @@ abbrev pub is_class : List ℕ → Bool
 is_class [] = false
 is_class (b ∷ text) = not (list_any is_space (b ∷ text))
 
--- the class of a block of code, where its language can be one
+-- the class of a block of code, if its language can be a class
 unfoldable pub language_attribute : Option (List ℕ) → List ℕ
 language_attribute None = []
 language_attribute (Some language) = if is_class language then attribute (codes "class") (codes "language-" ++ language) else []
@@ -107,39 +107,39 @@ code_block language value = codes "<pre><code" ++ language_attribute language ++
 unfoldable pub math_block : List ℕ → List ℕ
 math_block value = codes "<pre><code" ++ attribute (codes "class") (codes "language-math math-display") ++ codes ">" ++ escaped value ++ codes "</code></pre>\n"
 
--- math and code in a text
+-- math and code within a text
 unfoldable pub math_text : List ℕ → List ℕ
 math_text value = codes "<code" ++ attribute (codes "class") (codes "language-math math-inline") ++ codes ">" ++ escaped value ++ codes "</code>"
 
 unfoldable pub code_text : List ℕ → List ℕ
 code_text value = codes "<code>" ++ escaped value ++ codes "</code>"
 
--- HTML of the document
+-- the raw HTML of a document
 unfoldable pub raw_html : Raw → List ℕ → List ℕ
 raw_html Omit value = []
 raw_html Escape value = escaped value
 raw_html Filter value = filtered value
 raw_html Pass value = value
 
--- how a cell is aligned, by its column
+-- the alignment of a cell, from its column
 unfoldable pub align_attribute : AlignKind → List ℕ
 align_attribute align.Left = codes " align=\"left\""
 align_attribute align.Right = codes " align=\"right\""
 align_attribute align.Center = codes " align=\"center\""
 align_attribute align.None = []
 
--- the start of a cell in the first of these columns, where there is one
+-- the start of a cell in the first of these columns; nothing if no column is left
 unfoldable pub cell_start : List ℕ → Option (List AlignKind) → List ℕ
 cell_start name None = codes "<" ++ name ++ codes ">"
 cell_start name (Some []) = []
 cell_start name (Some (first ∷ _)) = codes "<" ++ name ++ align_attribute first ++ codes ">"
 
--- its end
+-- the end of such a cell
 unfoldable pub cell_end : List ℕ → Option (List AlignKind) → List ℕ
 cell_end name (Some []) = []
 cell_end name _ = codes "</" ++ name ++ codes ">\n"
 
--- a cell without a text, and one in each of these columns
+-- an empty cell, and one in each of these columns
 unfoldable pub empty_cell : List ℕ → AlignKind → List ℕ
 empty_cell name align = (codes "<" ++ name ++ align_attribute align ++ codes ">") ++ (codes "</" ++ name ++ codes ">\n")
 
@@ -151,20 +151,20 @@ empty_cells name (first ∷ rest) = empty_cell name first ++ empty_cells name re
 unfoldable pub arrow : List ℕ
 arrow = 226 ∷ 134 ∷ 169 ∷ []
 
--- the number of a call or of a back reference, where it is not the first
+-- the number of a call or of a back reference, if it is not the first
 unfoldable pub repeat_text : ℕ → List ℕ
 repeat_text count = if count == 1 then [] else codes "-" ++ numeral count
 
--- the same, for people
+-- that number as people see it
 unfoldable pub repeat_mark : ℕ → List ℕ
 repeat_mark count = if count == 1 then [] else codes "<sup>" ++ numeral count ++ codes "</sup>"
 
--- what a reference from a footnote back to a call of it is called
+-- the label of a back reference from a footnote to one of its calls
 unfoldable pub back_label : (number count : ℕ) → List ℕ
 back_label number count = codes "Back to reference " ++ numeral number ++ repeat_text count
 
 module _ (prefix : List ℕ) where
-  -- the id of a footnote, and that of a call of it
+  -- the id of a footnote, and that of one of its calls
   abbrev pub note_id : List ℕ → List ℕ
   note_id identifier = prefix ++ codes "fn-" ++ encoded identifier
 
@@ -179,14 +179,14 @@ module _ (prefix : List ℕ) where
   unfoldable pub section_heading : List ℕ
   section_heading = codes "<h2" ++ attribute (codes "class") (codes "sr-only") ++ attribute (codes "id") label_id ++ codes ">Footnotes" ++ codes "</h2>\n<ol>\n"
 
-  -- the start of their section, and that of a footnote
+  -- the start of the section of the footnotes, and that of a footnote
   unfoldable pub section_start : List ℕ
   section_start = codes "<section" ++ attribute (codes "data-footnotes") [] ++ attribute (codes "class") (codes "footnotes") ++ codes ">" ++ section_heading
 
   unfoldable pub note_start : (identifier : List ℕ) → List ℕ
   note_start identifier = codes "<li" ++ attribute (codes "id") (note_id identifier) ++ codes ">\n"
 
-  -- a call of a footnote
+  -- a footnote call
   unfoldable pub call_links : (identifier : List ℕ) → (count : ℕ) → List ℕ
   call_links identifier count = attribute (codes "href") (codes "#" ++ note_id identifier) ++ attribute (codes "id") (call_id identifier count)
 
@@ -196,7 +196,7 @@ module _ (prefix : List ℕ) where
   unfoldable pub call_text : (identifier : List ℕ) → (number count : ℕ) → List ℕ
   call_text identifier number count = codes "<sup><a" ++ call_attributes identifier count ++ codes ">" ++ numeral number ++ codes "</a></sup>"
 
-  -- a reference from a footnote back to a call of it
+  -- a back reference from a footnote to one of its calls
   unfoldable pub back_attributes : (identifier : List ℕ) → (number count : ℕ) → List ℕ
   back_attributes identifier number count =
       attribute (codes "href") (codes "#" ++ call_id identifier count) ++ attribute (codes "data-footnote-backref") []
@@ -205,7 +205,7 @@ module _ (prefix : List ℕ) where
   unfoldable pub back_reference : (identifier : List ℕ) → (number count : ℕ) → List ℕ
   back_reference identifier number count = codes "<a" ++ back_attributes identifier number count ++ codes ">" ++ arrow ++ repeat_mark count ++ codes "</a>"
 
-  -- those to all calls from the first to this one, with a blank before each
+  -- the back references to all calls from the first to this one, with a space before each
   abbrev pub back_references : (identifier : List ℕ) → (number count : ℕ) → List ℕ
   back_references identifier number zero = []
   back_references identifier number (suc count) = back_references identifier number count ++ codes " " ++ back_reference identifier number (suc count)

@@ -1,4 +1,4 @@
--- What a page is written from, as the code has it.
+-- The input of a page, as the code has it.
 use Rattle.std.specs.Prelude.{ℕ, List}
 use Rattle.markdown_nodes.specs.declared.mdast.Node.{Node}
 use Rattle.markdown_nodes.specs.View.{view}

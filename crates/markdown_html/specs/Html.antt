@@ -1,4 +1,4 @@
--- A tree as HTML: the elements that mdast-util-to-hast makes, in the lines that the examples of CommonMark have.
+-- A tree as HTML: the elements that mdast-util-to-hast makes, on lines as in the examples of CommonMark.
 use Rattle.std.specs.Prelude.{ℕ, ◌+◌, ◌-◌, ◌^◌, zero, suc, ◌&&◌, Bool, List, [], ◌∷◌, ◌++◌, Option, Some, None, codes, if◌then◌else◌, drop, nat_le, slice_get, unwrap_or, true, false}
 use Rattle.std.specs.List.{find}
 use Rattle.std.specs.Option.{option_eq}
@@ -8,7 +8,7 @@ use Rattle.html_text.specs.Safe.{Allowed}
 use Rattle.markdown_kinds.specs.declared.ReferenceKind.{ReferenceKind}
 use Rattle.markdown_nodes.specs.Tree.{Label, Tree, Trees, nothing, node, root, paragraph, blockquote, emphasis, strong, delete, table_row, table_cell, thematic_break, «break», text, html as raw, inline_code, inline_math, yaml, toml, heading, list, list_item, table, code, math, link, image, link_reference, image_reference, footnote_reference, footnote_definition, definition}
 use Rattle.mdast_check.specs.References.{footnote_identifier_of}
-use Rattle.mdast_check.specs.Walk.{walk}
+use Rattle.markdown_nodes.specs.Walk.{walk}
 use Rattle.mdast_util.specs.Definitions.{definition_in}
 use Rattle.markdown_html.specs.declared.place.Kind.{Kind}
 use Rattle.markdown_html.specs.declared.place.Kind.TheVariants.{Text, Flow, Tight, Hidden, FirstRow, SecondRow, HeaderCell, Cell, Note, Tail}
@@ -20,30 +20,30 @@ use Rattle.markdown_html.specs.Elements.{back_references, call_text, cell_end, c
 use Rattle.markdown_html.specs.Page.{Page, blank, block, count_of, fresh_line, more, number_of, on_new_line, put, say, with_call}
 use Rattle.markdown_html.specs.Places.{Place, after, followed, inside, place}
 
--- what becomes of raw HTML that does not pass
+-- how raw HTML that does not pass is treated
 abbrev pub raw_of : RawHtml → Raw
 raw_of raw_htmls.Omit = raws.Omit
 raw_of raw_htmls.Escape = raws.Escape
 
--- what is written: a whole tree, what becomes of raw HTML in it, and how each id begins
+-- the input: a whole tree, how raw HTML in it is treated, and the prefix of each id
 pub record Source : Type 0 where
   pub raw : Raw
   pub id_prefix : List ℕ
   pub tree : Tree
 
--- whether a node is the footnote with an identifier
+-- whether a node is the footnote definition with this identifier
 abbrev pub is_footnote : List ℕ → Tree → Bool
 is_footnote identifier tree = option_eq bytes_eq (footnote_identifier_of tree.label) (Some identifier)
 
--- the first footnote in a tree with an identifier
+-- the first footnote definition in a tree with this identifier
 abbrev pub footnote_in : Tree → List ℕ → Option Tree
 footnote_in tree identifier = find (is_footnote identifier) (walk tree)
 
--- no page has more footnotes
+-- the largest number of footnotes that a page has
 unfoldable pub most_notes : ℕ
 most_notes = 2 ^ 64 - 1
 
--- where a link or an image leads by its definition, and the title that the definition has
+-- the address in the definition of a link or an image, and the title there
 abbrev pub url_of : Label → List ℕ
 url_of (definition url _ _ _) = url
 url_of _ = []
@@ -52,7 +52,7 @@ abbrev pub title_of : Label → Option (List ℕ)
 title_of (definition _ title _ _) = title
 title_of _ = None
 
--- whether a node is a paragraph, and whether the last of some nodes is
+-- whether a node is a paragraph, and whether the last of some nodes is one
 abbrev pub is_paragraph : Label → Bool
 is_paragraph paragraph = true
 is_paragraph _ = false
@@ -62,7 +62,7 @@ ends_with_paragraph nothing = false
 ends_with_paragraph (node label _ _ nothing) = is_paragraph label
 ends_with_paragraph (node _ _ _ (node label children here rest)) = ends_with_paragraph (node label children here rest)
 
--- how many nodes these are
+-- the number of nodes
 abbrev pub count : Trees → ℕ
 count nothing = 0
 count (node _ _ _ rest) = count rest + 1
@@ -76,7 +76,7 @@ abbrev pub cell_name : Kind → List ℕ
 cell_name FirstRow = codes "th"
 cell_name _ = codes "td"
 
--- the end of a row with these cells, and a cell without a text in each column that they leave
+-- the end of a row with these cells, and before it an empty cell in each column that is left
 abbrev pub row_end : Place → Trees → List ℕ
 row_end at cells = empty_cells (cell_name at.kind) (drop (count cells) (unwrap_or at.columns [])) ++ codes "</tr>\n"
 
@@ -85,12 +85,12 @@ abbrev pub paragraph_start : Kind → List ℕ → List ℕ
 paragraph_start Tight written = written
 paragraph_start _ written = fresh_line written ++ codes "<p>"
 
--- raw HTML; among blocks it has lines of its own
+-- raw HTML; among blocks, it is on lines of its own
 abbrev pub raw_text : Raw → Kind → List ℕ → List ℕ → List ℕ
 raw_text how Text value written = written ++ raw_html how value
 raw_text how _ value written = fresh_line (fresh_line written ++ raw_html how value)
 
--- whether a node is no raw HTML; whether there is none in some nodes, and in a tree
+-- whether a node is not raw HTML; whether there is none in some nodes, and none in a tree
 abbrev pub is_no_html : Label → Bool
 is_no_html (raw _) = false
 is_no_html _ = true
@@ -102,12 +102,12 @@ is_free (node label children _ rest) = is_no_html label && (is_free children && 
 abbrev pub is_free_tree : Tree → Bool
 is_free_tree tree = is_no_html tree.label && is_free tree.children
 
--- what a page may have, besides what each may: ids with the prefix, and any address where raw HTML passes
+-- the limits of the page: each id has the prefix, and any address is allowed if raw HTML passes
 abbrev pub allowed_of : Source → Allowed
 allowed_of it = record { id_prefix = it.id_prefix; any_url = passes it.raw }
 
 module _ (it : Source) where
-  -- a call of a footnote; where nothing defines it, its text
+  -- a footnote call, or its text if nothing defines the footnote
   abbrev pub call_page : List ℕ → Option (List ℕ) → Page → Page
   call_page identifier label page = elim (footnote_in it.tree identifier) [
     | None ↦ say page (codes "[^" ++ escaped (unwrap_or label identifier) ++ codes "]")
@@ -117,7 +117,7 @@ module _ (it : Source) where
     }
   ]
 
-  -- a link by reference; where nothing defines it, its text
+  -- the start and the end of a link by reference, or its text if nothing defines it
   abbrev pub link_reference_start : List ℕ → List ℕ
   link_reference_start identifier = elim (definition_in it.tree identifier) [
     | None ↦ codes "["
@@ -130,14 +130,14 @@ module _ (it : Source) where
     | Some _ ↦ codes "</a>"
   ]
 
-  -- an image by reference; where nothing defines it, its text
+  -- an image by reference, or its text if nothing defines it
   abbrev pub image_reference_text : (alt : List ℕ) → ReferenceKind → List ℕ → Option (List ℕ) → List ℕ
   image_reference_text alt kind identifier label = elim (definition_in it.tree identifier) [
     | None ↦ codes "![" ++ escaped alt ++ escaped (reference_end kind identifier label)
     | Some found ↦ image_tag it.raw alt (url_of found.label) (title_of found.label)
   ]
 
-  -- the start of a footnote, where it is written
+  -- the start of a footnote, in the place where it is written
   abbrev pub footnote_start : Kind → Page → Page
   footnote_start (Note number) page = say page (elim (slice_get page.calls number) [
     | None ↦ codes "<li>\n"
@@ -145,14 +145,14 @@ module _ (it : Source) where
   ])
   footnote_start _ page = page
 
-  -- the references from a footnote of a number, counted from 0, back to its calls
+  -- the back references from the footnote with this number, counted from 0, to its calls
   abbrev pub back_page : ℕ → Page → Page
   back_page number page = elim (slice_get page.calls number) [
     | None ↦ page
     | Some call ↦ say page (back_references it.id_prefix call.identifier (number + 1) call.count)
   ]
 
-  -- the end of a footnote, where it is written
+  -- the end of a footnote, in the place where it is written
   abbrev pub footnote_end : Kind → Trees → Page → Page
   footnote_end (Note number) children page =
       say (if ends_with_paragraph children then page else say (back_page number (on_new_line page)) (codes "\n")) (codes "</li>\n")
@@ -164,7 +164,7 @@ module _ (it : Source) where
   paragraph_end (Tail number) page = say (back_page number page) (codes "</p>\n")
   paragraph_end _ page = say page (codes "</p>\n")
 
-  -- what stands before the children of a node
+  -- a page with what comes before the children of a node
   abbrev pub opened : Kind → Label → Page → Page
   opened kind root page = page
   opened kind paragraph page = put page (paragraph_start kind page.text)
@@ -196,7 +196,7 @@ module _ (it : Source) where
   opened kind (footnote_definition _ _) page = footnote_start kind page
   opened kind (definition _ _ _ _) page = page
 
-  -- what stands after them
+  -- a page with what comes after the children of a node
   abbrev pub closed : Place → Label → Trees → Page → Page
   closed at paragraph children page = paragraph_end at.kind page
   closed at blockquote children page = block page (codes "</blockquote>\n")
@@ -213,7 +213,7 @@ module _ (it : Source) where
   closed at (footnote_definition _ _) children page = footnote_end at.kind children page
   closed at _ children page = page
 
-  -- the same, with what the place adds: a cell for each child of a row, and the parts of a table around its rows
+  -- these pages with what the place adds: a cell for each child of a row, and the parts of a table around its rows
   abbrev pub entered : Place → Label → Page → Page
   entered at label page = elim at.kind [
     | Hidden ↦ page
@@ -240,11 +240,12 @@ module _ (it : Source) where
       let here = followed at rest in
       nodes_page (after at) rest (left here label children (nodes_page (inside here label children) children (entered here label page)))
 
-  -- a node with all that is in it
+  -- a node with everything in it
   abbrev pub tree_page : Place → Tree → Page → Page
   tree_page at tree page = left at tree.label tree.children (nodes_page (inside at tree.label tree.children) tree.children (entered at tree.label page))
 
-  -- the footnotes that are called, from a number on, counted from 0, and at most so many. One that is called in another follows it
+  -- the footnotes that are called, from a number on, counted from 0, and at most `most` of them;
+  -- one that is first called in another footnote comes after it
   abbrev pub notes_page : (most number : ℕ) → Page → Page
   notes_page zero number page = page
   notes_page (suc most) number page = elim (slice_get page.calls number) [
@@ -255,7 +256,7 @@ module _ (it : Source) where
     ]
   ]
 
-  -- the section of the footnotes, where one is called
+  -- the section of the footnotes, if any is called
   abbrev pub section_page : Page → Page
   section_page page = elim page.calls [
     | [] ↦ page
@@ -267,18 +268,18 @@ module _ (it : Source) where
   abbrev pub html : List ℕ
   html = (section_page (tree_page (place Flow) it.tree blank)).text
 
--- the page of a tree without raw HTML, by what becomes of that and with what each id begins
+-- the page of a tree whose raw HTML does not pass, from how that is treated and the prefix of each id
 abbrev pub safe_html : RawHtml → (id_prefix : List ℕ) → Tree → List ℕ
 safe_html raw_html id_prefix tree = html (record { raw = raw_of raw_html; id_prefix = id_prefix; tree = tree })
 
--- the same, as mdast-util-to-hast has it
+-- such a page with the defaults of mdast-util-to-hast
 abbrev pub default_html : Tree → List ℕ
 default_html tree = safe_html raw_htmls.Omit (codes "user-content-") tree
 
--- what becomes of raw HTML that passes, with GFM's filter of tags and without
+-- how raw HTML that passes is treated, with GFM's filter of tags and without
 abbrev pub raw_passing : (tag_filter : Bool) → Raw
 raw_passing tag_filter = if tag_filter then raws.Filter else raws.Pass
 
--- the page of a tree with its raw HTML
+-- the page of a tree whose raw HTML passes
 abbrev pub unsafe_html : (tag_filter : Bool) → (id_prefix : List ℕ) → Tree → List ℕ
 unsafe_html tag_filter id_prefix tree = html (record { raw = raw_passing tag_filter; id_prefix = id_prefix; tree = tree })

@@ -1,4 +1,4 @@
--- Where a node stands, as far as its HTML depends on it.
+-- The place of a node in a page, which its HTML depends on.
 use Rattle.std.specs.Prelude.{Bool, false, ◌||◌, List, [], ◌∷◌, Option, Some, None, if◌then◌else◌, option_map}
 use denote.Ref.{Bor}
 use Rattle.markdown_events.specs.declared.infer.AlignKind.{AlignKind}
@@ -7,7 +7,7 @@ use Rattle.markdown_html.specs.declared.place.Kind.{Kind}
 use Rattle.markdown_html.specs.declared.place.Place.{Place as PlaceHere}
 use Rattle.markdown_html.specs.declared.place.Kind.TheVariants.{Text, Flow, Tight, Hidden, FirstRow, SecondRow, LaterRow, HeaderCell, Cell, Note, Tail}
 
--- a place, and how the columns from here on are aligned, where there are columns
+-- a place: its kind, and the alignments of the columns from here on, if there are columns
 pub record Place : Type 0 where
   pub kind : Kind
   pub columns : Option (List AlignKind)
@@ -22,45 +22,45 @@ seen columns = option_map (λ c. c.now) columns
 abbrev pub place_of : PlaceHere → Place
 place_of at = record { kind = at.kind; columns = seen at.columns }
 
--- whether a node is an item with paragraphs of its own
+-- whether a node is a spread list item
 abbrev pub is_spread : Label → Bool
 is_spread (list_item spread _) = spread
 is_spread _ = false
 
--- whether one of some nodes is
+-- whether any of these nodes is a spread list item
 abbrev pub any_spread : Trees → Bool
 any_spread nothing = false
 any_spread (node label _ _ rest) = is_spread label || any_spread rest
 
--- the columns of a table; one without alignments has as many as each row has cells
+-- the columns of a table; without alignments, it has as many as each row has cells
 abbrev pub columns_of : List AlignKind → Option (List AlignKind)
 columns_of [] = None
 columns_of (first ∷ rest) = Some (first ∷ rest)
 
--- the first row of a table
+-- the place of the first row of a table
 abbrev pub in_table : List AlignKind → Place
 in_table align = record { kind = FirstRow; columns = columns_of align }
 
--- the children of a cell: what stands beyond the columns is hidden
+-- the place of a cell's children: they are hidden beyond the last column
 abbrev pub in_cell : Option (List AlignKind) → Place
 in_cell (Some []) = place Hidden
 in_cell _ = place Text
 
--- the children of a footnote stand where it is written, and are hidden where it is defined
+-- the place of a footnote's children: where the footnote is written, or hidden where it is defined
 abbrev pub in_footnote : Kind → Place
 in_footnote (Note number) = place (Tail number)
 in_footnote _ = place Hidden
 
--- the children of an item stand as the item does
+-- the place of an item's children: tight if the item is tight
 abbrev pub in_item : Kind → Place
 in_item Tight = place Tight
 in_item _ = place Flow
 
--- the cells of a row
+-- the place of a row's cells
 abbrev pub in_row : Place → Place
 in_row at = record { kind = elim at.kind [ FirstRow ↦ HeaderCell | _ ↦ Cell ]; columns = at.columns }
 
--- the children of a node, where nothing around it says otherwise
+-- the place of a node's children, if nothing around the node decides it
 abbrev pub below : Place → Label → Trees → Place
 below at root children = place Flow
 below at blockquote children = place Flow
@@ -71,7 +71,7 @@ below at table_row children = in_row at
 below at (footnote_definition _ _) children = in_footnote at.kind
 below at _ children = place Text
 
--- the children of a node
+-- the place of a node's children
 abbrev pub inside : Place → Label → Trees → Place
 inside at label children = elim at.kind [
   | Hidden ↦ place Hidden
@@ -85,7 +85,7 @@ abbrev pub next_column : Option (List AlignKind) → Option (List AlignKind)
 next_column (Some (_ ∷ rest)) = Some rest
 next_column columns = columns
 
--- the next sibling
+-- the place of the next sibling
 abbrev pub after : Place → Place
 after at = elim at.kind [
   | FirstRow ↦ record at { kind = SecondRow }
@@ -95,7 +95,7 @@ after at = elim at.kind [
   | _ ↦ at
 ]
 
--- a node that does not end a footnote, and a node before others: only the last one ends it
+-- a place that does not end a footnote, and the place of a node before others: only the last node ends the footnote
 abbrev pub unended : Place → Place
 unended at = elim at.kind [ Tail _ ↦ place Flow | _ ↦ at ]
 

@@ -4,7 +4,7 @@ ghost use Rattle.std.specs.Prelude.{◌≡◌, ◌++◌, OnOk, option_map, strin
 ghost use Rattle.markdown_html.specs.Elements.{attribute, numeral, title_attribute};
 
 use html_text::escapes::push_escaped;
-use positions::decimal::push_decimal;
+use markdown_events::decimal::push_decimal;
 use std::alloc::AllocError;
 
 /// Appends an attribute.
@@ -19,7 +19,7 @@ pub(crate) fn push_attribute(out: &mut String, name: &str, value: &str) -> Resul
     out.push_str("\"")
 }
 
-/// Appends the attribute of a title, where there is one.
+/// Appends the attribute of a title, if there is one.
 #[tactic(auto, unfolding(crate::specs::Elements::title_attribute))]
 pub(crate) fn push_title(out: &mut String, title: Option<&str>) -> Result<(), AllocError>
     ensures { OnOk result (string_bytes out.new ≡ string_bytes out.old ++ title_attribute (option_map (λ text. text.now) title.entry)) }

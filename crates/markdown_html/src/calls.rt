@@ -13,7 +13,7 @@ use std::marker::Model;
 pub(crate) struct Call<'a> {
     /// Its identifier.
     pub identifier: &'a str,
-    /// How often it is called.
+    /// How many calls it has.
     pub count: usize,
 }
 
@@ -21,7 +21,7 @@ pub(crate) struct Call<'a> {
 #[derive(Drop)]
 pub(crate) struct Calls<'a> {
     list: Vec<Call<'a>>,
-    /// Which of the list each identifier has.
+    /// The index in the list for each identifier.
     indexes: BTreeMap<&'a str, usize>,
 }
 
@@ -38,7 +38,7 @@ impl<'a> Model for Calls<'a> {
 }
 
 impl<'a> Calls<'a> {
-    /// No calls.
+    /// Returns no calls.
     pub fn new(alloc: Global) -> Calls<'a>
         ensures { result ≡ [] }
     {
@@ -48,7 +48,8 @@ impl<'a> Calls<'a> {
         }
     }
 
-    /// Adds a call, and gives the number of the footnote, counted from 1, and how often it is called now.
+    /// Adds a call. Returns the number of the footnote, counted from 1, and how many calls it has
+    /// now.
     pub fn add(&mut self, identifier: &'a str) -> Result<(usize, usize), AllocError>
         ensures { IfOk result (λ call. (call.0 ≡ number_of identifier.now self.old) × (call.1 ≡ more (count_of identifier.now self.old)) × (self.new ≡ with_call identifier.now self.old)) }
     {
@@ -58,7 +59,7 @@ impl<'a> Calls<'a> {
         }
     }
 
-    /// Adds a call of the footnote that has an index.
+    /// Adds a call of the footnote with this index.
     fn again(&mut self, index: usize) -> (usize, usize)
         requires { index < length self.old }
         ensures number { result.0 ≡ index + 1 }
@@ -87,7 +88,7 @@ impl<'a> Calls<'a> {
         Ok((index + 1, 1))
     }
 
-    /// The footnote of a number, counted from 0.
+    /// Returns the footnote with this number, counted from 0.
     pub fn get(&self, number: usize) -> Option<Call<'a>>
         ensures call { option_map call_of result ≡ slice_get self.now number }
         ensures fits { IsSome result → number + 1 < 2 ^ 64 }

@@ -27,7 +27,7 @@ pub(crate) fn push_code_block(
     out.push_str("</code></pre>\n")
 }
 
-/// Appends the class of a block of code, where its language can be one.
+/// Appends the class of a block of code, if its language can be one.
 #[tactic(auto, unfolding(crate::specs::Elements::language_attribute))]
 fn push_language(out: &mut String, language: Option<&str>) -> Result<(), AllocError>
     ensures { OnOk result (string_bytes out.new ≡ string_bytes out.old ++ language_attribute (option_map (λ text. text.now) language.entry)) }
@@ -57,14 +57,14 @@ fn is_class(text: &[u8]) -> bool
     !text.is_empty() && !has_space(text)
 }
 
-/// Whether a byte that parts classes stands in a text.
+/// Whether a text contains a byte that separates classes.
 fn has_space(text: &[u8]) -> bool
     ensures { result ≡ list_any is_space text.now }
 {
     text.iter().any(|byte| is_space(*byte))
 }
 
-/// Whether a byte parts the classes of an element.
+/// Whether a byte separates the classes of an element.
 fn is_space(byte: u8) -> bool
     ensures { result ≡ is_space byte }
 {
@@ -117,7 +117,7 @@ pub(crate) fn push_code_text(out: &mut String, value: &str) -> Result<(), AllocE
     out.push_str("</code>")
 }
 
-/// Appends what becomes of raw HTML.
+/// Appends the output for raw HTML.
 #[tactic(auto, unfolding(crate::specs::Elements::raw_html))]
 pub(crate) fn push_raw(out: &mut String, raw: Raw, value: &str) -> Result<(), AllocError>
     ensures { OnOk result (string_bytes out.new ≡ string_bytes out.old ++ raw_html raw value.now) }

@@ -1,4 +1,4 @@
-//! Footnotes, their calls, and the references back to these.
+//! Footnotes, their calls, and the back references.
 
 ghost use Rattle.std.specs.Prelude.{◌≡◌, ◌++◌, IfOk, OnOk, codes, string_bytes};
 ghost use Rattle.html_text.specs.Urls.{encoded};
@@ -51,7 +51,7 @@ pub(crate) fn push_note_start(
     out.push_str(">\n")
 }
 
-/// Appends a call of the footnote with this number, which is its call of this count.
+/// Appends a call of the footnote with this number, which is its call number `count`.
 #[tactic(auto, unfolding(crate::specs::Elements::call_text))]
 pub(crate) fn push_call(
     alloc: Global,
@@ -104,7 +104,7 @@ fn push_call_links(
     push_attribute(out, "id", call.as_str())
 }
 
-/// Appends the references back to so many calls of the footnote with this number.
+/// Appends the back references to `count` calls of the footnote with this number.
 pub(crate) fn push_back_references(
     alloc: Global,
     out: &mut String,
@@ -122,7 +122,7 @@ pub(crate) fn push_back_references(
     Ok(())
 }
 
-/// Appends a reference back to a call.
+/// Appends a back reference to a call.
 #[tactic(auto, unfolding(crate::specs::Elements::back_reference))]
 fn push_back_reference(
     alloc: Global,
@@ -179,14 +179,14 @@ fn push_href(alloc: Global, out: &mut String, id: &str) -> Result<(), AllocError
     push_attribute(out, "href", url.as_str())
 }
 
-/// The id of a footnote.
+/// Returns the id of a footnote.
 fn note_id(alloc: Global, prefix: &str, identifier: &str) -> Result<String, AllocError>
     ensures { IfOk result (λ text. string_bytes text ≡ note_id prefix.now identifier.now) }
 {
     id(alloc, prefix, "fn-", identifier)
 }
 
-/// The id of a call.
+/// Returns the id of a call.
 fn call_id(
     alloc: Global,
     prefix: &str,
@@ -200,7 +200,7 @@ fn call_id(
     Ok(id)
 }
 
-/// A prefix, a text, and an identifier, which is encoded.
+/// Returns an id: a prefix, a text, and an identifier, which is encoded.
 fn id(alloc: Global, prefix: &str, kind: &str, identifier: &str) -> Result<String, AllocError>
     ensures { IfOk result (λ text. string_bytes text ≡ prefix.now ++ kind.now ++ encoded identifier.now) }
 {
@@ -210,7 +210,7 @@ fn id(alloc: Global, prefix: &str, kind: &str, identifier: &str) -> Result<Strin
     Ok(id)
 }
 
-/// The id of the heading of the footnotes.
+/// Returns the id of the heading of the footnotes.
 fn label_id(alloc: Global, prefix: &str) -> Result<String, AllocError>
     ensures { IfOk result (λ text. string_bytes text ≡ label_id prefix.now) }
 {
@@ -219,7 +219,7 @@ fn label_id(alloc: Global, prefix: &str) -> Result<String, AllocError>
     Ok(label)
 }
 
-/// What a reference back is called.
+/// Returns the label of a back reference.
 #[tactic(auto, unfolding(crate::specs::Elements::back_label))]
 fn back_label(alloc: Global, number: usize, count: usize) -> Result<String, AllocError>
     ensures { IfOk result (λ text. string_bytes text ≡ back_label number count) }
@@ -230,7 +230,7 @@ fn back_label(alloc: Global, number: usize, count: usize) -> Result<String, Allo
     Ok(text)
 }
 
-/// Appends which call it is, where it is not the first.
+/// Appends the number of the call, if it is not the first.
 #[tactic(auto, unfolding(crate::specs::Elements::repeat_text))]
 fn push_repeat(out: &mut String, count: usize) -> Result<(), AllocError>
     ensures { OnOk result (string_bytes out.new ≡ string_bytes out.old ++ repeat_text count) }
@@ -242,7 +242,7 @@ fn push_repeat(out: &mut String, count: usize) -> Result<(), AllocError>
     push_numeral(out, count)
 }
 
-/// The same, for people.
+/// Does the same, for people.
 #[tactic(auto, unfolding(crate::specs::Elements::repeat_mark))]
 fn push_repeat_mark(out: &mut String, count: usize) -> Result<(), AllocError>
     ensures { OnOk result (string_bytes out.new ≡ string_bytes out.old ++ repeat_mark count) }

@@ -1,4 +1,4 @@
-//! A tree as HTML, with no call for each level.
+//! Renders a tree as HTML, without recursion.
 
 ghost use Rattle.std.specs.Prelude.{IfOk, OnOk, ◌≡◌, codes, false, string_bytes, true};
 ghost use Rattle.markdown_html.specs.Pages.{page_of};
@@ -17,7 +17,7 @@ use crate::source::{Raw, Source};
 use markdown_nodes::mdast::Node;
 use std::alloc::{AllocError, Global};
 
-/// What becomes of HTML that stands in a document. It never passes.
+/// What happens to HTML in a document. It never passes.
 ///
 /// `RawHtml::Escape` shows `<b>` as `&lt;b&gt;`.
 #[derive(Clone, Copy, PartialEq, Eq, Debug)]
@@ -33,13 +33,14 @@ pub enum RawHtml {
 /// `HtmlOptions::default()` leaves raw HTML out, and each id begins with `user-content-`.
 #[derive(Clone, Copy, PartialEq, Eq, Debug)]
 pub struct HtmlOptions<'a> {
-    /// What becomes of HTML that stands in the document.
+    /// What happens to HTML in the document.
     pub raw_html: RawHtml,
-    /// How each `id` of the page begins. With a prefix no id is one that the page around it has.
+    /// The text that each `id` of the page begins with. A prefix keeps the ids apart from those of
+    /// the surrounding page.
     pub id_prefix: &'a str,
 }
 
-/// As mdast-util-to-hast does.
+/// The options of mdast-util-to-hast.
 impl<'a> Default for HtmlOptions<'a> {
     ghost is_default = { λ options. (options.raw_html ≡ Omit) × (options.id_prefix.now ≡ codes "user-content-") };
 
@@ -53,14 +54,14 @@ impl<'a> Default for HtmlOptions<'a> {
 
 /// How a page with the HTML of its document is written.
 ///
-/// `UnsafeHtmlOptions::default()` has no filter, as CommonMark has none, and each id begins with
+/// `UnsafeHtmlOptions::default()` has no filter, as in CommonMark, and each id begins with
 /// `user-content-`.
 #[derive(Clone, Copy, PartialEq, Eq, Debug)]
 pub struct UnsafeHtmlOptions<'a> {
-    /// Whether the `<` of the tags that GFM disallows stands as text (`html_text::filter`). What is left is
-    /// not safe: `<a onclick=..>` passes.
+    /// Whether the `<` of the tags that GFM disallows is written as text (`html_text::filter`). The
+    /// rest is not safe: `<a onclick=..>` passes.
     pub tag_filter: bool,
-    /// How each `id` of the page begins.
+    /// The text that each `id` of the page begins with.
     pub id_prefix: &'a str,
 }
 
@@ -75,11 +76,11 @@ impl<'a> Default for UnsafeHtmlOptions<'a> {
     }
 }
 
-/// How each `id` begins, where nothing else is said (mdast-util-to-hast).
+/// The default text that each `id` begins with (mdast-util-to-hast).
 pub const ID_PREFIX: &str = "user-content-";
 
-/// A parent, where it stands, and the nodes in it that are still to be written, with where the first of
-/// them stands.
+/// A parent and its place, and the nodes in it that are not yet written, with the place of the
+/// first of them.
 #[derive(Drop)]
 struct Frame<'a> {
     parent: &'a Node,
@@ -88,16 +89,18 @@ struct Frame<'a> {
     at: Place<'a>,
 }
 
-/// A tree as HTML that is safe in a page, whoever wrote the document.
+/// Returns a tree as HTML that is safe in a page, whoever wrote the document.
 ///
-/// The elements are those that mdast-util-to-hast makes, in the lines that the examples of CommonMark
-/// have. Links and images by reference are resolved by the first definition of their identifier, and the
-/// footnotes that are called stand in a section at the end. An address whose scheme is not allowed is left
-/// out (`html_text::urls`). `docs/HTML.md` says what `safe` promises, and what it asks of the page around.
+/// The elements are those of mdast-util-to-hast, on lines as in the examples of CommonMark. Links
+/// and images by reference are resolved by the first definition of their identifier, and the
+/// footnotes that are called are in a section at the end. An address whose scheme is not allowed is
+/// left out (`html_text::urls`). `docs/HTML.md` says what `safe` promises, and what it requires of
+/// the surrounding page.
 ///
-/// The only error is that memory ran out. Without recursion: a tree may be nested to any depth.
+/// The only error is that memory ran out. It does not recurse: a tree may be nested to any depth.
 ///
-/// The tree of `*a* <b>`, with `HtmlOptions::default()`, gives `<p><em>a</em> </p>` and a line feed.
+/// The tree of `*a* <b>`, with `HtmlOptions::default()`, returns `<p><em>a</em> </p>` and a line
+/// feed.
 pub fn to_html(alloc: Global, tree: &Node, options: &HtmlOptions<'_>) -> Result<String, AllocError>
     ensures exact { IfOk result (λ text. string_bytes text ≡ safe_html options.now.raw_html options.now.id_prefix.now (view tree.now)) }
     ensures safe { IfOk result (λ text. IsSafe (record { id_prefix = options.now.id_prefix.now; any_url = false }) (string_bytes text)) }
@@ -106,13 +109,15 @@ pub fn to_html(alloc: Global, tree: &Node, options: &HtmlOptions<'_>) -> Result<
     Ok(text)
 }
 
-/// A tree as HTML, with the HTML of the document as it is, and with addresses of any scheme.
+/// Returns a tree as HTML, with the HTML of the document unchanged, and with addresses of any
+/// scheme.
 ///
-/// Only for documents whose writers you trust as you trust yourself: what they write runs in the page. All
-/// else is as in [`to_html`]. Where the tree has no `Html`, the output has our markup alone.
+/// Use it only for documents whose writers you trust as you trust yourself: what they write runs in
+/// the page. Everything else is as in [`to_html`]. If the tree has no `Html`, the output has only
+/// our markup.
 ///
-/// The tree of `*a* <b>`, with `UnsafeHtmlOptions::default()`, gives `<p><em>a</em> <b></p>` and a line
-/// feed.
+/// The tree of `*a* <b>`, with `UnsafeHtmlOptions::default()`, returns `<p><em>a</em> <b></p>` and
+/// a line feed.
 pub fn to_unsafe_html(
     alloc: Global,
     tree: &Node,
@@ -125,7 +130,7 @@ pub fn to_unsafe_html(
     Ok(text)
 }
 
-/// What becomes of raw HTML, within the crate.
+/// Returns what happens to raw HTML, for use within the crate.
 fn raw(raw_html: RawHtml) -> Raw
     ensures { result ≡ raw_of raw_html }
 {
@@ -135,14 +140,14 @@ fn raw(raw_html: RawHtml) -> Raw
     }
 }
 
-/// What becomes of raw HTML that passes.
+/// Returns what happens to raw HTML that passes.
 fn passing(tag_filter: bool) -> Raw
     ensures { result ≡ raw_passing tag_filter }
 {
     if tag_filter { Raw::Filter } else { Raw::Pass }
 }
 
-/// A tree as HTML.
+/// Returns a tree as HTML.
 fn written(alloc: Global, tree: &Node, raw: Raw, id_prefix: &str) -> Result<String, AllocError>
     ensures { IfOk result (λ text. string_bytes text ≡ html (record { raw = raw; id_prefix = id_prefix.now; tree = view tree.now })) }
 {
@@ -157,7 +162,7 @@ fn written(alloc: Global, tree: &Node, raw: Raw, id_prefix: &str) -> Result<Stri
 }
 
 impl<'a> Source<'a> {
-    /// Appends the section of the footnotes, where one is called.
+    /// Appends the section of the footnotes, if one is called.
     fn push_section(&self, page: &mut Page<'a>) -> Result<(), AllocError>
         ensures { OnOk result (page_of page.new ≡ section_page (source_of self.now) (page_of page.old)) }
     {
@@ -187,7 +192,7 @@ impl<'a> Source<'a> {
         Ok(())
     }
 
-    /// Appends a node with all that is in it.
+    /// Appends a node with everything in it.
     fn push_tree(
         &self,
         page: &mut Page<'a>,

@@ -1,6 +1,7 @@
-//! Trees of markdown as HTML that is safe in a page, whoever wrote the document.
+//! Renders markdown trees as HTML that is safe in a page, whoever wrote the document.
 //!
-//! `specs/Html.antt` defines the page of a tree, and `IsSafe` of the crate `html_text` what is safe.
+//! `specs/Html.antt` defines the page of a tree, and `IsSafe` of the crate `html_text` defines
+//! safety.
 #![tactic(auto)]
 
 mod attributes;

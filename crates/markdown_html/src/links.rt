@@ -26,7 +26,7 @@ pub(crate) fn push_link_start(
     out.push_str(">")
 }
 
-/// The address of a link, encoded, and nothing where it may not stand.
+/// Returns the address of a link, encoded, or nothing if it is not allowed.
 #[tactic(auto, unfolding(crate::specs::Elements::link_url))]
 fn link_url(alloc: Global, raw: Raw, url: &str) -> Result<String, AllocError>
     ensures { IfOk result (λ text. string_bytes text ≡ link_url raw url.now) }
@@ -58,7 +58,7 @@ pub(crate) fn push_image(
     out.push_str(" />")
 }
 
-/// The address of an image, encoded, and nothing where it may not stand.
+/// Returns the address of an image, encoded, or nothing if it is not allowed.
 #[tactic(auto, unfolding(crate::specs::Elements::image_url))]
 fn image_url(alloc: Global, raw: Raw, url: &str) -> Result<String, AllocError>
     ensures { IfOk result (λ text. string_bytes text ≡ image_url raw url.now) }
@@ -78,7 +78,7 @@ fn passes(raw: Raw) -> bool
     matches!(raw, Raw::Filter | Raw::Pass)
 }
 
-/// The end of a reference that nothing defines, as it is written in a document.
+/// Returns the end of a reference that nothing defines, as it is written in a document.
 #[tactic(auto, unfolding(crate::specs::Elements::reference_end))]
 pub(crate) fn reference_end(
     alloc: Global,
@@ -95,7 +95,7 @@ pub(crate) fn reference_end(
     }
 }
 
-/// The end of a reference with a label of its own.
+/// Returns the end of a reference with a label of its own.
 fn full_end(alloc: Global, label: &str) -> Result<String, AllocError>
     ensures { IfOk result (λ text. string_bytes text ≡ codes "][" ++ label.now ++ codes "]") }
 {

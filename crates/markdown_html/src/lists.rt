@@ -24,7 +24,7 @@ pub(crate) fn push_list_start(
     }
 }
 
-/// Appends the number that a list starts with, where it is not 1.
+/// Appends the number that a list starts with, if it is not 1.
 #[tactic(auto, unfolding(crate::specs::Elements::start_attribute))]
 fn push_start(out: &mut String, start: Option<u32>) -> Result<(), AllocError>
     ensures { OnOk result (string_bytes out.new ≡ string_bytes out.old ++ start_attribute start) }
@@ -42,7 +42,7 @@ fn push_start(out: &mut String, start: Option<u32>) -> Result<(), AllocError>
     }
 }
 
-/// The end of a list.
+/// Returns the end of a list.
 #[tactic(auto, unfolding(crate::specs::Elements::list_end))]
 pub(crate) fn list_end(ordered: bool) -> &'static str
     ensures { result.now ≡ list_end ordered }
@@ -50,7 +50,7 @@ pub(crate) fn list_end(ordered: bool) -> &'static str
     if ordered { "</ol>\n" } else { "</ul>\n" }
 }
 
-/// The mark of a task.
+/// Returns the mark of a task.
 #[tactic(auto, unfolding(crate::specs::Elements::check_box))]
 pub(crate) fn check_box(checked: Option<bool>) -> &'static str
     ensures { result.now ≡ check_box checked }
@@ -62,7 +62,7 @@ pub(crate) fn check_box(checked: Option<bool>) -> &'static str
     }
 }
 
-/// The name of a heading.
+/// Returns the element name of a heading.
 #[tactic(auto, unfolding(crate::specs::Elements::heading_name))]
 pub(crate) fn heading_name(depth: u8) -> &'static str
     ensures { result.now ≡ heading_name depth }

@@ -1,4 +1,4 @@
-//! What stands before and after the children of each kind of node.
+//! The text before and after the children of each kind of node.
 
 ghost use Rattle.std.specs.Prelude.{◌≡◌, ◌++◌, [], OnOk, codes, drop, option_map, string_bytes, unwrap_or};
 ghost use Rattle.markdown_nodes.specs.Access.{label_of, nodes_in};
@@ -24,7 +24,7 @@ use markdown_nodes::mdast::{AlignKind, FootnoteReference, ImageReference, LinkRe
 use std::alloc::AllocError;
 
 impl<'a> Source<'a> {
-    /// Appends what stands before the children of a node.
+    /// Appends the text before the children of a node.
     pub fn enter(
         &self,
         page: &mut Page<'a>,
@@ -49,7 +49,7 @@ impl<'a> Source<'a> {
         }
     }
 
-    /// Appends what stands after them.
+    /// Appends the text after them.
     pub fn leave(
         &self,
         page: &mut Page<'a>,
@@ -132,7 +132,7 @@ impl<'a> Source<'a> {
         }
     }
 
-    /// Appends raw HTML. Among blocks it has lines of its own.
+    /// Appends raw HTML. Among blocks it is on lines of its own.
     fn push_html(&self, out: &mut String, kind: Kind, value: &str) -> Result<(), AllocError>
         ensures { OnOk result (string_bytes out.new ≡ raw_text self.now.raw kind value.now (string_bytes out.old)) }
     {
@@ -144,7 +144,7 @@ impl<'a> Source<'a> {
         push_fresh(out)
     }
 
-    /// Appends the start of a link by reference, or of its text where nothing defines it.
+    /// Appends the start of a link by reference, or of its text if nothing defines it.
     fn open_link_reference(
         &self,
         out: &mut String,
@@ -180,7 +180,7 @@ impl<'a> Source<'a> {
         }
     }
 
-    /// Appends an image by reference, or its text where nothing defines it.
+    /// Appends an image by reference, or its text if nothing defines it.
     fn push_image_reference(
         &self,
         out: &mut String,
@@ -211,7 +211,7 @@ impl<'a> Source<'a> {
         }
     }
 
-    /// Appends a call of a footnote, or its text where nothing defines it.
+    /// Appends a call of a footnote, or its text if nothing defines it.
     fn push_footnote_reference(
         &self,
         page: &mut Page<'a>,
@@ -235,7 +235,7 @@ impl<'a> Source<'a> {
         )
     }
 
-    /// Appends the start of a footnote, where it is written.
+    /// Appends the start of a footnote, if it is written.
     fn open_footnote(&self, page: &mut Page<'a>, kind: Kind) -> Result<(), AllocError>
         ensures { OnOk result (page_of page.new ≡ footnote_start (source_of self.now) kind (page_of page.old)) }
     {
@@ -253,7 +253,7 @@ impl<'a> Source<'a> {
         }
     }
 
-    /// Appends the references from a footnote back to its calls.
+    /// Appends the back references of a footnote to its calls.
     fn push_back(&self, page: &mut Page<'a>, number: usize) -> Result<(), AllocError>
         ensures { OnOk result (page_of page.new ≡ back_page (source_of self.now) number (page_of page.old)) }
     {
@@ -305,7 +305,7 @@ impl<'a> Source<'a> {
         page.text.push_str("</p>\n")
     }
 
-    /// Appends the end of a footnote, where it is written.
+    /// Appends the end of a footnote, if it is written.
     fn close_footnote(
         &self,
         page: &mut Page<'a>,
@@ -354,7 +354,7 @@ fn push_heading_end(out: &mut String, depth: u8) -> Result<(), AllocError>
     out.push_str(">\n")
 }
 
-/// The end of a table with these children.
+/// Returns the end of a table with these children.
 fn table_end(children: &[Node]) -> &'static str
     ensures { result.now ≡ table_end (views children.now) }
 {
@@ -365,7 +365,7 @@ fn table_end(children: &[Node]) -> &'static str
     }
 }
 
-/// Appends the end of a row with these cells, and a cell without a text in each column that they leave.
+/// Appends the end of a row with these cells, and an empty cell in each remaining column.
 fn push_row_end(out: &mut String, at: Place<'_>, cells: &[Node]) -> Result<(), AllocError>
     ensures { OnOk result (string_bytes out.new ≡ string_bytes out.old ++ row_end (place_of at.entry) (views cells.now)) }
 {
@@ -373,7 +373,7 @@ fn push_row_end(out: &mut String, at: Place<'_>, cells: &[Node]) -> Result<(), A
     out.push_str("</tr>\n")
 }
 
-/// The name of the cells of a row.
+/// Returns the name of the cells of a row.
 fn cell_name(kind: Kind) -> &'static str
     ensures { result.now ≡ cell_name kind }
 {
@@ -383,14 +383,14 @@ fn cell_name(kind: Kind) -> &'static str
     }
 }
 
-/// How many nodes these are.
+/// Returns the number of nodes.
 fn count(nodes: &[Node]) -> usize
     ensures { result ≡ count (views nodes.now) }
 {
     nodes.len()
 }
 
-/// The columns after so many.
+/// Returns the columns after the first `count`.
 fn left_over(columns: Option<&[AlignKind]>, count: usize) -> &[AlignKind]
     ensures { result.now ≡ drop count (unwrap_or (seen columns.entry) []) }
 {
@@ -406,7 +406,7 @@ fn push_undefined_call(out: &mut String, label: &str) -> Result<(), AllocError>
     out.push_str("]")
 }
 
-/// Whether the last of some nodes is a paragraph.
+/// Whether the last of the nodes is a paragraph.
 fn ends_with_paragraph(nodes: &[Node]) -> bool
     ensures { result ≡ ends_with_paragraph (views nodes.now) }
 {
@@ -423,7 +423,7 @@ fn is_paragraph(node: &Node) -> bool
     matches!(node, Node::Paragraph(_))
 }
 
-/// The address that a definition has.
+/// Returns the address of a definition.
 fn url(node: &Node) -> &str
     ensures { result.now ≡ url_of (view node.now).label }
 {
@@ -433,7 +433,7 @@ fn url(node: &Node) -> &str
     }
 }
 
-/// The title that a definition has.
+/// Returns the title of a definition.
 fn title(node: &Node) -> Option<&str>
     ensures { option_map (λ text. text.now) result ≡ title_of (view node.now).label }
 {

@@ -9,7 +9,7 @@ use std::alloc::AllocError;
 /// A page that is being written.
 #[derive(Drop)]
 pub(crate) struct Page<'a> {
-    /// What is written so far.
+    /// The text written so far.
     pub text: String,
     /// The footnotes that are called in it.
     pub calls: Calls<'a>,

@@ -1,4 +1,4 @@
-//! Where a node stands, as far as its HTML depends on it.
+//! The place of a node, as needed for its HTML.
 
 ghost use Rattle.std.specs.Prelude.{◌≡◌};
 ghost use Rattle.markdown_nodes.specs.Access.{label_of, nodes_in};
@@ -7,7 +7,7 @@ ghost use Rattle.markdown_html.specs.Places.{after, any_spread, below, followed,
 
 use markdown_nodes::mdast::{AlignKind, Node};
 
-/// What a node stands in.
+/// What a node is in.
 #[derive(Clone, Copy, PartialEq, Eq)]
 pub(crate) enum Kind {
     /// Text.
@@ -16,7 +16,7 @@ pub(crate) enum Kind {
     Flow,
     /// An item of a tight list, whose paragraphs have no element of their own.
     Tight,
-    /// What is not written.
+    /// Something that is not written.
     Hidden,
     /// A table, as its first child.
     FirstRow,
@@ -28,23 +28,23 @@ pub(crate) enum Kind {
     HeaderCell,
     /// Another row.
     Cell,
-    /// The section of the footnotes, as that of this number, counted from 0.
+    /// The section of the footnotes, as the footnote with this number, counted from 0.
     Note(usize),
-    /// The footnote of this number.
+    /// The footnote with this number, at its end.
     Tail(usize),
 }
 
-/// Where a node stands.
+/// The place of a node.
 #[derive(Clone, Copy)]
 pub(crate) struct Place<'a> {
-    /// What it stands in.
+    /// What it is in.
     pub kind: Kind,
-    /// How the columns from here on are aligned, where there are columns.
+    /// The alignment of the columns from here on, if there are columns.
     pub columns: Option<&'a [AlignKind]>,
 }
 
 impl<'a> Place<'a> {
-    /// A place without columns.
+    /// Returns a place without columns.
     pub fn new(kind: Kind) -> Place<'a>
         ensures { place_of result ≡ place kind }
     {
@@ -54,7 +54,7 @@ impl<'a> Place<'a> {
         }
     }
 
-    /// Where the children of a node stand, which stands here.
+    /// Returns the place of the children of a node that is here.
     pub fn inside(self, node: &'a Node) -> Place<'a>
         ensures { place_of result ≡ inside (place_of self.entry) (label_of node.now) (views (nodes_in node.now)) }
     {
@@ -65,7 +65,7 @@ impl<'a> Place<'a> {
         }
     }
 
-    /// Where the children of a cell stand.
+    /// Returns the place of the children of a cell.
     fn in_cell(self) -> Place<'a>
         ensures { place_of result ≡ in_cell (seen self.entry.columns) }
     {
@@ -75,7 +75,7 @@ impl<'a> Place<'a> {
         }
     }
 
-    /// Where the children of a node stand, where nothing around it says otherwise.
+    /// Returns the place of the children of a node, if nothing around it changes that.
     fn below(self, node: &'a Node) -> Place<'a>
         ensures { place_of result ≡ below (place_of self.entry) (label_of node.now) (views (nodes_in node.now)) }
     {
@@ -93,7 +93,7 @@ impl<'a> Place<'a> {
         }
     }
 
-    /// Where the children of an item stand.
+    /// Returns the place of the children of an item.
     fn in_item(self) -> Place<'a>
         ensures { place_of result ≡ in_item self.entry.kind }
     {
@@ -103,7 +103,7 @@ impl<'a> Place<'a> {
         }
     }
 
-    /// Where the cells of a row stand.
+    /// Returns the place of the cells of a row.
     fn in_row(self) -> Place<'a>
         ensures { place_of result ≡ in_row (place_of self.entry) }
     {
@@ -117,7 +117,7 @@ impl<'a> Place<'a> {
         }
     }
 
-    /// Where the children of a footnote stand.
+    /// Returns the place of the children of a footnote.
     fn in_footnote(self) -> Place<'a>
         ensures { place_of result ≡ in_footnote self.entry.kind }
     {
@@ -127,7 +127,7 @@ impl<'a> Place<'a> {
         }
     }
 
-    /// Where the next sibling of a node stands.
+    /// Returns the place of the next sibling of a node.
     pub fn after(self) -> Place<'a>
         ensures { place_of result ≡ after (place_of self.entry) }
     {
@@ -149,7 +149,7 @@ impl<'a> Place<'a> {
         }
     }
 
-    /// Where a node stands before these others: only the last one of a footnote ends it.
+    /// Returns the place of a node before these others: only the last node of a footnote ends it.
     pub fn followed(self, rest: &[Node]) -> Place<'a>
         ensures { place_of result ≡ followed (place_of self.entry) (views rest.now) }
     {
@@ -159,7 +159,7 @@ impl<'a> Place<'a> {
         }
     }
 
-    /// The same place, where the footnote does not end with the node.
+    /// Returns the same place for a node that does not end its footnote.
     fn unended(self) -> Place<'a>
         ensures { place_of result ≡ unended (place_of self.entry) }
     {
@@ -170,7 +170,7 @@ impl<'a> Place<'a> {
     }
 }
 
-/// The first row of a table with these alignments.
+/// Returns the place of the first row of a table with these alignments.
 fn in_table(align: &[AlignKind]) -> Place<'_>
     ensures { place_of result ≡ in_table align.now }
 {
@@ -181,7 +181,7 @@ fn in_table(align: &[AlignKind]) -> Place<'_>
     }
 }
 
-/// The columns after the first.
+/// Returns the columns after the first.
 fn next_column(columns: Option<&[AlignKind]>) -> Option<&[AlignKind]>
     ensures { seen result ≡ next_column (seen columns.entry) }
 {
@@ -191,7 +191,7 @@ fn next_column(columns: Option<&[AlignKind]>) -> Option<&[AlignKind]>
     }
 }
 
-/// Whether one of some nodes is an item with paragraphs of its own.
+/// Whether one of the nodes is an item with paragraphs of its own.
 fn has_spread(nodes: &[Node]) -> bool
     ensures { result ≡ any_spread (views nodes.now) }
 {

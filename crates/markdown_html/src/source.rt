@@ -1,4 +1,4 @@
-//! What a page is written from.
+//! The input of a page.
 
 ghost use Rattle.std.specs.Prelude.{◌≡◌, ℕ, List, IfOk, OnOk, option_map};
 ghost use Rattle.markdown_nodes.specs.Access.{label_of};
@@ -9,25 +9,25 @@ ghost use Rattle.markdown_html.specs.Html.{footnote_in};
 ghost use Rattle.markdown_html.specs.Gathered.{found, with_first};
 
 use markdown_nodes::mdast::Node;
-use mdast_check::walk::Walk;
+use markdown_nodes::walk::Walk;
 use std::alloc::{AllocError, Global};
 use std::collections::BTreeMap;
 use std::marker::Model;
 
-/// What becomes of HTML that stands in a document.
+/// What happens to HTML in a document.
 #[derive(Clone, Copy, PartialEq, Eq)]
 pub(crate) enum Raw {
     /// It is left out.
     Omit,
     /// It is shown as text.
     Escape,
-    /// It passes but for some tags, and so does each address.
+    /// It passes except for some tags, and so does each address.
     Filter,
     /// It passes, and so does each address.
     Pass,
 }
 
-/// What a page is written from: a tree, what becomes of raw HTML in it, and how each id begins.
+/// The input of a page: a tree, what happens to raw HTML in it, and how each id begins.
 #[derive(Drop)]
 pub(crate) struct Source<'a> {
     pub alloc: Global,
@@ -36,7 +36,7 @@ pub(crate) struct Source<'a> {
     pub tree: &'a Node,
     /// The definitions by identifier. The first one of an identifier counts.
     definitions: BTreeMap<&'a str, &'a Node>,
-    /// The footnotes, likewise.
+    /// The footnotes by identifier. The first one of an identifier counts.
     footnotes: BTreeMap<&'a str, &'a Node>,
 }
 
@@ -56,7 +56,7 @@ impl<'a> Model for Source<'a> {
 }
 
 impl<'a> Source<'a> {
-    /// What a page is written from. The tree is gone over once.
+    /// Returns the input of a page, in one pass over the tree.
     pub fn new(
         alloc: Global,
         raw: Raw,
@@ -82,14 +82,14 @@ impl<'a> Source<'a> {
         })
     }
 
-    /// The first definition with an identifier.
+    /// Returns the first definition with an identifier.
     pub fn definition(&self, identifier: &'a str) -> Option<&'a Node>
         ensures { option_map (λ node. view node.now) result ≡ definition_in (view self.now.root) identifier.now }
     {
         self.definitions.get(&identifier).copied()
     }
 
-    /// The first footnote with an identifier.
+    /// Returns the first footnote with an identifier.
     pub fn footnote(&self, identifier: &'a str) -> Option<&'a Node>
         ensures { option_map (λ node. view node.now) result ≡ footnote_in (view self.now.root) identifier.now }
     {
@@ -97,7 +97,7 @@ impl<'a> Source<'a> {
     }
 }
 
-/// Puts a node into a map, unless one is there already. Without an identifier nothing is put.
+/// Adds a node to a map, unless the map already has one. Without an identifier nothing is added.
 fn put_first<'a>(
     map: &mut BTreeMap<&'a str, &'a Node>,
     identifier: Option<&'a str>,
@@ -113,7 +113,7 @@ fn put_first<'a>(
     Ok(())
 }
 
-/// The identifier of a definition.
+/// Returns the identifier of a definition.
 fn definition_identifier(node: &Node) -> Option<&str>
     ensures { option_map (λ text. text.now) result ≡ definition_identifier_of (label_of node.now) }
 {
@@ -123,7 +123,7 @@ fn definition_identifier(node: &Node) -> Option<&str>
     }
 }
 
-/// The identifier of a footnote.
+/// Returns the identifier of a footnote.
 fn footnote_identifier(node: &Node) -> Option<&str>
     ensures { option_map (λ text. text.now) result ≡ footnote_identifier_of (label_of node.now) }
 {

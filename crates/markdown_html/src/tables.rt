@@ -7,7 +7,7 @@ ghost use Rattle.markdown_html.specs.Places.{seen};
 use markdown_nodes::mdast::AlignKind;
 use std::alloc::AllocError;
 
-/// Appends the start of a cell in the first of these columns, where there is one.
+/// Appends the start of a cell in the first of these columns, if there is one.
 #[tactic(auto, unfolding(crate::specs::Elements::cell_start))]
 pub(crate) fn push_cell_start(
     out: &mut String,
@@ -44,7 +44,7 @@ pub(crate) fn push_cell_end(
     out.push_str(">\n")
 }
 
-/// How a cell is aligned.
+/// Returns the attribute for the alignment of a cell.
 #[tactic(auto, unfolding(crate::specs::Elements::align_attribute))]
 fn align_attribute(align: AlignKind) -> &'static str
     ensures { result.now ≡ align_attribute align }
@@ -57,7 +57,7 @@ fn align_attribute(align: AlignKind) -> &'static str
     }
 }
 
-/// Appends a cell without a text in each of these columns.
+/// Appends an empty cell in each of these columns.
 pub(crate) fn push_empty_cells(
     out: &mut String,
     name: &str,
@@ -71,7 +71,7 @@ pub(crate) fn push_empty_cells(
     Ok(())
 }
 
-/// Appends a cell without a text.
+/// Appends an empty cell.
 #[tactic(auto, unfolding(crate::specs::Elements::empty_cell))]
 fn push_empty_cell(out: &mut String, name: &str, align: AlignKind) -> Result<(), AllocError>
     ensures { OnOk result (string_bytes out.new ≡ string_bytes out.old ++ empty_cell name.now align) }

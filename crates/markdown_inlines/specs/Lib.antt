@@ -1,3 +1,6 @@
+pub mod Definitions
+pub mod FootnoteCalls
+pub mod Autolinks
 pub mod Texts
 pub mod Labels
 pub mod CharacterReferences

@@ -6,10 +6,10 @@ use Rattle.markdown_grammar.specs.Document.{Given, value_between}
 use Rattle.markdown_grammar.specs.LineEndings.{ending_between}
 use Rattle.markdown_steps.specs.TextNodes.{one_text}
 
--- what stands between two points of a document, as a text
+-- the value between two points of a document, as a text
 abbrev pub data_text : Given → Point → Point → Trees
 data_text given start end = one_text (value_between given start end) (between start end)
 
--- a line ending that stands there, as a text
+-- the line ending between two points of a document, as a text
 abbrev pub ending_text : Given → Point → Point → Trees
 ending_text given start end = one_text (ending_between given start end) (between start end)

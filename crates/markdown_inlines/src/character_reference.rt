@@ -1,8 +1,8 @@
 //! Character references (CommonMark, entity and numeric character references).
 //!
-//! The original's `on_exit_character_reference_marker`,
-//! `on_exit_character_reference_marker_numeric`,
-//! `on_exit_character_reference_marker_hexadecimal` and `on_exit_character_reference_value`.
+//! In markdown-rs: `on_exit_character_reference_marker`,
+//! `on_exit_character_reference_marker_numeric`, `on_exit_character_reference_marker_hexadecimal`
+//! and `on_exit_character_reference_value`.
 
 ghost use Rattle.std.specs.Prelude.{◌≡◌, None, Some, is_some, string_bytes};
 ghost use Rattle.markdown_events.specs.declared.role.ItemKind.TheVariants as item_kinds;
@@ -11,18 +11,18 @@ ghost use Rattle.markdown_grammar.specs.Document.{source_of};
 ghost use Rattle.markdown_grammar.specs.Grammar as models;
 ghost use Rattle.markdown_grammar.specs.declared.error_kind.ErrorKind.TheVariants.{IncompleteReference};
 ghost use Rattle.markdown_steps.specs.Summaries.{text_of as text_in};
-ghost use Rattle.markdown_builder.specs.PartsSoFar.{GainsSign, IsFresh, Makes, misfit_in};
+ghost use Rattle.markdown_parts.specs.PartsSoFar.{GainsSign, IsFresh, Makes, misfit_in};
 ghost use Rattle.markdown_inlines.specs.CharacterReferences.{ReadsValue, byte_of, character_reference, marked, part_of_marker, value_kept};
 
 use character_references::references::References;
-use markdown_builder::misfits::only;
-use markdown_builder::slice::{Document, text_of};
 use markdown_grammar::error_kind::{ErrorKind, Stop};
 use markdown_nodes::event::Point;
 use markdown_nodes::role::{ItemKind, Part};
+use markdown_parts::misfits::only;
+use markdown_parts::slice::{Document, text_of};
 use std::alloc::Global;
 
-/// What stands before the value of a character reference, and says how the value is read.
+/// The marker before the value of a character reference, which says how the value is read.
 #[derive(Clone, Copy)]
 pub enum Marker {
     /// The `&` of `&amp;`.
@@ -33,13 +33,13 @@ pub enum Marker {
     Hexadecimal,
 }
 
-/// The markers that have stood in a character reference: the last, and whether each has stood
-/// before it.
+/// The markers of a character reference so far: the last one, and whether each has occurred before
+/// it.
 ///
-/// The last alone says how the value is read. Which have stood before it decides nothing here: they
-/// are kept since the contracts say of each part whether it has stood, and the last marker does not
-/// say it of the others. Of `&#x26;` it is `x`, and `&` and `#` have stood before it; a list of
-/// events may have an `x` alone.
+/// Only the last one says how the value is read. The others affect nothing here. They are kept
+/// because the contracts say for each part whether it has occurred, and the last marker does not
+/// tell that of the others. For `&#x26;` it is `x`, and `&` and `#` have occurred before it; a list
+/// of events may have an `x` alone.
 #[derive(Clone, Copy)]
 pub struct Markers {
     pub last: Marker,
@@ -48,7 +48,7 @@ pub struct Markers {
     pub hexadecimal: bool,
 }
 
-/// What has stood in a character reference: its markers, and the text that its value stands for.
+/// The parts of a character reference so far: its markers, and the text that its value stands for.
 ///
 /// In `&amp;` these are the marker `&` and, with a decoder that knows HTML's references, the text
 /// `&`.
@@ -59,7 +59,7 @@ pub struct CharacterReferenceParts {
 }
 
 impl CharacterReferenceParts {
-    /// A character reference at its enter, as before the `&` of `&amp;`.
+    /// Returns a character reference at its enter, before the `&` of `&amp;`.
     pub fn new() -> CharacterReferenceParts
         ensures { IsFresh (character_reference result) models.character_reference }
     {
@@ -69,9 +69,9 @@ impl CharacterReferenceParts {
         }
     }
 
-    /// The rule that is violated if this item may not stand here: a character reference takes
+    /// Returns the rule that this item would violate here, if any. A character reference accepts
     /// markers, and after them one value. A value is `ErrorKind::IncompleteReference` before any
-    /// marker, and `ErrorKind::Repeated` after another; all else is `ErrorKind::Misplaced`.
+    /// marker, and `ErrorKind::Repeated` after another; any other item is `ErrorKind::Misplaced`.
     pub fn misfit(&self, what: ItemKind) -> Option<ErrorKind>
         ensures { result ≡ misfit_in (character_reference self.now) what }
     {
@@ -89,7 +89,7 @@ impl CharacterReferenceParts {
         }
     }
 
-    /// Takes a marker, which is then the last: of `&#x26;` first `&`, then `#`, then `x`.
+    /// Stores a marker, which is then the last: for `&#x26;` first `&`, then `#`, then `x`.
     pub fn take_marker(&mut self, marker: Marker)
         ensures { GainsSign (part_of_marker marker) (character_reference self.old) (character_reference self.new) }
     {
@@ -104,9 +104,9 @@ impl CharacterReferenceParts {
         });
     }
 
-    /// Takes the value between two points, as `amp` in `&amp;`: it stands for the text that the
-    /// decoder has for it after the last marker. One that is no text of the document is refused as
-    /// `ErrorKind::InvalidSlice`, and one that the decoder does not know as
+    /// Stores the value between two points, such as `amp` in `&amp;`: the text that the decoder has
+    /// for it after the last marker. If it is not a text of the document, it is refused as
+    /// `ErrorKind::InvalidSlice`. If the decoder does not know it, it is refused as
     /// `ErrorKind::UnknownReference`.
     pub fn take_value<R: References>(
         &mut self,
@@ -119,7 +119,7 @@ impl CharacterReferenceParts {
         requires { misfit_in (character_reference self.old) (item_kinds.Part parts.CharacterReferenceValue) ≡ None }
         ensures { ReadsValue (source_of document.now (R.text references.now)) start end self.old self.new result }
     {
-        // `misfit` has refused a value without a marker before it.
+        // `misfit` has already refused a value without a marker before it.
         let Some(markers) = self.markers else {
             return Err(Stop::Refused(ErrorKind::IncompleteReference));
         };
@@ -131,8 +131,8 @@ impl CharacterReferenceParts {
         Ok(())
     }
 
-    /// The text that a character reference stands for at its exit. One without a value is refused
-    /// as `ErrorKind::IncompleteReference`.
+    /// Returns the text that a character reference stands for at its exit. One without a value is
+    /// refused as `ErrorKind::IncompleteReference`.
     ///
     /// For `&amp;` it is `&`, with a decoder that knows HTML's references.
     pub fn text(self) -> Result<String, Stop>
@@ -144,7 +144,7 @@ impl CharacterReferenceParts {
 }
 
 impl Markers {
-    /// The markers with one more, which is the last.
+    /// Returns the markers with one more, which is the last.
     fn followed_by(self, marker: Marker) -> Markers
         ensures { result ≡ marked (Some self) marker }
     {
@@ -158,7 +158,7 @@ impl Markers {
 }
 
 impl Marker {
-    /// The character that it is, or with which it ends.
+    /// Returns the character that it is, or that it ends with.
     fn byte(self) -> u8
         ensures { result ≡ byte_of self }
     {

@@ -1,37 +1,37 @@
 //! Images (CommonMark): the nodes Image and ImageReference of mdast.
 //!
-//! The original's `on_exit_media`, for an image.
+//! In markdown-rs: `on_exit_media`, for an image.
 
 ghost use Rattle.std.specs.Prelude.{◌≡◌, ◌≤◌, ◌+◌, IfOk, string_bytes};
 ghost use Rattle.markdown_nodes.specs.Tree.{nothing};
 ghost use Rattle.markdown_nodes.specs.View.{view};
 ghost use Rattle.markdown_grammar.specs.Buffers.{node_count};
-ghost use Rattle.markdown_builder.specs.PartsSoFar.{IsNode, placed};
+ghost use Rattle.markdown_parts.specs.PartsSoFar.{IsNode, placed};
 ghost use Rattle.markdown_inlines.specs.Media.{image_by_label, image_by_name, image_by_resource, image_of, media};
 
 use crate::label::{Label, identified_by, label_text};
 use crate::media::{MediaParts, ReferenceParts, ResourceParts, Target};
-use markdown_builder::label::Identified;
+use markdown_nodes::count::Count;
 use markdown_nodes::mdast::{Image, ImageReference, Node, ReferenceKind};
-use markdown_nodes::steps::Steps;
 use markdown_nodes::unist::Position;
+use markdown_parts::label::Identified;
 use std::alloc::{AllocError, Global};
 
 impl MediaParts<'_> {
-    /// The node of an image. With a resource it has the address of that, and without one it refers to
-    /// what its reference names, or else its label. The text of its label is its alternative text.
+    /// Returns the node of an image. With a resource it has the address of that. Without one it
+    /// refers to the name in its reference, or else in its label. The text of its label is its
+    /// alternative text.
     ///
     /// For `![a](b)` it is an Image at `b` with the alternative text `a`, and for `![a]` an
-    /// ImageReference to `a` with that text. The label is read by one step for each node in it.
+    /// ImageReference to `a` with that text. Reading the label takes one step for each node in it.
     pub fn image(
         self,
         alloc: Global,
-        steps: &mut Steps<'_>,
+        steps: &mut Count,
         position: Position,
     ) -> Result<Node, AllocError>
         ensures node { IfOk result (IsNode (image_of self.entry) nothing position) }
-        ensures list { steps.new.events ≡ steps.old.events }
-        ensures bound { steps.new.count ≤ steps.old.count + node_count (media self.entry).label }
+        ensures bound { steps.new.number ≤ steps.old.number + node_count (media self.entry).label }
     {
         let MediaParts { label, target } = self;
         let alt = label_text(alloc, steps, &label)?;
@@ -46,7 +46,8 @@ impl MediaParts<'_> {
     }
 }
 
-/// An image by reference to what its label names. The text of the label is the alternative text.
+/// Returns an image by reference to the name in its label. The text of the label is the alternative
+/// text.
 fn image_by_label(
     alloc: Global,
     alt: String,
@@ -60,7 +61,7 @@ fn image_by_label(
     Ok(image_reference(alt, position, reference_kind, named))
 }
 
-/// An image at an address.
+/// Returns an image at an address.
 #[tactic(auto, unfolding(markdown_nodes::specs::View::view))]
 fn image_at(alloc: Global, alt: String, position: Position, resource: ResourceParts) -> Node
     ensures { view result ≡ placed (image_by_resource (string_bytes alt) resource) nothing position }
@@ -74,7 +75,7 @@ fn image_at(alloc: Global, alt: String, position: Position, resource: ResourcePa
     })
 }
 
-/// An image by reference to what is named so.
+/// Returns an image by reference to this name.
 #[tactic(auto, unfolding(markdown_nodes::specs::View::view))]
 fn image_reference(
     alt: String,

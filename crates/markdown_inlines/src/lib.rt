@@ -1,12 +1,16 @@
-//! The constructs of a line of text (CommonMark, "Inlines"; GFM): of each, what may stand in it,
-//! what is kept of that, and the node that it gives at its exit.
+//! Inline constructs (CommonMark, "Inlines"; GFM), and the definitions that they refer to. For each
+//! construct: what it accepts, what it keeps of that, and the node at its exit.
 //!
-//! Emphasis, strong emphasis and strikethrough keep nothing but their nodes, and inline code, math and
-//! autolinks nothing but a text: they are not here. Nor are footnote calls, which stand with the
-//! definitions of footnotes.
+//! Emphasis, strong emphasis and strikethrough are not here, since they keep only their nodes
+//! (`parent` of `markdown_blocks`). Inline code and inline math are with the blocks that they share
+//! their values with (`code` and `math` there).
 #![tactic(auto)]
 
+pub mod autolink;
 pub mod character_reference;
+pub mod definition;
+pub mod footnote_call;
+pub mod footnote_definition;
 mod image;
 pub mod label;
 mod link;

@@ -1,7 +1,7 @@
-//! What links and images have in common (CommonMark): a label, and after it a resource or a
-//! reference.
+//! The parts that links and images have in common (CommonMark): a label, and after it a resource or
+//! a reference.
 //!
-//! The original's `on_enter_link`, `on_enter_image`, `on_enter_resource`,
+//! In markdown-rs: `on_enter_link`, `on_enter_image`, `on_enter_resource`,
 //! `on_exit_resource_destination_string`, `on_exit_resource_title_string`, `on_enter_reference` and
 //! `on_exit_reference_string`.
 
@@ -11,24 +11,24 @@ ghost use Rattle.markdown_events.specs.declared.role.Part.TheVariants as parts;
 ghost use Rattle.markdown_nodes.specs.View.{views};
 ghost use Rattle.markdown_grammar.specs.Buffers.{node_count};
 ghost use Rattle.markdown_grammar.specs.Grammar as models;
-ghost use Rattle.markdown_builder.specs.PartsSoFar.{GainsItem, GainsWords, IsFresh, ReadsText, misfit_in};
+ghost use Rattle.markdown_parts.specs.PartsSoFar.{GainsItem, GainsWords, IsFresh, ReadsText, misfit_in};
 ghost use Rattle.markdown_inlines.specs.Labels.{ReadsLabel};
 ghost use Rattle.markdown_inlines.specs.Media;
 ghost use Rattle.markdown_inlines.specs.Media.{media, reference, resource};
 
 use crate::label::Label;
-use markdown_builder::label::{Identified, identify};
-use markdown_builder::misfits::at_most_one;
-use markdown_builder::slice::Document;
-use markdown_builder::value::visible_of;
 use markdown_grammar::error_kind::{ErrorKind, Stop};
+use markdown_nodes::count::Count;
 use markdown_nodes::event::Point;
 use markdown_nodes::mdast::Node;
 use markdown_nodes::role::{Content, ItemKind, Part};
-use markdown_nodes::steps::Steps;
+use markdown_parts::label::{Identified, identify};
+use markdown_parts::misfits::at_most_one;
+use markdown_parts::slice::Document;
+use markdown_parts::value::visible_of;
 use std::alloc::Global;
 
-/// What has stood in a resource.
+/// The parts of a resource so far.
 ///
 /// In `[a](b "c")` the destination is `b` and the title `c`.
 #[derive(Drop)]
@@ -37,7 +37,7 @@ pub struct ResourceParts {
     pub title: Option<String>,
 }
 
-/// What has stood in a reference.
+/// The parts of a reference so far.
 ///
 /// In `[a][b]` the string is `b`, and in `[a][]` there is none.
 #[derive(Drop)]
@@ -48,15 +48,15 @@ pub struct ReferenceParts {
 /// Where a link or an image leads.
 #[derive(Drop)]
 pub enum Target {
-    /// To what its label names, as in `[a]`.
+    /// To the name in its label, as in `[a]`.
     Label,
     /// To an address, as in `[a](b)`.
     Resource(ResourceParts),
-    /// To what the string of its reference names, as in `[a][b]`, or its label, as in `[a][]`.
+    /// To the name in the string of its reference, as in `[a][b]`, or in its label, as in `[a][]`.
     Reference(ReferenceParts),
 }
 
-/// What has stood in a link or an image: its label, and where it leads.
+/// The parts of a link or an image so far: its label, and where it leads.
 #[derive(Drop)]
 pub struct MediaParts<'a> {
     pub label: Option<Label<'a>>,
@@ -64,7 +64,7 @@ pub struct MediaParts<'a> {
 }
 
 impl ResourceParts {
-    /// A resource at its enter, as at the `(` of `[a](b "c")`.
+    /// Returns a resource at its enter, at the `(` of `[a](b "c")`.
     pub fn new() -> ResourceParts
         ensures { IsFresh (resource result) models.resource }
     {
@@ -74,9 +74,9 @@ impl ResourceParts {
         }
     }
 
-    /// The rule that is violated if this item may not stand here: a resource takes one destination,
-    /// one title, and line endings. A part that has stood is `ErrorKind::Repeated`, any other item
-    /// `ErrorKind::Misplaced`.
+    /// Returns the rule that this item would violate here, if any. A resource accepts one
+    /// destination, one title, and line endings. A repeated part is `ErrorKind::Repeated`, any
+    /// other item `ErrorKind::Misplaced`.
     pub fn misfit(&self, what: ItemKind) -> Option<ErrorKind>
         ensures { result ≡ misfit_in (resource self.now) what }
     {
@@ -90,7 +90,7 @@ impl ResourceParts {
         }
     }
 
-    /// Takes the destination: `b` in `[a](b "c")`.
+    /// Stores the destination: `b` in `[a](b "c")`.
     pub fn take_destination(&mut self, destination: String)
         requires { misfit_in (resource self.old) (item_kinds.Part parts.ResourceDestinationString) ≡ None }
         ensures { GainsWords parts.ResourceDestinationString (string_bytes destination) (resource self.old) (resource self.new) }
@@ -98,7 +98,7 @@ impl ResourceParts {
         self.destination = Some(destination);
     }
 
-    /// Takes the title: `c` in `[a](b "c")`.
+    /// Stores the title: `c` in `[a](b "c")`.
     pub fn take_title(&mut self, title: String)
         requires { misfit_in (resource self.old) (item_kinds.Part parts.ResourceTitleString) ≡ None }
         ensures { GainsWords parts.ResourceTitleString (string_bytes title) (resource self.old) (resource self.new) }
@@ -108,15 +108,15 @@ impl ResourceParts {
 }
 
 impl ReferenceParts {
-    /// A reference at its enter, as at the second `[` of `[a][b]`.
+    /// Returns a reference at its enter, at the second `[` of `[a][b]`.
     pub fn new() -> ReferenceParts
         ensures { IsFresh (reference result) models.reference }
     {
         ReferenceParts { string: None }
     }
 
-    /// The rule that is violated if this item may not stand here: a reference takes one string, and
-    /// line endings. A second string is `ErrorKind::Repeated`, any other item
+    /// Returns the rule that this item would violate here, if any. A reference accepts one string,
+    /// and line endings. A second string is `ErrorKind::Repeated`, any other item
     /// `ErrorKind::Misplaced`.
     pub fn misfit(&self, what: ItemKind) -> Option<ErrorKind>
         ensures { result ≡ misfit_in (reference self.now) what }
@@ -128,12 +128,13 @@ impl ReferenceParts {
         }
     }
 
-    /// Takes the string between two points, with the nodes made in it, by one step for each: `b` in
-    /// `[a][b]`. One that is no text of the document is refused as `ErrorKind::InvalidSlice`.
+    /// Stores the string between two points, with the nodes made in it, in one step for each: `b`
+    /// in `[a][b]`. If it is not a text of the document, it is refused as
+    /// `ErrorKind::InvalidSlice`.
     pub fn take_string(
         &mut self,
         alloc: Global,
-        steps: &mut Steps<'_>,
+        steps: &mut Count,
         document: &Document<'_>,
         nodes: Vec<Node>,
         start: Point,
@@ -142,8 +143,7 @@ impl ReferenceParts {
         requires { misfit_in (reference self.old) (item_kinds.Part parts.ReferenceString) ≡ None }
         ensures taken { ReadsText document.now parts.ReferenceString (views nodes.items) start end
             (reference self.old) (reference self.new) result }
-        ensures list { steps.new.events ≡ steps.old.events }
-        ensures bound { steps.new.count ≤ steps.old.count + node_count (views nodes.items) }
+        ensures bound { steps.new.number ≤ steps.old.number + node_count (views nodes.items) }
     {
         let visible = visible_of(alloc, document, start, end)?;
         self.string = Some(identify(alloc, steps, visible.as_str(), nodes)?);
@@ -152,7 +152,7 @@ impl ReferenceParts {
 }
 
 impl<'a> MediaParts<'a> {
-    /// A link or an image at its enter, as at the first `[` of `[a](b)`.
+    /// Returns a link or an image at its enter, at the first `[` of `[a](b)`.
     pub fn new() -> MediaParts<'a>
         ensures { IsFresh (media result) models.media }
     {
@@ -162,8 +162,8 @@ impl<'a> MediaParts<'a> {
         }
     }
 
-    /// The rule that is violated if this item may not stand here: a link or an image takes one
-    /// label, then one resource or one reference, and line endings. A part that has stood is
+    /// Returns the rule that this item would violate here, if any. A link or an image accepts one
+    /// label, then one resource or one reference, and line endings. A repeated part is
     /// `ErrorKind::Repeated`, any other item `ErrorKind::Misplaced`.
     pub fn misfit(&self, what: ItemKind) -> Option<ErrorKind>
         ensures { result ≡ misfit_in (media self.now) what }
@@ -181,8 +181,8 @@ impl<'a> MediaParts<'a> {
         }
     }
 
-    /// Takes the label between two points, with the nodes made in it: `a` in `[a](b)`. One that is
-    /// no text of the document is refused as `ErrorKind::InvalidSlice`.
+    /// Stores the label between two points, with the nodes made in it: `a` in `[a](b)`. If it is
+    /// not a text of the document, it is refused as `ErrorKind::InvalidSlice`.
     pub fn take_label(
         &mut self,
         alloc: Global,
@@ -198,7 +198,7 @@ impl<'a> MediaParts<'a> {
         Ok(())
     }
 
-    /// Takes the resource that has ended in it: `(b)` in `[a](b)`.
+    /// Stores the resource that has ended in it: `(b)` in `[a](b)`.
     pub fn take_resource(&mut self, resource: ResourceParts)
         requires { misfit_in (media self.old) (item_kinds.Part parts.Resource) ≡ None }
         ensures { GainsItem (item_kinds.Part parts.Resource) (Media.resource resource) (media self.old) (media self.new) }
@@ -206,7 +206,7 @@ impl<'a> MediaParts<'a> {
         self.target = Target::Resource(resource);
     }
 
-    /// Takes the reference that has ended in it: `[b]` in `[a][b]`.
+    /// Stores the reference that has ended in it: `[b]` in `[a][b]`.
     pub fn take_reference(&mut self, reference: ReferenceParts)
         requires { misfit_in (media self.old) (item_kinds.Part parts.Reference) ≡ None }
         ensures { GainsItem (item_kinds.Part parts.Reference) (Media.reference reference) (media self.old) (media self.new) }

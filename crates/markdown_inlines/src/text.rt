@@ -1,7 +1,7 @@
 //! Text, and hard breaks in it (CommonMark, textual content and hard line breaks).
 //!
-//! The original's `on_enter_data`, `on_exit_data`, `on_enter_hard_break`, `on_exit_hard_break`, and
-//! what `on_exit_line_ending` does after a break.
+//! In markdown-rs: `on_enter_data`, `on_exit_data`, `on_enter_hard_break`, `on_exit_hard_break`,
+//! and what `on_exit_line_ending` does after a break.
 
 ghost use Rattle.std.specs.Prelude.{◌≡◌, is_some};
 ghost use Rattle.markdown_events.specs.Slices.{slice, to_unist};
@@ -9,24 +9,24 @@ ghost use Rattle.markdown_nodes.specs.Tree as tree;
 ghost use Rattle.markdown_nodes.specs.Tree.{join, nothing};
 ghost use Rattle.markdown_nodes.specs.View.{view, views};
 ghost use Rattle.markdown_grammar.specs.declared.error_kind.ErrorKind.TheVariants.{InvalidSlice};
-ghost use Rattle.markdown_builder.specs.PartsSoFar.{Makes, placed};
+ghost use Rattle.markdown_parts.specs.PartsSoFar.{Makes, placed};
 ghost use Rattle.markdown_inlines.specs.Texts.{data_text, ending_text};
 
-use markdown_builder::line_ending::line_ending_of;
-use markdown_builder::slice::{Document, position_of};
-use markdown_builder::value::{value_as_it_stands, value_of};
 use markdown_grammar::error_kind::Stop;
-use markdown_joining::put_text;
 use markdown_nodes::event::Point;
 use markdown_nodes::mdast::{Break, Node};
 use markdown_nodes::unist::Position;
+use markdown_parts::joining::put_text;
+use markdown_parts::line_ending::line_ending_of;
+use markdown_parts::slice::{Document, position_of};
+use markdown_parts::value::{value_as_it_stands, value_of};
 use std::alloc::Global;
 
-/// Adds the text of a span to the nodes: it goes on with a text that is the last of them, since the
-/// data, references and line endings of one run of characters are one text in mdast.
+/// Appends the text of a span to the nodes. If the last node is a text, the two are joined, since
+/// the data, references and line endings of one run of characters are one text in mdast.
 ///
-/// Of the document `ab`, the span from byte 0 to byte 1 adds the text `a`, and the next one makes
-/// `ab` of it. A span that is no text of the document is refused as `ErrorKind::InvalidSlice`.
+/// In the document `ab`, the span from byte 0 to byte 1 adds the text `a`, and the next one makes
+/// it `ab`. A span that is not a text of the document is refused as `ErrorKind::InvalidSlice`.
 pub fn put_slice(
     alloc: Global,
     nodes: &mut Vec<Node>,
@@ -47,10 +47,10 @@ pub fn put_slice(
     Ok(())
 }
 
-/// Adds the text of a line ending to the nodes, as [`put_slice`] adds that of other spans.
+/// Appends the text of a line ending to the nodes, as [`put_slice`] does for other spans.
 ///
-/// Where values are whole, the CR of `>~~~␍>⏎` is added as an LF: the empty line after it ends in an LF,
-/// and the two would be read as one line ending.
+/// If values are whole, the CR of `>~~~␍>⏎` is added as an LF: the empty line after it ends in an
+/// LF, and the two would be read as one line ending.
 pub fn put_line_ending(
     alloc: Global,
     nodes: &mut Vec<Node>,
@@ -76,10 +76,10 @@ pub fn put_line_ending(
     Ok(())
 }
 
-/// The node of a hard break that has waited for the line ending after it. In mdast a break reaches
-/// over that line ending, so it ends where the line ending does.
+/// Returns the node of a hard break, completed by the line ending after it. In mdast a break
+/// includes that line ending, so it ends where the line ending does.
 ///
-/// For the two spaces and the line ending in `a  \nb` it reaches from offset 1 to offset 4.
+/// For the two spaces and the line ending in `a  \nb` it extends from offset 1 to offset 4.
 #[tactic(auto, unfolding(markdown_nodes::specs::View::view))]
 pub fn hard_break(position: Position, end: Point) -> Node
     ensures { view result ≡ placed tree.«break» nothing (record position { end = to_unist end }) }

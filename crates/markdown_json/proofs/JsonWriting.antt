@@ -1,7 +1,7 @@
 -- How JSON is written of nodes, level by level.
 use Rattle.markdown_json.specs.declared.json.Frame.{Frame}
 use Rattle.markdown_json.specs.Json.{json_notation}
-use Rattle.positions.specs.declared.unist.Point.{Point}
+use Rattle.markdown_events.specs.declared.unist.Point.{Point}
 use Rattle.markdown_nodes.proofs.WritingLevels.{Writing}
 
 -- the frames of the walk, and what it writes

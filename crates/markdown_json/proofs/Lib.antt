@@ -1,1 +1,4 @@
+mod Escapes
+mod Fragments
+pub mod Utf16Counts
 mod JsonWriting

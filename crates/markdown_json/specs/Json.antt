@@ -1,12 +1,12 @@
--- A tree as JSON, with the names and the fields that mdast gives to nodes. The order of the fields is ours: to JSON it makes no difference.
+-- A tree as JSON, with the names and fields that mdast gives nodes. The order of the fields is ours: it makes no difference to JSON.
 use Rattle.std.specs.Prelude.{ℕ, Bool, List, [], ◌++◌, Option, codes, if◌then◌else◌}
 use Rattle.std.specs.Fmt.{decimal}
-use Rattle.positions.specs.declared.unist.Point.{Point}
-use Rattle.positions.specs.declared.unist.Position.{Position}
+use Rattle.markdown_events.specs.declared.unist.Point.{Point}
+use Rattle.markdown_events.specs.declared.unist.Position.{Position}
 use Rattle.markdown_kinds.specs.Fields.{bool_text}
-use Rattle.json_fields.specs.Fields.{align_field, association, children, field, kind, literal, maybe, or_null, position_field, reference, resource}
-use Rattle.json_fields.specs.Strings.{string}
-use Rattle.json_fields.specs.Utf16.{utf16}
+use Rattle.markdown_json.specs.Fields.{align_field, association, children, field, kind, literal, maybe, or_null, position_field, reference, resource}
+use Rattle.markdown_json.specs.Strings.{string}
+use Rattle.markdown_json.specs.Utf16.{utf16}
 use Rattle.markdown_nodes.specs.Written.{Notation, written}
 use Rattle.markdown_nodes.specs.Tree.{Label, Tree, root, paragraph, blockquote, emphasis, strong, delete, table_row, table_cell, thematic_break, «break», text, html, inline_code, inline_math, yaml, toml, heading, list, list_item, table, code, math, link, image, link_reference, image_reference, footnote_reference, footnote_definition, definition}
 
@@ -42,7 +42,7 @@ opening (footnote_reference identifier label) = kind (codes "footnoteReference")
 opening (footnote_definition identifier label) = kind (codes "footnoteDefinition") ++ association identifier label ++ children
 opening (definition url title identifier label) = kind (codes "definition") ++ association identifier label ++ resource url title
 
--- the same, after a comma where it is a later one in its parent
+-- the opening of a node, after a comma if it is not the first in its parent
 abbrev pub opening_after : Bool → Label → List ℕ
 opening_after later label = (if later then codes "," else []) ++ opening label
 
@@ -64,22 +64,22 @@ children_end (footnote_reference _ _) = []
 children_end (definition _ _ _ _) = []
 children_end _ = codes "]"
 
--- what stands after the children
+-- the text after the children
 abbrev pub closing : (Point → Point) → Label → Option Position → List ℕ
 closing counted label position = children_end label ++ position_field counted position ++ codes "}"
 
--- how JSON is written of nodes whose points are counted so
+-- the notation of JSON for nodes whose points are counted in this way
 abbrev pub json_notation : (Point → Point) → Notation
 json_notation counted = record { opening = opening; closing = closing counted; comma = codes "," }
 
--- one node, whose points are counted so
+-- one node, with its points counted in this way
 abbrev pub json_counted : (Point → Point) → Tree → List ℕ
 json_counted counted tree = written (json_notation counted) tree
 
--- one node, with its points as they are: in bytes
+-- one node, with its points as they are, in bytes
 abbrev pub json : Tree → List ℕ
 json tree = json_counted (λ point. point) tree
 
--- a tree as JSON, with its points in units
+-- a tree as JSON, with its points in UTF-16 code units
 abbrev pub json_utf16 : List ℕ → Tree → List ℕ
 json_utf16 document tree = json_counted (utf16 document) tree

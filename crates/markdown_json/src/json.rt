@@ -1,35 +1,35 @@
-//! A tree as JSON, with no call for each level.
+//! Writes a tree as JSON, without recursion.
 
 ghost use Rattle.std.specs.Prelude.{◌≡◌, ◌++◌, IfOk, OnOk, string_bytes};
 ghost use Rattle.markdown_json.specs.Json.{json, json_counted, json_utf16, opening_after};
 ghost use Rattle.markdown_nodes.specs.Access.{label_of};
 ghost use Rattle.markdown_nodes.specs.View.{view};
 
-use crate::fields::{push_closing, push_opening};
-use json_fields::points::{Bytes, Points};
-use json_fields::strings::push;
-use json_fields::utf16::Utf16Points;
+use crate::kinds::{push_closing, push_opening};
+use crate::points::{Bytes, Points};
+use crate::strings::push;
+use crate::utf16::Utf16Points;
 use markdown_nodes::mdast::Node;
 use std::alloc::{AllocError, Global};
 
-/// A parent, and the nodes in it that are still to be written.
+/// A parent, and the nodes in it that are not yet written.
 #[derive(Drop)]
 struct Frame<'a> {
     parent: &'a Node,
     rest: &'a [Node],
 }
 
-/// A tree as JSON, on one line and without spaces, as JavaScript's `JSON.stringify` writes it.
+/// Returns a tree as JSON, on one line and without spaces, like JavaScript's `JSON.stringify`.
 ///
-/// Each node is an object with the fields that mdast gives to its kind: first `type`, last the
-/// children of a parent and `position`, which is left out where a node has none. A title, a label,
-/// a language, a meta, a start, a check mark or an alignment that is not there is `null`. Lines and
-/// columns count from 1, and offsets count bytes from 0. In texts a quote, a backslash and control
-/// characters are escaped, and all other characters stand as they are.
+/// Each node is an object with the fields that mdast defines for its kind. `type` is first, and the
+/// children of a parent and `position` are last; `position` is left out if a node has none. A
+/// title, a label, a language, a meta, a start, a check mark or an alignment that is missing is
+/// `null`. Lines and columns count from 1, and offsets count bytes from 0. In texts a quote, a
+/// backslash and control characters are escaped, and all other characters are unchanged.
 ///
 /// The only error is that memory ran out.
 ///
-/// A root that contains a thematic break, both without a position, gives
+/// A root that contains a thematic break, both without a position, returns
 /// `{"type":"root","children":[{"type":"thematicBreak"}]}`.
 pub fn to_json(alloc: Global, tree: &Node) -> Result<String, AllocError>
     ensures { IfOk result (λ text. string_bytes text ≡ json (view tree.now)) }
@@ -37,16 +37,16 @@ pub fn to_json(alloc: Global, tree: &Node) -> Result<String, AllocError>
     to_json_counted(alloc, &Bytes, tree)
 }
 
-/// A tree as JSON, as [`to_json`] gives it, with its columns and offsets in UTF-16 code units.
+/// Returns a tree as JSON, like [`to_json`], with its columns and offsets in UTF-16 code units.
 ///
-/// So JavaScript counts the characters of its strings: a character counts one, and one beyond U+FFFF
-/// two. `document` has the bytes that the tree was made of, and the columns of the tree have to count
-/// bytes, as its offsets do. A column counts from 1 and an offset from 0; what a tab adds to a column
-/// stays, and a point after the end of the document has the offset of the end. The only error is that
-/// memory ran out: it takes 24 bytes for each byte of the document.
+/// JavaScript counts the characters of its strings this way: a character counts one, and one beyond
+/// U+FFFF two. `document` has the bytes that the tree was made from. The columns of the tree must
+/// count bytes, as its offsets do. A column counts from 1 and an offset from 0. The columns that a
+/// tab adds are kept, and a point after the end of the document has the offset of the end. The only
+/// error is that memory ran out: it needs 24 bytes for each byte of the document.
 ///
-/// In the document `é!`, whose first character takes two bytes, a text from `1:3 (2)` on has the start
-/// `{"line":1,"column":2,"offset":1}`.
+/// In the document `é!`, whose first character is two bytes long, a text that starts at `1:3 (2)`
+/// has the start `{"line":1,"column":2,"offset":1}`.
 pub fn to_json_utf16(alloc: Global, document: &[u8], tree: &Node) -> Result<String, AllocError>
     ensures { IfOk result (λ text. string_bytes text ≡ json_utf16 document.now (view tree.now)) }
 {
@@ -54,7 +54,7 @@ pub fn to_json_utf16(alloc: Global, document: &[u8], tree: &Node) -> Result<Stri
     to_json_counted(alloc, &points, tree)
 }
 
-/// A tree as JSON, with its points counted so.
+/// Returns a tree as JSON, with its points as `points` counts them.
 fn to_json_counted<P: Points>(alloc: Global, points: &P, tree: &Node) -> Result<String, AllocError>
     ensures { IfOk result (λ text. string_bytes text ≡ json_counted (P.counted points.now) (view tree.now)) }
 {
@@ -83,8 +83,8 @@ fn to_json_counted<P: Points>(alloc: Global, points: &P, tree: &Node) -> Result<
     }
 }
 
-/// Appends what stands before the children of a node to what is written, after a comma where it is
-/// a later one in its parent.
+/// Appends the text before the children of a node, after a comma if it is not the first node in its
+/// parent.
 fn begin(out: &mut String, node: &Node, later: bool) -> Result<(), AllocError>
     ensures { OnOk result (string_bytes out.new ≡ string_bytes out.old ++ opening_after later (label_of node.now)) }
 {

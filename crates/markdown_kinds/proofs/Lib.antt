@@ -1,1 +1,2 @@
+mod Quoting
 mod Items

@@ -1,2 +1,4 @@
+pub mod Quoted
+pub mod TextFields
 pub mod ReferenceKinds
 pub mod Fields

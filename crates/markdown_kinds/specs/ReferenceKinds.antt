@@ -1,4 +1,4 @@
--- How the kinds of references are called.
+-- The names of the kinds of references.
 use Rattle.std.specs.Prelude.{ℕ, List, codes}
 use Rattle.markdown_kinds.specs.declared.ReferenceKind.{ReferenceKind}
 use Rattle.markdown_kinds.specs.declared.ReferenceKind.TheVariants.{Shortcut, Collapsed, Full}

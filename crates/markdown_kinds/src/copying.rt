@@ -5,7 +5,7 @@ ghost use Rattle.std.specs.Prelude.{◌≡◌, IfOk, option_map, string_bytes};
 use markdown_events::infer::AlignKind;
 use std::alloc::AllocError;
 
-/// A copy of a text that may be there.
+/// Returns a copy of an optional text.
 ///
 /// For the title `a` it is `Some` of a text `a`, and for none it is `None`.
 pub fn copy_optional(text: &Option<String>) -> Result<Option<String>, AllocError>
@@ -17,7 +17,7 @@ pub fn copy_optional(text: &Option<String>) -> Result<Option<String>, AllocError
     }
 }
 
-/// A copy of the alignments of the columns of a table, in their order.
+/// Returns a copy of the alignments of the columns of a table, in order.
 ///
 /// For one column to the left it is a list of `AlignKind::Left`.
 pub fn copy_align(align: &Vec<AlignKind>) -> Result<Vec<AlignKind>, AllocError>

@@ -1,7 +1,9 @@
-//! The text that Debug writes of the fields of a node: of its value, and of those after its position.
+//! The text that Debug writes of the fields of a node: of its value, and of the fields after its
+//! position.
 //!
 //! Each function writes one field, or the fields of one kind, each after a comma. `escapes` has the
-//! characters beyond ASCII that stand as their Unicode escape. The only error is that of the writer.
+//! characters beyond ASCII that are written as Unicode escapes. The only error is that of the
+//! writer.
 
 ghost use Rattle.std.specs.Fmt.{WritesOnOk, decimal};
 ghost use Rattle.std.specs.Prelude.{◌++◌, codes, string_bytes};
@@ -17,13 +19,13 @@ ghost use Rattle.markdown_kinds.specs.Fields.{
   literal_value,
   reference_of,
 };
-ghost use Rattle.quoted.specs.Quoted.{members};
-ghost use Rattle.quoted.specs.TextFields.{option_text};
+ghost use Rattle.markdown_kinds.specs.Quoted.{members};
+ghost use Rattle.markdown_kinds.specs.TextFields.{option_text};
 
+use crate::quoted::fields::{write_association, write_option, write_resource, write_text};
+use crate::quoted::write_quoted;
 use crate::{Code, Definition, Image, ImageReference, ReferenceKind};
 use markdown_events::infer::AlignKind;
-use quoted::fields::{write_association, write_option, write_resource, write_text};
-use quoted::write_quoted;
 use std::collections::BTreeSet;
 use std::fmt;
 
@@ -142,7 +144,7 @@ pub fn write_list_fields<W: fmt::Write>(
     write_flag(", spread: ", spread, f)
 }
 
-/// Writes the number that a list begins with, or that there is none.
+/// Writes the number that a list starts with, or that there is none.
 fn write_start<W: fmt::Write>(start: Option<u32>, f: &mut fmt::Formatter<W>) -> fmt::Result
     ensures { WritesOnOk W.write_str_gives f.old result (codes ", start: " ++ option_text decimal start) f.new }
 {
@@ -152,7 +154,7 @@ fn write_start<W: fmt::Write>(start: Option<u32>, f: &mut fmt::Formatter<W>) -> 
     }
 }
 
-/// Writes a field that is true or false. Its name stands between a comma and a colon.
+/// Writes a boolean field. Its name is between a comma and a colon.
 fn write_flag<W: fmt::Write>(name: &str, flag: bool, f: &mut fmt::Formatter<W>) -> fmt::Result
     ensures { WritesOnOk W.write_str_gives f.old result (name.now ++ bool_text flag) f.new }
 {
@@ -176,7 +178,7 @@ pub fn write_item_fields<W: fmt::Write>(
     }
 }
 
-/// Writes how the columns of a table are aligned.
+/// Writes the alignments of the columns of a table.
 ///
 /// For one column to the left it is `, align: [Left]`.
 pub fn write_align<W: fmt::Write>(align: &Vec<AlignKind>, f: &mut fmt::Formatter<W>) -> fmt::Result

@@ -1,10 +1,10 @@
-//! The characters beyond ASCII in the fields of a node that std's Debug writes as their Unicode escape.
+//! The characters beyond ASCII in the fields of a node that std's Debug writes as Unicode escapes.
 //! The only error is that memory ran out.
 
 use std::alloc::AllocError;
 use std::collections::BTreeSet;
 
-/// Adds those in a text, and in two that a node may lack.
+/// Adds those in a text and in two optional texts.
 ///
 /// For a URL, a title and none they are those in the URL and in the title.
 pub fn add_texts(
@@ -18,14 +18,14 @@ pub fn add_texts(
     add_text(or_empty(second), escapes)
 }
 
-/// The text, or an empty one where there is none.
+/// Returns the text, or an empty one if there is none.
 fn or_empty(text: &Option<String>) -> &str {
     text.as_deref().unwrap_or("")
 }
 
 /// Adds those in a text.
 ///
-/// For the text `é` there are none, since it is written as it is; for a text of U+FEFF there is one.
+/// The text `é` has none, since it is written as it is; a text of U+FEFF has one.
 pub fn add_text(text: &str, escapes: &mut BTreeSet<char>) -> Result<(), AllocError> {
     if text.is_ascii() {
         return Ok(());

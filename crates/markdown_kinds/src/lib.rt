@@ -1,14 +1,15 @@
-//! The 29 kinds of nodes of mdast, the forms of references, and how the fields of nodes are written and
-//! copied.
+//! The 29 kinds of nodes of mdast, the forms of references, how the fields of nodes are written and
+//! copied, and texts between quotes (`quoted`).
 //!
-//! Fifteen kinds are parents, whose children are of any type `N`: `markdown_nodes` sets it to its `Node`,
-//! and passes all kinds on. Eight are literals, which have a value, and six are neither. Each has a
-//! position in the document, or none.
+//! Fifteen kinds are parents, with children of any type `N`. `markdown_nodes` sets it to its
+//! `Node`, and re-exports all kinds. Eight are literals, which have a value, and six are neither.
+//! Each has a position in the document, or none.
 #![tactic(auto)]
 
 pub mod copying;
 pub mod debug;
 pub mod escapes;
+pub mod quoted;
 
 use markdown_events::infer::AlignKind;
 use markdown_events::unist::Position;
@@ -64,7 +65,7 @@ pub struct Yaml {
 
 /// A hard line break (CommonMark, hard line breaks).
 ///
-/// A backslash at the end of a line gives one, and so do two spaces there.
+/// A backslash at the end of a line makes one, and so do two spaces there.
 #[derive(Clone, PartialEq, Eq, Debug, Drop)]
 pub struct Break {
     /// The position in the document, or none for a generated node.
@@ -100,16 +101,16 @@ pub struct InlineMath {
 pub struct FootnoteReference {
     /// The position in the document, or none for a generated node.
     pub position: Option<Position>,
-    /// The normalized identifier, by which references and definitions match (as
-    /// [`normalize_identifier`](markdown_events::text::normalize_identifier) gives it).
+    /// The normalized identifier, by which references and definitions match (see
+    /// [`normalize_identifier`](markdown_events::text::normalize_identifier)).
     pub identifier: String,
-    /// The label as it is written, if it is known.
+    /// The label as written, if it is known.
     pub label: Option<String>,
 }
 
-/// HTML as it is written, block or inline (CommonMark, HTML blocks and raw HTML).
+/// HTML as written, block or inline (CommonMark, HTML blocks and raw HTML).
 ///
-/// `<a>` gives one with the value `<a>`; HTML is not parsed.
+/// `<a>` is one with the value `<a>`; HTML is not parsed.
 #[derive(Clone, PartialEq, Eq, Debug, Drop)]
 pub struct Html {
     /// The value.
@@ -125,7 +126,7 @@ pub struct Html {
 pub struct Image {
     /// The position in the document, or none for a generated node.
     pub position: Option<Position>,
-    /// The alternative text, for where the image cannot be shown.
+    /// The alternative text, used where the image cannot be shown.
     pub alt: String,
     /// The URL.
     pub url: String,
@@ -140,20 +141,20 @@ pub struct Image {
 pub struct ImageReference {
     /// The position in the document, or none for a generated node.
     pub position: Option<Position>,
-    /// The alternative text, for where the image cannot be shown.
+    /// The alternative text, used where the image cannot be shown.
     pub alt: String,
     /// The form of the reference.
     pub reference_kind: ReferenceKind,
-    /// The normalized identifier, by which references and definitions match (as
-    /// [`normalize_identifier`](markdown_events::text::normalize_identifier) gives it).
+    /// The normalized identifier, by which references and definitions match (see
+    /// [`normalize_identifier`](markdown_events::text::normalize_identifier)).
     pub identifier: String,
-    /// The label as it is written, if it is known.
+    /// The label as written, if it is known.
     pub label: Option<String>,
 }
 
 /// Text (CommonMark, textual content).
 ///
-/// The line `a` gives the text `a`.
+/// The line `a` has the text `a`.
 #[derive(Clone, PartialEq, Eq, Debug, Drop)]
 pub struct Text {
     /// The value.
@@ -164,16 +165,16 @@ pub struct Text {
 
 /// A code block, fenced or indented (CommonMark, fenced code blocks and indented code blocks).
 ///
-/// A fence followed by `rust ignore` gives the language `rust` and the meta `ignore`.
+/// A fence followed by `rust ignore` has the language `rust` and the meta `ignore`.
 #[derive(Clone, PartialEq, Eq, Debug, Drop)]
 pub struct Code {
     /// The value.
     pub value: String,
     /// The position in the document, or none for a generated node.
     pub position: Option<Position>,
-    /// The language, which is the first word after the opening fence, if there is one.
+    /// The language: the first word after the opening fence, if there is one.
     pub lang: Option<String>,
-    /// What follows the language on that line, if there is something.
+    /// The rest of that line after the language, if there is any.
     pub meta: Option<String>,
 }
 
@@ -186,7 +187,7 @@ pub struct Math {
     pub value: String,
     /// The position in the document, or none for a generated node.
     pub position: Option<Position>,
-    /// What follows the opening fence on its line, if there is something.
+    /// The rest of the line after the opening fence, if there is any.
     pub meta: Option<String>,
 }
 
@@ -210,16 +211,16 @@ pub struct Definition {
     pub url: String,
     /// The title, if there is one.
     pub title: Option<String>,
-    /// The normalized identifier, by which references and definitions match (as
-    /// [`normalize_identifier`](markdown_events::text::normalize_identifier) gives it).
+    /// The normalized identifier, by which references and definitions match (see
+    /// [`normalize_identifier`](markdown_events::text::normalize_identifier)).
     pub identifier: String,
-    /// The label as it is written, if it is known.
+    /// The label as written, if it is known.
     pub label: Option<String>,
 }
 
 /// A whole document (mdast).
 ///
-/// The document `a` gives a root with one paragraph in it.
+/// The document `a` is a root with one paragraph in it.
 #[derive(PartialEq, Eq, Debug, Drop)]
 pub struct Root<N> {
     /// The child nodes, in order.
@@ -248,10 +249,10 @@ pub struct FootnoteDefinition<N> {
     pub children: Vec<N>,
     /// The position in the document, or none for a generated node.
     pub position: Option<Position>,
-    /// The normalized identifier, by which references and definitions match (as
-    /// [`normalize_identifier`](markdown_events::text::normalize_identifier) gives it).
+    /// The normalized identifier, by which references and definitions match (see
+    /// [`normalize_identifier`](markdown_events::text::normalize_identifier)).
     pub identifier: String,
-    /// The label as it is written, if it is known.
+    /// The label as written, if it is known.
     pub label: Option<String>,
 }
 
@@ -266,12 +267,12 @@ pub struct List<N> {
     pub position: Option<Position>,
     /// Whether the list is ordered: its items are numbered.
     pub ordered: bool,
-    /// The number that an ordered list starts with, which is that of the first item that has one, and
-    /// `None` for an unordered list.
+    /// The number that an ordered list starts with: that of the first item that has one. `None` for
+    /// an unordered list.
     pub start: Option<u32>,
-    /// Whether a blank line is directly in the list: between items, or after the last one
-    /// (mdast; which ones count is from markdown-rs). One directly after an item without content at
-    /// its end does not count, and neither do blank lines in the items.
+    /// Whether a blank line is directly in the list: between items, or after the last one (mdast;
+    /// markdown-rs decides which ones count). A blank line directly after an item without content
+    /// at its end does not count, and neither do blank lines in the items.
     pub spread: bool,
 }
 
@@ -323,10 +324,10 @@ pub struct LinkReference<N> {
     pub position: Option<Position>,
     /// The form of the reference.
     pub reference_kind: ReferenceKind,
-    /// The normalized identifier, by which references and definitions match (as
-    /// [`normalize_identifier`](markdown_events::text::normalize_identifier) gives it).
+    /// The normalized identifier, by which references and definitions match (see
+    /// [`normalize_identifier`](markdown_events::text::normalize_identifier)).
     pub identifier: String,
-    /// The label as it is written, if it is known.
+    /// The label as written, if it is known.
     pub label: Option<String>,
 }
 
@@ -363,7 +364,7 @@ pub struct Table<N> {
     pub children: Vec<N>,
     /// The position in the document, or none for a generated node.
     pub position: Option<Position>,
-    /// The alignment of each column, from the first one on.
+    /// The alignment of each column, starting with the first.
     pub align: Vec<AlignKind>,
 }
 
@@ -399,10 +400,10 @@ pub struct ListItem<N> {
     /// The position in the document, or none for a generated node.
     pub position: Option<Position>,
     /// Whether a blank line is directly in the item: between its children, or after the last one
-    /// (mdast; which ones count is from markdown-rs). One directly after the item's prefix, or with
-    /// one span of white space between them, does not count.
+    /// (mdast; markdown-rs decides which ones count). A blank line directly after the item's
+    /// prefix, or with one span of white space between them, does not count.
     pub spread: bool,
-    /// Whether the task is done, or none for an item that is no task.
+    /// Whether the task is done, or none for an item that is not a task.
     pub checked: Option<bool>,
 }
 

@@ -40,9 +40,6 @@ rest-same x y xs ys e = cc
 both-same : (x y : Node) (xs ys : List Node) → view x ≡ view y → views xs ≡ views ys → views (x ∷ xs) ≡ views (y ∷ ys)
 both-same x y xs ys e f = ap (λ t. before t (views xs)) e ∙ ap (λ ts. before (view y) ts) f
 
-pub compares_first : (xs ys : List Node) (pairs : List Pair) → pairs ≡ [] → Compares xs ys xs ys pairs
-compares_first xs ys pairs none = record { tells = λ e _. e; asks_level = λ e. e; asks_pairs = λ _. rw none tt }
-
 pub compares_down : (xs ys left right rest_x rest_y below_x below_y : List Node) (x y : Node) (pairs after : List Pair) (p : Pair) → Compares xs ys left right pairs → left ≡ x ∷ rest_x → right ≡ y ∷ rest_y → label_of x ≡ label_of y → position_of x ≡ position_of y → below_x ≡ nodes_in x → below_y ≡ nodes_in y → after ≡ pairs ++ p ∷ [] → p.xs.now ≡ rest_x → p.ys.now ≡ rest_y → Compares xs ys below_x below_y after
 compares_down xs ys left right rest_x rest_y below_x below_y x y pairs after p so_far is_x is_y label position in_x in_y pushed holds_x holds_y =
     record {
@@ -77,9 +74,6 @@ compares_up xs ys left right pairs after p so_far none_x none_y popped =
       asks_level = λ e. (agree-pop after p (rw (sym popped) (so_far.asks_pairs e))).0;
       asks_pairs = λ e. (agree-pop after p (rw (sym popped) (so_far.asks_pairs e))).1;
     }
-
-pub compares_all : (xs ys left right : List Node) (pairs : List Pair) → Compares xs ys left right pairs → left ≡ [] → right ≡ [] → pairs ≡ [] → views xs ≡ views ys
-compares_all xs ys left right pairs so_far none_x none_y none = so_far.tells (ap views none_x ∙ ap views (sym none_y)) (rw none tt)
 
 pub heads_same : (xs ys left right rest_x rest_y : List Node) (x y : Node) (pairs : List Pair) → Compares xs ys left right pairs → left ≡ x ∷ rest_x → right ≡ y ∷ rest_y → views xs ≡ views ys → view x ≡ view y
 heads_same xs ys left right rest_x rest_y x y pairs so_far is_x is_y e = first-same x y rest_x rest_y (ap views (sym is_x) ∙ so_far.asks_level e ∙ ap views is_y)

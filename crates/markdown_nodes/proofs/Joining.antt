@@ -1,6 +1,6 @@
 -- Joining lists of nodes.
 use Rattle.std.proofs.Common.{◌≡◌, ℕ, List, ◌++◌, Option, None, Some, refl, ◌∙◌, ap, append_assoc}
-use Rattle.positions.specs.declared.unist.Position.{Position}
+use Rattle.markdown_events.specs.declared.unist.Position.{Position}
 use Rattle.markdown_nodes.specs.Tree.{Trees, Label, node, nothing, join, seam, from_to, text}
 
 pub from_to-assoc : (a b c : Option Position) → from_to (from_to a b) c ≡ from_to a (from_to b c)

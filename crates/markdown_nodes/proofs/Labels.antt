@@ -97,20 +97,6 @@ apart kind a b x is told other = (
       absurd (other same.0 same.1),
 )
 
--- nodes of one kind whose fields tell whether their labels are the same
-pub alike_if : (r : Bool) (a b x y : Node) → a ≡ x → b ≡ y → (IsTrue r ↔ (label_of x ≡ label_of y)) → IsTrue r ↔ (label_of a ≡ label_of b)
-alike_if r a b x y is is' tells = (
-  λ e. ap label_of is ∙ tells.0 e ∙ sym (ap label_of is'),
-  λ e. tells.1 (sym (ap label_of is) ∙ e ∙ ap label_of is'),
-)
-
 -- nodes whose labels are the same
 pub alike : (a b x y : Node) → a ≡ x → b ≡ y → label_of x ≡ label_of y → IsTrue true ↔ (label_of a ≡ label_of b)
 alike a b x y is is' same = (λ _. ap label_of is ∙ same ∙ sym (ap label_of is'), λ _. refl)
-
--- where a label has one text, the texts tell whether labels are the same
-pub values_tell : (kind : List ℕ → Label) (r : Bool) (x y : String Global) → ((v w : List ℕ) → kind v ≡ kind w → v ≡ w) → r ≡ string_eq x y → IsTrue r ↔ (kind (string_bytes x) ≡ kind (string_bytes y))
-values_tell kind r x y own is = (
-  λ e. ap kind ((bytes_decides _ _).0 (sym is ∙ e)),
-  λ e. is ∙ (bytes_decides _ _).1 (own _ _ e),
-)

@@ -1,11 +1,11 @@
 -- How Debug writes nodes, level by level.
 use mathlib.Core.Logic.{⊎_elim}
 use Rattle.std.proofs.Common.{◌≡◌, ◌⊎◌, ℕ, Bool, codes, List, [], ◌++◌, sym, ap, ◌∙◌, append-nil, append_assoc}
-use Rattle.positions.specs.Places.{position_text}
+use Rattle.markdown_events.specs.Places.{position_text}
 use Rattle.markdown_nodes.specs.declared.mdast.debug.Frame.{Frame}
 use Rattle.markdown_nodes.specs.declared.mdast.Node.{Node}
 use Rattle.markdown_nodes.specs.Access.{label_of, nodes_in, position_of}
-use Rattle.quoted.specs.TextFields.{option_text}
+use Rattle.markdown_kinds.specs.TextFields.{option_text}
 use Rattle.markdown_nodes.specs.Shown.{debug_notation, opening, shown}
 use Rattle.markdown_nodes.specs.Tree.{«break», thematic_break}
 use Rattle.markdown_nodes.specs.View.{view}

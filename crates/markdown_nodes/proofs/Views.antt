@@ -2,7 +2,7 @@
 use Rattle.std.proofs.Common.{◌≡◌, Vec, Global, Option, Some, refl, sym, ap, ◌∙◌}
 use Rattle.std.specs.Prelude.{option_map, string_bytes}
 use denote.Hole.Carrier
-use Rattle.positions.specs.declared.unist.Position.{Position}
+use Rattle.markdown_events.specs.declared.unist.Position.{Position}
 use Rattle.markdown_nodes.specs.declared.mdast.Node.{Node, Row_of-Node, end_of-Node, more_of-Node, items-the_row-Node, items_hidden-the_row-Node-0, items_shown-the_row-Node-0}
 use Rattle.markdown_nodes.specs.declared.mdast.Node.TheBlock.{hidden-the_row-Node-0, seen-the_row-Node-0, shape-the_row-Node-0, shown-the_row-Node-0}
 use Rattle.markdown_nodes.specs.declared.mdast.Node.TheVariants as nodes
@@ -220,40 +220,3 @@ put (nodes.TableCell' shape row position) old new is = items_shown-the_row-Node-
 put (nodes.ListItem' shape row position spread checked) old new is = items_shown-the_row-Node-0 _ (hidden-the_row-Node-0 new) ∙ items_hidden-the_row-Node-0 new
 put (nodes.Definition x) old new is = cc
 put (nodes.Paragraph' shape row position) old new is = items_shown-the_row-Node-0 _ (hidden-the_row-Node-0 new) ∙ items_hidden-the_row-Node-0 new
-
--- a node with the position that it has is as it was
-pub position_kept : (node : Node) (position : Option Position) → position ≡ position_of node → with_position node position ≡ node
-unfolding out-Node denote.Hole.Carrier.out
-position_kept (nodes.Root' shape row at) position is = ap (with_position (nodes.Root' shape row at)) is ∙ sym (nodes.rolls-Root _) ∙ roll-out-Node (nodes.Root' shape row at)
-position_kept (nodes.Blockquote' shape row at) position is = ap (with_position (nodes.Blockquote' shape row at)) is ∙ sym (nodes.rolls-Blockquote _) ∙ roll-out-Node (nodes.Blockquote' shape row at)
-position_kept (nodes.FootnoteDefinition' shape row at identifier label) position is = ap (with_position (nodes.FootnoteDefinition' shape row at identifier label)) is ∙ sym (nodes.rolls-FootnoteDefinition _) ∙ roll-out-Node (nodes.FootnoteDefinition' shape row at identifier label)
-position_kept (nodes.List' shape row at ordered start spread) position is = ap (with_position (nodes.List' shape row at ordered start spread)) is ∙ sym (nodes.rolls-List _) ∙ roll-out-Node (nodes.List' shape row at ordered start spread)
-position_kept (nodes.Toml x) position is = ap (λ p. nodes.Toml (record x { position = p })) is
-position_kept (nodes.Yaml x) position is = ap (λ p. nodes.Yaml (record x { position = p })) is
-position_kept (nodes.Break x) position is = ap (λ p. nodes.Break (record x { position = p })) is
-position_kept (nodes.InlineCode x) position is = ap (λ p. nodes.InlineCode (record x { position = p })) is
-position_kept (nodes.InlineMath x) position is = ap (λ p. nodes.InlineMath (record x { position = p })) is
-position_kept (nodes.Delete' shape row at) position is = ap (with_position (nodes.Delete' shape row at)) is ∙ sym (nodes.rolls-Delete _) ∙ roll-out-Node (nodes.Delete' shape row at)
-position_kept (nodes.Emphasis' shape row at) position is = ap (with_position (nodes.Emphasis' shape row at)) is ∙ sym (nodes.rolls-Emphasis _) ∙ roll-out-Node (nodes.Emphasis' shape row at)
-position_kept (nodes.FootnoteReference x) position is = ap (λ p. nodes.FootnoteReference (record x { position = p })) is
-position_kept (nodes.Html x) position is = ap (λ p. nodes.Html (record x { position = p })) is
-position_kept (nodes.Image x) position is = ap (λ p. nodes.Image (record x { position = p })) is
-position_kept (nodes.ImageReference x) position is = ap (λ p. nodes.ImageReference (record x { position = p })) is
-position_kept (nodes.Link' shape row at url title) position is = ap (with_position (nodes.Link' shape row at url title)) is ∙ sym (nodes.rolls-Link _) ∙ roll-out-Node (nodes.Link' shape row at url title)
-position_kept (nodes.LinkReference' shape row at reference_kind identifier label) position is = ap (with_position (nodes.LinkReference' shape row at reference_kind identifier label)) is ∙ sym (nodes.rolls-LinkReference _) ∙ roll-out-Node (nodes.LinkReference' shape row at reference_kind identifier label)
-position_kept (nodes.Strong' shape row at) position is = ap (with_position (nodes.Strong' shape row at)) is ∙ sym (nodes.rolls-Strong _) ∙ roll-out-Node (nodes.Strong' shape row at)
-position_kept (nodes.Text x) position is = ap (λ p. nodes.Text (record x { position = p })) is
-position_kept (nodes.Code x) position is = ap (λ p. nodes.Code (record x { position = p })) is
-position_kept (nodes.Math x) position is = ap (λ p. nodes.Math (record x { position = p })) is
-position_kept (nodes.Heading' shape row at depth) position is = ap (with_position (nodes.Heading' shape row at depth)) is ∙ sym (nodes.rolls-Heading _) ∙ roll-out-Node (nodes.Heading' shape row at depth)
-position_kept (nodes.Table' shape row at align) position is = ap (with_position (nodes.Table' shape row at align)) is ∙ sym (nodes.rolls-Table _) ∙ roll-out-Node (nodes.Table' shape row at align)
-position_kept (nodes.ThematicBreak x) position is = ap (λ p. nodes.ThematicBreak (record x { position = p })) is
-position_kept (nodes.TableRow' shape row at) position is = ap (with_position (nodes.TableRow' shape row at)) is ∙ sym (nodes.rolls-TableRow _) ∙ roll-out-Node (nodes.TableRow' shape row at)
-position_kept (nodes.TableCell' shape row at) position is = ap (with_position (nodes.TableCell' shape row at)) is ∙ sym (nodes.rolls-TableCell _) ∙ roll-out-Node (nodes.TableCell' shape row at)
-position_kept (nodes.ListItem' shape row at spread checked) position is = ap (with_position (nodes.ListItem' shape row at spread checked)) is ∙ sym (nodes.rolls-ListItem _) ∙ roll-out-Node (nodes.ListItem' shape row at spread checked)
-position_kept (nodes.Definition x) position is = ap (λ p. nodes.Definition (record x { position = p })) is
-position_kept (nodes.Paragraph' shape row at) position is = ap (with_position (nodes.Paragraph' shape row at)) is ∙ sym (nodes.rolls-Paragraph _) ∙ roll-out-Node (nodes.Paragraph' shape row at)
-
--- the list that a node was made of is the list in it
-pub children_kept : (c : Vec Node Global) → Some c ≡ Some (shown-the_row-Node-0 (shape-the_row-Node-0 c) (hidden-the_row-Node-0 c))
-children_kept c = ap Some (sym (seen-the_row-Node-0 c))

@@ -1,11 +1,11 @@
--- The parts that every node has, or every parent.
+-- The parts of every node, and of every parent.
 use Rattle.std.specs.Prelude.{List, [], Option, Some, None, string_bytes, Vec}
 use Rattle.std.specs.declared.alloc.Global.{Global}
 use Rattle.markdown_nodes.specs.declared.mdast.Node.{Node}
 use Rattle.markdown_nodes.specs.declared.mdast.Node.TheOpen.{Node-F}
 use Rattle.markdown_nodes.specs.declared.mdast.Node.TheVariants as nodes
 use Rattle.markdown_nodes.specs.declared.mdast.Node.TheViews.{out-Node}
-use Rattle.positions.specs.declared.unist.Position.{Position}
+use Rattle.markdown_events.specs.declared.unist.Position.{Position}
 use Rattle.markdown_nodes.specs.Tree.{Label, Tree, root, paragraph, blockquote, emphasis, strong, delete, table_row, table_cell, thematic_break, «break», text, html, inline_code, inline_math, yaml, toml, heading, table}
 use Rattle.markdown_nodes.specs.Labels.{code_label, definition_label, footnote_definition_label, footnote_reference_label, image_label, image_reference_label, link_label, link_reference_label, list_item_label, list_label, math_label}
 use Rattle.markdown_nodes.specs.View.{views}
@@ -31,7 +31,7 @@ children_of node = elim (out-Node node) [
   | _ ↦ None
 ]
 
--- where a node stands
+-- the position of a node
 abbrev pub position_of : Node → Option Position
 position_of node = elim (out-Node node) [
   | Node-F.Root node ↦ node.position
@@ -65,7 +65,7 @@ position_of node = elim (out-Node node) [
   | Node-F.Paragraph node ↦ node.position
 ]
 
--- a parent with these children in place of its own, and any other node as it is
+-- a parent with these children in place of its own; any other node is unchanged
 abbrev pub with_children : Node → Vec Node Global → Node
 with_children it children = elim (out-Node it) [
   | Node-F.Root node ↦ nodes.Root (record node { children = children })
@@ -120,7 +120,7 @@ with_position it position = elim (out-Node it) [
   | Node-F.Paragraph node ↦ nodes.Paragraph (record node { position = position })
 ]
 
--- a node's kind, with its fields but for children and position
+-- a node's kind with its fields, except children and position
 abbrev pub label_of : Node → Label
 label_of it = elim (out-Node it) [
   | Node-F.Root node ↦ root
@@ -154,15 +154,15 @@ label_of it = elim (out-Node it) [
   | Node-F.Paragraph node ↦ paragraph
 ]
 
--- the nodes in a list that may be there
+-- the nodes of an optional list
 abbrev pub items_in : Option (Vec Node Global) → List Node
 items_in None = []
 items_in (Some children) = children.items
 
--- the nodes in a node, and none in one that is no parent
+-- the nodes in a node; none if it is not a parent
 abbrev pub nodes_in : Node → List Node
 nodes_in node = items_in (children_of node)
 
--- a node as a tree, by its parts
+-- a node as a tree, from its parts
 abbrev pub tree_of : Node → Tree
 tree_of node = record { label = label_of node; children = views (nodes_in node); position = position_of node }

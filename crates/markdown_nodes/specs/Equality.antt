@@ -1,4 +1,4 @@
--- The test whether two trees are equal.
+-- A test for the equality of trees.
 use Rattle.std.specs.Prelude.{◌≡◌, ◌↔◌, IsTrue, Bool, true, false, ◌&&◌, bytes_eq, nat_eq}
 use Rattle.std.specs.Option.{option_eq}
 use lib.Pointwise.{pointwise}
@@ -8,27 +8,27 @@ use Rattle.markdown_events.specs.declared.infer.AlignKind.{AlignKind}
 use Rattle.markdown_events.specs.contracts.infer.AlignKind.{the_type as align_type}
 use Rattle.markdown_kinds.specs.declared.ReferenceKind.{ReferenceKind}
 use Rattle.markdown_kinds.specs.contracts.ReferenceKind.{the_type as reference_type}
-use Rattle.positions.specs.declared.unist.Point.{Point}
-use Rattle.positions.specs.declared.unist.Position.{Position}
+use Rattle.markdown_events.specs.declared.unist.Point.{Point}
+use Rattle.markdown_events.specs.declared.unist.Position.{Position}
 use Rattle.markdown_nodes.specs.Tree.{Label, Tree, Trees, node, nothing, root, paragraph, blockquote, emphasis, strong, delete, table_row, table_cell, thematic_break, «break», text, html, inline_code, inline_math, yaml, toml, heading, list, list_item, table, code, math, link, image, link_reference, image_reference, footnote_reference, footnote_definition, definition}
 
--- whether two columns are aligned alike
+-- whether two columns have the same alignment
 abbrev pub same_align_kind : AlignKind → AlignKind → Bool
 same_align_kind = sameb align_type
 
--- whether two references were written alike
+-- whether two references are of the same kind
 abbrev pub same_reference_kind : ReferenceKind → ReferenceKind → Bool
 same_reference_kind = sameb reference_type
 
--- whether two places are the same
+-- whether two points are the same
 abbrev pub same_point : Point → Point → Bool
 same_point first second = nat_eq first.line second.line && (nat_eq first.column second.column && nat_eq first.offset second.offset)
 
--- whether two nodes stand at the same place
+-- whether two positions are the same
 abbrev pub same_position : Position → Position → Bool
 same_position first second = same_point first.start second.start && same_point first.end second.end
 
--- whether two nodes are of one kind, with the same fields but for children and position
+-- whether two nodes have the same kind and the same fields, except children and position
 unfoldable pub same_label : Label → Label → Bool
 same_label root root = true
 same_label paragraph paragraph = true

@@ -1,4 +1,4 @@
--- The test whether two trees are equal tells exactly that. The impl of PartialEq for Node names its laws, so they stand here and not in proofs/.
+-- The test for the equality of trees decides it. The impl of PartialEq for Node names these laws, so they are here and not in proofs/.
 use Rattle.std.proofs.Common.{◌≡◌, ℕ, Bool, true, false, ◌&&◌, List, Option, Some, None, refl, sym, ap, ◌∙◌, true≢false}
 use Rattle.std.specs.Bool.{Decides}
 use Rattle.std.specs.Option.{option_eq}
@@ -12,80 +12,80 @@ use Rattle.markdown_events.specs.declared.infer.AlignKind.{AlignKind}
 use Rattle.markdown_events.specs.contracts.infer.AlignKind.{the_type as align_type}
 use Rattle.markdown_kinds.specs.declared.ReferenceKind.{ReferenceKind}
 use Rattle.markdown_kinds.specs.contracts.ReferenceKind.{the_type as reference_type}
-use Rattle.positions.specs.declared.unist.Point.{Point}
-use Rattle.positions.specs.declared.unist.Position.{Position}
+use Rattle.markdown_events.specs.declared.unist.Point.{Point}
+use Rattle.markdown_events.specs.declared.unist.Position.{Position}
 use Rattle.markdown_nodes.specs.Tree.{Label, Tree, Trees, node, nothing, root, paragraph, blockquote, emphasis, strong, delete, table_row, table_cell, thematic_break, «break», text, html, inline_code, inline_math, yaml, toml, heading, list, list_item, table, code, math, link, image, link_reference, image_reference, footnote_reference, footnote_definition, definition}
 use Rattle.markdown_nodes.specs.Equality.{same_align_kind, same_label, same_point, same_position, same_reference_kind, same_tree, same_trees}
 
--- where a test decides, so does the test of values that may be there
+-- if a test decides equality, optional values that pass it are equal
 option_true : {X : Type 0} (test : X → X → Bool) → ((x y : X) → Decides (test x y) (x ≡ y)) → (o p : Option X) → option_eq test o p ≡ true → o ≡ p
 option_true test decides None None e = refl
 option_true test decides None (Some y) e = absurd (true≢false (sym e))
 option_true test decides (Some x) None e = absurd (true≢false (sym e))
 option_true test decides (Some x) (Some y) e = ap Some ((decides x y).0 e)
 
--- a value that may be there passes the test with itself
+-- an optional value passes the test with itself
 option_refl : {X : Type 0} (test : X → X → Bool) → ((x y : X) → Decides (test x y) (x ≡ y)) → (o : Option X) → option_eq test o o ≡ true
 option_refl test decides None = refl
 option_refl test decides (Some x) = (decides x x).1 refl
 
--- a test that tells equality, and that every value passes with itself, decides
+-- a test decides equality if values that pass it are equal, and every value passes it with itself
 deciding : {X : Type 0} (test : X → X → Bool) → ((x y : X) → test x y ≡ true → x ≡ y) → ((x : X) → test x x ≡ true) → (x y : X) → Decides (test x y) (x ≡ y)
 deciding test true_is passes x y = (true_is x y, λ e. ap (λ z. test x z) (sym e) ∙ passes x)
 
--- the two together
+-- if a test decides equality, so does the test of optional values
 option_decides : {X : Type 0} (test : X → X → Bool) → ((x y : X) → Decides (test x y) (x ≡ y)) → (o p : Option X) → Decides (option_eq test o p) (o ≡ p)
 option_decides test decides = deciding (option_eq test) (option_true test decides) (option_refl test decides)
 
--- the test of a text that may be there
+-- the test of an optional text
 texts_decide : (x y : Option (List ℕ)) → Decides (option_eq bytes_eq x y) (x ≡ y)
 texts_decide = option_decides bytes_eq bytes_decides
 
--- the test of a number that may be there
+-- the test of an optional number
 pub starts_decide : (x y : Option ℕ) → Decides (option_eq nat_eq x y) (x ≡ y)
 starts_decide = option_decides nat_eq Decides-eqb
 
--- the test of a mark that may be there
+-- the test of an optional mark
 pub checks_decide : (x y : Option Bool) → Decides (option_eq beq x y) (x ≡ y)
 checks_decide = option_decides beq booleans_Decides
 
--- the test of a column
+-- the test of one alignment
 align_kind_decides : (x y : AlignKind) → Decides (same_align_kind x y) (x ≡ y)
 align_kind_decides x y = (λ e. same_true align_type tt x y e, λ e. true_same align_type x y e)
 
--- the test of all columns
+-- the test of the alignments of all columns
 aligns_decide : (xs ys : List AlignKind) → Decides (pointwise same_align_kind xs ys) (xs ≡ ys)
 aligns_decide = pointwise_decides align_kind_decides
 
--- the test of the way that a reference was written
+-- the test of a kind of reference
 reference_kind_decides : (x y : ReferenceKind) → Decides (same_reference_kind x y) (x ≡ y)
 reference_kind_decides x y = (λ e. same_true reference_type tt x y e, λ e. true_same reference_type x y e)
 
--- both parts of a test that passes pass
+-- if a conjunction passes, both of its parts pass
 pub and_true : (a b : Bool) → (a && b) ≡ true → (a ≡ true) × (b ≡ true)
 and_true true true e = (refl, refl)
 and_true true false e = absurd (true≢false (sym e))
 and_true false true e = absurd (true≢false (sym e))
 and_true false false e = absurd (true≢false (sym e))
 
--- a test passes whose parts pass
+-- if both parts pass, the conjunction passes
 pub true_and : (a b : Bool) → a ≡ true → b ≡ true → (a && b) ≡ true
 true_and true true p q = refl
 true_and true false p q = q
 true_and false true p q = p
 true_and false false p q = p
 
--- from one fact to another and back
+-- a test that decides one fact decides an equivalent one
 pub like : {P Q : Type 0} (r : Bool) → (P → Q) → (Q → P) → Decides r P → Decides r Q
 like r to back d = (λ e. to (d.0 e), λ q. d.1 (back q))
 
--- places with the same parts are the same
+-- points with the same parts are the same
 point_is : (line line' column column' offset offset' : ℕ) → line ≡ line' → column ≡ column' → offset ≡ offset' → let x : Point = record { line = line; column = column; offset = offset } in let y : Point = record { line = line'; column = column'; offset = offset' } in x ≡ y
 point_is line line' column column' offset offset' p q r =
     let made : ℕ → ℕ → ℕ → Point = λ l c o. record { line = l; column = c; offset = o } in
     ap (λ z. made z column offset) p ∙ ap (λ z. made line' z offset) q ∙ ap (made line' column') r
 
--- the test of a place
+-- the test of a point
 point_decides : (x y : Point) → Decides (same_point x y) (x ≡ y)
 point_decides x y = like _ (λ p. point_is _ _ _ _ _ _ p.0 p.1.0 p.1.1) (λ e. (ap (λ (z : Point). z.line) e, (ap (λ (z : Point). z.column) e, ap (λ (z : Point). z.offset) e))) (Decides-and _ _ (Decides-eqb x.line y.line) (Decides-and _ _ (Decides-eqb x.column y.column) (Decides-eqb x.offset y.offset)))
 
@@ -99,7 +99,7 @@ position_is start start' end end' p q =
 position_decides : (x y : Position) → Decides (same_position x y) (x ≡ y)
 position_decides x y = like _ (λ p. position_is _ _ _ _ p.0 p.1) (λ e. (ap (λ (z : Position). z.start) e, ap (λ (z : Position). z.end) e)) (Decides-and _ _ (point_decides x.start y.start) (point_decides x.end y.end))
 
--- the test of a position that may be there
+-- the test of an optional position
 pub places_decide : (x y : Option Position) → Decides (option_eq same_position x y) (x ≡ y)
 places_decide = option_decides same_position position_decides
 

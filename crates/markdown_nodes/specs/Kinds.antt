@@ -1,4 +1,4 @@
--- The parents of the program: the kinds of nodes that have children, whose children are nodes.
+-- The parents of the program: the kinds of nodes that have children, with nodes as their children.
 use Rattle.markdown_nodes.specs.declared.mdast.Node.{Node}
 use Rattle.markdown_kinds.specs.declared.Root.{Root as RootOf}
 use Rattle.markdown_kinds.specs.declared.Blockquote.{Blockquote as BlockquoteOf}

@@ -1,4 +1,4 @@
--- The labels of the nodes that have several fields beside children and position.
+-- The labels of the nodes that have several fields besides children and position.
 use Rattle.std.specs.Prelude.{option_map, string_bytes}
 use Rattle.markdown_nodes.specs.Kinds.{FootnoteDefinition, List as ListNode, Link, LinkReference, ListItem}
 use Rattle.markdown_kinds.specs.declared.FootnoteReference.{FootnoteReference}
@@ -9,7 +9,7 @@ use Rattle.markdown_kinds.specs.declared.Math.{Math}
 use Rattle.markdown_kinds.specs.declared.Definition.{Definition}
 use Rattle.markdown_nodes.specs.Tree.{Label, footnote_definition, list, footnote_reference, image, image_reference, link, link_reference, code, math, list_item, definition}
 
--- the label of a definition of a footnote
+-- the label of a footnote definition
 abbrev pub footnote_definition_label : FootnoteDefinition → Label
 footnote_definition_label node = footnote_definition (string_bytes node.identifier) (option_map string_bytes node.label)
 
@@ -17,7 +17,7 @@ footnote_definition_label node = footnote_definition (string_bytes node.identifi
 abbrev pub list_label : ListNode → Label
 list_label node = list node.ordered node.start node.spread
 
--- the label of a reference to a footnote
+-- the label of a footnote reference
 abbrev pub footnote_reference_label : FootnoteReference → Label
 footnote_reference_label node = footnote_reference (string_bytes node.identifier) (option_map string_bytes node.label)
 
@@ -25,7 +25,7 @@ footnote_reference_label node = footnote_reference (string_bytes node.identifier
 abbrev pub image_label : Image → Label
 image_label node = image (string_bytes node.alt) (string_bytes node.url) (option_map string_bytes node.title)
 
--- the label of a reference to an image
+-- the label of an image reference
 abbrev pub image_reference_label : ImageReference → Label
 image_reference_label node = image_reference (string_bytes node.alt) node.reference_kind (string_bytes node.identifier) (option_map string_bytes node.label)
 
@@ -33,7 +33,7 @@ image_reference_label node = image_reference (string_bytes node.alt) node.refere
 abbrev pub link_label : Link → Label
 link_label node = link (string_bytes node.url) (option_map string_bytes node.title)
 
--- the label of a reference to a link
+-- the label of a link reference
 abbrev pub link_reference_label : LinkReference → Label
 link_reference_label node = link_reference node.reference_kind (string_bytes node.identifier) (option_map string_bytes node.label)
 

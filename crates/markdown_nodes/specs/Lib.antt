@@ -9,3 +9,5 @@ pub mod Shown
 pub mod Equality
 pub mod EqualityLaws
 pub mod Kinds
+pub mod Walk
+pub mod WalkLevels

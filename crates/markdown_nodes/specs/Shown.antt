@@ -1,14 +1,15 @@
--- The text that Debug writes of a tree, which is that of a derived Debug. `escapes` are the characters beyond ASCII that stand as their Unicode escape.
+-- The text that Debug writes for a tree, the same as a derived Debug would.
+-- `escapes` are the characters beyond ASCII that are written as Unicode escapes.
 use Rattle.std.specs.Prelude.{ℕ, Bool, List, [], ◌++◌, Option, codes}
 use Rattle.std.specs.Fmt.{comma_space, decimal}
-use Rattle.positions.specs.declared.unist.Position.{Position}
-use Rattle.positions.specs.Places.{position_text}
-use Rattle.quoted.specs.TextFields.{association, maybe, option_text, resource}
+use Rattle.markdown_events.specs.declared.unist.Position.{Position}
+use Rattle.markdown_events.specs.Places.{position_text}
+use Rattle.markdown_kinds.specs.TextFields.{association, maybe, option_text, resource}
 use Rattle.markdown_kinds.specs.Fields.{align_field, code_fields, definition_fields, image_fields, image_reference_fields, item_fields, list_fields, literal_value, reference}
 use Rattle.markdown_nodes.specs.Written.{Notation, written}
 use Rattle.markdown_nodes.specs.Tree.{Label, Tree, root, paragraph, blockquote, emphasis, strong, delete, table_row, table_cell, thematic_break, «break», text, html, inline_code, inline_math, yaml, toml, heading, list, list_item, table, code, math, link, image, link_reference, image_reference, footnote_reference, footnote_definition, definition}
 
--- what stands before the children, the value or the position
+-- the text before the children, the value or the position
 abbrev pub opening : Label → List ℕ
 opening root = codes "Root { children: ["
 opening blockquote = codes "Blockquote { children: ["
@@ -75,18 +76,18 @@ fields escapes (footnote_definition identifier label) = association escapes iden
 fields escapes (definition url title identifier label) = definition_fields escapes url title identifier label
 fields escapes _ = []
 
--- what stands after the children
+-- the text after the children
 abbrev pub closing : (ℕ → Bool) → Label → Option Position → List ℕ
 closing escapes label position = content_end escapes label ++ option_text position_text position ++ fields escapes label ++ codes " }"
 
--- a node that has a position alone
+-- a node that has only a position
 abbrev pub position_alone : Label → Option Position → List ℕ
 position_alone label position = opening label ++ option_text position_text position ++ codes " }"
 
--- how Debug writes nodes
+-- the notation of Debug
 abbrev pub debug_notation : (ℕ → Bool) → Notation
 debug_notation escapes = record { opening = opening; closing = closing escapes; comma = comma_space }
 
--- one node
+-- the text of one node
 abbrev pub shown : (ℕ → Bool) → Tree → List ℕ
 shown escapes tree = written (debug_notation escapes) tree

@@ -1,10 +1,10 @@
--- Trees, without where they lie in memory: how two lists of them are joined, and their plain text.
+-- Trees, regardless of memory: labels, nodes, how two lists of nodes are joined, and the plain text of nodes.
 use Rattle.std.specs.Prelude.{ℕ, Bool, List, [], ◌++◌, Option, None, Some}
 use Rattle.markdown_events.specs.declared.infer.AlignKind.{AlignKind}
 use Rattle.markdown_kinds.specs.declared.ReferenceKind.{ReferenceKind}
-use Rattle.positions.specs.declared.unist.Position.{Position}
+use Rattle.markdown_events.specs.declared.unist.Position.{Position}
 
--- the kind of a node, with its fields but for children and position, in the order of the nodes' own
+-- the kind of a node with its fields, except children and position, in the order of the node's own fields
 pub data Label : Type 0 where
   root paragraph blockquote emphasis strong delete table_row table_cell thematic_break «break» : Label
   text html inline_code inline_math yaml toml : (value : List ℕ) → Label
@@ -26,7 +26,7 @@ pub data Trees : Type 0 where
   nothing : Trees
   node : (label : Label) (children : Trees) (position : Option Position) (rest : Trees) → Trees
 
--- one node with all that is in it
+-- one node with everything in it
 pub record Tree : Type 0 where
   pub label : Label
   pub children : Trees
@@ -36,28 +36,28 @@ pub record Tree : Type 0 where
 abbrev pub before : Tree → Trees → Trees
 before tree rest = node tree.label tree.children tree.position rest
 
--- a node alone
+-- a single node
 abbrev pub only : Tree → Trees
 only tree = before tree nothing
 
--- from the start of one to the end of the other, where both have a position
+-- from the start of one position to the end of the other, if there are both
 abbrev pub from_to : Option Position → Option Position → Option Position
 from_to (Some first) (Some last) = Some (record { start = first.start; end = last.end })
 from_to (Some first) None = None
 from_to None last = None
 
--- a last node before others: where a text meets a text, they become one
+-- a last node before others; if it and the next node are texts, they become one
 abbrev pub seam : Label → Trees → Option Position → Trees → Trees
 seam (text first) children here (node (text second) _ there rest) = node (text (first ++ second)) children (from_to here there) rest
 seam label children here rest = node label children here rest
 
--- one list of nodes before another
+-- one list of nodes before another, with texts joined where the lists meet
 abbrev pub join : Trees → Trees → Trees
 join nothing others = others
 join (node label children here nothing) others = seam label children here others
 join (node label children here (node next below there rest)) others = node label children here (join (node next below there rest) others)
 
--- the value of a literal, and nothing for any other kind
+-- the value of a literal, empty for any other kind
 abbrev pub value_of : Label → List ℕ
 value_of (text value) = value
 value_of (html value) = value
@@ -69,18 +69,18 @@ value_of (code value _ _) = value
 value_of (math value _) = value
 value_of _ = []
 
--- the values of the literals in tree order
+-- the values of the literals, in tree order
 abbrev pub plain_text : Trees → List ℕ
 plain_text nothing = []
 plain_text (node label children _ rest) = value_of label ++ plain_text children ++ plain_text rest
 
--- the value of a literal, the alternative text of an image, and nothing for any other kind
+-- the value of a literal or the alternative text of an image, empty for any other kind
 abbrev pub label_text_of : Label → List ℕ
 label_text_of (image alt _ _) = alt
 label_text_of (image_reference alt _ _ _) = alt
 label_text_of label = value_of label
 
--- the values of the literals and the alternative texts of the images in tree order: how a label reads
+-- the values of the literals and the alternative texts of the images, in tree order: the text of a label
 abbrev pub plain_label : Trees → List ℕ
 plain_label nothing = []
 plain_label (node label children _ rest) = label_text_of label ++ plain_label children ++ plain_label rest

@@ -1,4 +1,4 @@
--- What the nodes of the program are.
+-- The nodes of the program, as trees.
 use Rattle.std.specs.Prelude.{List, [], ◌∷◌, option_map, string_bytes}
 use Rattle.markdown_nodes.specs.declared.mdast.Node.{Node, Row_of-Node, end_of-Node, more_of-Node}
 use Rattle.markdown_nodes.specs.declared.mdast.Node.TheVariants as nodes
@@ -37,7 +37,7 @@ unfoldable mutual
   view (nodes.Definition node) = record { label = definition (string_bytes node.url) (option_map string_bytes node.title) (string_bytes node.identifier) (option_map string_bytes node.label); children = nothing; position = node.position }
   view (nodes.Paragraph' _ children position) = record { label = paragraph; children = row_view children; position = position }
 
-  -- nodes as a `Vec` holds them
+  -- the nodes of a `Vec`, as trees
   pub row_view : {m : _} → Row_of-Node m → Trees
   row_view end_of-Node = nothing
   row_view (more_of-Node node rest) = before (view node) (row_view rest)

@@ -1,4 +1,4 @@
-//! Laws of the definitions, each the contract of a function that takes and gives nothing.
+//! Laws of the definitions. Each is the contract of a function that takes and returns nothing.
 
 ghost use Rattle.std.specs.Prelude.{◌≡◌};
 ghost use Rattle.markdown_nodes.specs.Equality.{Tells};
@@ -14,23 +14,23 @@ use crate::mdast::{
 };
 pub use markdown_events::laws::one_forest;
 
-/// Lists of nodes may be joined from either side: texts that meet become one in any order (ours).
+/// Joining lists of nodes is associative: texts that meet become one in any order (ours).
 ///
-/// Lists of one Text each, `a`, `b` and `c`, give a list of the Text `abc` either way.
+/// Lists of one Text each, `a`, `b` and `c`, join to a list of the Text `abc` either way.
 pub fn seam()
     ensures { (a b c : Trees) → join (join a b) c ≡ join a (join b c) }
 {}
 
-/// Two nodes are equal exactly where they are of one kind and all their fields are equal,
-/// positions included (as Rust derives it).
+/// Two nodes are equal exactly if they are of one kind and all their fields are equal, positions
+/// included (as Rust derives it).
 ///
 /// Two Texts `a` at two places are not equal, and no Text is equal to an Html.
 pub fn nodes_equal()
     ensures { Tells ⟦<Node as PartialEq>⟧.eq view }
 {}
 
-/// Two structs of one kind are equal exactly where their nodes are the same: where all their fields
-/// are equal, positions included (as Rust derives it).
+/// Two structs of one kind are equal exactly if their nodes are equal: if all their fields are
+/// equal, positions included (as Rust derives it).
 ///
 /// Two Headings of depths 1 and 2 are not equal.
 pub fn structs_equal()

@@ -1,9 +1,11 @@
-//! What a markdown syntax tree is made of, and what it is made from: nodes of mdast, and, passed on
-//! from the crate `markdown_events`, points and positions of unist, messages, and the events of a
-//! tokenizer.
+//! The nodes of an mdast syntax tree. The crate also re-exports what they are built from, from
+//! `markdown_events`: points and positions of unist, messages, and the events of a tokenizer.
 #![tactic(auto)]
 
 pub mod laws;
 pub mod mdast;
+pub mod walk;
 
-pub use markdown_events::{around, decimal, event, infer, message, role, steps, text, unist};
+pub use markdown_events::{
+    around, count, decimal, event, infer, message, role, steps, text, unist,
+};

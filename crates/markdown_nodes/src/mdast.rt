@@ -1,7 +1,7 @@
-//! The nodes of the syntax tree, as mdast has them.
+//! The nodes of the syntax tree, as in mdast.
 //!
 //! A `Node` is one of 29 kinds. Fifteen are parents, which have children; eight are literals, which
-//! have a value; six are neither. Each has a position in the document, or none where it was generated.
+//! have a value; six are neither. Each has a position in the document, or none if it was generated.
 //! The kinds are those of `markdown_kinds`; here the children of a parent are nodes.
 
 ghost use Rattle.std.specs.Prelude.{◌≡◌, [], IfOk, IsFalse, IsTrue, option_map, string_bytes};
@@ -19,11 +19,11 @@ mod reading;
 use crate::unist::Position;
 pub use escapes::escapes_of;
 pub use markdown_events::infer::AlignKind;
+pub use markdown_kinds::quoted::quote;
 pub use markdown_kinds::{
     Break, Code, Definition, FootnoteReference, Html, Image, ImageReference, InlineCode,
     InlineMath, Math, ReferenceKind, Text, ThematicBreak, Toml, Yaml,
 };
-pub use quoted::quote;
 use std::alloc::{AllocError, Global};
 use std::{fmt, mem};
 
@@ -99,7 +99,7 @@ impl Node {
     ghost use Rattle.markdown_nodes.specs.Shown.{shown};
     ghost use Rattle.markdown_nodes.specs.Lends.{LendsChildren, LendsPosition, LendsSlot};
 
-    /// The children of a parent, in order, and `None` for a node that is no parent.
+    /// Returns the children of a parent, in order, or `None` for a node that is not a parent.
     ///
     /// For a paragraph without children it is `Some` of an empty list; for a text it is `None`.
     pub fn children(&self) -> Option<&Vec<Node>>
@@ -138,9 +138,9 @@ impl Node {
         }
     }
 
-    /// The children of a node, in order, and an empty slice for a node that is no parent.
+    /// Returns the children of a node, in order, or an empty slice for a node that is not a parent.
     ///
-    /// For a list of two items it has the two items, and for a text it is empty, as it is for a
+    /// For a list of two items the slice has the two items. For a text it is empty, as for a
     /// paragraph without children.
     pub fn child_nodes(&self) -> &[Node]
         ensures { result.now ≡ nodes_in self.now }
@@ -151,9 +151,9 @@ impl Node {
         }
     }
 
-    /// The children of a parent, to be changed, and `None` for a node that is no parent.
+    /// Returns the children of a parent for changing, or `None` for a node that is not a parent.
     ///
-    /// What is written through it becomes the node's children, and nothing else changes.
+    /// What is written through the reference becomes the node's children, and nothing else changes.
     /// `children.push(node)?` adds a last child.
     pub fn children_mut(&mut self) -> Option<&mut Vec<Node>>
         ensures* writes_back { sem 𝓛 (LendsChildren self.entry result) }
@@ -192,7 +192,7 @@ impl Node {
         }
     }
 
-    /// The position of the node in the document, and `None` for a generated node.
+    /// Returns the position of the node in the document, or `None` for a generated node.
     ///
     /// The root of the document `a` has a position that is printed as `1:1-1:2 (0-1)`.
     pub fn position(&self) -> Option<&Position>
@@ -201,7 +201,7 @@ impl Node {
         self.optional_position().as_ref()
     }
 
-    /// The position of the node, as its kind keeps it.
+    /// Returns the position field of the node.
     fn optional_position(&self) -> &Option<Position>
         ensures { result.now ≡ position_of self.now }
     {
@@ -238,11 +238,12 @@ impl Node {
         }
     }
 
-    /// The position of the node in the document, to be changed, and `None` for a generated node.
+    /// Returns the position of the node for changing, or `None` for a generated node.
     ///
-    /// What is written through it becomes the node's position, and nothing else changes. To a node
-    /// without a position, [`position_set`](Node::position_set) gives one. Where `node.position_mut()`
-    /// is `Some(position)`, `position.end = end` lets the node end at the point `end`.
+    /// What is written through the reference becomes the node's position, and nothing else changes.
+    /// Use [`position_set`](Node::position_set) for a node without a position. If
+    /// `node.position_mut()` is `Some(position)`, then `position.end = end` makes the node end at
+    /// the point `end`.
     pub fn position_mut(&mut self) -> Option<&mut Position>
         ensures* writes_back { sem 𝓛 (LendsPosition self.entry result) }
         ensures value { option_map (λ p. p.now) result ≡ position_of self.old }
@@ -259,7 +260,8 @@ impl Node {
         *self.position_slot() = position;
     }
 
-    /// The place of the node's position, to be changed. What is written to it becomes the position.
+    /// Returns the position field of the node for changing. What is written to it becomes the
+    /// position.
     fn position_slot(&mut self) -> &mut Option<Position>
         ensures* writes_back { sem 𝓛 (LendsSlot self.entry result) }
         ensures value { result.now ≡ position_of self.old }
@@ -298,11 +300,11 @@ impl Node {
         }
     }
 
-    /// The plain text of the node: the values of all literals in it, itself included, in tree order
-    /// (as `to_string` of the crate `markdown` gives it).
+    /// Returns the plain text of the node: the values of all literals in it, itself included, in
+    /// tree order (as `to_string` of the crate `markdown`).
     ///
-    /// An image is no literal, so its alternative text is left out. A paragraph of the text `a` and
-    /// an emphasis of the text `b` gives `ab`. The only error is that memory ran out.
+    /// An image is not a literal, so its alternative text is left out. A paragraph with the text
+    /// `a` and an emphasis of the text `b` returns `ab`. The only error is that memory ran out.
     pub fn to_string(&self, alloc: Global) -> Result<String, AllocError>
         ensures { IfOk result (λ text. string_bytes text ≡ plain_text (only (view self.now))) }
     {
@@ -311,12 +313,12 @@ impl Node {
         Ok(text)
     }
 
-    /// The text that `{:?}` writes, as a string.
+    /// Returns the text that `{:?}` writes, as a string.
     ///
-    /// It is that of a derived Debug, with each position as `Some(1:1-1:3 (0-2))`. The only error is
-    /// that memory ran out.
+    /// It is that of a derived Debug, with each position as `Some(1:1-1:3 (0-2))`. The only error
+    /// is that memory ran out.
     ///
-    /// A text `a` without a position gives `Text { value: "a", position: None }`.
+    /// A text `a` without a position returns `Text { value: "a", position: None }`.
     pub fn to_debug_string(&self, alloc: Global) -> Result<String, AllocError>
         ensures { IfOk result (λ text. (escapes : ℕ → Bool) × (string_bytes text ≡ shown escapes (view self.now))) }
     {
@@ -329,16 +331,17 @@ impl Node {
         format!(in alloc; "{escaped:?}")
     }
 
-    /// A copy of the node and of everything in it.
+    /// Returns a copy of the node and of everything in it.
     ///
-    /// The copy equals the node: `node.clone(alloc)? == node`. The only error is that memory ran out.
+    /// The copy equals the node: `node.clone(alloc)? == node`. The only error is that memory ran
+    /// out.
     pub fn clone(&self, alloc: Global) -> Result<Node, AllocError>
         ensures { IfOk result (λ copy. view copy ≡ view self.now) }
     {
         copying::copy(self, alloc)
     }
 
-    /// Exchanges the children for the nodes of a level, where there are children, and says whether it
+    /// Swaps the children with the nodes of a level, if the node is a parent. Returns whether it
     /// did.
     fn swap_children(&mut self, level: &mut Vec<Node>) -> bool
         ensures some { IsTrue result → Exchanged self.old level.old.items self.new level.new.items }
@@ -354,7 +357,7 @@ impl Node {
         true
     }
 
-    /// Frees the last children, as long as they are no parents.
+    /// Frees the last children, as long as they are not parents.
     fn drop_last_leaves(&mut self)
         ensures { WithoutLast (nodes_in self.old) (nodes_in self.new) }
     {
@@ -363,8 +366,8 @@ impl Node {
         }
     }
 
-    /// Frees a node without children: a text, as most nodes are, here, and the other kinds by a function
-    /// that is not inlined.
+    /// Frees a node without children. A text, the most frequent kind, is freed here; the other
+    /// kinds are freed in a function that is not inlined.
     fn drop_childless(self)
         requires { nodes_in self ≡ [] }
     {
@@ -414,7 +417,7 @@ impl Node {
     }
 }
 
-/// Frees the last nodes of a list, as long as they are no parents.
+/// Frees the last nodes of a list, as long as they are not parents.
 fn drop_leaves(nodes: &mut Vec<Node>)
     ensures { WithoutLast nodes.old.items nodes.new.items }
 {
@@ -429,9 +432,9 @@ fn drop_leaves(nodes: &mut Vec<Node>)
     }
 }
 
-/// Frees a tree of any depth, in a loop, and asks for no memory. On the way down a node and its
-/// children change places: the nodes beside it become its children, and it waits in the place of its
-/// first child. Leaves at the end of a list are freed where they stand.
+/// Frees a tree of any depth in a loop, without allocating memory. On the way down a node and its
+/// children change places: its siblings become its children, and it waits in the place of its first
+/// child. Leaves at the end of a list are freed in place.
 impl Drop for Node {
     fn drop(self) {
         let mut node = self;
@@ -460,8 +463,8 @@ impl Drop for Node {
     }
 }
 
-/// `{:?}` writes the form of a derived Debug on one line, whatever else the formatter asks for. It makes
-/// no call for each level, and fails where there is no memory for its stack.
+/// `{:?}` writes the form of a derived Debug on one line, whatever else the formatter requires. It
+/// does not recurse, and fails if there is no memory for its stack.
 impl fmt::Debug for Node {
     ghost use Rattle.std.specs.Fmt.{WritesOnOk};
     ghost use Rattle.std.specs.Prelude.{ℕ, Bool};

@@ -1,9 +1,9 @@
--- Which constructs CommonMark has, which GFM, and which there are.
+-- Sets of constructs: those of CommonMark, those of GFM, and all of them.
 use Rattle.std.specs.Prelude.{true, false}
 use Rattle.markdown_options.specs.declared.Constructs.{Constructs}
 use Rattle.markdown_options.specs.declared.ParseOptions.{ParseOptions}
 
--- those of CommonMark
+-- the constructs of CommonMark
 abbrev pub commonmark : Constructs
 commonmark = record {
   attention = true;
@@ -37,7 +37,7 @@ commonmark = record {
   thematic_break = true;
 }
 
--- those of GFM besides
+-- the constructs of GFM, which include those of CommonMark
 abbrev pub gfm : Constructs
 gfm = record commonmark {
   gfm_autolink_literal = true;
@@ -48,7 +48,7 @@ gfm = record commonmark {
   gfm_task_list_item = true;
 }
 
--- all: frontmatter and math besides
+-- all constructs: those of GFM, frontmatter and math
 abbrev pub everything : Constructs
 everything = record gfm {
   frontmatter = true;
@@ -56,7 +56,8 @@ everything = record gfm {
   math_text = true;
 }
 
--- these constructs, and a single tilde or dollar where they are among them; references need definitions
+-- options with these constructs; where they include strikethrough and math, one tilde or one dollar is enough;
+-- references need definitions
 abbrev pub options : Constructs → ParseOptions
 options constructs = record {
   constructs = constructs;

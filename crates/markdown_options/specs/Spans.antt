@@ -1,11 +1,11 @@
--- Which spans a document can have, by the constructs that it is read with.
+-- The spans that a document can have, by the constructs that are on.
 use Rattle.std.specs.Prelude.{Bool, List, [], true, ◌&&◌, ◌∷◌, ◌≡◌}
 use Rattle.markdown_events.specs.declared.event.Event.{Event}
 use Rattle.markdown_events.specs.declared.event.Name.{Name}
 use Rattle.markdown_events.specs.declared.event.Name.TheVariants.{Autolink, BlockQuote, CharacterEscape, CharacterReference, CodeFenced, CodeIndented, CodeText, Definition, Emphasis, Frontmatter, GfmAutolinkLiteralEmail, GfmAutolinkLiteralMailto, GfmAutolinkLiteralProtocol, GfmAutolinkLiteralWww, GfmAutolinkLiteralXmpp, GfmFootnoteCall, GfmFootnoteDefinition, GfmStrikethrough, GfmTable, GfmTaskListItemCheck, HardBreakEscape, HardBreakTrailing, HeadingAtx, HeadingSetext, HtmlFlow, HtmlText, Image, Link, ListItem, ListOrdered, ListUnordered, MathFlow, MathText, Strong, ThematicBreak}
 use Rattle.markdown_options.specs.declared.Constructs.{Constructs}
 
--- the construct is on of which a span of this name is. Names that are not here are of no construct, or stand within these spans
+-- the construct of a span with this name is on. The names not listed belong to no construct, or occur only within the listed spans
 abbrev pub is_on : Constructs → Name → Bool
 is_on c Autolink = c.autolink
 is_on c BlockQuote = c.block_quote
@@ -44,7 +44,7 @@ is_on c Strong = c.attention
 is_on c ThematicBreak = c.thematic_break
 is_on c _ = true
 
--- each event is one of such a span
+-- the construct of each event's span is on
 abbrev pub AreOn : Constructs → List Event → Type 0
 AreOn c [] = Unit {0}
 AreOn c (e ∷ es) = (is_on c e.name ≡ true) × AreOn c es

@@ -1,13 +1,13 @@
-//! Which constructs of markdown a document is read with. Names and defaults are those of the crate
+//! Which constructs of markdown are read in a document. Names and defaults are those of the crate
 //! `markdown`, without MDX.
 #![tactic(auto)]
 
 ghost use Rattle.std.specs.Prelude.{◌≡◌};
 ghost use Rattle.markdown_options.specs.Options.{commonmark, everything, gfm, options};
 
-/// Which constructs there are.
+/// Which constructs are on.
 ///
-/// `Constructs::default()` has those of CommonMark, and `Constructs::gfm()` those of GFM besides.
+/// `Constructs::default()` has those of CommonMark, and `Constructs::gfm()` also those of GFM.
 /// Frontmatter and math are in neither.
 #[derive(Clone, Copy, PartialEq, Eq, Debug)]
 pub struct Constructs {
@@ -17,7 +17,7 @@ pub struct Constructs {
     pub autolink: bool,
     /// Block quotes: `> a`.
     pub block_quote: bool,
-    /// Escapes of punctuation: `\\*`.
+    /// Escapes of punctuation: `\*`.
     pub character_escape: bool,
     /// Character references: `&amp;`.
     pub character_reference: bool,
@@ -25,27 +25,27 @@ pub struct Constructs {
     pub code_indented: bool,
     /// Code between fences of backticks or tildes.
     pub code_fenced: bool,
-    /// Code in a text: `` `a` ``.
+    /// Code in text: `` `a` ``.
     pub code_text: bool,
     /// Definitions of links: `[a]: b`.
     pub definition: bool,
     /// Frontmatter at the start of a document, between lines of `---` or `+++`.
     pub frontmatter: bool,
-    /// Addresses that stand in the text as they are: `www.a.b`, `https://a.b`, `a@b.c` (GFM).
+    /// Addresses without brackets in text: `www.a.b`, `https://a.b`, `a@b.c` (GFM).
     pub gfm_autolink_literal: bool,
     /// Definitions of footnotes: `[^a]: b` (GFM).
     pub gfm_footnote_definition: bool,
     /// Calls of footnotes: `[^a]` (GFM).
     pub gfm_label_start_footnote: bool,
-    /// Struck text: `~a~`, `~~a~~` (GFM).
+    /// Strikethrough: `~a~`, `~~a~~` (GFM).
     pub gfm_strikethrough: bool,
     /// Tables (GFM).
     pub gfm_table: bool,
     /// Marks of tasks: `* [x] a` (GFM).
     pub gfm_task_list_item: bool,
-    /// A hard break by a backslash at the end of a line.
+    /// Hard breaks by a backslash at the end of a line.
     pub hard_break_escape: bool,
-    /// A hard break by two spaces at the end of a line.
+    /// Hard breaks by two spaces at the end of a line.
     pub hard_break_trailing: bool,
     /// Headings that begin with number signs: `# a`.
     pub heading_atx: bool,
@@ -53,7 +53,7 @@ pub struct Constructs {
     pub heading_setext: bool,
     /// Blocks of HTML.
     pub html_flow: bool,
-    /// HTML in a text.
+    /// HTML in text.
     pub html_text: bool,
     /// The start of an image: `![`.
     pub label_start_image: bool,
@@ -65,15 +65,15 @@ pub struct Constructs {
     pub list_item: bool,
     /// Math between fences of dollars.
     pub math_flow: bool,
-    /// Math in a text: `$a$`.
+    /// Math in text: `$a$`.
     pub math_text: bool,
     /// Thematic breaks: `***`.
     pub thematic_break: bool,
 }
 
 impl Constructs {
-    /// The constructs of CommonMark and of GFM: autolink literals, footnotes, struck text, tables and
-    /// the marks of tasks.
+    /// Returns the constructs of CommonMark and of GFM: autolink literals, footnotes,
+    /// strikethrough, tables and the marks of tasks.
     ///
     /// `Constructs::gfm().gfm_table` is true.
     pub fn gfm() -> Constructs
@@ -90,7 +90,7 @@ impl Constructs {
         }
     }
 
-    /// All constructs: those of GFM, frontmatter and math.
+    /// Returns all constructs: those of GFM, frontmatter and math.
     ///
     /// `Constructs::everything().math_text` is true.
     pub fn everything() -> Constructs
@@ -149,20 +149,20 @@ impl Default for Constructs {
 /// `ParseOptions::default()` reads CommonMark, and `ParseOptions::gfm()` GFM.
 #[derive(Clone, Copy, PartialEq, Eq, Debug)]
 pub struct ParseOptions {
-    /// Which constructs there are.
+    /// Which constructs are on.
     pub constructs: Constructs,
-    /// Whether a single tilde strikes a text, too: `~a~` (as GitHub does).
+    /// Whether a single tilde makes strikethrough, too: `~a~` (as on GitHub).
     pub gfm_strikethrough_single_tilde: bool,
-    /// Whether a single dollar begins math in a text, too: `$a$`.
+    /// Whether a single dollar begins math in text, too: `$a$`.
     pub math_text_single_dollar: bool,
-    /// Whether references with a label of their own, and calls of footnotes, are read where nothing defines
-    /// them, too: `[a][b]`, `[a][]`, `[^a]`. A linter wants to see them. In CommonMark and GFM they are text
-    /// (ours).
+    /// Whether references with a label of their own, and calls of footnotes, are also read if
+    /// nothing defines them: `[a][b]`, `[a][]`, `[^a]`. Linters need this. In CommonMark and GFM
+    /// they are text (ours).
     pub undefined_references: bool,
 }
 
 impl ParseOptions {
-    /// How GFM is read.
+    /// Returns the options of GFM.
     ///
     /// `ParseOptions::gfm().constructs` is `Constructs::gfm()`.
     pub fn gfm() -> ParseOptions
@@ -177,7 +177,7 @@ impl ParseOptions {
     }
 }
 
-/// How CommonMark is read.
+/// The options of CommonMark.
 impl Default for ParseOptions {
     ghost is_default = { λ read. read ≡ options commonmark };
 

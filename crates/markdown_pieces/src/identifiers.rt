@@ -1,4 +1,4 @@
-//! What a document defines.
+//! The identifiers that a document defines.
 
 use markdown_events::text::normalize_identifier;
 use std::alloc::{AllocError, Global};
@@ -10,7 +10,7 @@ const LONGEST_LABEL: usize = 999;
 
 /// The identifiers that a document defines, for links and images, and for calls of footnotes.
 ///
-/// Labels match where their identifiers are the same: by `markdown_events::text::normalize_identifier`
+/// Labels match if their identifiers are the same, by `markdown_events::text::normalize_identifier`
 /// (CommonMark, matching of labels).
 #[derive(Drop)]
 pub struct Identifiers {
@@ -21,7 +21,7 @@ pub struct Identifiers {
 }
 
 impl Identifiers {
-    /// None.
+    /// Returns the empty sets.
     pub fn new(alloc: Global) -> Identifiers {
         Identifiers {
             definitions: BTreeSet::new(alloc),
@@ -39,9 +39,10 @@ impl Identifiers {
         insert(alloc, &mut self.footnotes, label)
     }
 
-    /// Whether a definition has a label that matches this one. The only error is that memory ran out.
+    /// Whether a definition has a label that matches this one. The only error is that memory ran
+    /// out.
     ///
-    /// With `[a b]: c` in the document it is true of `A⏎B`.
+    /// With `[a b]: c` in the document it is true for `A⏎B`.
     pub fn defines(&self, alloc: Global, label: &[u8]) -> Result<bool, AllocError> {
         contains(alloc, &self.definitions, label)
     }
@@ -49,13 +50,13 @@ impl Identifiers {
     /// Whether a footnote definition has a label that matches this one, without the caret. The only
     /// error is that memory ran out.
     ///
-    /// With `[^a]: b` in the document it is true of `A`.
+    /// With `[^a]: b` in the document it is true for `A`.
     pub fn defines_footnote(&self, alloc: Global, label: &[u8]) -> Result<bool, AllocError> {
         contains(alloc, &self.footnotes, label)
     }
 }
 
-/// Adds the identifier of a label. One that is not UTF-8 has none.
+/// Adds the identifier of a label. A label that is not UTF-8 has none.
 fn insert(alloc: Global, set: &mut BTreeSet<String>, label: &[u8]) -> Result<(), AllocError> {
     if let Ok(label) = str::from_utf8(label) {
         set.insert(normalize_identifier(alloc, label)?)?;
@@ -63,7 +64,7 @@ fn insert(alloc: Global, set: &mut BTreeSet<String>, label: &[u8]) -> Result<(),
     Ok(())
 }
 
-/// Whether the identifier of a label is there. An empty one is no identifier.
+/// Whether the set has the identifier of a label. An empty one is not an identifier.
 fn contains(alloc: Global, set: &BTreeSet<String>, label: &[u8]) -> Result<bool, AllocError> {
     if set.is_empty() || label.len() > 4 * LONGEST_LABEL {
         return Ok(false);

@@ -1,5 +1,5 @@
-//! What the block structure of a document comes to: pieces, in the order of the document, and the
-//! identifiers that it defines.
+//! The result of reading the block structure of a document: pieces, in the order of the document,
+//! and the identifiers that it defines.
 //!
 //! `markdown_flow` makes them, and `markdown_text` reads the inlines in them.
 #![tactic(auto)]

@@ -11,7 +11,7 @@ pub enum PieceKind {
     Enter(Name),
     /// A span ends here. The piece has no length.
     Exit(Name),
-    /// A span with no span in it.
+    /// A span that contains no span.
     Token(Name),
     /// The sequence that opens an ATX heading: one to six number signs. In the events it is a
     /// `HeadingAtxSequence`.
@@ -20,31 +20,32 @@ pub enum PieceKind {
     LineEnding,
     /// The end of a blank line, or of a line that has only markers of containers.
     BlankLineEnding,
-    /// The part of a line that belongs to a content whose inlines are still to be read.
+    /// The part of a line that belongs to a content whose inlines are not yet read.
     Text,
     /// The prefix of a block quote: a span with its marker, and the white space after that, if there is any.
     BlockQuotePrefix,
 }
 
-/// A piece of a document. It begins where the piece before it ends, and the first one at the start of
-/// the document, so the pieces tile the document (ours).
+/// A piece of a document. It begins where the piece before it ends, and the first one begins at the
+/// start of the document, so the pieces tile the document (ours).
 ///
-/// Of `# a` the pieces are `Enter(HeadingAtx)`, `OpeningSequence` up to 1, `Token(SpaceOrTab)` up to 2,
-/// `Enter(HeadingAtxText)`, `Text` up to 3, `Exit(HeadingAtxText)` and `Exit(HeadingAtx)`.
+/// The pieces of `# a` are `Enter(HeadingAtx)`, `OpeningSequence` up to 1, `Token(SpaceOrTab)` up
+/// to 2, `Enter(HeadingAtxText)`, `Text` up to 3, `Exit(HeadingAtxText)` and `Exit(HeadingAtx)`.
 #[derive(Clone, Copy, PartialEq, Eq, Debug)]
 pub struct Piece {
     /// What it is.
     pub kind: PieceKind,
     /// Where it ends: an offset, which counts bytes from 0.
     pub end: usize,
-    /// How many columns of the tab at its end belong to it, where it ends within a tab, and else 0.
+    /// How many columns of the tab at its end belong to it, if it ends within a tab, and otherwise
+    /// 0.
     pub virtual_spaces: usize,
 }
 
 impl Piece {
-    /// A piece that ends before a byte.
+    /// Returns a piece that ends before a byte.
     ///
-    /// `Piece::new(PieceKind::Text, 3)` ends at offset 3, within no tab.
+    /// `Piece::new(PieceKind::Text, 3)` ends at offset 3, not within a tab.
     pub fn new(kind: PieceKind, end: usize) -> Piece
         ensures { result ≡ record { kind = kind; end = end; virtual_spaces = 0 } }
     {

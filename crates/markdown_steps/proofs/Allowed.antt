@@ -15,7 +15,7 @@ use Rattle.markdown_grammar.specs.Grammar.{ContentModel, character_reference, co
 use Rattle.markdown_grammar.specs.Items.{Items, item, kinds, none, same_part, ◌then◌}
 use Rattle.markdown_grammar.specs.Items.{is_one_of, is_part}
 use Rattle.markdown_steps.specs.SummaryNodes.{nodes}
-use Rattle.markdown_steps.specs.Summaries.{Summary, FoundPart, PartSummary, Path, first_part, kept_at, kept_from, path_to}
+use Rattle.markdown_steps.specs.Summaries.{Summary, FoundPart, PartSummary, PartPath, first_part, kept_at, kept_from, path_to}
 use Rattle.markdown_grammar.specs.Attributes.{Place, inherited_after}
 use Rattle.markdown_grammar.specs.Grammar.{Rule, any_item, keeps}
 use Rattle.markdown_grammar.specs.Document.{Source}
@@ -63,7 +63,7 @@ picked None kept true x h = refl
 picked None kept false x h = refl
 picked (Some k) kept same x h = h
 
-pub stood-with : (s : Source) (p : Place) (q : Part) (what : ItemKind) (a b : Point) (i : Summary) (old : Path → Option PartSummary) → is_some (part_with s p what a b i old (path_to q)) ≡ (is_some (old (path_to q)) || is_part q what)
+pub stood-with : (s : Source) (p : Place) (q : Part) (what : ItemKind) (a b : Point) (i : Summary) (old : PartPath → Option PartSummary) → is_some (part_with s p what a b i old (path_to q)) ≡ (is_some (old (path_to q)) || is_part q what)
 stood-with s p q what a b i old = picked (old (path_to q)) (old (path_to q)) (is_part q what) (kept_from s p q a b i.nodes) refl
 
 -- and what must stand does

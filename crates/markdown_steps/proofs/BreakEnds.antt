@@ -6,8 +6,8 @@ use Rattle.markdown_events.specs.Slices.{to_unist}
 use Rattle.markdown_steps.specs.ChildFacts.{child_facts_of}
 use Rattle.markdown_nodes.specs.Tree.{Label, Trees, from_to, join, node, nothing, seam, text}
 use Rattle.markdown_events.specs.declared.event.Point.{Point}
-use Rattle.positions.specs.declared.unist.Point.{Point as UnistPoint}
-use Rattle.positions.specs.declared.unist.Position.{Position}
+use Rattle.markdown_events.specs.declared.unist.Point.{Point as UnistPoint}
+use Rattle.markdown_events.specs.declared.unist.Position.{Position}
 use Rattle.markdown_grammar.specs.Accepted.{ends_with_break}
 use Rattle.markdown_steps.specs.Compiler.{ending_at, lengthened}
 use Rattle.markdown_grammar.specs.Items.{Items, item, none, ◌then◌}

@@ -11,7 +11,7 @@ use Rattle.markdown_events.specs.declared.event.Point.{Point}
 use Rattle.markdown_events.specs.declared.role.ItemKind.{ItemKind}
 use Rattle.markdown_events.specs.declared.role.Role.{Role}
 use Rattle.markdown_nodes.specs.Tree.{Trees}
-use Rattle.markdown_steps.proofs.Booleans.{and-left}
+use Rattle.markdown_events.proofs.Booleans.{and-left}
 use Rattle.markdown_steps.proofs.ColumnKinds.{columns_past}
 use Rattle.markdown_steps.proofs.Compiled.{all_but_last, eval-is, finish, start}
 use Rattle.markdown_steps.proofs.EventRuns.{at, the_open}

@@ -8,7 +8,7 @@ use Rattle.markdown_events.specs.Names.{role_of}
 use Rattle.markdown_events.specs.Spread.{align, align_kind_of, begins_with, entries, first_row, last_first, is_delimiter_marker}
 use Rattle.markdown_events.specs.declared.infer.AlignKind.{AlignKind}
 use Rattle.markdown_events.specs.declared.role.Role.{Role}
-use Rattle.markdown_steps.proofs.Booleans.{first-of, second-of, third-of}
+use Rattle.markdown_events.proofs.Booleans.{first-of, second-of, third-of}
 use Rattle.markdown_steps.proofs.SiblingMarks.{kind-is, marks}
 use Rattle.markdown_steps.specs.Columns.{Columns, after, columns_entered, columns_left, inside, no_columns}
 use Rattle.markdown_grammar.specs.Items.{is_table}

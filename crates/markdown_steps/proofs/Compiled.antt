@@ -5,8 +5,8 @@ use Rattle.markdown_events.specs.Forest.{Forest, is_well_formed, events_of}
 use Rattle.markdown_nodes.specs.Tree.{Tree, Trees, root}
 use Rattle.markdown_events.specs.declared.event.Event.{Event}
 use Rattle.markdown_events.specs.declared.event.Point.{Point}
-use Rattle.positions.specs.declared.unist.Position.{Position}
-use Rattle.markdown_steps.proofs.Booleans.{and-both, and-left, and-right}
+use Rattle.markdown_events.specs.declared.unist.Position.{Position}
+use Rattle.markdown_events.proofs.Booleans.{and-both, and-left, and-right}
 use Rattle.markdown_steps.proofs.ColumnKinds.{columns_past}
 use Rattle.markdown_steps.proofs.Decorating.{nodes-are}
 use Rattle.markdown_steps.proofs.EventRuns.{at, over, run-of}

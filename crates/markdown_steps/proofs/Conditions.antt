@@ -2,7 +2,7 @@
 use Rattle.std.proofs.Common.{◌≡◌, ◌∙◌, Bool, true, false, ◌&&◌, not, refl, sym}
 use Rattle.std.specs.Prelude.{is_some}
 use Rattle.markdown_events.specs.Forest.{Forest, is_well_formed}
-use Rattle.markdown_steps.proofs.Booleans.{and-left, and-right, and-both, first-of, second-of, third-of, all-three}
+use Rattle.markdown_events.proofs.Booleans.{and-left, and-right, and-both, first-of, second-of, third-of, all-three}
 use Rattle.markdown_grammar.specs.Accepted.{Accepted, Occurrence, all_pass, ends_a_break, ends_with_break, has_its_byte, has_its_parts, has_its_value, contains_no_open_break, is_no_inner_table, its_items_conform}
 use Rattle.markdown_steps.specs.OneTest.{accepted, fits, item_may_begin, item_may_end}
 use Rattle.markdown_grammar.specs.Attributes.{mark}

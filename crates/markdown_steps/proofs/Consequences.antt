@@ -8,8 +8,8 @@ use Rattle.markdown_steps.specs.ChildFacts.{ChildFacts, child_facts_of}
 use Rattle.markdown_nodes.specs.Tree.{Label, Trees, join, node, nothing, only, paragraph, seam, text}
 use Rattle.markdown_events.specs.declared.event.Point.{Point}
 use Rattle.markdown_events.specs.declared.role.ItemKind.{ItemKind}
-use Rattle.positions.specs.declared.unist.Point.{Point as UnistPoint}
-use Rattle.positions.specs.declared.unist.Position.{Position}
+use Rattle.markdown_events.specs.declared.unist.Point.{Point as UnistPoint}
+use Rattle.markdown_events.specs.declared.unist.Position.{Position}
 use Rattle.markdown_steps.proofs.Decorating.{nodes-are}
 use Rattle.markdown_steps.specs.Consequences.{Everywhere}
 use Rattle.markdown_grammar.specs.Document.{value_read}
@@ -21,7 +21,7 @@ use Rattle.markdown_steps.specs.SummaryNodes.{autolink, media_of}
 use Rattle.markdown_grammar.specs.Decorated.{node_at}
 use Rattle.markdown_grammar.specs.Nodes.{frontmatter}
 use Rattle.markdown_steps.specs.SummaryNodes.{node_of, nodes}
-use Rattle.markdown_steps.specs.Summaries.{Summary, PartSummary, Path, address, count_of, summary_of, into, itself, path_to}
+use Rattle.markdown_steps.specs.Summaries.{Summary, PartSummary, PartPath, address, count_of, summary_of, into, itself, path_to}
 use Rattle.markdown_grammar.specs.Attributes.{Place, line_ending_is_text_after, inherited_after, inherited_in, inherited_at_root}
 use Rattle.markdown_grammar.specs.Document.{Source}
 use Rattle.markdown_grammar.specs.Tasks.{after_blank, task, task_if, trimmed_text}
@@ -202,7 +202,7 @@ own-after : (Is : Label → Position → Type 0) (s : Source) (p : Place) (what 
 own-after Is s p what xs own = own-elsewhere Is s p.in_table (line_ending_is_text_after what p.line_endings) p.line_endings (option_or (marker_of what) p.marker) p.marker xs own
 
 -- if the own nodes of items are so, then all of their nodes are
-pub nodes-everywhere : (Is : Label → Position → Type 0) → AsksNoMore Is → (s : Source) (w : Path) (p : Place) (xs : Items) → OwnNodes Is s p xs → Everywhere (At Is) (nodes s w p xs)
+pub nodes-everywhere : (Is : Label → Position → Type 0) → AsksNoMore Is → (s : Source) (w : PartPath) (p : Place) (xs : Items) → OwnNodes Is s p xs → Everywhere (At Is) (nodes s w p xs)
 nodes-everywhere Is asks s w p none own = tt
 nodes-everywhere Is asks s itself p (item (content contents.HardBreak) a b d i (item (content contents.LineEnding) a' b' d' i' rest)) own =
     join-everywhere Is asks (node_at tree.«break» nothing a b') (nodes s itself p rest) (bare-so Is asks tree.«break» a b' refl).so (nodes-everywhere Is asks s itself p rest own.2.2)

@@ -7,9 +7,9 @@ use Rattle.markdown_events.specs.Slices.{between}
 use Rattle.markdown_steps.specs.ChildFacts.{ChildFacts, child_facts_of}
 use Rattle.markdown_nodes.specs.Tree.{Label, only}
 use Rattle.markdown_events.specs.declared.role.ItemKind.{ItemKind}
-use Rattle.positions.specs.declared.unist.Position.{Position}
+use Rattle.markdown_events.specs.declared.unist.Position.{Position}
 use Rattle.markdown_steps.proofs.Allowed.{stood-is}
-use Rattle.markdown_steps.proofs.Booleans.{and-left, and-right}
+use Rattle.markdown_events.proofs.Booleans.{and-left, and-right}
 use Rattle.markdown_steps.proofs.Conditions.{passing}
 use Rattle.markdown_steps.proofs.Consequences.{At, IfAsked, OwnNodes, asked_label, everywhere-then, inner_from, is_asked_of, meaning-everywhere}
 use Rattle.markdown_grammar.specs.Accepted.{Accepted, Occurrence, all_pass, has_its_parts, has_its_value}

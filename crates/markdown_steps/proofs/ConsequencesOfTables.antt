@@ -12,8 +12,8 @@ use Rattle.markdown_events.specs.declared.event.Point.{Point}
 use Rattle.markdown_events.specs.declared.infer.AlignKind.{AlignKind}
 use Rattle.markdown_events.specs.declared.role.ItemKind.{ItemKind}
 use Rattle.markdown_events.specs.declared.role.Role.{Role}
-use Rattle.positions.specs.declared.unist.Position.{Position}
-use Rattle.markdown_steps.proofs.Booleans.{first-of, second-of, third-of}
+use Rattle.markdown_events.specs.declared.unist.Position.{Position}
+use Rattle.markdown_events.proofs.Booleans.{first-of, second-of, third-of}
 use Rattle.markdown_steps.proofs.Consequences.{At, IfAsked, OwnNodes, asked_label, everywhere-then, inner_from, is_asked_of, meaning-everywhere}
 use Rattle.markdown_grammar.specs.Accepted.{Accepted}
 use Rattle.markdown_steps.specs.Consequences.{DeclaresColumns, Everywhere, HasColumnsOf, SomeSpan, cell_values, cell_values_in_row}

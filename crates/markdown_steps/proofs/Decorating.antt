@@ -4,7 +4,7 @@ use Rattle.std.specs.Prelude.{if◌then◌else◌, is_some, option_map, unwrap_o
 use Rattle.std.specs.Option.{option_and_then, option_or}
 use Rattle.markdown_events.specs.Forest.{Forest}
 use Rattle.markdown_steps.specs.ChildFacts.{child_facts_of}
-use Rattle.markdown_texts.specs.Texts.{fold}
+use Rattle.markdown_events.specs.Texts.{fold}
 use Rattle.markdown_nodes.specs.Tree.{Trees, join, nothing, plain_label, plain_text}
 use Rattle.markdown_events.specs.declared.event.Point.{Point}
 use Rattle.markdown_events.specs.declared.role.ItemKind.{ItemKind}
@@ -20,7 +20,7 @@ use Rattle.markdown_steps.specs.SummaryNodes.{media_of, reference_kind_of}
 use Rattle.markdown_grammar.specs.Decorated.{node_at}
 use Rattle.markdown_grammar.specs.Nodes.{Span, decorate}
 use Rattle.markdown_steps.specs.SummaryNodes.{nodes}
-use Rattle.markdown_steps.specs.Summaries.{Summary, PartSummary, Path, FoundPart, address, count, count_of, first_part, identifier_of, summary_of, into, itself, kept_from, named, path_through, path_to, stood, stretch_at, text_of, words, words_of}
+use Rattle.markdown_steps.specs.Summaries.{Summary, PartSummary, PartPath, FoundPart, address, count, count_of, first_part, identifier_of, summary_of, into, itself, kept_from, named, path_through, path_to, stood, stretch_at, text_of, words, words_of}
 use Rattle.markdown_grammar.specs.Document.{is_byte}
 use Rattle.markdown_grammar.specs.Attributes.{Place, line_ending_is_text_after, inherited_after, inherited_in}
 use Rattle.markdown_grammar.specs.Document.{length_between}
@@ -36,7 +36,7 @@ use Rattle.markdown_events.specs.declared.role.ItemKind.TheVariants.{Content as 
 -- ---- Look-ups
 
 -- the nodes at the end of a path
-abbrev nodes_at : Path → Decorated → Trees
+abbrev nodes_at : PartPath → Decorated → Trees
 nodes_at itself d = nodes_of d
 nodes_at (into q way) undecorated = nothing
 nodes_at (into q way) (decorated what _ _ _ _ inner rest) = cond (is_part q what) (nodes_at way inner) (nodes_at (into q way) rest)
@@ -46,7 +46,7 @@ abbrev kept : Source → Place → Items → Summary
 kept s p xs = summary_of s p xs (λ w. nodes_at w (decorate s p xs))
 
 -- the nodes in a part are the same wherever its container's items begin
-at-elsewhere : (s : Source) (q : Part) (way : Path) (t ending other : Bool) (m n : Option ℕ) (xs : Items)
+at-elsewhere : (s : Source) (q : Part) (way : PartPath) (t ending other : Bool) (m n : Option ℕ) (xs : Items)
     → nodes_at (into q way) (decorate s (record { line_endings = ending; in_table = t; marker = m }) xs) ≡ nodes_at (into q way) (decorate s (record { line_endings = other; in_table = t; marker = n }) xs)
 at-elsewhere s q way t ending other m n none = refl
 at-elsewhere s q way t ending other m n (item what a b d i rest) =
@@ -253,12 +253,12 @@ node-is s p (part q) a b d inner = refl
 -- ---- The nodes of items
 
 -- what the compilation keeps of items is what these items, decorated, give: the nodes of all of them, and those in the part at the end of a path
-decorated-at : (s : Source) (w : Path) (p : Place) (xs : Items) → nodes s w p xs ≡ nodes_at w (decorate s p xs)
+decorated-at : (s : Source) (w : PartPath) (p : Place) (xs : Items) → nodes s w p xs ≡ nodes_at w (decorate s p xs)
 decorated-at s itself p none = refl
 decorated-at s (into q way) p none = refl
 decorated-at s itself p (item (content contents.HardBreak) a b d i (item (content contents.LineEnding) a' b' d' i' rest)) = ap (λ (t : Trees). join (node_at tree.«break» nothing a b') t) (decorated-at s itself p rest)
 decorated-at s itself p (item what a b d i rest) =
-    λ t. join ((ap (λ (under : Path → Trees). old.node_of s p what a b (child_facts_of d) (summary_of s (inherited_in what p) i under)) (λ u way. decorated-at s way (inherited_in what p) i u) ∙ node-is s p what a b d i) t)
+    λ t. join ((ap (λ (under : PartPath → Trees). old.node_of s p what a b (child_facts_of d) (summary_of s (inherited_in what p) i under)) (λ u way. decorated-at s way (inherited_in what p) i u) ∙ node-is s p what a b d i) t)
     (decorated-at s itself (inherited_after what p) rest t)
 decorated-at s (into q way) p (item (part r) a b d i rest) =
     elim (same_part q r) as (λ t. elim t [ true ↦ nodes s way (inherited_in (part r) p) i | false ↦ nodes s (into q way) p rest ] ≡ cond t (nodes_at way (decorate s (inherited_in (part r) p) i)) (nodes_at (into q way) (decorate s (inherited_after (part r) p) rest))) [

@@ -1,5 +1,5 @@
 -- With an event that a step takes nothing is wrong, in the words of the grammar.
-use Rattle.std.proofs.Common.{◌≡◌, Bool, true, false, not, ◌&&◌, List, [], ◌∷◌, ◌++◌, Some, Ok, Err, refl, sym, ap, subst, ◌∙◌}
+use Rattle.std.proofs.Common.{◌≡◌, inl, inr, Bool, true, false, not, ◌&&◌, List, [], ◌∷◌, ◌++◌, Some, Ok, Err, refl, sym, ap, subst, ◌∙◌}
 use Rattle.std.specs.List.{list_all}
 use Rattle.markdown_events.specs.Around.{is_sealed, may_begin}
 use Rattle.markdown_events.specs.Forest.{Forest, is_delimiter_cell_value, is_delimiter_row}
@@ -15,13 +15,12 @@ use Rattle.markdown_events.specs.declared.role.ItemKind.{ItemKind}
 use Rattle.markdown_events.specs.declared.role.Role.{Role}
 use Rattle.markdown_events.specs.declared.role.Role.TheVariants.{Significant as significant}
 use Rattle.markdown_steps.proofs.Allowed.{complete-is, lets-is}
-use Rattle.markdown_steps.proofs.Booleans.{and-both, and-left, and-right, not-both}
+use Rattle.markdown_events.proofs.Booleans.{and-both, and-left, and-right, not-both}
 use Rattle.markdown_steps.proofs.SummaryLaws.{inner_at}
 use Rattle.markdown_steps.proofs.Known.{AreOpen, Stands, kept_at_site, outer_by, stands}
 use Rattle.markdown_steps.proofs.Outcomes.{bind_ok, checked_passes, done, one_ok}
 use Rattle.markdown_steps.proofs.Refused.{run-append}
 use Rattle.markdown_steps.proofs.RuleLists.{keeps-snoc}
-use Rattle.markdown_steps.proofs.Sayings.{violation-fails}
 use Rattle.markdown_grammar.specs.Accepted.{Occurrence, ends_a_break, has_its_byte, has_its_parts, has_its_value, contains_no_open_break, is_no_inner_table}
 use Rattle.markdown_steps.specs.Columns.{child_facts}
 use Rattle.markdown_steps.specs.Compiler.{ContainerState, OpenSpan, State, all_stood, allows, with_child, enter_as, enter_checks, enter_step, entered, exit_checks, exit_from, exit_step, leave, leave_to, push, opening, rule_checks, run, pop, step, step_by}
@@ -29,13 +28,14 @@ use Rattle.markdown_grammar.specs.Grammar.{rules, conforms}
 use Rattle.markdown_grammar.specs.Grammar.{ContentModel, model_of}
 use Rattle.markdown_grammar.specs.Items.{Items, items, kinds}
 use Rattle.markdown_grammar.specs.Attributes.{Place, inherited_in}
-use Rattle.markdown_grammar.specs.Reasons.{IsHeld, IsWrong, IsWrongAtEnter, IsWrongAtExit, NothingIsWrong, against_a_rule, beginning, after_a_break, break_is_last, closes, enters, exits, held, in_a_sealed_span, row_in_a_row, table_in_a_table, unmatched, value_in_a_value, without_its_byte, without_its_parts, without_its_value}
+use Rattle.markdown_grammar.specs.Reasons.{FailsFirst, IsWrong, IsWrongAtEnter, IsWrongAtExit, NothingIsWrong, beginning, closes, enter_tests, enters, exit_tests, exits, held, rule_tests, unmatched}
+use Rattle.markdown_grammar.specs.Refusals.{missing_error, rule_error, value_error}
 use Rattle.markdown_steps.specs.Checks.{passes, ◌>>=◌}
 use Rattle.markdown_grammar.specs.Grammar.{Rule, keeps}
 use Rattle.markdown_grammar.specs.Document.{Source}
 use Rattle.markdown_grammar.specs.Sites.{Ancestor, Site, around_of, occurrence, site_in, site_of, events_so_far}
 use Rattle.markdown_grammar.specs.declared.error_kind.ErrorKind.{ErrorKind}
-use Rattle.markdown_grammar.specs.declared.error_kind.ErrorKind.TheVariants.{Held, InvalidSlice, Misplaced, Unbalanced}
+use Rattle.markdown_grammar.specs.declared.error_kind.ErrorKind.TheVariants.{Held, InvalidSlice, Misplaced, Unbalanced, UnfinishedBreak}
 
 -- ---- Enters
 
@@ -43,86 +43,44 @@ use Rattle.markdown_grammar.specs.declared.error_kind.ErrorKind.TheVariants.{Hel
 pub keeps-now : (s : Source) (p : Place) (xs : Items) (r : Rule) (what : ItemKind) → keeps r (kinds xs) ≡ true → keeps r (kinds xs ++ what ∷ []) ≡ allows r (inner_at s p xs) what
 keeps-now s p xs r what h = keeps-snoc r (kinds xs) what ∙ (λ t. h t && lets-is r s p xs what t)
 
-rules-pass : (s : Source) (h : ContentModel) (p : Place) (xs : Items) (rs : List Rule) (what : ItemKind) (cs : List (Bool × ErrorKind)) → list_all (λ r. keeps r (kinds xs)) rs ≡ true
-    → passes (rule_checks h rs (inner_at s p xs) what cs) ≡ true → (list_all (λ r. keeps r (kinds xs ++ what ∷ [])) rs ≡ true) × (passes cs ≡ true)
-rules-pass s h p xs [] what cs taken pass = (refl, pass)
-rules-pass s h p xs (r ∷ rs) what cs taken pass =
-    let others : Bool = list_all (λ r'. keeps r' (kinds xs)) rs in
-    let later : Bool = passes (rule_checks h rs (inner_at s p xs) what cs) in
-    let now : keeps r (kinds xs ++ what ∷ []) ≡ true = keeps-now s p xs r what (and-left (keeps r (kinds xs)) others taken) ∙ and-left (allows r (inner_at s p xs) what) later pass in
-    let rest = rules-pass s h p xs rs what cs (and-right (keeps r (kinds xs)) others taken) (and-right (allows r (inner_at s p xs) what) later pass) in
-    (and-both (keeps r (kinds xs ++ what ∷ [])) (list_all (λ r'. keeps r' (kinds xs ++ what ∷ [])) rs) now rest.0, rest.1)
+-- where all tests pass, none fails
+passes-not : (tests : List (Bool × ErrorKind)) (why : ErrorKind) → passes tests ≡ true → FailsFirst tests why → ⊥
+passes-not [] why pass fails = fails
+passes-not (test ∷ tests) why pass (inl fails) = not-both (and-left test.0 (passes tests) pass) fails.0
+passes-not (test ∷ tests) why pass (inr fails) = passes-not tests why (and-right test.0 (passes tests) pass) fails.1
 
-enter-fine : (s : Source) (site : Site) (what : ItemKind) (p : Point) (why : ErrorKind) → conforms site.initial_model (kinds site.before) ≡ true → passes (enter_checks s (kept_at_site s site) what p) ≡ true → IsWrongAtEnter s site what p why → ⊥
-enter-fine s site what p why taken pass wrong =
+rules-are : (s : Source) (h : ContentModel) (p : Place) (xs : Items) (rs : List Rule) (what : ItemKind) (cs : List (Bool × ErrorKind)) → list_all (λ r. keeps r (kinds xs)) rs ≡ true
+    → rule_checks h rs (inner_at s p xs) what cs ≡ rule_tests h rs (kinds xs ++ what ∷ []) ++ cs
+rules-are s h p xs [] what cs taken = refl
+rules-are s h p xs (r ∷ rs) what cs taken =
+    let others : Bool = list_all (λ r'. keeps r' (kinds xs)) rs in
+    let kept = keeps-now s p xs r what (and-left (keeps r (kinds xs)) others taken) in
+    let later = rules-are s h p xs rs what cs (and-right (keeps r (kinds xs)) others taken) in
+    (λ i. (sym kept i, rule_error h r) ∷ later i)
+
+-- the tests of a step at an enter are those of the grammar
+pub enter-tests-are : (s : Source) (site : Site) (what : ItemKind) (p : Point) → conforms site.initial_model (kinds site.before) ≡ true → enter_checks s (kept_at_site s site) what p ≡ enter_tests s site what p
+enter-tests-are s site what p taken =
     let x : Occurrence = beginning site what p in
-    let last : List (Bool × ErrorKind) = (is_no_inner_table x, Misplaced) ∷ (has_its_byte s x, InvalidSlice) ∷ [] in
-    let ruled : Bool = passes (rule_checks site.initial_model (rules site.initial_model) (inner_at s site.place site.before) what last) in
-    let a : ends_a_break x ≡ true = and-left (ends_a_break x) ruled pass in
-    let r = rules-pass s site.initial_model site.place site.before (rules site.initial_model) what last taken (and-right (ends_a_break x) ruled pass) in
-    let t : is_no_inner_table x ≡ true = and-left (is_no_inner_table x) (has_its_byte s x && true) r.1 in
-    let b : has_its_byte s x ≡ true = and-left (has_its_byte s x) true (and-right (is_no_inner_table x) (has_its_byte s x && true) r.1) in
-    elim wrong [
-      | after_a_break e w ↦ not-both a e
-      | against_a_rule e f ↦ not-both r.0 (violation-fails site.initial_model (rules site.initial_model) (kinds site.before ++ what ∷ []) why f)
-      | table_in_a_table e k f w ↦ not-both t f
-      | without_its_byte e k n f w ↦ not-both b f
-    ]
+    ap (λ (tests : List (Bool × ErrorKind)). (ends_a_break x, UnfinishedBreak) ∷ tests)
+    (rules-are s site.initial_model site.place site.before (rules site.initial_model) what ((is_no_inner_table x, Misplaced) ∷ (has_its_byte s x, InvalidSlice) ∷ []) taken)
 
 enter-as-fine : (s : Source) (role : Role) (n : Name) (p : Point) (st z : State) (site : Site) (what : ItemKind) (why : ErrorKind) → st.top ≡ kept_at_site s site → conforms site.initial_model (kinds site.before) ≡ true
     → enter_as s role n p st ≡ Ok z → role ≡ significant what → IsWrongAtEnter s site what p why → ⊥
 enter-as-fine s role n p st z site what why top taken h is wrong =
     let is_significant : enter_as s (significant what) n p st ≡ Ok z = ap (λ (r : Role). enter_as s r n p st) (sym is) ∙ h in
     let pass : passes (enter_checks s st.top what p) ≡ true = checked_passes (enter_checks s st.top what p) p (done (push n p st (Some (what, st.top)) (entered st.top what))) z is_significant in
-    enter-fine s site what p why taken (ap (λ (t : ContainerState). passes (enter_checks s t what p)) (sym top) ∙ pass) wrong
-
-held-bools : (h y x : Bool) → h ≡ true → ((not h && y) && x) ≡ false
-held-bools true y x e = refl
-held-bools false y x e = absurd cc
-
-row-bools : (h r d x : Bool) → r ≡ true → d ≡ true → ((not h && not (r && d)) && x) ≡ false
-row-bools true r d x e f = refl
-row-bools false true true x e f = refl
-row-bools false true false x e f = absurd cc
-row-bools false false d x e f = absurd cc
-
-value-bools : (x v c : Bool) → v ≡ true → c ≡ true → (x && not (v && c)) ≡ false
-value-bools false v c e f = refl
-value-bools true true true e f = refl
-value-bools true true false e f = absurd cc
-value-bools true false c e f = absurd cc
-
--- what is held may not begin
-held-may-not : (role : Role) (path : List Ancestor) → IsHeld path role → may_begin (around_of path) role ≡ false
-held-may-not role path (row_in_a_row r d) =
-    let a : Around = around_of path in
-    row-bools a.in_sealed a.in_row (is_delimiter_row role) (not (a.in_value && is_delimiter_cell_value role)) r d
-held-may-not role path (value_in_a_value v c) =
-    let a : Around = around_of path in
-    value-bools (not a.in_sealed && not (a.in_row && is_delimiter_row role)) a.in_value (is_delimiter_cell_value role) v c
-held-may-not role path (in_a_sealed_span e outer is h none_in) =
-    let a : Around = around_of (e ∷ outer) in
-    ap (λ (q : List Ancestor). may_begin (around_of q) role) is
-    ∙ held-bools (is_sealed (role_of e.name)) (not (a.in_row && is_delimiter_row role)) (not (a.in_value && is_delimiter_cell_value role)) h
+    passes-not (enter_tests s site what p) why (ap passes (sym (enter-tests-are s site what p taken)) ∙ ap (λ (t : ContainerState). passes (enter_checks s t what p)) (sym top) ∙ pass) wrong
 
 -- ---- Exits
 
-exit-fine : (s : Source) (site : Site) (what : ItemKind) (a p : Point) (inside : Items) (why : ErrorKind) → passes (exit_checks s (kept_at_site s site) what a p (kept_at_site s (site_in (significant what) inside site))) ≡ true
-    → IsWrongAtExit s (occurrence site what a p inside) why → ⊥
-exit-fine s site what a p inside why pass wrong =
+-- the tests of a step at an exit are those of the grammar
+pub exit-tests-are : (s : Source) (site : Site) (what : ItemKind) (a p : Point) (inside : Items)
+    → exit_checks s (kept_at_site s site) what a p (kept_at_site s (site_in (significant what) inside site)) ≡ exit_tests s (occurrence site what a p inside)
+exit-tests-are s site what a p inside =
     let x : Occurrence = occurrence site what a p inside in
-    let initial_model : ContentModel = model_of x.model what in
-    let within : Place = inherited_in what x.place in
-    let stood : Bool = all_stood initial_model (inner_at s within inside) in
-    let b : contains_no_open_break x ≡ true = and-left (contains_no_open_break x) (stood && (has_its_value s x && true)) pass in
-    let later : (stood && (has_its_value s x && true)) ≡ true = and-right (contains_no_open_break x) (stood && (has_its_value s x && true)) pass in
-    let q : has_its_parts s x ≡ true = sym (complete-is initial_model s within inside) ∙ and-left stood (has_its_value s x && true) later in
-    let v : has_its_value s x ≡ true = and-left (has_its_value s x) true (and-right stood (has_its_value s x && true) later) in
-    elim wrong [
-      | break_is_last e w ↦ not-both b e
-      | without_its_parts c e w ↦ not-both q e
-      | without_its_value c d e w ↦ not-both v e
-    ]
+    ap (λ (stood : Bool). (contains_no_open_break x, UnfinishedBreak) ∷ (stood, missing_error (model_of x.model what)) ∷ (has_its_value s x, value_error s what a p) ∷ [])
+    (complete-is (model_of x.model what) s (inherited_in what x.place) inside)
 
 leave-fine : (s : Source) (role : Role) (site : Site) (a p : Point) (c : ChildFacts) (own z : ContainerState) (inside : Items) (what : ItemKind) (why : ErrorKind) → own ≡ kept_at_site s (site_in role inside site)
     → leave_to s a p c own (outer_by s role site) ≡ Ok z → role ≡ significant what → IsWrongAtExit s (occurrence site what a p inside) why → ⊥
@@ -132,7 +90,7 @@ leave-fine s role site a p c own z inside what why top h is wrong =
     let kept : own ≡ kept_at_site s (site_in (significant what) inside site) = top ∙ ap (λ (r : Role). kept_at_site s (site_in r inside site)) is in
     let left : leave_to s a p c own (outer_by s (significant what) site) ≡ Ok z = ap (λ (r : Role). leave_to s a p c own (outer_by s r site)) (sym is) ∙ h in
     let pass : passes (exit_checks s outer what a p own) ≡ true = checked_passes (exit_checks s outer what a p own) p (done (with_child s outer what a p c own.inner)) z left in
-    exit-fine s site what a p inside why (ap (λ (t : ContainerState). passes (exit_checks s outer what a p t)) (sym kept) ∙ pass) wrong
+    passes-not (exit_tests s (occurrence site what a p inside)) why (ap passes (sym (exit-tests-are s site what a p inside)) ∙ ap (λ (t : ContainerState). passes (exit_checks s outer what a p t)) (sym kept) ∙ pass) wrong
 
 -- an exit that is taken ends the innermost open span
 exit-closes : (s : Source) (n : Name) (p : Point) (st z : State) (fs : List OpenSpan) (forest : Forest) (path : List Ancestor) → AreOpen s fs forest path → exit_from s n p fs st ≡ Ok z → closes path n ≡ false → ⊥
@@ -161,7 +119,7 @@ event-fine s forest path event st z why k h (held kind is w) =
     let role : Role = role_of event.name in
     let entering : step_by Enter s event.name event.point st ≡ Ok z = ap (λ (x : Kind). step_by x s event.name event.point st) (sym kind) ∙ h in
     let begins = one_ok (may_begin st.around role) (enter_as s role event.name event.point st) z (record { error_kind = Held; point = event.point }) entering in
-    not-both begins.0 (ap (λ (a : Around). may_begin a role) k.around ∙ held-may-not role path is)
+    not-both begins.0 (ap (λ (a : Around). may_begin a role) k.around ∙ is)
 event-fine s forest path event st z why k h (enters what kind begun is taken wrong) =
     let role : Role = role_of event.name in
     let entering : step_by Enter s event.name event.point st ≡ Ok z = ap (λ (x : Kind). step_by x s event.name event.point st) (sym kind) ∙ h in

@@ -17,7 +17,7 @@ use Rattle.markdown_grammar.specs.Accepted.{ends_with_break}
 use Rattle.markdown_grammar.specs.Items.{Items, item, items, kinds, none, place_items, same_part, ◌then◌}
 use Rattle.markdown_grammar.specs.Decorated.{node_at}
 use Rattle.markdown_steps.specs.SummaryNodes.{node_of, nodes}
-use Rattle.markdown_steps.specs.Summaries.{Path, FoundPart, first_part, summary_of, into, itself}
+use Rattle.markdown_steps.specs.Summaries.{PartPath, FoundPart, first_part, summary_of, into, itself}
 use Rattle.markdown_grammar.specs.Attributes.{Place, inherited_after, inherited_in}
 use Rattle.markdown_grammar.specs.Document.{Source}
 use Rattle.markdown_grammar.specs.Sites.{inherited_after_all}
@@ -68,7 +68,7 @@ nodes-then s p (item what a b d i rest) ys h =
     ap (λ t. join (node_of s p what a b (child_facts_of d) (summary_of s (inherited_in what p) i (λ which. nodes s which (inherited_in what p) i))) t) (nodes-then s (inherited_after what p) rest ys h)
     ∙ sym (join_assoc (node_of s p what a b (child_facts_of d) (summary_of s (inherited_in what p) i (λ which. nodes s which (inherited_in what p) i))) (nodes s itself (inherited_after what p) rest) (nodes s itself (inherited_after_all rest (inherited_after what p)) ys))
 
-pub within-then : (s : Source) (q : Part) (way : Path) (p from : Place) (xs ys : Items) → nodes s (into q way) p (xs then ys) ≡ cond (is_some (first_part q from xs)) (nodes s (into q way) p xs) (nodes s (into q way) p ys)
+pub within-then : (s : Source) (q : Part) (way : PartPath) (p from : Place) (xs ys : Items) → nodes s (into q way) p (xs then ys) ≡ cond (is_some (first_part q from xs)) (nodes s (into q way) p xs) (nodes s (into q way) p ys)
 within-then s q way p from none ys = refl
 within-then s q way p from (item (part r) a b d i rest) ys =
     elim (same_part q r) as (λ t. elim t [ true ↦ nodes s way (inherited_in (part r) p) i | false ↦ nodes s (into q way) p (rest then ys) ]

@@ -5,7 +5,7 @@ use Rattle.std.specs.Option.{option_and_then}
 use Rattle.markdown_steps.specs.ChildFacts.{child_facts_of}
 use Rattle.markdown_events.specs.declared.role.ItemKind.{ItemKind}
 use Rattle.markdown_steps.proofs.Allowed.{all_allow, complete-is, takes-none, takes-snoc}
-use Rattle.markdown_steps.proofs.Booleans.{and-left, and-true}
+use Rattle.markdown_events.proofs.Booleans.{and-left, and-true}
 use Rattle.markdown_steps.proofs.SummaryLaws.{break-snoc, with_child-is, holder-snoc, container_state, inner_at, place-snoc}
 use Rattle.markdown_steps.proofs.ItemLists.{then-assoc}
 use Rattle.markdown_steps.proofs.Outcomes.{when}
@@ -18,7 +18,7 @@ use Rattle.markdown_grammar.specs.Grammar.{has_required, rules, conforms}
 use Rattle.markdown_grammar.specs.Grammar.{ContentModel, model_after, model_of}
 use Rattle.markdown_grammar.specs.Items.{Items, item, kinds, none, ◌then◌}
 use Rattle.markdown_grammar.specs.Items.{is_frontmatter, is_hard_break, is_line_ending, is_table}
-use Rattle.markdown_steps.specs.Summaries.{Summary, Path, into, itself}
+use Rattle.markdown_steps.specs.Summaries.{Summary, PartPath, into, itself}
 use Rattle.markdown_grammar.specs.Attributes.{Place, inherited_after, inherited_in}
 use Rattle.markdown_grammar.specs.Document.{byte_at}
 use Rattle.markdown_grammar.specs.Values.{is_read}
@@ -48,7 +48,7 @@ then-none : (xs : Items) → xs then none ≡ xs
 then-none none = refl
 then-none (item what a b d i rest) = ap (item what a b d i) (then-none rest)
 
-no-part : (s : Source) (p : Place) (way : Path) → (inner_at s p none).part way ≡ None
+no-part : (s : Source) (p : Place) (way : PartPath) → (inner_at s p none).part way ≡ None
 no-part s p itself = refl
 no-part s p (into q itself) = refl
 no-part s p (into q (into r way)) = refl

@@ -1,7 +1,6 @@
 pub mod Outcomes
 pub mod Extents
 pub mod WellFormed
-pub mod Booleans
 pub mod Conditions
 mod ItemLists
 mod RuleLists

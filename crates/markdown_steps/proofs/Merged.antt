@@ -6,8 +6,8 @@ use Rattle.markdown_steps.specs.ChildFacts.{child_facts_of}
 use Rattle.markdown_nodes.specs.Tree.{Label, Trees, join, node, nothing, only, paragraph, seam, text}
 use Rattle.markdown_events.specs.declared.event.Point.{Point}
 use Rattle.markdown_events.specs.declared.role.ItemKind.{ItemKind}
-use Rattle.positions.specs.declared.unist.Point.{Point as UnistPoint}
-use Rattle.positions.specs.declared.unist.Position.{Position}
+use Rattle.markdown_events.specs.declared.unist.Point.{Point as UnistPoint}
+use Rattle.markdown_events.specs.declared.unist.Position.{Position}
 use Rattle.markdown_steps.specs.Consequences.{NoTextAfterText, begins_with_text}
 use Rattle.markdown_steps.proofs.Decorating.{nodes-are}
 use Rattle.markdown_steps.specs.Consequences.{is_text}
@@ -19,7 +19,7 @@ use Rattle.markdown_grammar.specs.Decorated.{node_at}
 use Rattle.markdown_grammar.specs.Items.{Items, item, items, none, same_part}
 use Rattle.markdown_grammar.specs.Meaning.{meaning}
 use Rattle.markdown_steps.specs.SummaryNodes.{node_of, nodes}
-use Rattle.markdown_steps.specs.Summaries.{Path, FoundPart, address, summary_of, into, itself, path_to}
+use Rattle.markdown_steps.specs.Summaries.{PartPath, FoundPart, address, summary_of, into, itself, path_to}
 use Rattle.markdown_grammar.specs.Attributes.{Place, inherited_after, inherited_in, inherited_at_root}
 use Rattle.markdown_grammar.specs.Document.{Source}
 use Rattle.markdown_grammar.specs.Tasks.{after_blank, task, task_if, trimmed_text}
@@ -80,7 +80,7 @@ if-merged : (t : Bool) (k : Trees) → Whole k → Whole (cond t k nothing)
 if-merged true k h = h
 if-merged false k h = record { ok = tt }
 
-node-merged : (s : Source) (p from : Place) (what : ItemKind) (a b : Point) (d : Forest) (i : Items) (under : Path → Trees) → ((w : Path) → NoTextAfterText (under w)) → Whole (node_of s p what a b (child_facts_of d) (summary_of s from i under))
+node-merged : (s : Source) (p from : Place) (what : ItemKind) (a b : Point) (d : Forest) (i : Items) (under : PartPath → Trees) → ((w : PartPath) → NoTextAfterText (under w)) → Whole (node_of s p what a b (child_facts_of d) (summary_of s from i under))
 node-merged s p from (content contents.LineEnding) a b d i under k = if-merged p.line_endings _ (one-merged _ nothing a b tt)
 node-merged s p from (content contents.Autolink) a b d i under k = autolink-merged s _ _ a b
 node-merged s p from (content contents.AutolinkLiteralEmail) a b d i under k = record { ok = ((tt, refl, tt), refl, tt) }
@@ -105,7 +105,7 @@ node-merged s p from (content _) a b d i under k = one-merged _ nothing a b tt
 node-merged s p from (part parts.HeadingSetextText) a b d i under k = record { ok = k itself }
 node-merged s p from (part _) a b d i under k = record { ok = tt }
 
-pub nodes-merged : (s : Source) (w : Path) (p : Place) (xs : Items) → NoTextAfterText (nodes s w p xs)
+pub nodes-merged : (s : Source) (w : PartPath) (p : Place) (xs : Items) → NoTextAfterText (nodes s w p xs)
 nodes-merged s w p none = tt
 nodes-merged s itself p (item (content contents.HardBreak) a b d i (item (content contents.LineEnding) a' b' d' i' rest)) =
     join-merged (node_at tree.break nothing a b') (nodes s itself p rest) (tt, refl, tt) (nodes-merged s itself p rest)

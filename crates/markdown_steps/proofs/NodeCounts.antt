@@ -4,8 +4,8 @@ use Rattle.markdown_events.specs.Slices.{to_unist}
 use Rattle.markdown_steps.specs.ChildFacts.{ChildFacts}
 use Rattle.markdown_events.specs.declared.event.Point.{Point}
 use Rattle.markdown_events.specs.declared.role.ItemKind.{ItemKind}
-use Rattle.positions.specs.declared.unist.Point.{Point as UnistPoint}
-use Rattle.positions.specs.declared.unist.Position.{Position}
+use Rattle.markdown_events.specs.declared.unist.Point.{Point as UnistPoint}
+use Rattle.markdown_events.specs.declared.unist.Position.{Position}
 use Rattle.markdown_nodes.specs.Tree.{Label, Trees, join, node, nothing, paragraph, seam, text}
 use Rattle.markdown_grammar.specs.LineEndings.{ending_read}
 use Rattle.markdown_grammar.specs.Buffers.{node_count}

@@ -26,13 +26,14 @@ use Rattle.markdown_steps.specs.OneTest.{fits}
 use Rattle.markdown_grammar.specs.Grammar.{conforms}
 use Rattle.markdown_grammar.specs.Items.{Items, items, kinds, ◌then◌}
 use Rattle.markdown_grammar.specs.Sites.{model_after_all, inherited_after_all}
-use Rattle.markdown_steps.proofs.Booleans.{and-both, and-left}
+use Rattle.markdown_events.proofs.Booleans.{and-both, and-left}
 use Rattle.markdown_grammar.specs.Attributes.{Place}
 use Rattle.markdown_grammar.specs.Refusals.{ErrorAt}
 use Rattle.markdown_steps.specs.Checks.{checked, passes, refused, ◌>>=◌}
 use Rattle.markdown_steps.specs.Siblings.{no_marks}
 use Rattle.markdown_grammar.specs.Document.{Source}
 use Rattle.markdown_events.specs.declared.around.Around.{Around}
+use Rattle.markdown_grammar.specs.Reasons.{FailsFirst}
 use Rattle.markdown_grammar.specs.declared.error_kind.ErrorKind.{ErrorKind}
 use Rattle.markdown_events.specs.declared.event.Kind.TheVariants.{Enter, Exit}
 
@@ -132,18 +133,12 @@ in-span s before n a f st h =
 
 -- ---- Which test fails
 
--- the tests before one pass, that one fails, and the refusal is its
-unfoldable pub FailsFirst : List (Bool × ErrorKind) → ErrorKind → Type 0
-FailsFirst [] why = ⊥
-FailsFirst (c ∷ cs) why = ((c.0 ≡ false) × (c.1 ≡ why)) ⊎ ((c.0 ≡ true) × FailsFirst cs why)
-
 one_why : {A : Type 0} (b q : Bool) (x : Result A ErrorAt) (why : ErrorKind) (p : Point) (m : ErrorAt) (R G : Type 0) → (x ≡ Err m → ((q ≡ true) × R) ⊎ G) → cond b x (refused why p) ≡ Err m
-    → (((b && q) ≡ true) × R) ⊎ (((b ≡ false) × (why ≡ m.error_kind)) ⊎ ((b ≡ true) × G))
+    → (((b && q) ≡ true) × R) ⊎ (((b ≡ false) × (m.error_kind ≡ why)) ⊎ ((b ≡ true) × G))
 one_why true q x why p m R G f h = elim (f h) [ inl y ↦ inl y | inr y ↦ inr (inr (refl, y)) ]
-one_why {A} false q x why p m R G f h = inr (inl (refl, ap (λ (k : ErrorAt). k.error_kind) (err_is {A = A} (record { error_kind = why; point = p }) m h)))
+one_why {A} false q x why p m R G f h = inr (inl (refl, ap (λ (k : ErrorAt). k.error_kind) (sym (err_is {A = A} (record { error_kind = why; point = p }) m h))))
 
 pub checked_why : {A : Type 0} (cs : List (Bool × ErrorKind)) (p : Point) (r : Result A ErrorAt) (m : ErrorAt) → checked cs p r ≡ Err m → ((passes cs ≡ true) × (r ≡ Err m)) ⊎ FailsFirst cs m.error_kind
-unfolding FailsFirst
 checked_why [] p r m h = inl (refl, h)
 checked_why (c ∷ cs) p r m h = one_why c.0 (passes cs) (checked cs p r) c.1 p m (r ≡ Err m) (FailsFirst cs m.error_kind) (checked_why cs p r m) h
 

@@ -3,7 +3,7 @@ use Rattle.std.proofs.Common.{◌≡◌, ◌≤◌, ◌∙◌, refl, sym, arith}
 use Rattle.std.proofs.lemmas.Bool.Decides.{nat_tests}
 use Rattle.std.specs.Prelude.{Bool, IsFalse, None, Some, false, nat_le, true, ℕ, ◌&&◌, ◌||◌}
 use Rattle.markdown_nodes.specs.Tree.{Trees, node, nothing}
-use Rattle.markdown_steps.proofs.Booleans.{and-both, and-left, and-right}
+use Rattle.markdown_events.proofs.Booleans.{and-both, and-left, and-right}
 use Rattle.markdown_grammar.specs.Ordered.{InOrder, IsBefore, IsOrdered, Standing, elsewhere, first_child, is_first_paragraph, may_start_late}
 
 abbrev pub is_before : ℕ → Trees → Bool

@@ -6,7 +6,7 @@ use Rattle.markdown_events.specs.contracts.event.Name.{the_type}
 use Rattle.markdown_events.specs.Names.{is_same_name}
 use Rattle.markdown_events.specs.declared.event.Name.{Name}
 use Rattle.markdown_events.specs.declared.event.Point.{Point}
-use Rattle.markdown_steps.proofs.Booleans.{and-both}
+use Rattle.markdown_events.proofs.Booleans.{and-both}
 use Rattle.markdown_grammar.specs.Refusals.{ErrorAt}
 use Rattle.markdown_steps.specs.Checks.{checked, passes, refused, ◌>>=◌}
 use Rattle.markdown_grammar.specs.declared.error_kind.ErrorKind.{ErrorKind}

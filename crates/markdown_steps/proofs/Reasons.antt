@@ -12,13 +12,13 @@ use Rattle.markdown_events.specs.declared.event.Point.{Point}
 use Rattle.markdown_events.specs.declared.role.ItemKind.{ItemKind}
 use Rattle.markdown_events.specs.declared.role.Role.{Role}
 use Rattle.markdown_steps.proofs.Allowed.{complete-is}
-use Rattle.markdown_steps.proofs.Booleans.{and-both, and-left, and-right}
+use Rattle.markdown_events.proofs.Booleans.{and-both, and-left, and-right}
 use Rattle.markdown_steps.proofs.SummaryLaws.{inner_at}
 use Rattle.markdown_steps.proofs.Known.{AreOpen, AreWellFormed, Stands, kept_at_site, known, outer_by}
-use Rattle.markdown_steps.proofs.OpenSpans.{FailsFirst, checked_why, no_err}
+use Rattle.markdown_steps.proofs.OpenSpans.{checked_why, no_err}
 use Rattle.markdown_steps.proofs.Outcomes.{done, err_is, same_name_is}
 use Rattle.markdown_steps.proofs.Refused.{none-begins, step_point, stopped, stops-last}
-use Rattle.markdown_steps.proofs.Fine.{keeps-now, taken-so-far}
+use Rattle.markdown_steps.proofs.Fine.{enter-tests-are, exit-tests-are, taken-so-far}
 use Rattle.markdown_steps.proofs.WellFormed.{is_well_formed_in}
 use Rattle.markdown_grammar.specs.Accepted.{Occurrence, ends_with_break, has_its_byte, is_no_inner_table}
 use Rattle.markdown_events.specs.Around.{may_begin, under}
@@ -29,7 +29,7 @@ use Rattle.markdown_grammar.specs.Grammar.{has_required, rules, conforms}
 use Rattle.markdown_grammar.specs.Grammar.{ContentModel, model_of}
 use Rattle.markdown_grammar.specs.Items.{Items, items, kinds}
 use Rattle.markdown_grammar.specs.Attributes.{Place, inherited_in}
-use Rattle.markdown_grammar.specs.Reasons.{EndsOpen, IsHeld, IsWrong, IsWrongAtEnter, IsWrongAtExit, NothingIsWrong, StopsAtFirstError, ViolatesFirst, after_a_break, against_a_rule, beginning, break_is_last, enters, exits, held, in_a_sealed_span, row_in_a_row, table_in_a_table, unmatched, value_in_a_value, without_its_byte, without_its_parts, without_its_value}
+use Rattle.markdown_grammar.specs.Reasons.{EndsOpen, FailsFirst, IsWrong, IsWrongAtEnter, IsWrongAtExit, NothingIsWrong, StopsAtFirstError, enters, exits, held, unmatched}
 use Rattle.markdown_grammar.specs.Refusals.{ErrorAt}
 use Rattle.markdown_steps.specs.Checks.{checked, refused, ◌>>=◌}
 use Rattle.markdown_grammar.specs.Grammar.{Rule, keeps}
@@ -43,31 +43,6 @@ use Rattle.markdown_grammar.specs.declared.error_kind.ErrorKind.TheVariants.{Hel
 
 -- ---- Enters
 
-rules-fail : (s : Source) (h : ContentModel) (p : Place) (xs : Items) (rs : List Rule) (what : ItemKind) (cs : List (Bool × ErrorKind)) (why : ErrorKind) → list_all (λ r. keeps r (kinds xs)) rs ≡ true
-    → FailsFirst (rule_checks h rs (inner_at s p xs) what cs) why → ViolatesFirst h rs (kinds xs ++ what ∷ []) why ⊎ ((list_all (λ r. keeps r (kinds xs ++ what ∷ [])) rs ≡ true) × FailsFirst cs why)
-unfolding FailsFirst
-rules-fail s h p xs [] what cs why taken f = inr (refl, f)
-rules-fail s h p xs (r ∷ rs) what cs why taken (inl f) =
-    inl (inl (keeps-now s p xs r what (and-left (keeps r (kinds xs)) (list_all (λ r'. keeps r' (kinds xs)) rs) taken) ∙ f.0, sym f.1))
-rules-fail s h p xs (r ∷ rs) what cs why taken (inr f) =
-    let now : keeps r (kinds xs ++ what ∷ []) ≡ true = keeps-now s p xs r what (and-left (keeps r (kinds xs)) (list_all (λ r'. keeps r' (kinds xs)) rs) taken) ∙ f.0 in
-    elim (rules-fail s h p xs rs what cs why (and-right (keeps r (kinds xs)) (list_all (λ r'. keeps r' (kinds xs)) rs) taken) f.1) [
-      | inl b ↦ inl (inr (now, b))
-      | inr g ↦ inr (and-both (keeps r (kinds xs ++ what ∷ [])) (list_all (λ r'. keeps r' (kinds xs ++ what ∷ [])) rs) now g.0, g.1)
-    ]
-
-enter-wrong : (s : Source) (site : Site) (what : ItemKind) (p : Point) (why : ErrorKind) → conforms site.initial_model (kinds site.before) ≡ true → FailsFirst (enter_checks s (kept_at_site s site) what p) why → IsWrongAtEnter s site what p why
-unfolding FailsFirst
-enter-wrong s site what p why taken (inl f) = after_a_break f.0 (sym f.1)
-enter-wrong s site what p why taken (inr f) =
-    let x : Occurrence = beginning site what p in
-    elim (rules-fail s site.initial_model site.place site.before (rules site.initial_model) what ((is_no_inner_table x, Misplaced) ∷ (has_its_byte s x, InvalidSlice) ∷ []) why taken f.1) [
-      | inl b ↦ against_a_rule f.0 b
-      | inr (k, inl g) ↦ table_in_a_table f.0 k g.0 (sym g.1)
-      | inr (k, inr (n, inl g)) ↦ without_its_byte f.0 k n g.0 (sym g.1)
-      | inr (k, inr (n, inr g)) ↦ absurd g.1
-    ]
-
 -- the reason of an enter that is refused
 enter-as-wrong : (s : Source) (role : Role) (n : Name) (p : Point) (st : State) (m : ErrorAt) (site : Site) → st.top ≡ kept_at_site s site → conforms site.initial_model (kinds site.before) ≡ true → enter_as s role n p st ≡ Err m
     → (what : ItemKind) × (role ≡ significant what) × IsWrongAtEnter s site what p m.error_kind
@@ -76,66 +51,26 @@ enter-as-wrong s (significant what) n p st m site top taken h =
     let out : State = push n p st (Some (what, st.top)) (entered st.top what) in
     elim (checked_why (enter_checks s st.top what p) p (done out) m h) [
       | inl e ↦ absurd (no_err out m e.1)
-      | inr f ↦ (what, refl, enter-wrong s site what p m.error_kind taken (subst (λ (x : ContainerState). FailsFirst (enter_checks s x what p) m.error_kind) top f))
+      | inr f ↦ (
+        what,
+        refl,
+        subst (λ (tests : List (Bool × ErrorKind)). FailsFirst tests m.error_kind) (ap (λ (x : ContainerState). enter_checks s x what p) top ∙ enter-tests-are s site what p taken) f,
+      )
     ]
 
-begin-bools : (h r d v c : Bool) → ((not h && not (r && d)) && not (v && c)) ≡ false → (h ≡ true) ⊎ (((r ≡ true) × (d ≡ true)) ⊎ ((v ≡ true) × (c ≡ true)))
-begin-bools true r d v c e = inl refl
-begin-bools false true true v c e = inr (inl (refl, refl))
-begin-bools false true false true true e = inr (inr (refl, refl))
-begin-bools false true false true false e = absurd cc
-begin-bools false true false false c e = absurd cc
-begin-bools false false d true true e = inr (inr (refl, refl))
-begin-bools false false d true false e = absurd cc
-begin-bools false false d false c e = absurd cc
-
--- what holds nothing is empty
-held-empty : (a : Around) (f : Forest) → a.in_sealed ≡ true → is_well_formed_in a f ≡ true → f ≡ empty
-held-empty a empty h e = refl
-held-empty a (span n p q c r) h e =
-    let role : Role = role_of n in
-    let free : not a.in_sealed ≡ true =
-    and-left (not a.in_sealed) (not (a.in_row && is_delimiter_row role))
-    (and-left (not a.in_sealed && not (a.in_row && is_delimiter_row role)) (not (a.in_value && is_delimiter_cell_value role)) (and-left (may_begin a role) (is_well_formed_in (under a role) c && is_well_formed_in a r) e)) in
-    let z : false ≡ true = ap not (sym h) ∙ free in absurd cc
-
-held-by : (role : Role) (path : List Ancestor) → AreWellFormed path → (around_of path).in_sealed ≡ true → IsHeld path role
-held-by role [] t h = absurd cc
-held-by role (e ∷ outer) t h = in_a_sealed_span e outer refl h (held-empty (around_of (e ∷ outer)) e.inside h t.0)
-
-held-so : (role : Role) (path : List Ancestor) → AreWellFormed path → may_begin (around_of path) role ≡ false → IsHeld path role
-held-so role path t e = elim (begin-bools (around_of path).in_sealed (around_of path).in_row (is_delimiter_row role) (around_of path).in_value (is_delimiter_cell_value role) e) [
-  | inl h ↦ held-by role path t h
-  | inr (inl h) ↦ row_in_a_row h.0 h.1
-  | inr (inr h) ↦ value_in_a_value h.0 h.1
-]
-
 enter-reason : (s : Source) (n : Name) (p : Point) (st : State) (m : ErrorAt) (forest : Forest) (path : List Ancestor) → Stands s forest path st → enter_step s n p st ≡ Err m → IsWrong s forest path (record { kind = Enter; name = n; point = p }) m.error_kind
-unfolding enter_step FailsFirst
+unfolding enter_step
 enter-reason s n p st m forest path k h =
     let around : may_begin st.around (role_of n) ≡ may_begin (around_of path) (role_of n) = ap (λ (a : Around). may_begin a (role_of n)) k.around in
     elim (checked_why ((may_begin st.around (role_of n), Held) ∷ []) p (enter_as s (role_of n) n p st) m h) [
       | inl e ↦
           let w = enter-as-wrong s (role_of n) n p st m (site_of forest path) k.top k.taken e.1 in
           enters w.0 refl (sym around ∙ and-left (may_begin st.around (role_of n)) true e.0) w.1 k.taken w.2
-      | inr (inl f) ↦ held refl (held-so (role_of n) path k.well_formed (sym around ∙ f.0)) (sym f.1)
+      | inr (inl f) ↦ held refl (sym around ∙ f.0) f.1
       | inr (inr f) ↦ absurd f.1
     ]
 
 -- ---- Exits
-
--- what must stand in a span of a site
-whole-is : (s : Source) (site : Site) (what : ItemKind) (inside : Items) → all_stood (model_of (model_after_all site.before site.initial_model) what) (inner_at s (inherited_in what (inherited_after_all site.before site.place)) inside)
-    ≡ has_required s (model_of (model_after_all site.before site.initial_model) what) inside
-whole-is s site what inside = complete-is (model_of (model_after_all site.before site.initial_model) what) s (inherited_in what (inherited_after_all site.before site.place)) inside
-
-exit-wrong : (s : Source) (site : Site) (what : ItemKind) (a p : Point) (inside : Items) (why : ErrorKind) → FailsFirst (exit_checks s (kept_at_site s site) what a p (kept_at_site s (site_in (significant what) inside site))) why
-    → IsWrongAtExit s (occurrence site what a p inside) why
-unfolding FailsFirst
-exit-wrong s site what a p inside why (inl f) = break_is_last f.0 (sym f.1)
-exit-wrong s site what a p inside why (inr (b, inl f)) = without_its_parts b (sym (whole-is s site what inside) ∙ f.0) (sym f.1)
-exit-wrong s site what a p inside why (inr (b, inr (c, inl f))) = without_its_value b (sym (whole-is s site what inside) ∙ c) f.0 (sym f.1)
-exit-wrong s site what a p inside why (inr (b, inr (c, inr f))) = absurd f.1
 
 leave-wrong : (s : Source) (role : Role) (site : Site) (a p : Point) (c : ChildFacts) (own : ContainerState) (inside : Items) (m : ErrorAt) → own ≡ kept_at_site s (site_in role inside site) → leave_to s a p c own (outer_by s role site) ≡ Err m
     → (what : ItemKind) × (role ≡ significant what) × IsWrongAtExit s (occurrence site what a p inside) m.error_kind
@@ -146,7 +81,11 @@ leave-wrong s (significant what) site a p c own inside m top h =
     let made : ContainerState = with_child s outer what a p c own.inner in
     elim (checked_why (exit_checks s outer what a p own) p (done made) m h) [
       | inl e ↦ absurd (no_err made m e.1)
-      | inr f ↦ (what, refl, exit-wrong s site what a p inside m.error_kind (subst (λ (x : ContainerState). FailsFirst (exit_checks s outer what a p x) m.error_kind) top f))
+      | inr f ↦ (
+        what,
+        refl,
+        subst (λ (tests : List (Bool × ErrorKind)). FailsFirst tests m.error_kind) (ap (λ (x : ContainerState). exit_checks s outer what a p x) top ∙ exit-tests-are s site what a p inside) f,
+      )
     ]
 
 bind_err : {A B : Type 0} (r : Result A ErrorAt) (f : A → B) (m : ErrorAt) → (r >>= λ x. done (f x)) ≡ Err m → r ≡ Err m

@@ -5,10 +5,10 @@ use Rattle.std.specs.Str.{bytes_eq}
 use Rattle.std.specs.Char.{encode_utf8, digit_value}
 use Rattle.std.specs.List.{fold as fold_list, list_all}
 use Rattle.markdown_events.specs.declared.event.Point.{Point}
-use Rattle.positions.specs.declared.unist.Position.{Position}
+use Rattle.markdown_events.specs.declared.unist.Position.{Position}
 use Rattle.markdown_events.specs.Slices.{to_unist}
 use Rattle.markdown_nodes.specs.Tree.{Tree}
-use Rattle.positions.specs.declared.unist.Point.{Point as UnistPoint}
+use Rattle.markdown_events.specs.declared.unist.Point.{Point as UnistPoint}
 use Rattle.markdown_grammar.specs.Refusals.{rule_of}
 use Rattle.markdown_grammar.specs.Refusals.{ErrorAt}
 use Rattle.markdown_grammar.specs.Document.{Source, source, source_with}

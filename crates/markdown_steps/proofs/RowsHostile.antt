@@ -7,7 +7,7 @@ use Rattle.caseless.proofs.Computing.{caseless}
 use Rattle.markdown_events.specs.declared.event.Name.TheVariants as n
 use Rattle.markdown_events.specs.Forest.{Forest, empty, span, events_of}
 use Rattle.markdown_events.specs.Slices.{slice}
-use Rattle.markdown_texts.specs.Texts.{fold}
+use Rattle.markdown_events.specs.Texts.{fold}
 use Rattle.markdown_grammar.specs.Accepted.{Accepted}
 use Rattle.markdown_steps.proofs.Conditions.{conditions-fail}
 use Rattle.markdown_steps.specs.Compiler.{compiled, enter_step, exit_step, leave, run}

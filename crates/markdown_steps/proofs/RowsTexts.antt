@@ -7,7 +7,7 @@ use Rattle.caseless.proofs.Computing.{caseless}
 use Rattle.markdown_events.specs.declared.event.Name.TheVariants as n
 use Rattle.markdown_events.specs.Forest.{Forest, empty, span, events_of}
 use Rattle.markdown_events.specs.Slices.{slice}
-use Rattle.markdown_texts.specs.Texts.{fold}
+use Rattle.markdown_events.specs.Texts.{fold}
 use Rattle.markdown_nodes.specs.Tree.{node, nothing, only}
 use Rattle.markdown_nodes.specs.Tree as t
 use Rattle.markdown_grammar.specs.Accepted.{Accepted}

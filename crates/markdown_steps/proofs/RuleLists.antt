@@ -1,5 +1,5 @@
 -- A list of items keeps a rule where the items before the last keep it and the last one may follow them.
-use Rattle.markdown_steps.proofs.Booleans.{and-left, and-true}
+use Rattle.markdown_events.proofs.Booleans.{and-left, and-true}
 use Rattle.std.proofs.Common.{◌≡◌, Bool, true, false, not, ◌&&◌, ◌||◌, List, [], ◌∷◌, ◌++◌, refl, sym, ◌∙◌, ap}
 use Rattle.std.proofs.Common.{append_assoc}
 use Rattle.std.proofs.lemmas.List.{append-nil}

@@ -1,5 +1,5 @@
 -- What each refusal says of the event at which it is given.
-use Rattle.std.proofs.Common.{◌≡◌, inl, inr, Bool, true, false, not, ◌&&◌, ◌||◌, cond, List, [], ◌∷◌, ◌++◌, Option, Some, None, refl, sym, ap, subst, ◌∙◌}
+use Rattle.std.proofs.Common.{◌≡◌, ◌⊎◌, inl, inr, Bool, true, false, not, ◌&&◌, ◌||◌, cond, List, [], ◌∷◌, ◌++◌, Option, Some, None, refl, sym, ap, subst, ◌∙◌}
 use Rattle.std.specs.Prelude.{is_some}
 use Rattle.std.specs.List.{list_all}
 use Rattle.markdown_events.specs.Slices.{slice}
@@ -9,7 +9,7 @@ use Rattle.markdown_events.specs.declared.role.Part.{Part}
 use Rattle.markdown_grammar.specs.Accepted.{Occurrence, ends_with_break, has_its_parts}
 use Rattle.markdown_grammar.specs.Refusals.{rule_error, missing_error, value_error}
 use Rattle.markdown_grammar.specs.Attributes.{decoded, value}
-use Rattle.markdown_steps.proofs.Booleans.{and-left, and-right, not-both}
+use Rattle.markdown_events.proofs.Booleans.{and-left, and-right, not-both}
 use Rattle.markdown_steps.proofs.SummaryLaws.{is-that-part}
 use Rattle.markdown_steps.proofs.RuleLists.{keeps-snoc, lets}
 use Rattle.markdown_grammar.specs.Grammar.{has_required, markers, rules, conforms}
@@ -20,7 +20,7 @@ use Rattle.markdown_grammar.specs.Document.{is_depth, is_item_number}
 use Rattle.markdown_grammar.specs.Attributes.{Place}
 use Rattle.markdown_grammar.specs.Document.{byte_at, length_between}
 use Rattle.markdown_grammar.specs.Values.{is_read}
-use Rattle.markdown_grammar.specs.Reasons.{ViolatesFirst, IsWrongAtEnter, IsWrongAtExit, against_a_rule, after_a_break, break_is_last, table_in_a_table, without_its_byte, without_its_parts, without_its_value}
+use Rattle.markdown_grammar.specs.Reasons.{FailsFirst, IsWrongAtEnter, IsWrongAtExit, rule_tests}
 use Rattle.markdown_steps.specs.Consequences.{EnterSays, ExitSays, SomeRule, StandsAlready}
 use Rattle.markdown_grammar.specs.Grammar.{Rule, any_item, keeps, none_of, at_most_one, only, only_before, only_after}
 use Rattle.markdown_grammar.specs.Document.{Source}
@@ -119,14 +119,15 @@ not-false false h = sym h
 
 -- what is wrong at an exit is what the refusal says
 pub exit_says : (s : Source) (x : Occurrence) (why : ErrorKind) → IsWrongAtExit s x why → ExitSays s x why
-exit_says s x why (break_is_last e w) = subst (λ (r : ErrorKind). ExitSays s x r) (sym w) (not-false (ends_with_break x.inner) e)
-exit_says s x why (without_its_parts b e w) = subst (λ (r : ErrorKind). ExitSays s x r) (sym w) (parts-say s x.model x.place x.after_break x.what x.start x.end x.inner e)
-exit_says s x why (without_its_value b k e w) = subst (λ (r : ErrorKind). ExitSays s x r) (sym w) (value-says s x.model x.place x.after_break x.what x.start x.end x.inner e)
+exit_says s x why (inl f) = subst (λ (r : ErrorKind). ExitSays s x r) (sym f.1) (not-false (ends_with_break x.inner) f.0)
+exit_says s x why (inr (b, inl f)) = subst (λ (r : ErrorKind). ExitSays s x r) (sym f.1) (parts-say s x.model x.place x.after_break x.what x.start x.end x.inner f.0)
+exit_says s x why (inr (b, inr (k, inl f))) = subst (λ (r : ErrorKind). ExitSays s x r) (sym f.1) (value-says s x.model x.place x.after_break x.what x.start x.end x.inner f.0)
+exit_says s x why (inr (b, inr (k, inr f))) = absurd f.1
 
 -- ---- Enters
 
 -- where a rule is violated, not all are kept
-pub violation-fails : (h : ContentModel) (rs : List Rule) (xs : List ItemKind) (why : ErrorKind) → ViolatesFirst h rs xs why → list_all (λ r. keeps r xs) rs ≡ false
+violation-fails : (h : ContentModel) (rs : List Rule) (xs : List ItemKind) (why : ErrorKind) → FailsFirst (rule_tests h rs xs) why → list_all (λ r. keeps r xs) rs ≡ false
 violation-fails h [] xs why b = absurd b
 violation-fails h (r ∷ rs) xs why (inl b) = ap (λ k. k && list_all (λ r'. keeps r' xs) rs) b.0
 violation-fails h (r ∷ rs) xs why (inr b) = (λ t. b.0 t && violation-fails h rs xs why b.1 t)
@@ -145,7 +146,7 @@ rule-says h (only_before ps test) = misplaced refl
 rule-says h (only_after ps test) = misplaced refl
 rule-says h (only test) = misplaced refl
 
-violation-says : (h : ContentModel) (rs : List Rule) (xs : List ItemKind) (why : ErrorKind) → ViolatesFirst h rs xs why → OfRules h why
+violation-says : (h : ContentModel) (rs : List Rule) (xs : List ItemKind) (why : ErrorKind) → FailsFirst (rule_tests h rs xs) why → OfRules h why
 violation-says h [] xs why b = absurd b
 violation-says h (r ∷ rs) xs why (inl b) = subst (λ (w : ErrorKind). OfRules h w) (sym b.1) (rule-says h r)
 violation-says h (r ∷ rs) xs why (inr b) = violation-says h rs xs why b.1
@@ -168,13 +169,13 @@ rule-repeats h (only_before ps test) xs what none_let w = let z : Repeated ≡ M
 rule-repeats h (only_after ps test) xs what none_let w = let z : Repeated ≡ Misplaced = w in absurd cc
 rule-repeats h (only test) xs what none_let w = let z : Repeated ≡ Misplaced = w in absurd cc
 
-violation-repeats : (h : ContentModel) (rs : List Rule) (xs : List ItemKind) (what : ItemKind) → list_all (λ r. keeps r xs) rs ≡ true → ViolatesFirst h rs (xs ++ what ∷ []) Repeated → SomeRule (StandsAlready xs what) rs
+violation-repeats : (h : ContentModel) (rs : List Rule) (xs : List ItemKind) (what : ItemKind) → list_all (λ r. keeps r xs) rs ≡ true → FailsFirst (rule_tests h rs (xs ++ what ∷ [])) Repeated → SomeRule (StandsAlready xs what) rs
 violation-repeats h [] xs what taken b = absurd b
 violation-repeats h (r ∷ rs) xs what taken (inl b) = inl (rule-repeats h r xs what (not-let r xs what (and-left (keeps r xs) (list_all (λ r'. keeps r' xs) rs) taken) b.0) b.1)
 violation-repeats h (r ∷ rs) xs what taken (inr b) = inr (violation-repeats h rs xs what (and-right (keeps r xs) (list_all (λ r'. keeps r' xs) rs) taken) b.1)
 
 -- one more item of a reference, which its marker rule alone refuses, is a value, and no marker is before it
-value-alone : (xs : List ItemKind) (what : ItemKind) → conforms character_reference xs ≡ true → ViolatesFirst character_reference (rules character_reference) (xs ++ what ∷ []) IncompleteReference
+value-alone : (xs : List ItemKind) (what : ItemKind) → conforms character_reference xs ≡ true → FailsFirst (rule_tests character_reference (rules character_reference) (xs ++ what ∷ [])) IncompleteReference
     → (what ≡ part parts.CharacterReferenceValue) × (any_item (is_one_of markers) xs ≡ false)
 value-alone xs what taken (inl b) = absurd (let z : IncompleteReference ≡ Repeated = b.1 in cc)
 value-alone xs what taken (inr (k, inl b)) = absurd (let z : IncompleteReference ≡ Misplaced = b.1 in cc)
@@ -203,15 +204,15 @@ value-alone xs what taken (inr (k, inr (l, inr (m, inl b)))) =
     fourth-of a b c d h = and-left d true (and-right c (d && true) (and-right b (c && (d && true)) (and-right a (b && (c && (d && true))) h)))
 value-alone xs what taken (inr (k, inr (l, inr (m, inr b)))) = absurd b.1
 
-violation-at-enter : (s : Source) (site : Site) (what : ItemKind) (a : Point) (why : ErrorKind) → conforms site.initial_model (kinds site.before) ≡ true → ViolatesFirst site.initial_model (rules site.initial_model) (kinds site.before ++ what ∷ []) why → OfRules site.initial_model why → EnterSays s site what a why
+violation-at-enter : (s : Source) (site : Site) (what : ItemKind) (a : Point) (why : ErrorKind) → conforms site.initial_model (kinds site.before) ≡ true → FailsFirst (rule_tests site.initial_model (rules site.initial_model) (kinds site.before ++ what ∷ [])) why → OfRules site.initial_model why → EnterSays s site what a why
 violation-at-enter s site what a why taken b (repeated w) =
     subst (λ (r : ErrorKind). EnterSays s site what a r) (sym w)
-    (violation-repeats site.initial_model (rules site.initial_model) (kinds site.before) what taken (subst (λ (r : ErrorKind). ViolatesFirst site.initial_model (rules site.initial_model) (kinds site.before ++ what ∷ []) r) w b))
+    (violation-repeats site.initial_model (rules site.initial_model) (kinds site.before) what taken (subst (λ (r : ErrorKind). FailsFirst (rule_tests site.initial_model (rules site.initial_model) (kinds site.before ++ what ∷ [])) r) w b))
 violation-at-enter s site what a why taken b (misplaced w) = subst (λ (r : ErrorKind). EnterSays s site what a r) (sym w) (inl (violation-fails site.initial_model (rules site.initial_model) (kinds site.before ++ what ∷ []) why b))
 violation-at-enter s site what a why taken b (incomplete w h) =
     subst (λ (r : ErrorKind). EnterSays s site what a r) (sym w)
     (value-alone (kinds site.before) what (ap (λ (r : ContentModel). conforms r (kinds site.before)) (sym h) ∙ taken)
-    (subst (λ (r : ErrorKind). ViolatesFirst character_reference (rules character_reference) (kinds site.before ++ what ∷ []) r) w (subst (λ (r : ContentModel). ViolatesFirst r (rules r) (kinds site.before ++ what ∷ []) why) h b)))
+    (subst (λ (r : ErrorKind). FailsFirst (rule_tests character_reference (rules character_reference) (kinds site.before ++ what ∷ [])) r) w (subst (λ (r : ContentModel). FailsFirst (rule_tests r (rules r) (kinds site.before ++ what ∷ [])) why) h b)))
 
 break-flags : (w l : Bool) → (not w || l) ≡ false → (w ≡ true) × (l ≡ false)
 break-flags true l h = (refl, h)
@@ -222,9 +223,19 @@ byte-says s (content contents.Frontmatter) a h = (refl, is-none (byte_at s.bytes
 byte-says s (content c) a h = absurd cc
 byte-says s (part q) a h = absurd cc
 
+-- of two lists of tests, one has the first that fails
+fails-append : (tests others : List (Bool × ErrorKind)) (why : ErrorKind) → FailsFirst (tests ++ others) why → FailsFirst tests why ⊎ FailsFirst others why
+fails-append [] others why f = inr f
+fails-append (test ∷ tests) others why (inl f) = inl (inl f)
+fails-append (test ∷ tests) others why (inr f) = elim (fails-append tests others why f.1) [ inl g ↦ inl (inr (f.0, g)) | inr g ↦ inr g ]
+
 -- what is wrong at an enter is what the refusal says
 pub enter_says : (s : Source) (site : Site) (what : ItemKind) (a : Point) (why : ErrorKind) → conforms site.initial_model (kinds site.before) ≡ true → IsWrongAtEnter s site what a why → EnterSays s site what a why
-enter_says s site what a why taken (after_a_break e w) = subst (λ (r : ErrorKind). EnterSays s site what a r) (sym w) (break-flags (ends_with_break site.before) (is_line_ending what) e)
-enter_says s site what a why taken (against_a_rule k b) = violation-at-enter s site what a why taken b (violation-says site.initial_model (rules site.initial_model) (kinds site.before ++ what ∷ []) why b)
-enter_says s site what a why taken (table_in_a_table k l e w) = subst (λ (r : ErrorKind). EnterSays s site what a r) (sym w) (inr e)
-enter_says s site what a why taken (without_its_byte k l m e w) = subst (λ (r : ErrorKind). EnterSays s site what a r) (sym w) (byte-says s what a e)
+enter_says s site what a why taken (inl f) = subst (λ (r : ErrorKind). EnterSays s site what a r) (sym f.1) (break-flags (ends_with_break site.before) (is_line_ending what) f.0)
+enter_says s site what a why taken (inr (k, f)) =
+    elim (fails-append (rule_tests site.initial_model (rules site.initial_model) (kinds site.before ++ what ∷ [])) _ why f) [
+      | inl b ↦ violation-at-enter s site what a why taken b (violation-says site.initial_model (rules site.initial_model) (kinds site.before ++ what ∷ []) why b)
+      | inr (inl e) ↦ subst (λ (r : ErrorKind). EnterSays s site what a r) (sym e.1) (inr e.0)
+      | inr (inr (l, inl e)) ↦ subst (λ (r : ErrorKind). EnterSays s site what a r) (sym e.1) (byte-says s what a e.0)
+      | inr (inr (l, inr z)) ↦ absurd z.1
+    ]

@@ -16,8 +16,8 @@ use Rattle.markdown_events.specs.declared.event.Point.{Point}
 use Rattle.markdown_events.specs.declared.role.ItemKind.{ItemKind}
 use Rattle.markdown_events.specs.declared.role.Part.{Part}
 use Rattle.markdown_events.specs.declared.role.Role.{Role}
-use Rattle.positions.specs.declared.unist.Point.{Point as UnistPoint}
-use Rattle.positions.specs.declared.unist.Position.{Position}
+use Rattle.markdown_events.specs.declared.unist.Point.{Point as UnistPoint}
+use Rattle.markdown_events.specs.declared.unist.Position.{Position}
 use Rattle.markdown_steps.proofs.ItemLists.{regroup}
 use Rattle.markdown_grammar.specs.LineEndings.{ending_read}
 use Rattle.markdown_grammar.specs.Attributes.{mark}
@@ -31,7 +31,7 @@ use Rattle.markdown_steps.proofs.Decorating.{nodes-are}
 use Rattle.markdown_grammar.specs.Nodes.{frontmatter}
 use Rattle.markdown_steps.specs.SummaryNodes.{node_of, nodes}
 use Rattle.markdown_grammar.specs.Ordered.{InOrder, IsBefore, IsOrdered, NeverGoesBack, RisesFrom, Standing, elsewhere, first_child, first_in_paragraph, first_in_task}
-use Rattle.markdown_steps.specs.Summaries.{Path, FoundPart, address, first_part, summary_of, into, itself, path_to}
+use Rattle.markdown_steps.specs.Summaries.{PartPath, FoundPart, address, first_part, summary_of, into, itself, path_to}
 use Rattle.markdown_grammar.specs.Attributes.{Place, inherited_after, inherited_in, inherited_at_root}
 use Rattle.markdown_grammar.specs.Document.{Source}
 use Rattle.markdown_grammar.specs.Tasks.{after_blank, capped_sum, task, task_if, trimmed_text}
@@ -239,7 +239,7 @@ media-image alt m a b le = elim m.resource as (λ o. Fine a.index b.index (node_
 ]
 
 -- The node of a span nests in it, where the nodes of its items do
-node-ordered : (s : Source) (p from : Place) (what : ItemKind) (a b : Point) (d : Forest) (i : Items) (under : Path → Trees) → b.index < 2 ^ 64 → Rises a.index i b.index → ((w : Path) → InOrder elsewhere false a.index b.index (under w)) → Fine a.index b.index (node_of s p what a b (child_facts_of d) (summary_of s from i under))
+node-ordered : (s : Source) (p from : Place) (what : ItemKind) (a b : Point) (d : Forest) (i : Items) (under : PartPath → Trees) → b.index < 2 ^ 64 → Rises a.index i b.index → ((w : PartPath) → InOrder elsewhere false a.index b.index (under w)) → Fine a.index b.index (node_of s p what a b (child_facts_of d) (summary_of s from i under))
 node-ordered s p from (content contents.Data) a b d i under small h k = one-ordered _ nothing a b (rises-le _ i _ h) tt
 node-ordered s p from (content contents.CharacterReference) a b d i under small h k = one-ordered _ nothing a b (rises-le _ i _ h) tt
 node-ordered s p from (content contents.LineEnding) a b d i under small h k = if-ordered p.line_endings a.index b.index _ (one-ordered (text (ending_read s a b)) nothing a b (rises-le _ i _ h) tt)
@@ -266,7 +266,7 @@ node-ordered s p from (part parts.HeadingSetextText) a b d i under small h k = r
 node-ordered s p from (part _) a b d i under small h k = record { ok = tt }
 
 -- The nodes of items nest and stand in order
-pub nodes-ordered : (s : Source) (w : Path) (p : Place) (xs : Items) (lo hi : ℕ) → hi < 2 ^ 64 → Rises lo xs hi → InOrder elsewhere false lo hi (nodes s w p xs)
+pub nodes-ordered : (s : Source) (w : PartPath) (p : Place) (xs : Items) (lo hi : ℕ) → hi < 2 ^ 64 → Rises lo xs hi → InOrder elsewhere false lo hi (nodes s w p xs)
 nodes-ordered s w p none lo hi small h = tt
 nodes-ordered s itself p (item (content contents.HardBreak) a b d i (item (content contents.LineEnding) a' b' d' i' rest)) lo hi small h =
     let ab : a.index ≤ b.index = rises-le a.index i b.index h.1 in

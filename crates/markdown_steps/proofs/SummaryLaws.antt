@@ -21,7 +21,7 @@ use Rattle.markdown_grammar.specs.Grammar.{ContentModel, model_after}
 use Rattle.markdown_grammar.specs.Items.{Items, item, none, same_part, ◌then◌}
 use Rattle.markdown_grammar.specs.Items.{is_hard_break, is_line_ending, is_part}
 use Rattle.markdown_steps.specs.SummaryNodes.{node_of, nodes}
-use Rattle.markdown_steps.specs.Summaries.{Summary, PartSummary, Path, FoundPart, first_part, summary_of, into, itself, kept_at, path_to, stretch_at}
+use Rattle.markdown_steps.specs.Summaries.{Summary, PartSummary, PartPath, FoundPart, first_part, summary_of, into, itself, kept_at, path_to, stretch_at}
 use Rattle.markdown_grammar.specs.Attributes.{Place, inherited_after, inherited_in}
 use Rattle.markdown_grammar.specs.Document.{Source}
 use Rattle.markdown_grammar.specs.Sites.{model_after_all, inherited_after_all}
@@ -77,7 +77,7 @@ first-one : (q : Part) (p : Place) (what : ItemKind) (a b : Point) (d : Forest) 
 first-one q p (content c) a b d i = refl
 first-one q p (part r) a b d i = refl
 
-within-one : (s : Source) (q : Part) (way : Path) (p : Place) (what : ItemKind) (a b : Point) (d : Forest) (i : Items) → nodes s (into q way) p (item what a b d i none) ≡ cond (is_part q what) (nodes s way (inherited_in what p) i) nothing
+within-one : (s : Source) (q : Part) (way : PartPath) (p : Place) (what : ItemKind) (a b : Point) (d : Forest) (i : Items) → nodes s (into q way) p (item what a b d i none) ≡ cond (is_part q what) (nodes s way (inherited_in what p) i) nothing
 within-one s q way p (content c) a b d i = refl
 within-one s q way p (part r) a b d i =
     elim (same_part q r) as (λ t. elim t [ true ↦ nodes s way (inherited_in (part r) p) i | false ↦ nothing ] ≡ cond t (nodes s way (inherited_in (part r) p) i) nothing) [ true ↦ refl | false ↦ refl ]
@@ -86,7 +86,7 @@ first-snoc : (q : Part) (p : Place) (xs : Items) (what : ItemKind) (a b : Point)
     → first_part q p (xs then item what a b d i none) ≡ option_or (first_part q p xs) (cond (is_part q what) (Some (stretch (inherited_after_all xs p) a b i)) None)
 first-snoc q p xs what a b d i = first_part-then q p xs (item what a b d i none) ∙ ap (option_or (first_part q p xs)) (first-one q (inherited_after_all xs p) what a b d i)
 
-within-snoc : (s : Source) (q : Part) (way : Path) (p : Place) (xs : Items) (what : ItemKind) (a b : Point) (d : Forest) (i : Items)
+within-snoc : (s : Source) (q : Part) (way : PartPath) (p : Place) (xs : Items) (what : ItemKind) (a b : Point) (d : Forest) (i : Items)
     → nodes s (into q way) p (xs then item what a b d i none) ≡ cond (is_some (first_part q p xs)) (nodes s (into q way) p xs) (cond (is_part q what) (nodes s way (inherited_in what p) i) nothing)
 within-snoc s q way p xs what a b d i = within-then s q way p p xs (item what a b d i none) ∙ ap (cond (is_some (first_part q p xs)) (nodes s (into q way) p xs)) (within-one s q way p what a b d i)
 
@@ -115,7 +115,7 @@ pub is-that-part : (q : Part) (what : ItemKind) → is_part q what ≡ true → 
 is-that-part q (content c) h = absurd cc
 is-that-part q (part r) h = ap (λ (x : Part). part x) (same_true the_type tt q r h)
 
-part-snoc : (s : Source) (p : Place) (xs : Items) (what : ItemKind) (a b : Point) (d : Forest) (i : Items) (way : Path)
+part-snoc : (s : Source) (p : Place) (xs : Items) (what : ItemKind) (a b : Point) (d : Forest) (i : Items) (way : PartPath)
     → (inner_at s p (xs then item what a b d i none)).part way ≡ part_with s (inherited_after_all xs p) what a b (inner_at s (inherited_in what p) i) (inner_at s p xs).part way
 part-snoc s p xs what a b d i itself = refl
 part-snoc s p xs what a b d i (into q itself) =

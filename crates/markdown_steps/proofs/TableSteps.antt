@@ -11,7 +11,7 @@ use Rattle.markdown_events.specs.declared.infer.AlignKind.{AlignKind}
 use Rattle.markdown_events.specs.declared.role.ItemKind.{ItemKind}
 use Rattle.markdown_events.specs.declared.role.Role.{Role}
 use Rattle.markdown_steps.proofs.Allowed.{all_allow}
-use Rattle.markdown_steps.proofs.Booleans.{all-three, and-left, and-right}
+use Rattle.markdown_events.proofs.Booleans.{all-three, and-left, and-right}
 use Rattle.markdown_steps.proofs.ColumnKinds.{align-is, columns_past, is_table_role}
 use Rattle.markdown_steps.proofs.ItemSteps.{passes-rules, walk}
 use Rattle.markdown_steps.proofs.Outcomes.{some_is, then-inv, when, when-some}

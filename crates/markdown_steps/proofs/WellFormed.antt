@@ -1,5 +1,5 @@
 -- The well-formedness, by what is around and by what is inside.
-use Rattle.markdown_steps.proofs.Booleans.{and-left, and-right, and-both}
+use Rattle.markdown_events.proofs.Booleans.{and-left, and-right, and-both}
 use Rattle.std.proofs.Common.{◌≡◌, Bool, true, false, not, ◌&&◌, ◌||◌, refl, sym}
 use Rattle.markdown_events.specs.declared.role.Role.{Role}
 use Rattle.markdown_events.specs.declared.role.Role.TheVariants.{Transparent as transparent, Significant as significant}

@@ -8,7 +8,7 @@ use Rattle.markdown_events.specs.declared.event.Name.{Name}
 use Rattle.markdown_events.specs.declared.event.Point.{Point}
 use Rattle.markdown_events.specs.declared.role.ItemKind.{ItemKind}
 use Rattle.markdown_events.specs.declared.role.Role.{Role}
-use Rattle.markdown_steps.proofs.Booleans.{and-left}
+use Rattle.markdown_events.proofs.Booleans.{and-left}
 use Rattle.markdown_steps.proofs.EventRuns.{left_is}
 use Rattle.markdown_steps.proofs.Outcomes.{bind_ok, checked_ok, checked_passes, ok_is}
 use Rattle.markdown_events.specs.Around.{may_begin}

@@ -1,4 +1,4 @@
--- How the columns of the table are aligned, as far as its events are read. Tables do not stand in tables, so that one place for it does.
+-- The alignments of the columns of the current table, from the events so far. Tables do not nest, so one record is enough.
 use Rattle.std.specs.Prelude.{Bool, List, [], cond, ◌++◌, ◌∷◌}
 use Rattle.markdown_steps.specs.ChildFacts.{ChildFacts}
 use Rattle.markdown_events.specs.declared.infer.AlignKind.{AlignKind}
@@ -12,7 +12,7 @@ use Rattle.markdown_events.specs.declared.role.TransparentKind.TheVariants as tr
 pub data Rows : Type 0 where
   before inside after : Rows
 
--- where the table's first row is, and the entries of its values so far
+-- where the table's first delimiter row is, and the entries of its values so far
 pub record Columns : Type 0 where
   pub rows : Rows
   pub kinds : List AlignKind
@@ -29,23 +29,23 @@ row_begun columns = elim columns.rows [ before ↦ record columns { rows = insid
 abbrev pub row_ended : Columns → Columns
 row_ended columns = elim columns.rows [ inside ↦ record columns { rows = after } | _ ↦ columns ]
 
--- a value ends: it has an entry in the first row alone
+-- a value ends: it has an entry only in the first row
 abbrev pub value_ended : AlignKind → Columns → Columns
 value_ended kind columns = elim columns.rows [ inside ↦ record columns { kinds = columns.kinds ++ kind ∷ [] } | _ ↦ columns ]
 
--- at an enter, by whether it is in a table
+-- at an enter; the flag says whether it is in a table
 abbrev pub columns_entered : Bool → Role → Columns → Columns
 columns_entered in_table (transparent transparents.DelimiterRow) columns = cond in_table (row_begun columns) columns
 columns_entered in_table (significant what) columns = cond (is_table what) no_columns columns
 columns_entered in_table role columns = columns
 
--- at an exit, by what the children say. After a table there are none
+-- at an exit, from the marks of the children; after a table there are no columns
 abbrev pub columns_left : Role → Marks → Columns → Columns
 columns_left (significant what) inner columns = cond (is_table what) no_columns columns
 columns_left (transparent transparents.DelimiterRow) inner columns = row_ended columns
 columns_left (transparent transparents.DelimiterCellValue) inner columns = value_ended (kind_by inner) columns
 columns_left role inner columns = columns
 
--- what the node of a span wants to know of its children
+-- the facts that the node of a span depends on
 abbrev pub child_facts : Marks → Columns → ChildFacts
 child_facts m columns = record { loose_list = m.is_loose_list; loose_item = m.is_loose_item; align = columns.kinds }

@@ -1,4 +1,4 @@
--- The steps of a compilation on values: what a container keeps, what goes down to a span at its enter, and what comes up at its exit.
+-- The steps of a compilation on values: the state of a container, what a span inherits at its enter, and what it gives at its exit.
 use Rattle.std.specs.Prelude.{Bool, List, None, Ok, Option, Result, Some, [], cond, false, is_some, not, true, ◌&&◌, ◌||◌, ◌∷◌}
 use Rattle.std.specs.List.{list_any}
 use Rattle.std.specs.Option.{option_or}
@@ -13,8 +13,8 @@ use Rattle.markdown_events.specs.declared.event.Point.{Point}
 use Rattle.markdown_events.specs.declared.role.ItemKind.{ItemKind}
 use Rattle.markdown_events.specs.declared.role.Part.{Part}
 use Rattle.markdown_events.specs.declared.role.Role.{Role}
-use Rattle.positions.specs.declared.unist.Point.{Point as UnistPoint}
-use Rattle.positions.specs.declared.unist.Position.{Position}
+use Rattle.markdown_events.specs.declared.unist.Point.{Point as UnistPoint}
+use Rattle.markdown_events.specs.declared.unist.Position.{Position}
 use Rattle.markdown_events.specs.Around.{in_the_open, may_begin, under}
 use Rattle.markdown_steps.specs.Columns.{Columns, columns_entered, columns_left, no_columns, child_facts}
 use Rattle.markdown_steps.specs.Extents.{extent_of, last_event}
@@ -22,7 +22,7 @@ use Rattle.markdown_grammar.specs.Attributes.{Place, mark_given, inherited_after
 use Rattle.markdown_grammar.specs.Grammar.{ContentModel, Rule, any_content, character_reference, code_fenced, heading_atx, heading_setext, model_after, model_of, list_ordered, math_flow, none_of, at_most_one, only, only_before, only_after, rules}
 use Rattle.markdown_grammar.specs.Items.{is_frontmatter, is_hard_break, is_line_ending, is_one_of, is_part, is_table}
 use Rattle.markdown_steps.specs.SummaryNodes.{node_of}
-use Rattle.markdown_steps.specs.Summaries.{Summary, PartSummary, Path, into, itself, kept_from, path_to}
+use Rattle.markdown_steps.specs.Summaries.{Summary, PartSummary, PartPath, into, itself, kept_from, path_to}
 use Rattle.markdown_grammar.specs.Document.{Source, byte_at}
 use Rattle.markdown_grammar.specs.Values.{is_read}
 use Rattle.markdown_grammar.specs.Refusals.{ErrorAt, rule_error, missing_error, value_error}
@@ -35,42 +35,42 @@ use Rattle.markdown_events.specs.declared.role.Role.TheVariants.{Significant as 
 use Rattle.markdown_grammar.specs.declared.error_kind.ErrorKind.TheVariants.{Held, InvalidSlice, Misplaced, Unbalanced, UnfinishedBreak}
 use Rattle.markdown_events.specs.declared.role.Part.TheVariants as parts
 
--- ---- What a container keeps
+-- ---- The state of a container
 
--- a container and what its items gave so far
+-- a container, and what its items have given so far
 pub record ContainerState : Type 0 where
-  -- as what it was entered, and what it is for what follows
+  -- its content model at first, and the one for what follows
   pub initial_model : ContentModel
   pub model : ContentModel
-  -- where the next item stands
+  -- the place of the next item
   pub place : Place
-  -- its last item is a break that waits for its line ending
+  -- whether its last item is a break that waits for its line ending
   pub after_break : Bool
   pub inner : Summary
 
--- no item gave a thing
+-- no item has given anything
 abbrev pub nothing_yet : Summary
 nothing_yet = record { nodes = nothing; label = nothing; part = λ way. None; mark = None; value = None }
 
--- a container in a place, before its items
+-- a container at a place, before its items
 abbrev pub fresh : ContentModel → Place → ContainerState
 fresh h p = record { initial_model = h; model = h; place = p; after_break = false; inner = nothing_yet }
 
--- an item of a container, before its own items
+-- an item in a container, as a container before its own items
 abbrev pub entered : ContainerState → ItemKind → ContainerState
 entered top what = fresh (model_of top.model what) (inherited_in what top.place)
 
 -- ---- Tests at an enter
 
--- a part so named has stood
+-- this part has occurred
 abbrev pub has_stood : Part → Summary → Bool
 has_stood p i = is_some (i.part (path_to p))
 
--- one of the parts has stood
+-- one of these parts has occurred
 abbrev pub has_one_of : List Part → Summary → Bool
 has_one_of ps i = list_any (λ p. has_stood p i) ps
 
--- one more item keeps the rule, where this says whether one of some parts has stood
+-- one more item keeps the rule; `stood` says whether any of some parts has occurred
 abbrev pub allows_after : (List Part → Bool) → Rule → ItemKind → Bool
 allows_after stood (only test) what = test what
 allows_after stood (at_most_one ps) what = not (is_one_of ps what) || not (stood ps)
@@ -78,16 +78,16 @@ allows_after stood (none_of ps) what = not (is_one_of ps what)
 allows_after stood (only_after ps test) what = not (stood ps) || test what
 allows_after stood (only_before ps test) what = stood ps || (is_one_of ps what || test what)
 
--- one more item keeps the rule, after those that gave this
+-- one more item keeps the rule, after the items of this summary
 abbrev pub allows : Rule → Summary → ItemKind → Bool
 allows rule i what = allows_after (λ ps. has_one_of ps i) rule what
 
--- the tests of these rules, before others
+-- the tests of these rules, followed by others
 abbrev pub rule_checks : ContentModel → List Rule → Summary → ItemKind → List (Bool × ErrorKind) → List (Bool × ErrorKind)
 rule_checks h [] i what others = others
 rule_checks h (rule ∷ rules) i what others = (allows rule i what, rule_error h rule) ∷ rule_checks h rules i what others
 
--- what is asked of an item where it begins
+-- the tests of an item where it begins
 abbrev pub enter_checks : Source → ContainerState → ItemKind → Point → List (Bool × ErrorKind)
 enter_checks s top what start =
     (not top.after_break || is_line_ending what, UnfinishedBreak)
@@ -97,7 +97,7 @@ enter_checks s top what start =
 
 -- ---- Tests at an exit
 
--- what has to stand in the container has stood
+-- the container has what it requires
 abbrev pub all_stood : ContentModel → Summary → Bool
 all_stood character_reference i = has_stood parts.CharacterReferenceValue i
 all_stood heading_atx i = has_stood parts.HeadingAtxSequence i
@@ -107,20 +107,20 @@ all_stood math_flow i = has_stood parts.MathFlowFence i
 all_stood list_ordered i = is_some i.value
 all_stood _ i = true
 
--- what is asked of an item where it ends
+-- the tests of an item where it ends
 abbrev pub exit_checks : Source → ContainerState → ItemKind → Point → Point → ContainerState → List (Bool × ErrorKind)
 exit_checks s top what a b own =
     (not own.after_break, UnfinishedBreak) ∷ (all_stood own.initial_model own.inner, missing_error own.initial_model) ∷ (is_read s top.model top.place top.after_break what a b, value_error s what a b) ∷ []
 
--- ---- What comes up at an exit
+-- ---- The summary that a span gives at its exit
 
--- what a part gave at the end of a path that begins with it
-abbrev pub kept_under : Source → Place → Part → Path → Point → Point → Summary → Option PartSummary
+-- the summary for a path that begins with this part
+abbrev pub kept_under : Source → Place → Part → PartPath → Point → Point → Summary → Option PartSummary
 kept_under s p q itself a b i = Some (kept_from s p q a b i.nodes)
 kept_under s p q (into r way) a b i = i.part (into r way)
 
--- what the parts gave, the first of each name
-abbrev pub part_with : Source → Place → ItemKind → Point → Point → Summary → (Path → Option PartSummary) → Path → Option PartSummary
+-- the summaries of the parts; of the parts of each kind, the first counts
+abbrev pub part_with : Source → Place → ItemKind → Point → Point → Summary → (PartPath → Option PartSummary) → PartPath → Option PartSummary
 part_with s p what a b i old itself = None
 part_with s p what a b i old (into q way) = elim (old (path_to q)) [ Some k ↦ old (into q way) | None ↦ cond (is_part q what) (kept_under s p q way a b i) None ]
 
@@ -134,18 +134,18 @@ abbrev pub ending_at : UnistPoint → Option Position → Option Position
 ending_at end None = None
 ending_at end (Some here) = Some (record here { end = end })
 
--- the nodes, the last of which ends at a point
+-- the nodes, with another end for the last one
 abbrev pub lengthened : UnistPoint → Trees → Trees
 lengthened end nothing = nothing
 lengthened end (node label children here nothing) = node label children (ending_at end here) nothing
 lengthened end (node label children here (node other inner there rest)) = node label children here (lengthened end (node other inner there rest))
 
--- the nodes with those of one more item. A line ending after a break ends the break
+-- the nodes with those of one more item; a line ending after a break ends the break
 abbrev pub nodes_with : Bool → Point → Trees → Trees → Trees
 nodes_with true b made old = lengthened (to_unist b) old
 nodes_with false b made old = join old made
 
--- what one more item makes of what the items gave
+-- the summary after one more item
 abbrev pub with_child_summary : Source → ContainerState → ItemKind → Point → Point → ChildFacts → Summary → Summary
 with_child_summary s top what a b children i = record {
   nodes = nodes_with top.after_break b (node_of s top.place what a b children i) top.inner.nodes;
@@ -167,7 +167,8 @@ with_child s top what a b children i = record {
 
 -- ---- The state
 
--- an open span: where it began, what was around it, what the children before it say, and, if it is significant, what it is and the container around it
+-- an open span: its start, its surroundings, the marks of the children before it, and, if it is significant, what it is
+-- and the container around it
 pub record OpenSpan : Type 0 where
   pub name : Name
   pub start : Point
@@ -175,7 +176,8 @@ pub record OpenSpan : Type 0 where
   pub before : Marks
   pub outer : Option (ItemKind × ContainerState)
 
--- the open spans, the innermost first; what is around, what the children so far say, the columns of the table, and the innermost container
+-- the open spans, the innermost first; the surroundings, the marks of the children so far, the columns of the table,
+-- and the innermost container
 pub record State : Type 0 where
   pub frames : List OpenSpan
   pub around : Around
@@ -199,20 +201,20 @@ push name point st outer top = record {
   top = top;
 }
 
--- an enter, by what the span is
+-- an enter, by the role of the span
 abbrev pub enter_as : Source → Role → Name → Point → State → Result State ErrorAt
 enter_as s (transparent _) name point st = Ok (push name point st None st.top)
 enter_as s (significant what) name point st = checked (enter_checks s st.top what point) point (Ok (push name point st (Some (what, st.top)) (entered st.top what)))
 
--- the step of an enter: a span may begin here, and its container takes it
+-- the step of an enter: a span may begin here, and its container accepts it
 unfoldable pub enter_step : Source → Name → Point → State → Result State ErrorAt
 enter_step s name point st = checked ((may_begin st.around (role_of name), Held) ∷ []) point (enter_as s (role_of name) name point st)
 
--- an item goes into its container
+-- an item is added to its container
 unfoldable pub leave : Source → ItemKind → Point → Point → ChildFacts → ContainerState → ContainerState → Result ContainerState ErrorAt
 leave s what start end children own top = checked (exit_checks s top what start end own) end (Ok (with_child s top what start end children own.inner))
 
--- what belongs to the span around
+-- the container around a span after its exit; a transparent span leaves it as it is
 abbrev pub leave_to : Source → Point → Point → ChildFacts → ContainerState → Option (ItemKind × ContainerState) → Result ContainerState ErrorAt
 leave_to s start end children own None = Ok own
 leave_to s start end children own (Some outer) = leave s outer.0 start end children own outer.1
@@ -231,7 +233,7 @@ exit_from s name point (f ∷ fs) st =
 unfoldable pub exit_step : Source → Name → Point → State → Result State ErrorAt
 exit_step s name point st = exit_from s name point st.frames st
 
--- a step, by its kind
+-- a step, by the kind of its event
 abbrev pub step_by : Kind → Source → Name → Point → State → Result State ErrorAt
 step_by Enter s name point st = enter_step s name point st
 step_by Exit s name point st = exit_step s name point st
@@ -252,16 +254,16 @@ abbrev pub no_open_span : List OpenSpan → Bool
 no_open_span [] = true
 no_open_span (f ∷ fs) = false
 
--- what is asked after the last event
+-- the tests after the last event
 abbrev pub last_checks : State → List (Bool × ErrorKind)
 last_checks st = (no_open_span st.frames, Unbalanced) ∷ (not st.top.after_break, UnfinishedBreak) ∷ []
 
--- the point of an event, or that before the first
+-- the point of an event, or the start of the document if there is none
 abbrev pub point_of : Option Event → Point
 point_of None = record { line = 1; column = 1; index = 0; vs = 0 }
 point_of (Some event) = event.point
 
--- a Root over the nodes of all items
+-- a Root with the nodes of all items
 abbrev pub tree_of : List Event → State → Tree
 tree_of events st = record { label = root; children = st.top.inner.nodes; position = Some (extent_of events) }
 

@@ -1,4 +1,4 @@
--- What holds of the tree of a forest: the words of the laws.
+-- Properties of the tree of a forest, for the laws.
 use Rattle.std.specs.Prelude.{Bool, IsFalse, IsSome, List, None, Option, Some, cond, false, is_some, length, true, ℕ, ⊤, ◌&&◌, ◌+◌, ◌≡◌, ◌≤◌, ◌⊎◌, [], ◌++◌, ◌∷◌}
 use Rattle.markdown_nodes.specs.Tree.{Label, Trees, node, nothing, text}
 use Rattle.markdown_events.specs.Forest.{Forest, empty, is_delimiter_cell_value, span}
@@ -12,7 +12,7 @@ use Rattle.markdown_events.specs.declared.event.Point.{Point}
 use Rattle.markdown_events.specs.declared.infer.AlignKind.{AlignKind}
 use Rattle.markdown_events.specs.declared.role.ItemKind.{ItemKind}
 use Rattle.markdown_events.specs.declared.role.Role.{Role}
-use Rattle.positions.specs.declared.unist.Position.{Position}
+use Rattle.markdown_events.specs.declared.unist.Position.{Position}
 use Rattle.markdown_events.specs.declared.role.ItemKind.TheVariants.{Content as content, Part as part}
 use Rattle.markdown_events.specs.declared.role.Role.TheVariants.{Significant as significant, Transparent as transparent}
 use Rattle.markdown_events.specs.declared.role.Content.TheVariants as contents
@@ -29,12 +29,12 @@ use Rattle.markdown_grammar.specs.declared.error_kind.ErrorKind.TheVariants.{Hea
 use Rattle.markdown_events.specs.declared.role.Part.TheVariants as parts
 use Rattle.markdown_grammar.specs.Reasons.{beginning}
 
--- it is the label of a text
+-- the label of a text
 abbrev pub is_text : Label → Bool
 is_text (text value) = true
 is_text _ = false
 
--- each node, at any depth, is so, by its label and its position
+-- each node, at any depth, satisfies this, by its label and its position
 abbrev pub Everywhere : (Label → Option Position → Type 0) → Trees → Type 0
 Everywhere Is nothing = ⊤
 Everywhere Is (node label children position rest) = Is label position × Everywhere Is children × Everywhere Is rest
@@ -69,22 +69,22 @@ HasStartIfOrdered _ position = ⊤
 
 -- ---- Columns of tables
 
--- some span of the forest, at any depth, is so, by its role, its ends and its children
+-- some span of the forest, at any depth, satisfies this, by its role, its ends and its children
 abbrev pub SomeSpan : (Role → Point → Point → Forest → Type 0) → Forest → Type 0
 SomeSpan Is empty = ⊥
 SomeSpan Is (span name start end children rest) = Is (role_of name) start end children ⊎ (SomeSpan Is children ⊎ SomeSpan Is rest)
 
--- how many delimiter cell values the forest has, at any depth
+-- the number of delimiter cell values in the forest, at any depth
 abbrev pub cell_values : Forest → ℕ
 cell_values empty = 0
 cell_values (span name _ _ children rest) = cond (is_delimiter_cell_value (role_of name)) 1 0 + cell_values children + cell_values rest
 
--- the same of the first delimiter row, if there is one
+-- that number for the first delimiter row, 0 if there is none
 abbrev pub cell_values_in_row : Option Forest → ℕ
 cell_values_in_row None = 0
 cell_values_in_row (Some row) = cell_values row
 
--- a span is a table that lies there, and its first delimiter row says these alignments, one for each cell value
+-- a span is a table at this position, and its first delimiter row says these alignments, one for each cell value
 pub record DeclaresColumns (alignments : List AlignKind) (position : Option Position) (role : Role) (start end : Point) (children : Forest) : Type 0 where
   pub is_table : role ≡ significant (content contents.Table)
   pub lies_there : position ≡ Some (between start end)
@@ -106,7 +106,7 @@ is_autolink (content contents.AutolinkLiteralWww) = true
 is_autolink (content contents.AutolinkLiteralWhole) = true
 is_autolink _ = false
 
--- the nodes are one Link without a title, from a point to another, and others after it
+-- the nodes are one Link without a title, from one point to another, and the others after it
 pub record IsLinkBefore (nodes : Trees) (start end : Point) (others : Trees) : Type 0 where
   pub url : List ℕ
   pub children : Trees
@@ -114,19 +114,19 @@ pub record IsLinkBefore (nodes : Trees) (start end : Point) (others : Trees) : T
 
 -- ---- Refusals
 
--- one of the rules is so
+-- one of the rules satisfies this
 abbrev pub SomeRule : (Rule → Type 0) → List Rule → Type 0
 SomeRule Is [] = ⊥
 SomeRule Is (rule ∷ others) = Is rule ⊎ SomeRule Is others
 
--- the item is one of parts that may stand once, and one of them stands already; or it is one of parts that may not stand again,
--- as a mark in a Paragraph of an item that has a mark
+-- the item is one of the parts that may occur once, and one of these has occurred; or it is one of the parts that may not occur
+-- again, like a mark in a Paragraph of an item that has a mark
 abbrev pub StandsAlready : List ItemKind → ItemKind → Rule → Type 0
 StandsAlready before what (at_most_one ps) = (is_one_of ps what ≡ true) × (any_item (is_one_of ps) before ≡ true)
 StandsAlready before what (none_of ps) = is_one_of ps what ≡ true
 StandsAlready before what _ = ⊥
 
--- what a refusal says of an item that begins
+-- the meaning of a refusal of an item that begins
 abbrev pub EnterSays : Source → Site → ItemKind → Point → ErrorKind → Type 0
 EnterSays s site what start UnfinishedBreak = (ends_with_break site.before ≡ true) × (is_line_ending what ≡ false)
 EnterSays s site what start Repeated = SomeRule (StandsAlready (kinds site.before) what) (rules site.initial_model)
@@ -135,15 +135,15 @@ EnterSays s site what start IncompleteReference = (what ≡ part parts.Character
 EnterSays s site what start InvalidSlice = (what ≡ content contents.Frontmatter) × (byte_at s.bytes start ≡ None)
 EnterSays s site what start _ = ⊥
 
--- a part so named does not stand in it
+-- this part is not in it
 abbrev pub Lacks : Occurrence → Part → Type 0
 Lacks x q = has_part q x.inner ≡ false
 
--- what is read of it is not there: its slice, its range or a byte
+-- a slice, a range or a byte that is read of it is not in the document
 abbrev pub IsNotThere : Source → Occurrence → Type 0
 IsNotThere s x = (slice s.bytes x.start x.end ≡ None) ⊎ (length_between s.bytes x.start x.end ≡ None) ⊎ (byte_at s.bytes x.start ≡ None)
 
--- what a refusal says of an item that ends
+-- the meaning of a refusal of an item that ends
 abbrev pub ExitSays : Source → Occurrence → ErrorKind → Type 0
 ExitSays s x UnfinishedBreak = ends_with_break x.inner ≡ true
 ExitSays s x IncompleteReference = (x.what ≡ content contents.CharacterReference) × Lacks x parts.CharacterReferenceValue
@@ -157,22 +157,24 @@ ExitSays s x InvalidListValue = (x.what ≡ part parts.ListItemValue) × (is_ite
 ExitSays s x UnknownReference = (x.what ≡ part parts.CharacterReferenceValue) × (decoded s x.place x.start x.end ≡ None)
 ExitSays s x _ = ⊥
 
--- whether the last event of a significant span is the exit of a hard break, after an event: where that was so before, an event of a transparent span leaves it
+-- whether the last event of a significant span, up to this event, is the exit of a hard break; `before` says so for the events
+-- before it, and an event of a transparent span changes nothing
 abbrev pub exits_break : Kind → Role → Bool → Bool
 exits_break kind (transparent _) before = before
 exits_break Enter (significant what) before = false
 exits_break Exit (significant what) before = is_hard_break what
 
--- the same after events
+-- whether that is so after these events
 abbrev pub exits_break_last : List Event → Bool → Bool
 exits_break_last [] before = before
 exits_break_last (event ∷ events) before = exits_break_last events (exits_break event.kind (role_of event.name) before)
 
--- the last of these events that is one of a significant span is the exit of a hard break
+-- the last event of a significant span among these is the exit of a hard break
 abbrev pub ends_with_break_exit : List Event → Bool
 ends_with_break_exit events = exits_break_last events false
 
--- what `break-unfinished` says of an event: it is one of a significant span, no line ending begins with it, and of the events of such spans before it the last is the exit of a hard break
+-- the meaning of `break-unfinished` for an event: it is one of a significant span, it does not begin a line ending,
+-- and the last event of a significant span before it is the exit of a hard break
 pub record FollowsBreak (before : List Event) (event : Event) : Type 0 where
   pub what : ItemKind
   pub is_significant : role_of event.name ≡ significant what

@@ -1,8 +1,8 @@
--- From the first event of a list to the last.
+-- The extent of a list of events, from the first to the last.
 use Rattle.std.specs.Prelude.{List, None, Option, Some, length, slice_get, ◌-◌}
 use Rattle.markdown_events.specs.Slices.{between}
 use Rattle.markdown_events.specs.declared.event.Event.{Event}
-use Rattle.positions.specs.declared.unist.Position.{Position}
+use Rattle.markdown_events.specs.declared.unist.Position.{Position}
 use Rattle.markdown_grammar.specs.Meaning.{nowhere}
 
 -- the last of the events
@@ -15,6 +15,6 @@ extent_between None last = nowhere
 extent_between (Some first) None = nowhere
 extent_between (Some first) (Some last) = between first.point last.point
 
--- the place of the root: from the first event to the last
+-- the position of the root: from the first event to the last
 abbrev pub extent_of : List Event → Position
 extent_of events = extent_between (slice_get events 0) (last_event events)

@@ -1,4 +1,4 @@
--- What the grammar asks of a forest, as one test in one walk.
+-- The requirements of the grammar for a forest, as one test in one walk.
 use Rattle.std.specs.Prelude.{Bool, false, is_some, not, true, ◌&&◌, ◌||◌}
 use Rattle.markdown_events.specs.Forest.{Forest, is_well_formed}
 use Rattle.markdown_events.specs.declared.event.Point.{Point}
@@ -10,15 +10,15 @@ use Rattle.markdown_grammar.specs.Items.{Items, is_frontmatter, is_hard_break, i
 use Rattle.markdown_grammar.specs.Document.{Source, byte_at}
 use Rattle.markdown_grammar.specs.Values.{is_read}
 
--- a break waits for a line ending, a table is in no table, a Frontmatter has its byte
+-- after a break it is a line ending, it is not a table in a table, and a Frontmatter has its first byte
 abbrev pub item_may_begin : Source → Place → Bool → ItemKind → Point → Bool
 item_may_begin s p after_break what start = (not after_break || is_line_ending what) && not (p.in_table && is_table what) && (not (is_frontmatter what) || is_some (byte_at s.bytes start))
 
--- no break is last in it, what it wants stands in it, and its value can be read
+-- the last item in it is not a break, it contains what it requires, and its value can be read
 abbrev pub item_may_end : Source → ContentModel → Place → Bool → ItemKind → Point → Point → Items → Bool
 item_may_end s h p after_break what start end inner = not (ends_with_break inner) && has_required s (model_of h what) inner && is_read s h p after_break what start end
 
--- all items, at any depth, are what their containers take, and have what is asked
+-- all items, at any depth, conform to the content models of their containers, and pass these tests
 abbrev pub fits : Source → ContentModel → Place → Bool → Items → Bool
 fits s h p after_break none = true
 fits s h p after_break (item what start end _ inner rest) =

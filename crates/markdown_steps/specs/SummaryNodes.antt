@@ -1,15 +1,15 @@
--- The nodes that items give, by what is kept of them.
+-- The nodes of items, from their summaries.
 use Rattle.std.specs.Prelude.{None, Option, Some, [], codes, false, if◌then◌else◌, option_map, true}
 use Rattle.std.specs.Option.{option_or}
 use Rattle.markdown_nodes.specs.Tree.{Trees, join, nothing, plain_text}
 use Rattle.markdown_events.specs.declared.event.Point.{Point}
 use Rattle.markdown_kinds.specs.declared.ReferenceKind.{ReferenceKind}
 use Rattle.markdown_grammar.specs.Attributes.{Place, inherited_after, inherited_in, unescapes, value}
-use Rattle.markdown_steps.specs.Summaries.{Summary, PartSummary, Path, address, count_of, identifier_of, summary_of, into, itself, path_through, path_to, text_of, words_of}
+use Rattle.markdown_steps.specs.Summaries.{Summary, PartSummary, PartPath, address, count_of, identifier_of, summary_of, into, itself, path_through, path_to, text_of, words_of}
 use Rattle.markdown_grammar.specs.Decorated.{node_at}
 use Rattle.markdown_grammar.specs.Nodes.{Media, frontmatter, image_label, link_label, linked}
 use Rattle.markdown_steps.specs.ChildFacts.{ChildFacts, child_facts_of}
-use Rattle.markdown_texts.specs.Texts.{raw, spaces, trim}
+use Rattle.markdown_events.specs.Texts.{raw, spaces, trim}
 use Rattle.markdown_events.specs.declared.role.ItemKind.{ItemKind}
 use Rattle.markdown_grammar.specs.Document.{Source, given_of, is_byte, value_read}
 use Rattle.markdown_grammar.specs.Fenced.{fenced}
@@ -22,19 +22,19 @@ use Rattle.markdown_kinds.specs.declared.ReferenceKind.TheVariants as reference_
 use Rattle.markdown_nodes.specs.Tree as tree
 use Rattle.markdown_events.specs.declared.role.Content.TheVariants as contents
 
--- the link of an Autolink: by its value, or without one
+-- the link of an Autolink: to its address, or to nothing if there is none
 abbrev pub autolink : Option PartSummary → Option PartSummary → Point → Point → Trees
 autolink (Some (address from to value)) _ start end = linked (codes "mailto:") value start end from to
 autolink _ (Some (address from to value)) start end = linked [] value start end from to
 autolink _ _ start end = node_at (tree.link [] None) nothing start end
 
--- by the Reference, and by its ReferenceString: no Reference is a shortcut, one without a string collapsed
+-- the kind of a reference, from its Reference and its ReferenceString: a shortcut without the first, collapsed without the second
 abbrev pub reference_kind_of : Option PartSummary → Option PartSummary → ReferenceKind
 reference_kind_of None _ = reference_kind.Shortcut
 reference_kind_of (Some _) None = reference_kind.Collapsed
 reference_kind_of (Some _) (Some _) = reference_kind.Full
 
--- with a Resource its texts; without one the kind, identifier and label of a reference
+-- the target of a Link or an Image: the texts of its Resource, and the kind, identifier and label as a reference
 abbrev pub media_of : Summary → Media
 media_of i =
     let string : Option PartSummary = i.part (path_through parts.Reference parts.ReferenceString) in
@@ -46,7 +46,7 @@ media_of i =
       label = text_of (option_or string (i.part (path_to parts.LabelText)));
     }
 
--- the node of one span; a part gives none, but for the text of a heading, which gives its nodes
+-- the nodes of one span: one node or none. A part has none, except the text of a setext heading, which has the nodes of its items
 abbrev pub node_of : Source → Place → ItemKind → Point → Point → ChildFacts → Summary → Trees
 node_of s p (content contents.Data) a b _ i = node_at (tree.text (value_read s a b)) nothing a b
 node_of s p (content contents.CharacterReference) a b _ i = node_at (tree.text (text_of (i.part (path_to parts.CharacterReferenceValue)))) nothing a b
@@ -90,8 +90,8 @@ node_of s p (content contents.Image) a b _ i = node_at (image_label (text_of (i.
 node_of s p (part parts.HeadingSetextText) a b _ i = i.nodes
 node_of s p (part _) a b _ i = nothing
 
--- the nodes of items, of all or of those of a part. A break and the line ending after it give one Break
-abbrev pub nodes : Source → Path → Place → Items → Trees
+-- the nodes of all items, or of those in a part; a break and the line ending after it become one Break
+abbrev pub nodes : Source → PartPath → Place → Items → Trees
 nodes s which p none = nothing
 nodes s itself p (item (content contents.HardBreak) start _ _ _ (item (content contents.LineEnding) _ end _ _ rest)) =
     join (node_at tree.«break» nothing start end) (nodes s itself p rest)

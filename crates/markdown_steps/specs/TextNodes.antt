@@ -1,10 +1,10 @@
--- A text among its siblings.
+-- A text without siblings.
 use Rattle.std.specs.Prelude.{List, Some, string_bytes, ℕ}
 use Rattle.markdown_nodes.specs.Tree.{Trees, node, nothing, text}
 use Rattle.markdown_kinds.specs.declared.Text.{Text}
-use Rattle.positions.specs.declared.unist.Position.{Position}
+use Rattle.markdown_events.specs.declared.unist.Position.{Position}
 
--- a text alone, by its value and its place
+-- a text alone, from its value and its position
 abbrev pub one_text : List ℕ → Position → Trees
 one_text value position = node (text value) nothing (Some position) nothing
 

@@ -1,5 +1,5 @@
-//! The steps by which a list of events is walked, the proof that they are the definitions of
-//! `markdown_grammar`, and what holds of every tree and of every refusal.
+//! The steps that walk a list of events, the proof that they agree with the definitions of
+//! `markdown_grammar`, and laws of every tree and of every refusal.
 #![tactic(auto)]
 
 pub mod laws;

@@ -137,7 +137,3 @@ between_on_as c _ ps h = tt
 
 pub between_on : (c : Constructs) (p : Piece) (ps : List Piece) → IsContent (p ∷ ps) → IsOn c p.kind
 between_on c p ps h = between_on_as c p.kind ps h
-
--- a content does not end before a text
-pub no_content : (ps : List Piece) → ps ≡ [] → IsContent ps → ⊥
-no_content ps none h = absurd (cc (ap (place_after BeforeText) none))

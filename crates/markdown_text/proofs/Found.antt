@@ -13,27 +13,6 @@ use Rattle.markdown_text.specs.declared.token.TokenKind.TheVariants.{Attention, 
 
 -- ---- In other texts of the same bytes
 
--- with other values of references, and with the mark of a task
-pub bare_token : (bytes : List ℕ) (decode : List ℕ → ℕ → Option (List ℕ)) (task : Bool) (kind : TokenKind) (from to : ℕ) → IsToken (bare bytes) kind from to → IsToken (text_of bytes decode task) kind from to
-bare_token bytes decode task LineEnding from to t = t
-bare_token bytes decode task HardBreakEscape from to t = t
-bare_token bytes decode task CharacterEscape from to t = t
-bare_token bytes decode task (CharacterReference kind) from to t = let known = t.known in absurd (cc known)
-bare_token bytes decode task (CodeText size) from to t = t
-bare_token bytes decode task (MathText size) from to t = t
-bare_token bytes decode task (Autolink name) from to t = t
-bare_token bytes decode task HtmlText from to t = t
-bare_token bytes decode task (AutolinkLiteral name) from to t = t
-bare_token bytes decode task Attention from to t = t
-bare_token bytes decode task (LabelStart label) from to t = t
-bare_token bytes decode task (LabelEnd label target) from to t = t
-bare_token bytes decode task (TaskListItemCheck checked) from to t = let marked = t.0 in absurd (cc marked)
-
--- the same of what is found
-pub bare_found : (bytes : List ℕ) (decode : List ℕ → ℕ → Option (List ℕ)) (task : Bool) (kind : Option TokenKind) (from to : ℕ) → IsFound (bare bytes) kind from to → IsFound (text_of bytes decode task) kind from to
-bare_found bytes decode task None from to found = found
-bare_found bytes decode task (Some kind) from to found = bare_token bytes decode task kind from to found
-
 -- with the mark of a task
 pub plain_found : (bytes : List ℕ) (decode : List ℕ → ℕ → Option (List ℕ)) (task : Bool) (kind : Option TokenKind) (from to : ℕ) → IsFound (text_of bytes decode false) kind from to → IsFound (text_of bytes decode task) kind from to
 plain_found bytes decode true kind from to found = with_task kind found

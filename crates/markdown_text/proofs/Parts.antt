@@ -57,14 +57,6 @@ part_join bytes a b c p q =
     by k from to (inl less) = p.line k from less
     by k from to (inr more) = q.line k more to
 
--- the same with ASCII
-pub ascii_join : (bytes : List ℕ) (a b c : ℕ) → IsAsciiPart bytes a b → IsAsciiPart bytes b c → IsAsciiPart bytes a c
-ascii_join bytes a b c p q = record { part = part_join bytes a b c p.part q.part; ascii = λ k from to. by k from to (cases_lt k b) }
-  where
-    by : (k : ℕ) → a ≤ k → k < c → (k < b) ⊎ (b ≤ k) → get_or bytes k 0 < 128
-    by k from to (inl less) = p.ascii k from less
-    by k from to (inr more) = q.ascii k more to
-
 -- one byte of ASCII in a line
 pub ascii_byte : (bytes : List ℕ) (a : ℕ) → a < length bytes → slice_index bytes a < 128 → slice_index bytes a ≢ 10 → IsAsciiPart bytes a (a + 1)
 ascii_byte bytes a within ascii other = record {
@@ -80,10 +72,6 @@ ascii_byte bytes a within ascii other = record {
   where
     at : (k : ℕ) → a ≤ k → k < a + 1 → slice_index bytes a ≡ slice_index bytes k
     at k from to = let e : a ≡ k = omega (arith, from, to) in ap (slice_index bytes) e
-
--- one byte more
-pub ascii_more : (bytes : List ℕ) (a b : ℕ) → IsAsciiPart bytes a b → b < length bytes → slice_index bytes b < 128 → slice_index bytes b ≢ 10 → IsAsciiPart bytes a (b + 1)
-ascii_more bytes a b part within ascii other = ascii_join bytes a b (b + 1) part (ascii_byte bytes b within ascii other)
 
 -- bytes of ASCII in a line
 pub ascii_run : (bytes : List ℕ) (a b : ℕ) → a < b → b ≤ length bytes → ((k : ℕ) → a ≤ k → k < b → slice_index bytes k < 128) → ((k : ℕ) → a ≤ k → k < b → slice_index bytes k ≢ 10) → IsAsciiPart bytes a b
@@ -113,35 +101,6 @@ run_from bytes rest at size some within is ascii other run =
         let e : at + (k - at) ≡ k = omega (arith, from) in
         let f : at + 0 ≡ at = omega arith in
         ap (slice_index bytes) (sym e) ∙ sym (place (k - at)) ∙ run (k - at) (omega (arith, from, to)) ∙ place 0 ∙ ap (slice_index bytes) f
-
--- bytes that a test tells, and one byte of ASCII after them
-pub tested_part : (P : ℕ → Bool → Type 0) (text front : List ℕ) (size : ℕ) → size ≤ length front → ((k : ℕ) → k < length front → slice_index front k ≡ slice_index text k) → ((k : ℕ) → k < size → P (slice_index front k) true) → ((k : ℕ) → slice_index text k < 2 ^ 8) → IsOfAscii P true → IsOfLine P true → size < length text → slice_index text size ≡ 59 → IsAsciiPart text 0 (size + 1)
-tested_part P text front size most same tested fits ascii line within end = ascii_run text 0 (size + 1) (omega arith) (omega (arith, within)) (λ k from to. low k (eq-or-lt_of_le (below k to))) (λ k from to. other k (eq-or-lt_of_le (below k to)))
-  where
-    below : (k : ℕ) → k < size + 1 → k ≤ size
-    below k to = omega (arith, to)
-
-    holds : (k : ℕ) → k < size → P (slice_index text k) true
-    holds k less = subst (λ (n : ℕ). P n true) (same k (omega (arith, less, most))) (tested k less)
-
-    low : (k : ℕ) → (k ≡ size) ⊎ (k < size) → slice_index text k < 128
-    low k (inl last) = let e = ap (slice_index text) last in omega (arith, e, end)
-    low k (inr less) = ascii (slice_index text k) (fits k) (holds k less)
-
-    other : (k : ℕ) → (k ≡ size) ⊎ (k < size) → slice_index text k ≢ 10
-    other k (inl last) feed = let e = ap (slice_index text) last in omega (arith, e, end, feed)
-    other k (inr less) feed = line (slice_index text k) (fits k) (holds k less) feed
-
--- one byte more of a line
-pub line_more : (bytes : List ℕ) (n : ℕ) → IsInLine bytes n → slice_index bytes n ≢ 10 → IsInLine bytes (n + 1)
-line_more bytes n line other k less = by (eq-or-lt_of_le (below less))
-  where
-    below : k < n + 1 → k ≤ n
-    below h = omega (arith, h)
-
-    by : (k ≡ n) ⊎ (k < n) → slice_index bytes k ≢ 10
-    by (inl same) = λ feed. other (ap (slice_index bytes) (sym same) ∙ feed)
-    by (inr before) = line k before
 
 -- bytes of a line, from a cut to another
 pub part_line : (bytes : List ℕ) (size : ℕ) → size ≤ length bytes → IsInLine bytes size → IsCut bytes size → IsPart bytes 0 size
@@ -246,12 +205,6 @@ range_in bytes text from to i j a b is range first last part =
       start = cut_in bytes text from to i a is range first (omega (arith, order, within)) part.start;
       end = cut_in bytes text from to j b is range last within part.end;
     }
-
--- bytes of ASCII in a line, and those after them
-pub ascii_rest : (bytes rest : List ℕ) (n size m : ℕ) → rest ≡ drop n bytes → m ≡ n + size → IsAsciiPart bytes 0 n → IsAsciiPart rest 0 size → IsAsciiPart bytes 0 m
-ascii_rest bytes rest n size m is sum first later =
-    ascii_join bytes 0 n m first
-    (ascii_in bytes rest n (length bytes) 0 size n m (is ∙ rest_range bytes n) (range_rest bytes n (first.part).within (first.part).end) (omega arith) sum later)
 
 -- bytes of a line from a cut on, up to a byte of ASCII or the end
 pub part_after : (bytes : List ℕ) (at n : ℕ) → at + n ≤ length bytes → IsCut bytes at → IsInLine (drop at bytes) n → (at + n < length bytes → slice_index bytes (at + n) < 128) → IsPart bytes at (at + n)

@@ -78,9 +78,6 @@ part_of_ascii bytes a b c d ascii p q r = (ascii_of bytes a b c d ascii p q r).p
 
 -- ---- Lengths
 
-pub range_size : (bytes text : List ℕ) (from to : ℕ) → text ≡ slice_range bytes from to → to ≤ length bytes → length text ≡ to - from
-range_size bytes text from to is within = ap (λ (xs : List ℕ). length xs) is ∙ length_range bytes from to within
-
 pub drop_slice : (xs : List ℕ) (a b k : ℕ) → a + k ≤ b → drop k (slice_range xs a b) ≡ slice_range xs (a + k) b
 drop_slice xs a b k p =
     let e : b - a ≡ k + (b - (a + k)) = omega arith in

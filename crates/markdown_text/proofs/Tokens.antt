@@ -169,13 +169,3 @@ pub found_rest : (bytes text : List ℕ) (decode : List ℕ → ℕ → Option (
 found_rest bytes text decode at kind size is within cut t = found_in bytes text decode false at (length bytes) kind 0 size at (at + size) (is ∙ rest_range bytes at) (range_rest bytes at within cut) (omega arith) (omega arith) t
 
 -- ---- Tokens in order
-
--- tokens after a part of a line
-pub tokens_after : (text : Text) (from at : ℕ) (ts : List Token) → IsPart text.bytes from at → AreTokens text at ts → AreTokens text from ts
-tokens_after text from at [] part rest = part_join text.bytes from at (length text.bytes) part rest
-tokens_after text from at (t ∷ ts) part rest = (part_join text.bytes from at t.start part rest.0, rest.1, rest.2)
-
--- the first of those that are left
-pub token_first : (text : Text) (from : ℕ) (ts : List Token) (i : ℕ) (d : Token) → i < length ts → AreTokens text from (drop i ts)
-    → IsPart text.bytes from (get_or ts i d).start × IsToken text (get_or ts i d).kind (get_or ts i d).start (get_or ts i d).end × AreTokens text (get_or ts i d).end (drop (i + 1) ts)
-token_first text from ts i d within rest = subst (λ (us : List Token). AreTokens text from us) (drop_more ts i d within) rest

@@ -1,4 +1,4 @@
--- The enters and exits of emphasis, strong emphasis and struck text, and where they stand in a content.
+-- The enters and exits of emphasis, strong emphasis and strikethrough, and their places in a content.
 use Rattle.std.specs.Prelude.{Bool, List, [], drop, false, if◌then◌else◌, true, ℕ, ◌++◌, ◌∷◌, ◌≡◌}
 use Rattle.markdown_events.specs.declared.event.Event.{Event}
 use Rattle.markdown_events.specs.declared.event.Name.{Name}
@@ -12,9 +12,9 @@ use Rattle.markdown_text.specs.Contents.{IsLeft, left, spot, whole}
 use Rattle.markdown_text.specs.Outputs.{bytes_of, content_end, document_of}
 use Rattle.markdown_text.specs.declared.output.Output.{Output}
 
--- ---- Which events these are
+-- ---- The events
 
--- emphasis, strong emphasis and struck text
+-- emphasis, strong emphasis and strikethrough
 abbrev pub is_attention : Name → Bool
 is_attention Emphasis = true
 is_attention Strong = true
@@ -26,20 +26,20 @@ abbrev pub attention_events : List Event → List Event
 attention_events [] = []
 attention_events (e ∷ es) = if is_attention e.name then e ∷ attention_events es else attention_events es
 
--- the same of what a content has written
+-- these events among those that are written for a content
 abbrev pub attention_of : {R : Type 0} → Output R → List Event
 attention_of output = attention_events output.writer.events
 
--- the kinds of the pieces between the texts of a content: line endings, and the white space and the prefixes of block quotes after them
+-- the kinds of the pieces between the texts of a content: line endings, and after them white space and block quote prefixes
 abbrev pub is_between_texts : PieceKind → Bool
 is_between_texts LineEnding = true
 is_between_texts (Token SpaceOrTab) = true
 is_between_texts BlockQuotePrefix = true
 is_between_texts _ = false
 
--- ---- Where they stand
+-- ---- Their places
 
--- an offset of a content is at a spot of the document: what is left of the content is what the pieces leave of the document there
+-- an offset of a content is at a spot of the document: the rest of the content is what the pieces leave of the document there
 pub record IsSpotOf (document bytes : List ℕ) (stop : Spot) (offset : ℕ) (from : Spot) : Type 0 where
   pub end : ℕ
   pub later : List Piece
@@ -47,7 +47,7 @@ pub record IsSpotOf (document bytes : List ℕ) (stop : Spot) (offset : ℕ) (fr
   pub same : drop offset bytes ≡ left document from.offset end later
   pub stops : end_from (whole end) later ≡ stop
 
--- one such event is written, and it stands at an offset of the content
+-- one such event is written, at an offset of the content
 pub record WritesAttention {R : Type 0} (old new : Output R) (offset : ℕ) (event : Point → Event) : Type 0 where
   pub point : Point
   pub place : IsSpotOf (document_of old) (bytes_of old) (content_end old) offset (spot point)

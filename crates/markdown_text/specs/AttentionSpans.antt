@@ -1,4 +1,4 @@
--- The spans of emphasis, strong emphasis and struck text in a content: those of the pairs that its delimiter runs make.
+-- The spans of emphasis, strong emphasis and strikethrough in a content: those of the pairs that its delimiter runs make.
 use Rattle.std.specs.Prelude.{List, [], length, replicate, ℕ, ◌+◌, ◌++◌, ◌∷◌, ◌≡◌}
 use Rattle.event_writer.specs.Written.{Written}
 use Rattle.markdown_attention.specs.Emphasis.{DelimiterRun, Pair, Resolves, kind_size}
@@ -19,7 +19,7 @@ use Rattle.markdown_text.specs.Opens.{group_name}
 use Rattle.markdown_text.specs.Tokens.{AreTokens, Text}
 use Rattle.markdown_text.specs.declared.token.Token.{Token}
 
--- A content in a document: the bytes of both, and where the content stops in the document.
+-- A content in a document: the bytes of both, and the end of the content in the document.
 pub record Place : Type 0 where
   pub document : List ℕ
   pub content : List ℕ
@@ -32,7 +32,7 @@ Enters place kind at e = (p : Point) × IsSpotOf place.document place.content pl
 abbrev pub Exits : Place → AttentionKind → ℕ → Event → Type 0
 Exits place kind at e = (p : Point) × IsSpotOf place.document place.content place.stop at (spot p) × (e ≡ exit (group_name kind) p)
 
--- The events of delimiters that begin at an offset of a content, and at those after it: a span begins where its opening sequence does, and ends
+-- The events of the delimiters from an offset of a content on: a span begins where its opening sequence begins, and ends
 -- where its closing sequence ends.
 abbrev pub AreEventsOf : Place → ℕ → List Delimiter → List Event → Type 0
 AreEventsOf place at [] [] = Unit {0}
@@ -58,7 +58,7 @@ pub record AreSpansOf (options : ParseOptions) (place : Place) (text : Text) (ev
 abbrev pub place_at : {R : Type 0} → Written R → List Piece → List ℕ → Place
 place_at w pieces content = record { document = w.given.bytes; content = content; stop = end_from (spot w.cursor) pieces }
 
--- What is written of a content has these spans, and no others.
+-- The events that are written for a content have these spans, and no others.
 pub record WritesSpans {R : Type 0} (options : ParseOptions) (place : Place) (text : Text) (old new : Written R) : Type 0 where
   pub events : List Event
   pub written : attention_events new.events ≡ attention_events old.events ++ events

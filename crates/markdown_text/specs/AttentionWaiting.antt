@@ -15,31 +15,31 @@ use Rattle.markdown_text.specs.declared.token.Token.{Token}
 use Rattle.markdown_text.specs.declared.token.TokenKind.{TokenKind}
 use Rattle.markdown_text.specs.declared.token.TokenKind.TheVariants.{LabelEnd, LabelStart}
 
--- A token of this kind is no part of a label that ends.
+-- A token of this kind is not part of a label that ends.
 abbrev pub IsNoLabel : TokenKind → Type 0
 IsNoLabel (LabelStart (Some labelled)) = ⊥
 IsNoLabel (LabelEnd labelled target) = ⊥
 IsNoLabel _ = Unit {0}
 
--- What is found at an offset, if it is data, has no marker after its first byte.
+-- If data is found at an offset, it has no marker after its first byte.
 abbrev pub HasNoLaterMarker : List ℕ → ℕ → Found → Type 0
 HasNoLaterMarker content at found = found.kind ≡ None → (k : ℕ) → at < k → k < at + found.size → IsMarker (slice_index content k) → ⊥
 
--- The runs of the tokens up to an offset wait, and nothing has been made of any yet.
+-- The runs of the tokens up to an offset are waiting, and none of them has been resolved yet.
 pub record AreWaiting (options : ParseOptions) (content : List ℕ) (tokens : List Token) (end : ℕ) (attention : Attention) : Type 0 where
   pub no_labels : All (λ t. IsNoLabel t.kind) tokens
   pub runs : AreRunsOf content tokens (views attention.runs.items)
   pub all : AreAllRuns options content tokens end
   pub untouched : attention.delimiters.items ≡ []
 
--- The same in a content without closing brackets, and once what was found at an offset is a token.
+-- The runs wait, if the content has no closing brackets. Below: they wait once what was found at an offset is a token.
 abbrev pub Wait : ParseOptions → (content : List ℕ) → List Token → ℕ → Attention → Type 0
 Wait options content tokens end attention = HasNoClosing content → AreWaiting options content tokens end attention
 
 abbrev pub WaitWith : ParseOptions → (content : List ℕ) → List Token → ℕ → Found → Attention → Type 0
 WaitWith options content tokens at found attention = (us : List Token) → IsWith tokens at found.kind (at + found.size) us → Wait options content us (at + found.size) attention
 
--- What begins at each offset of a content: the sequences of the pairs that its runs make.
+-- The delimiter at each offset of a content: the sequences of the pairs that its runs make.
 pub record ArePairsOf (options : ParseOptions) (content : List ℕ) (tokens : List Token) (delimiters : List Delimiter) : Type 0 where
   pub no_labels : All (λ t. IsNoLabel t.kind) tokens
   pub runs : List DelimiterRun

@@ -17,7 +17,7 @@ use Rattle.markdown_text.specs.declared.text.Open.{Open}
 use Rattle.markdown_text.specs.declared.text.Open.TheVariants.{Attention}
 use Rattle.markdown_text.specs.declared.token.Token.{Token}
 
--- Nothing begins between two offsets.
+-- No sequence begins between two offsets.
 abbrev pub IsDataFrom : List Delimiter → ℕ → ℕ → Type 0
 IsDataFrom delimiters from to = (at : ℕ) → from ≤ at → at < to → get_or delimiters at Data ≡ Data
 
@@ -25,32 +25,32 @@ IsDataFrom delimiters from to = (at : ℕ) → from ≤ at → at < to → get_o
 abbrev pub FitFrom : List Delimiter → ℕ → ℕ → Type 0
 FitFrom delimiters from to = (at : ℕ) (kind : AttentionKind) → from ≤ at → at < to → IsSequence (get_or delimiters at Data) kind → at + kind_size kind ≤ to
 
--- Nothing begins in a sequence.
+-- No sequence begins inside another.
 abbrev pub AreApart : List Delimiter → Type 0
 AreApart delimiters = (at : ℕ) (kind : AttentionKind) → IsSequence (get_or delimiters at Data) kind → IsDataFrom delimiters (at + 1) (at + kind_size kind)
 
--- A token that is no run of delimiters holds no sequence, and one that is holds whole ones.
+-- A token that is not a delimiter run contains no sequence; one that is contains only whole sequences.
 abbrev pub Holds : List Delimiter → Token → Type 0
 Holds delimiters t = (is_delimiters t.kind ≡ false → IsDataFrom delimiters t.start t.end) × FitFrom delimiters t.start t.end
 
--- From an offset on, sequences stand in tokens.
+-- From an offset on, all sequences are in tokens.
 abbrev pub StandInTokens : List Delimiter → ℕ → List Token → Type 0
 StandInTokens delimiters from [] = IsDataFrom delimiters from (length delimiters)
 StandInTokens delimiters from (t ∷ ts) = IsDataFrom delimiters from t.start × Holds delimiters t × StandInTokens delimiters t.end ts
 
--- What the second pass is given: a content in a document, what begins at each of its offsets, and the events before it.
+-- The input of the second pass: a content in a document, what begins at each of its offsets, and the events before it.
 pub record Walk : Type 0 where
   pub place : Place
   pub delimiters : List Delimiter
   pub before : List Event
 
--- There is a delimiter for each byte, and they are those of a list that may end with the last sequence.
+-- There is a delimiter for each byte; the list has the same ones, but may end with the last sequence.
 pub record IsWalkOf (walk : Walk) (delimiters : List Delimiter) : Type 0 where
   pub size : length walk.delimiters ≡ length walk.place.content
   pub apart : AreApart walk.delimiters
   pub same : (at : ℕ) → get_or delimiters at Data ≡ get_or walk.delimiters at Data
 
--- The constructs that are open where these kinds are, the innermost first.
+-- The open constructs of these kinds; the kinds come innermost first, the constructs outermost first.
 abbrev pub open_of : List AttentionKind → List Open
 open_of [] = []
 open_of (kind ∷ kinds) = open_of kinds ++ (Attention kind ∷ [])
@@ -67,7 +67,7 @@ pub record HasWalked {R : Type 0} (walk : Walk) (output : Output R) (constructs 
   pub written : attention_of output ≡ walk.before ++ events
   pub are_events : AreEventsOf walk.place 0 (take at walk.delimiters) events
 
--- The tokens that are left come after the data that waits.
+-- The remaining tokens come after the pending data.
 pub record WalksOn {R : Type 0} (walk : Walk) (output : Output R) (constructs : List Open) (tokens : List Token) : Type 0 where
   pub walked : HasWalked walk output constructs output.«data»
   pub no_labels : All (λ t. IsNoLabel t.kind) tokens

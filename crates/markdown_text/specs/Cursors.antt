@@ -3,7 +3,7 @@ use Rattle.std.specs.Prelude.{List, drop, length, slice_index, take, ℕ, ◌+�
 use Rattle.markdown_text.specs.declared.brackets.Bracket.{Bracket}
 use Rattle.markdown_text.specs.declared.cursor.Cursor.{Cursor}
 
--- how many bytes of the content come from this one on
+-- the number of bytes of the content from this one on
 abbrev pub bytes_from : Cursor → ℕ
 bytes_from cursor = length cursor.content.now - cursor.at
 
@@ -23,6 +23,6 @@ rest_of cursor = drop cursor.at cursor.content.now
 abbrev pub through : Cursor → List ℕ
 through cursor = take (cursor.at + 1) cursor.content.now
 
--- what stands from a bracket on, up to the byte and with it
+-- the bytes from a bracket up to and including this byte
 abbrev pub bracketed : Cursor → Bracket → List ℕ
 bracketed cursor bracket = drop bracket.start (through cursor)

@@ -13,7 +13,7 @@ use Rattle.markdown_text.specs.declared.text.Open.TheVariants.{Attention, Label}
 use Rattle.markdown_text.specs.declared.token.Labelled.{Labelled}
 use Rattle.markdown_text.specs.declared.token.Labelled.TheVariants.{FootnoteCall, Image, Link}
 
--- the names of the spans of attention: all of it, and what stands between its sequences
+-- the names of the spans of attention: the whole, the text between the sequences, and a sequence
 abbrev pub group_name : AttentionKind → Name
 group_name Emphasis = names.Emphasis
 group_name Strong = names.Strong
@@ -32,7 +32,7 @@ sequence_name Strong = names.StrongSequence
 sequence_name Strikethrough = names.GfmStrikethroughSequence
 sequence_name DoubleStrikethrough = names.GfmStrikethroughSequence
 
--- the names of the span that a label belongs to, and of the span of the signs that begin the label
+-- the name of the span that a label belongs to, and that of the span of the markers that begin the label
 abbrev pub labelled_name : Labelled → Name
 labelled_name Link = names.Link
 labelled_name Image = names.Image
@@ -43,55 +43,56 @@ label_start_name Link = names.LabelLink
 label_start_name Image = names.LabelImage
 label_start_name FootnoteCall = names.GfmFootnoteCallLabel
 
--- the stage in what a label belongs to, up to the text of the label
+-- the stage in what a label belongs to, before the text of the label
 abbrev pub label_stage : Labelled → Stage
 label_stage Link = media
 label_stage Image = media
 label_stage FootnoteCall = footnote_call
 
--- the spans around what stands in a label, and around the signs that begin it, by the flag of the inlines and the spans where what it belongs to began
+-- the spans around the contents of a label, and around the markers that begin it; `h` and `outer` are the flag of the inlines
+-- and the spans where what the label belongs to began
 abbrev pub in_label : Labelled → Bool → List Enclosing → List Enclosing
 in_label labelled h outer = inside names.Label (label_stage labelled) (inside (labelled_name labelled) (inlines h) outer)
 
 abbrev pub in_label_start : Labelled → Bool → List Enclosing → List Enclosing
 in_label_start labelled h outer = inside (label_start_name labelled) (label_stage labelled) (in_label labelled h outer)
 
--- the spans around the text of a construct that is open, by the flag of the inlines and the spans where it began
+-- the spans around the text of an open construct, from the flag of the inlines and the spans where it began
 abbrev pub opened : Open → Bool → List Enclosing → List Enclosing
 opened (Attention kind) h outer = inside (text_name kind) (inlines false) (inside (group_name kind) (inlines h) outer)
 opened (Label labelled) h outer = inside names.LabelText (label_stage labelled) (in_label labelled h outer)
 
--- the spans around what comes next, where constructs are open in others, the outermost first
+-- the spans around what comes next in nested open constructs, the outermost first
 abbrev pub outer_of : List Open → Bool → List Enclosing → List Enclosing
 outer_of [] h outer = outer
 outer_of (o ∷ os) h outer = outer_of os false (opened o h outer)
 
--- the flag of the inlines there
+-- the flag of the inlines in nested open constructs
 abbrev pub flag_of : List Open → Bool → Bool
 flag_of [] h = h
 flag_of (o ∷ os) h = false
 
--- a content is written where these constructs are open, by the flag and the spans around it
+-- a content is being written with these constructs open, inside inlines with this flag and these spans
 abbrev pub HasOpen : {R : Type 0} → Output R → List Open → Bool → List Enclosing → Type 0
 HasOpen output os h outer = IsAt output.writer (inlines (flag_of os h)) (outer_of os h outer)
 
--- the same of a flag and of spans
+-- a content is being written with these constructs open
 pub record AtOpen {R : Type 0} (output : Output R) (os : List Open) : Type 0 where
   pub in_heading : Bool
   pub outer : List Enclosing
   pub at : HasOpen output os in_heading outer
 
--- what is written opens and closes constructs, and nothing else
+-- a call leads from these open constructs to those, unless it fails
 abbrev pub KeepsOpen : {R V E : Type 0} → Result V E → Output R → Output R → List Open → List Open → Type 0
 KeepsOpen result old new before after = (h : Bool) → (outer : List Enclosing) → HasOpen old before h outer → OnOk result (HasOpen new after h outer)
 
--- a construct is the innermost one that is open
+-- this construct is the innermost open one
 pub record AtOpened {R : Type 0} (output : Output R) (o : Open) : Type 0 where
   pub in_heading : Bool
   pub outer : List Enclosing
   pub at : IsAt output.writer (inlines false) (opened o in_heading outer)
 
--- what is written begins a label among inlines
+-- a call among inlines begins a label, unless it fails
 abbrev pub BeginsLabel : {R V E : Type 0} → Result V E → Labelled → Output R → Output R → Type 0
 BeginsLabel result labelled old new = (h : Bool) → (outer : List Enclosing) → IsAt old.writer (inlines h) outer → OnOk result (IsAt new.writer (label_stage labelled) (in_label labelled h outer))
 
@@ -105,13 +106,13 @@ label_end_stage FootnoteCall = nothing
 abbrev pub IsAtLabelEnd : {R : Type 0} → Output R → Labelled → Bool → List Enclosing → Type 0
 IsAtLabelEnd output labelled h outer = IsAt output.writer (label_end_stage labelled) (in_label labelled h outer)
 
--- the same of a flag and of spans
+-- the text of a label has ended, inside inlines with some flag and some spans
 pub record AtLabelEnd {R : Type 0} (output : Output R) (labelled : Labelled) : Type 0 where
   pub in_heading : Bool
   pub outer : List Enclosing
   pub at : IsAtLabelEnd output labelled in_heading outer
 
--- what is written ends the label, and then what it belongs to
+-- a call ends the label, and in the second definition also what the label belongs to, unless it fails
 abbrev pub LeavesLabel : {R V E : Type 0} → Result V E → Labelled → Output R → Output R → Type 0
 LeavesLabel result labelled old new = (h : Bool) → (outer : List Enclosing) → IsAtLabelEnd old labelled h outer → OnOk result (IsAt new.writer (label_end_stage labelled) (inside (labelled_name labelled) (inlines h) outer))
 

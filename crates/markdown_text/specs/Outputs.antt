@@ -1,4 +1,4 @@
--- Contents that are written: what is written follows the pieces, and stands where the grammar takes it.
+-- Contents as they are written: the output follows the pieces, and is at a stage that the grammar accepts.
 use Rattle.std.specs.Prelude.{Bool, List, None, OnOk, Option, Result, Some, drop, false, is_some, if◌then◌else◌, slice_range, true, ℕ, ◌≡◌}
 use Rattle.event_writer.specs.Stages.{Enclosing, Stage, character_reference_value, exited, in_part, inlines, skips, takes_line_endings, task, written}
 use Rattle.event_writer.specs.Written.{Written}
@@ -20,7 +20,7 @@ use Rattle.markdown_text.specs.declared.output.Next.{Next}
 use Rattle.markdown_text.specs.declared.output.Next.TheVariants as next
 use Rattle.markdown_text.specs.declared.output.Output.{Output}
 
--- the document that a content is of
+-- the document of a content
 abbrev pub document_of : {R : Type 0} → Output R → List ℕ
 document_of output = output.source.now.reading.now.document.now
 
@@ -28,23 +28,23 @@ document_of output = output.source.now.reading.now.document.now
 abbrev pub bytes_of : {R : Type 0} → Output R → List ℕ
 bytes_of output = output.source.now.bytes.now
 
--- what the document is read with
+-- the references that the document is read with
 abbrev pub references_of : {R : Type 0} → Output R → R
 references_of output = output.source.now.reading.now.references.now
 
--- which constructs it is read with
+-- the constructs that the document is read with
 abbrev pub constructs_of : {R : Type 0} → Output R → Constructs
 constructs_of output = output.source.now.reading.now.options.constructs
 
--- the content as a text that is read with a decoder, by whether it may begin with the mark of a task
+-- the content as a text that is read with a decoder; the flag says whether it may begin with a task mark
 abbrev pub as_text : {R : Type 0} → Output R → (List ℕ → ℕ → Option (List ℕ)) → Bool → Text
 as_text output decode may_be_task = text_of (bytes_of output) decode may_be_task
 
--- where the content ends in the document
+-- the end of the content in the document
 abbrev pub content_end : {R : Type 0} → Output R → Spot
 content_end output = end_from (whole output.lines.end) output.lines.later.now
 
--- the bytes that are not written are those of the pieces that are left, the data that waits is within a line, and what is written is of constructs that are on
+-- the unwritten bytes are those of the remaining pieces, the pending data is within a line, and the constructs of the output are on
 pub record Stands {R : Type 0} (output : Output R) : Type 0 where
   pub document : output.writer.given.bytes ≡ document_of output
   pub references : output.writer.given.references ≡ references_of output
@@ -53,7 +53,7 @@ pub record Stands {R : Type 0} (output : Output R) : Type 0 where
   pub waits : IsPart (bytes_of output) output.at output.data
   pub within : IsWithin (constructs_of output) output.writer
 
--- the same content is written on
+-- the same content is still being written
 pub record GoesOn {R : Type 0} (old new : Output R) : Type 0 where
   pub stands : Stands new
   pub document : document_of new ≡ document_of old
@@ -62,7 +62,7 @@ pub record GoesOn {R : Type 0} (old new : Output R) : Type 0 where
   pub bytes : bytes_of new ≡ bytes_of old
   pub end : content_end new ≡ content_end old
 
--- it is written up to an offset in it
+-- the content is written up to an offset
 pub record WritesTo {R : Type 0} (old new : Output R) (to : ℕ) : Type 0 where
   pub goes_on : GoesOn old new
   pub at : new.at ≡ to
@@ -70,45 +70,45 @@ pub record WritesTo {R : Type 0} (old new : Output R) (to : ℕ) : Type 0 where
 
 -- ---- Inlines
 
--- inlines may stand, and no break waits
+-- inlines may come, and no break is pending
 pub record AtInlines {R : Type 0} (output : Output R) : Type 0 where
   pub in_heading : Bool
   pub outer : List Enclosing
   pub at : IsAt output.writer (inlines in_heading) outer
 
--- a content begins, by whether the mark of a task may stand there
+-- a content begins; the first flag says whether a task mark may come there
 abbrev pub IsAtText : {R : Type 0} → Bool → Written R → Bool → List Enclosing → Type 0
 IsAtText true w h outer = (h ≡ false) × IsAt w task outer
 IsAtText false w h outer = IsAt w (inlines h) outer
 
--- the same of a flag and of spans
+-- a content begins, inside inlines with some flag and some spans
 pub record BeginsText {R : Type 0} (is_task : Bool) (w : Written R) : Type 0 where
   pub in_heading : Bool
   pub outer : List Enclosing
   pub at : IsAtText is_task w in_heading outer
 
--- what is written leaves the stage of inlines as it is
+-- a call among inlines keeps their stage, unless it fails
 abbrev pub KeepsInlines : {R V E : Type 0} → Result V E → Output R → Output R → Type 0
 KeepsInlines result old new = (h : Bool) → (outer : List Enclosing) → IsAt old.writer (inlines h) outer → OnOk result (IsAt new.writer (inlines h) outer)
 
--- the same of data that is written before what comes next: before a line ending, a break may wait
+-- pending data is written before what comes next; before a line ending, a break may then be pending
 abbrev pub IsFlushed : {R : Type 0} → Next → Output R → Stage → List Enclosing → Type 0
 IsFlushed next.LineEnding output a outer = (waits : Bool) × StandsIn waits output.writer a outer
 IsFlushed next.Span output a outer = IsAt output.writer a outer
 IsFlushed next.End output a outer = IsAt output.writer a outer
 
--- a content is written at a stage
+-- a content is being written at this stage
 pub record AtStage {R : Type 0} (output : Output R) (a : Stage) : Type 0 where
   pub outer : List Enclosing
   pub at : IsAt output.writer a outer
 
--- what is written leads from one stage to another
+-- a call leads from one stage to another, unless it fails
 abbrev pub Leads : {R V E : Type 0} → Result V E → Stage → Stage → Output R → Output R → Type 0
 Leads result a b old new = (outer : List Enclosing) → IsAt old.writer a outer → OnOk result (IsAt new.writer b outer)
 
 -- ---- Tokens and strings
 
--- nothing is read of a token of this name but its text
+-- only the text of a token with this role is read
 abbrev pub is_plain : Role → Bool
 is_plain (significant (part parts.HeadingAtxSequence)) = false
 is_plain (significant (part parts.HeadingSetextUnderlineSequence)) = false
@@ -120,21 +120,21 @@ is_plain _ = true
 abbrev pub after_plain : Stage → Name → Option Stage
 after_plain a name = if is_plain (role_of name) then written a (role_of name) else None
 
--- such a token may stand
+-- such a token may be written
 pub record MayPut {R : Type 0} (output : Output R) (name : Name) : Type 0 where
   pub stage : Stage
   pub outer : List Enclosing
   pub at : IsAt output.writer stage outer
   pub may : is_some (after_plain stage name) ≡ true
 
--- such tokens may stand one after the other
+-- such tokens may be written one after another
 pub record MayFill {R : Type 0} (output : Output R) (name : Name) : Type 0 where
   pub stage : Stage
   pub outer : List Enclosing
   pub at : IsAt output.writer stage outer
   pub keeps : after_plain stage name ≡ Some stage
 
--- the same with line endings between them
+-- such tokens may be written one after another, with line endings between them
 pub record MayFillLines {R : Type 0} (output : Output R) (name : Name) : Type 0 where
   pub stage : Stage
   pub outer : List Enclosing
@@ -142,14 +142,14 @@ pub record MayFillLines {R : Type 0} (output : Output R) (name : Name) : Type 0 
   pub keeps : after_plain stage name ≡ Some stage
   pub ends : takes_line_endings stage ≡ true
 
--- the value of a character reference may stand, which the decoder knows
+-- the value of a character reference may be written, and the decoder knows it
 pub record MayDecode {R : Type 0} (decode : List ℕ → ℕ → Option (List ℕ)) (output : Output R) (end : ℕ) : Type 0 where
   pub marker : ℕ
   pub outer : List Enclosing
   pub at : IsAt output.writer (character_reference_value marker) outer
   pub known : is_some (decode (slice_range (bytes_of output) output.at end) marker) ≡ true
 
--- the stage after a part with a string in it, or after none
+-- the stage after a part with a string in it, if the part may also be left out
 abbrev pub after_inlines : Stage → Part → Option Stage → Option Stage
 after_inlines a p (Some (inlines false)) = exited (inlines false) a (significant (part p))
 after_inlines a p _ = None
@@ -165,7 +165,7 @@ after_string_in a _ = None
 abbrev pub after_string : Stage → Name → Option Stage
 after_string a name = after_string_in a (role_of name)
 
--- such a span may stand
+-- such a part may be written
 pub record MayWriteString {R : Type 0} (output : Output R) (name : Name) : Type 0 where
   pub stage : Stage
   pub outer : List Enclosing

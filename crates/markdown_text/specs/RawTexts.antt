@@ -4,7 +4,7 @@ use Rattle.markdown_events.specs.declared.event.Name.TheVariants.{CodeText, Code
 use Rattle.markdown_text.specs.declared.raw_text.RawText.{RawText}
 use Rattle.markdown_text.specs.declared.raw_text.RawText.TheVariants.{Code, Math}
 
--- all of it
+-- the whole raw text
 abbrev pub raw_text_name : RawText → Name
 raw_text_name Code = CodeText
 raw_text_name Math = MathText
@@ -14,7 +14,7 @@ abbrev pub raw_sequence_name : RawText → Name
 raw_sequence_name Code = CodeTextSequence
 raw_sequence_name Math = MathTextSequence
 
--- what a line has between the sequences
+-- the data of one line between the sequences
 abbrev pub raw_data_name : RawText → Name
 raw_data_name Code = CodeTextData
 raw_data_name Math = MathTextData

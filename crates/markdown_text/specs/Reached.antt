@@ -11,16 +11,16 @@ use Rattle.markdown_text.specs.declared.token.Token.{Token}
 use Rattle.markdown_text.specs.declared.token.TokenKind.{TokenKind}
 use Rattle.markdown_text.specs.declared.token.TokenKind.TheVariants.{LabelStart}
 
--- tokens in order, from one offset to another: what lies before each of them, and after the last, is data within a line
+-- tokens in order, from one offset to another: before each of them, and after the last, there is data within a line
 abbrev pub Reach : Text → ℕ → List Token → ℕ → Type 0
 Reach text from [] to = IsPart text.bytes from to
 Reach text from (t ∷ ts) to = IsPart text.bytes from t.start × IsToken text t.kind t.start t.end × Reach text t.end ts to
 
--- tokens that reach as far as others do, in any text
+-- new tokens reach as far as the old ones, in any text
 abbrev pub ReachAsFar : List Token → List Token → Type 0
 ReachAsFar old new = (text : Text) (from to : ℕ) → Reach text from old to → Reach text from new to
 
--- how many bytes the start of a label of a form has
+-- the number of bytes in a label start of this form
 abbrev pub form_size : LabelForm → ℕ
 form_size Link = 1
 form_size Image = 2
@@ -36,7 +36,7 @@ abbrev pub starts_label : TokenKind → Bool
 starts_label (LabelStart label) = true
 starts_label _ = false
 
--- a token is the start of a label of a form
+-- a token is the start of a label of this form
 abbrev pub IsStartOf : LabelForm → Token → Type 0
 IsStartOf form t = (starts_label t.kind ≡ true) × (t.start + form_size form ≤ t.end)
 
@@ -48,7 +48,7 @@ IsOpen ts bracket = (t : Token) × (slice_get ts bracket.token ≡ Some t) × Is
 abbrev pub AreOpen : List Token → List Bracket → Type 0
 AreOpen ts brackets = All (IsOpen ts) brackets
 
--- tokens with what was found at an offset, where it is no data
+-- the tokens, and what was found at an offset unless it is data
 abbrev pub IsWith : List Token → ℕ → Option TokenKind → ℕ → List Token → Type 0
 IsWith ts from None to us = us ≡ ts
 IsWith ts from (Some kind) to us = (t : Token) × (t.kind ≡ kind) × (t.start ≡ from) × (t.end ≡ to) × (us ≡ ts ++ t ∷ [])

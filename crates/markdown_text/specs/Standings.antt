@@ -1,4 +1,4 @@
--- Where a writer stands: the words for a caller that owes that nothing is refused.
+-- The stage of a writer. For a caller that must prove that no call is refused.
 use Rattle.std.specs.Prelude.{Bool, List, None, Option, Some, [], false, if◌then◌else◌, is_some, length, slice_range, true, ℕ, ◌-◌, ◌<◌, ◌∷◌, ◌≡◌, ◌≤◌}
 use Rattle.std.specs.Str.{IsCharBoundary, is_utf8}
 use Rattle.event_writer.specs.Stages.{Enclosing, Stage, character_reference_value, entered, exited, inlines, takes_inlines, takes_line_endings, written}
@@ -18,35 +18,36 @@ use Rattle.markdown_pieces.specs.Tilings.{Spot, point}
 use Rattle.markdown_pieces.specs.Walks.{State, Steps}
 use Rattle.markdown_pieces.specs.declared.piece.PieceKind.{PieceKind}
 
--- ---- Where it stands
+-- ---- The stage of a writer
 
--- a span that is open began at the cursor or before it, where a character ends
+-- an open span began at the cursor or before it, at a character boundary
 pub record HasBegun (bytes : List ℕ) (cursor start : Point) : Type 0 where
   pub order : edge start ≤ edge cursor
   pub boundary : IsCharBoundary bytes (edge start)
 
--- a writer stands at a stage in these spans, by whether a hard break waits for its line ending. No character of its document goes over the cursor
+-- a writer is at a stage inside these spans; `waits` says whether a hard break is pending. Its document is UTF-8,
+-- and its cursor is at a character boundary
 pub record StandsIn {R : Type 0} (waits : Bool) (w : Written R) (a : Stage) (outer : List Enclosing) : Type 0 where
   pub shows : StandsAt waits (HasBegun w.given.bytes w.cursor) w.spans a outer
   pub boundary : IsCharBoundary w.given.bytes (edge w.cursor)
   pub valid : is_utf8 w.given.bytes ≡ true
 
--- no break waits
+-- no break is pending
 abbrev pub IsAt : {R : Type 0} → Written R → Stage → List Enclosing → Type 0
 IsAt w a outer = StandsIn false w a outer
 
--- one waits
+-- a break is pending
 abbrev pub BreaksAt : {R : Type 0} → Written R → Stage → List Enclosing → Type 0
 BreaksAt w a outer = StandsIn true w a outer
 
 -- ---- Spans
 
--- a byte stands where frontmatter begins
+-- if the span is frontmatter, there is a byte where it begins
 abbrev pub HasFront : List ℕ → Point → Role → Type 0
 HasFront bytes cursor (significant (content contents.Frontmatter)) = is_some (byte_at bytes cursor) ≡ true
 HasFront bytes cursor _ = Unit {0}
 
--- a span of this name may begin
+-- a span with this name may begin
 pub record MayEnter {R : Type 0} (w : Written R) (name : Name) : Type 0 where
   pub stage : Stage
   pub outer : List Enclosing
@@ -68,17 +69,18 @@ pub record MayExit {R : Type 0} (w : Written R) : Type 0 where
 
 -- ---- Tokens
 
--- the signs that open a heading are counted. Those that close it are not
+-- the opening sequence of a heading has one to six bytes; a closing one may have any number
 abbrev pub HasDepth : Stage → ℕ → ℕ → Type 0
 HasDepth (inlines _) from to = Unit {0}
 HasDepth _ from to = is_depth (Some (to - from)) ≡ true
 
--- the decoder knows the value of a character reference, by its last marker
+-- the decoder knows the value of a character reference, given its last marker
 abbrev pub IsKnown : List ℕ → (List ℕ → ℕ → Option (List ℕ)) → Stage → ℕ → ℕ → Type 0
 IsKnown bytes decode (character_reference_value m) from to = is_some (decode (slice_range bytes from to) m) ≡ true
 IsKnown bytes decode _ from to = Unit {0}
 
--- what is read of a token at a stage, besides its text, can be: the signs that open a heading, its underline, the number of an item, and the value of a character reference
+-- whatever is read of a token besides its text is valid: the opening sequence of a heading, its underline, the number of an item,
+-- and the value of a character reference
 abbrev pub HasValue : List ℕ → (List ℕ → ℕ → Option (List ℕ)) → Stage → Role → Point → Point → Type 0
 HasValue bytes decode a (significant (part parts.HeadingAtxSequence)) start end = HasDepth a (edge start) (edge end)
 HasValue bytes decode a (significant (part parts.HeadingSetextUnderlineSequence)) start end = start.index < length bytes
@@ -86,7 +88,7 @@ HasValue bytes decode a (significant (part parts.ListItemValue)) start end = is_
 HasValue bytes decode a (significant (part parts.CharacterReferenceValue)) start end = IsKnown bytes decode a (edge start) (edge end)
 HasValue bytes decode a _ start end = Unit {0}
 
--- a token of this name may stand up to a spot
+-- a token with this name may be written up to a spot
 pub record MayWrite {R : Type 0} (decode : List ℕ → ℕ → Option (List ℕ)) (w : Written R) (name : Name) (to : Spot) : Type 0 where
   pub stage : Stage
   pub outer : List Enclosing
@@ -94,12 +96,12 @@ pub record MayWrite {R : Type 0} (decode : List ℕ → ℕ → Option (List ℕ
   pub may : is_some (written stage (role_of name)) ≡ true
   pub value : HasValue w.given.bytes decode stage (role_of name) w.cursor (point to)
 
--- a name is that of a hard break
+-- the role of a hard break
 abbrev pub is_hard_break : Role → Bool
 is_hard_break (significant (content contents.HardBreak)) = true
 is_hard_break _ = false
 
--- a hard break of this name may stand
+-- a hard break with this name may be written
 pub record MayBreak {R : Type 0} (w : Written R) (name : Name) : Type 0 where
   pub stage : Stage
   pub outer : List Enclosing
@@ -107,13 +109,13 @@ pub record MayBreak {R : Type 0} (w : Written R) (name : Name) : Type 0 where
   pub may : takes_inlines stage ≡ true
   pub is_break : is_hard_break (role_of name) ≡ true
 
--- the stage after a line ending, where it may stand. One alone may stand where a break waits for it
+-- the stage after a line ending, if it may come; after a pending break, only a LineEnding may come
 abbrev pub after_line : Bool → Stage → Role → Option Stage
 after_line false a r = written a r
 after_line true a (significant (content contents.LineEnding)) = if takes_line_endings a then Some a else None
 after_line true a _ = None
 
--- a line ending of this name may stand
+-- a line ending with this name may be written
 pub record MayEndLine {R : Type 0} (decode : List ℕ → ℕ → Option (List ℕ)) (w : Written R) (name : Name) : Type 0 where
   pub waits : Bool
   pub stage : Stage
@@ -124,7 +126,7 @@ pub record MayEndLine {R : Type 0} (decode : List ℕ → ℕ → Option (List �
 
 -- ---- Pieces
 
--- a writer stands at some stage
+-- a writer is at some stage
 pub record IsSomewhere {R : Type 0} (w : Written R) : Type 0 where
   pub stage : Stage
   pub outer : List Enclosing

@@ -1,4 +1,4 @@
--- Where the mark of a task may come.
+-- Where a task mark may come.
 use Rattle.std.specs.Prelude.{Bool, List, false, ◌≡◌, ◌⊎◌}
 use Rattle.event_writer.specs.Stages.{Enclosing, inlines, item, task}
 use Rattle.event_writer.specs.Written.{Written}
@@ -18,22 +18,22 @@ next_task_place place (Token SpaceOrTab) = place
 next_task_place place BlankLineEnding = place
 next_task_place place _ = Nowhere
 
--- what a place says of a writer in the spans of a state
+-- the writer, inside the spans of a state, is at this place
 abbrev pub IsTaskPlace : {R : Type 0} → Written R → TaskPlace → State → Type 0
 IsTaskPlace w Nowhere s = Unit {0}
 IsTaskPlace w InItem s = (n : Bool) × IsAt w (item n) s.outer
 IsTaskPlace w InParagraph s = ((s.stage ≡ task) ⊎ (s.stage ≡ inlines false)) × IsAt w task s.outer
 
--- what it says where inlines may stand
+-- the writer, where inlines may come, is at this place
 abbrev pub IsTask : {R : Type 0} → Written R → TaskPlace → Bool → List Enclosing → Type 0
 IsTask w InParagraph h outer = (h ≡ false) × IsAt w task outer
 IsTask w _ h outer = Unit {0}
 
--- a content begins at a place
+-- a content begins at this place
 abbrev pub IsAtContent : {R : Type 0} → TaskPlace → Written R → Bool → List Enclosing → Type 0
 IsAtContent place w h outer = IsAt w (inlines h) outer × IsTask w place h outer
 
--- the same of a flag and of spans
+-- a content begins at this place, inside inlines with some flag and some spans
 pub record BeginsContent {R : Type 0} (place : TaskPlace) (w : Written R) : Type 0 where
   pub in_heading : Bool
   pub outer : List Enclosing

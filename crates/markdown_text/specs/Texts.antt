@@ -6,10 +6,10 @@ use Rattle.markdown_text.specs.Tokens.{Text}
 abbrev pub text_of : List ℕ → (List ℕ → ℕ → Option (List ℕ)) → Bool → Text
 text_of bytes decode may_be_task = record { bytes = bytes; decode = decode; may_be_task = may_be_task }
 
--- no character reference has a value
+-- a decoder that knows no value
 abbrev pub no_values : List ℕ → ℕ → Option (List ℕ)
 no_values value marker = None
 
--- a text with no character references and no mark of a task. What is found in it is found in any text of its bytes
+-- a text without character references or a task mark; what is found in it is found in any text with these bytes
 abbrev pub bare : List ℕ → Text
 bare bytes = text_of bytes no_values false

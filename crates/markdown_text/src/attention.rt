@@ -1,4 +1,4 @@
-//! Attention (micromark): emphasis, strong emphasis (CommonMark) and struck text (GFM).
+//! Attention (micromark): emphasis, strong emphasis (CommonMark) and strikethrough (GFM).
 
 ghost use Rattle.std.specs.Prelude.{OnOk, ◌≡◌, ◌++◌, ◌∷◌, [], drop, take, true};
 ghost use Rattle.std.proofs.Props.{props};
@@ -10,11 +10,10 @@ use markdown_attention::emphasis;
 use markdown_attention::run::Run;
 use std::alloc::{AllocError, Global};
 
-/// The runs of a text of which nothing has been made yet, and the delimiters in those of which something
-/// has.
+/// The waiting runs of a text, and the delimiters in the resolved ones.
 #[derive(Drop)]
 pub struct Attention {
-    /// The runs that wait.
+    /// The runs that are not resolved yet.
     runs: Vec<Run>,
     /// What begins at each offset. It is empty until the first runs are resolved.
     delimiters: Vec<Delimiter>,
@@ -25,7 +24,7 @@ impl Attention {
     ghost use Rattle.markdown_text.specs.Constructs.{AreDelimitersOn, is_marker_on};
     ghost use Rattle.markdown_text.specs.Runs.{IsAttentionOn, begun, room};
 
-    /// No runs.
+    /// Returns no runs.
     pub fn new(alloc: Global) -> Attention
         ensures on { (c : Constructs) → IsAttentionOn c result }
         ensures runs { result.runs.items ≡ [] }
@@ -37,7 +36,7 @@ impl Attention {
         }
     }
 
-    /// How many runs wait.
+    /// Returns how many runs wait.
     pub fn waiting(&self) -> usize {
         self.runs.len()
     }
@@ -53,8 +52,8 @@ impl Attention {
         Ok(())
     }
 
-    /// Makes what can be made of the runs from this one on, in a content of so many bytes. They then wait
-    /// no more. The only error is that memory ran out.
+    /// Resolves the runs from this one on, in a content of `size` bytes. They no longer wait then.
+    /// The only error is that memory ran out.
     pub fn resolve(&mut self, alloc: Global, size: usize, from: usize) -> Result<(), AllocError>
         ensures on { (c : Constructs) → IsAttentionOn c self.old → IsAttentionOn c self.new }
         ensures resolved { OnOk result (AreResolved (views (drop from self.old.runs.items)) (room (drop from self.old.runs.items) size self.old.delimiters.items) self.new.delimiters.items) }
@@ -69,8 +68,8 @@ impl Attention {
         Ok(())
     }
 
-    /// Makes room for the delimiters in a content of so many bytes, if there is none yet. The only error is
-    /// that memory ran out.
+    /// Makes room for the delimiters in a content of `size` bytes, if there is none yet. The only
+    /// error is that memory ran out.
     fn begin(&mut self, alloc: Global, size: usize) -> Result<(), AllocError>
         ensures runs { self.new.runs ≡ self.old.runs }
         ensures on { (c : Constructs) → AreDelimitersOn c self.old.delimiters.items → AreDelimitersOn c self.new.delimiters.items }
@@ -83,7 +82,7 @@ impl Attention {
         Ok(())
     }
 
-    /// What begins at each offset. It is empty where there are no runs.
+    /// Returns what begins at each offset. It is empty if there are no runs.
     pub fn into_delimiters(self) -> Vec<Delimiter>
         ensures on { (c : Constructs) → IsAttentionOn c self → AreDelimitersOn c result.items }
         ensures same { result ≡ self.delimiters }

@@ -6,7 +6,7 @@ ghost use Rattle.markdown_text.specs.Opens.{group_name, sequence_name, text_name
 use markdown_attention::delimiter::AttentionKind;
 use markdown_events::event::Name;
 
-/// The name of the span of all of it.
+/// Returns the name of the span of all of it.
 pub fn group_name(kind: AttentionKind) -> Name
     ensures { result ≡ group_name kind }
 {
@@ -17,7 +17,7 @@ pub fn group_name(kind: AttentionKind) -> Name
     }
 }
 
-/// The name of the span of a sequence at either end.
+/// Returns the name of the span of a sequence at either end.
 pub fn sequence_name(kind: AttentionKind) -> Name
     ensures { result ≡ sequence_name kind }
 {
@@ -30,7 +30,7 @@ pub fn sequence_name(kind: AttentionKind) -> Name
     }
 }
 
-/// The name of the span of what stands between its sequences.
+/// Returns the name of the span between its sequences.
 pub fn text_name(kind: AttentionKind) -> Name
     ensures { result ≡ text_name kind }
 {

@@ -17,7 +17,7 @@ use commonmark_syntax::{email_autolink, uri_autolink};
 use markdown_events::event::Name;
 use std::alloc::AllocError;
 
-/// The autolink that a text begins with: an address with a scheme, or one of mail.
+/// Returns the autolink that a text begins with: an address with a scheme, or an email address.
 pub fn scan(text: &[u8]) -> Option<Found>
     ensures exact { MatchOption result (IsNotAt uri_autolink text.now × IsNotAt email_autolink text.now) (λ found. LeavesAutolink text.now found.kind (drop found.size text.now)) }
     ensures found { IfSome result (λ found. IsFound (bare text.now) found.kind 0 found.size) }
@@ -31,7 +31,7 @@ pub fn scan(text: &[u8]) -> Option<Found>
     Some(Found::token(TokenKind::Autolink(Name::AutolinkEmail), size))
 }
 
-/// Writes an autolink that ends at an offset, by the name of the address in it.
+/// Writes an autolink that ends at an offset, with the name of the address in it.
 pub fn write<R: References>(
     output: &mut Output<'_, '_, R>,
     address: Name,

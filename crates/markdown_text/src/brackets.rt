@@ -1,4 +1,4 @@
-//! The brackets of a text that are open.
+//! The open brackets of a text.
 
 ghost use Rattle.std.specs.Prelude.{[], ◌≡◌, IfSome, List, OnOk, true};
 ghost use Rattle.markdown_options.specs.declared.Constructs.{Constructs};
@@ -16,13 +16,13 @@ pub enum LabelForm {
     Link,
     /// The label of an image: `![`.
     Image,
-    /// The label of a call of a footnote: `[^`. Where no footnote has that label, it may be that of a
+    /// The label of a call of a footnote: `[^`. If no footnote has that label, it may be that of a
     /// link.
     Footnote,
 }
 
 impl LabelForm {
-    /// How many bytes stand before the label. The caret of a footnote counts as part of it.
+    /// Returns how many bytes come before the label. The caret of a footnote counts as part of it.
     pub fn prefix(self) -> usize {
         match self {
             LabelForm::Link | LabelForm::Footnote => 1,
@@ -38,11 +38,11 @@ pub struct Bracket {
     pub form: LabelForm,
     /// Its place among the tokens.
     pub token: usize,
-    /// The offset in the content at which it begins.
+    /// The offset in the content where it begins.
     pub start: usize,
-    /// How many runs of delimiters waited when it was found.
+    /// How many runs of delimiters were waiting when it was found.
     pub waiting: usize,
-    /// Whether another bracket has been opened in it. Then no definition has its label.
+    /// Whether another bracket has been opened in it. If so, no definition has its label.
     pub has_bracket: bool,
 }
 
@@ -51,13 +51,13 @@ pub struct Bracket {
 pub struct Brackets {
     /// The brackets.
     stack: Vec<Bracket>,
-    /// How many of them, from the bottom on, stand around a link. They may begin an image, and nothing
-    /// else, since links hold no links (CommonMark).
+    /// How many of them, counted from the bottom, are around a link. They can only begin an image,
+    /// since links do not nest (CommonMark).
     around_link: usize,
 }
 
 impl Brackets {
-    /// None.
+    /// Returns an empty stack.
     pub fn new(alloc: Global) -> Brackets
         ensures { result.stack.items ≡ [] }
     {
@@ -84,7 +84,7 @@ impl Brackets {
         Ok(())
     }
 
-    /// Keeps that another bracket is opened in the innermost one.
+    /// Records that another bracket is opened in the innermost one.
     fn mark_outer(&mut self)
         ensures opened { (tokens : List Token) → AreOpen tokens self.old.stack.items → AreOpen tokens self.new.stack.items }
         ensures on { (c : Constructs) → AreBracketsOn c self.old.stack.items → AreBracketsOn c self.new.stack.items }
@@ -94,7 +94,7 @@ impl Brackets {
         }
     }
 
-    /// Closes the innermost bracket, and gives it where it may begin something.
+    /// Closes the innermost bracket, and returns it if it may begin something.
     pub fn pop(&mut self) -> Option<Bracket>
         ensures left { (tokens : List Token) → AreOpen tokens self.old.stack.items → AreOpen tokens self.new.stack.items }
         ensures closed { (tokens : List Token) → AreOpen tokens self.old.stack.items → IfSome result (IsOpen tokens) }
@@ -111,7 +111,7 @@ impl Brackets {
         None
     }
 
-    /// Keeps what a label was found to belong to: all open brackets may now stand around a link.
+    /// Records what a label belongs to: after a link, all open brackets are around a link.
     pub fn found(&mut self, labelled: Labelled)
         ensures { self.new.stack ≡ self.old.stack }
     {

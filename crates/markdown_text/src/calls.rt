@@ -1,4 +1,4 @@
-//! The calls of the writer, where the grammar takes what they write: only memory can run out.
+//! The calls of the writer, where the grammar accepts what they write: only memory can run out.
 
 ghost use Rattle.std.specs.Prelude.{Bool, IfSome, List, OnOk, [], false, true, ◌≡◌, ◌+◌, ◌++◌, ◌∷◌};
 ghost use Rattle.std.specs.Str.{IsCharBoundary};
@@ -56,8 +56,8 @@ pub fn exit<R: References>(writer: &mut Writer<'_, R>) -> Result<(), AllocError>
     }
 }
 
-/// Writes a token up to an offset of the line, and so many columns into the tab there. The only error is that
-/// memory ran out.
+/// Writes a token up to an offset of the line, and a number of columns into the tab there. The only
+/// error is that memory ran out.
 pub fn token<R: References>(
     writer: &mut Writer<'_, R>,
     name: Name,
@@ -80,8 +80,8 @@ pub fn token<R: References>(
     }
 }
 
-/// Writes a hard break up to an offset of the line. It waits for its line ending then. The only error is that
-/// memory ran out.
+/// Writes a hard break up to an offset of the line. It then waits for its line ending. The only
+/// error is that memory ran out.
 pub fn hard_break<R: References>(
     writer: &mut Writer<'_, R>,
     name: Name,

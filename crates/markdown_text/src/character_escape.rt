@@ -13,8 +13,8 @@ use commonmark_syntax::backslash_escape;
 use markdown_events::event::Name;
 use std::alloc::AllocError;
 
-/// The length of the character escape that a text begins with: a backslash and a mark of punctuation of
-/// ASCII.
+/// Returns the length of the character escape that a text begins with: a backslash and an ASCII
+/// punctuation mark.
 pub fn scan(text: &[u8]) -> Option<usize>
     ensures exact { MatchOption result (IsNotAt backslash_escape text.now) (λ size. Leaves backslash_escape text.now (drop size text.now)) }
     ensures size { IfSome result (λ size. size ≡ 2) }

@@ -21,7 +21,7 @@ use markdown_events::event::Name;
 use std::alloc::{AllocError, Global};
 use std::str;
 
-/// How a character reference says which character it is.
+/// How a character reference identifies its character.
 #[derive(Clone, Copy, PartialEq, Eq, Debug)]
 pub enum ReferenceKind {
     /// By a name: `&amp;`.
@@ -33,7 +33,7 @@ pub enum ReferenceKind {
 }
 
 impl ReferenceKind {
-    /// The byte by which a decoder knows this kind.
+    /// Returns the byte by which a decoder knows this kind.
     fn marker(self) -> u8
         ensures { result ≡ marker self }
     {
@@ -44,7 +44,7 @@ impl ReferenceKind {
         }
     }
 
-    /// How many bytes stand before the value.
+    /// Returns how many bytes come before the value.
     fn markers(self) -> usize
         ensures { result ≡ markers self }
     {
@@ -56,19 +56,19 @@ impl ReferenceKind {
     }
 }
 
-/// The parts of a text that may be a character reference, as far as they tell without a decoder.
+/// The parts of a possible character reference in a text, as known without a decoder.
 #[derive(Clone, Copy, PartialEq, Eq, Debug)]
 struct Form<'c> {
     /// The kind.
     kind: ReferenceKind,
     /// The value.
     value: &'c [u8],
-    /// The length of all.
+    /// The total length.
     size: usize,
 }
 
 impl<'c> Form<'c> {
-    /// The form of a reference of this kind and length that a text begins with.
+    /// Returns the form of a reference of this kind and length that a text begins with.
     fn new(text: &'c [u8], kind: ReferenceKind, size: usize) -> Form<'c>
         requires least { markers kind < size }
         requires most { size ≤ length text.now }
@@ -84,7 +84,7 @@ impl<'c> Form<'c> {
     }
 }
 
-/// The form of the character reference that a text may begin with.
+/// Returns the form of the character reference that a text may begin with.
 fn form_of(text: &[u8]) -> Option<Form<'_>>
     ensures exact { MatchOption result (IsNotAt page.character_reference text.now) (λ form. Leaves page.character_reference text.now (drop form.size text.now)) }
     ensures ascii { IfSome result (λ form. IsAsciiPart text.now 0 form.size) }
@@ -101,8 +101,8 @@ fn form_of(text: &[u8]) -> Option<Form<'_>>
     Some(Form::new(text, ReferenceKind::Hexadecimal, size))
 }
 
-/// The character reference that a text begins with, if the decoder knows it. The only error is that
-/// memory ran out.
+/// Returns the character reference that a text begins with, if the decoder knows it. The only error
+/// is that memory ran out.
 pub fn scan<R: References>(
     alloc: Global,
     text: &[u8],
@@ -149,7 +149,7 @@ pub fn write<R: References>(
     output.exit()
 }
 
-/// Writes what stands before the value of a character reference.
+/// Writes the markers before the value of a character reference.
 fn write_markers<R: References>(
     output: &mut Output<'_, '_, R>,
     kind: ReferenceKind,

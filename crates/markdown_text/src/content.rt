@@ -20,7 +20,7 @@ pub enum Place {
 }
 
 impl Place {
-    /// Where it is after one piece more, of this kind.
+    /// Returns where it is after one more piece, of this kind.
     fn after(self, kind: PieceKind) -> Place
         ensures { result ≡ next_place self kind }
     {
@@ -34,8 +34,8 @@ impl Place {
     }
 }
 
-/// How many of these pieces, of which the first is the text of a line, belong to its content. It goes on with
-/// the text of the next line where the line ends after the text.
+/// Returns how many of these pieces belong to the content of the first, which is the text of a
+/// line. The content continues with the text of the next line if the line ends after the text.
 pub fn content_size(pieces: &[Piece]) -> usize
     requires { 0 < length pieces.now }
     ensures most { result ≤ length pieces.now }
@@ -57,22 +57,22 @@ pub fn content_size(pieces: &[Piece]) -> usize
     size
 }
 
-/// The pieces after the first one.
+/// Returns the pieces after the first one.
 fn after_first(pieces: &[Piece]) -> &[Piece]
     ensures { result.now ≡ drop 1 pieces.now }
 {
     pieces.get(1..).unwrap_or(&[])
 }
 
-/// The bytes of a document between two offsets, as far as it has them.
+/// Returns the bytes of a document between two offsets, or those of them that exist.
 pub fn between(document: &[u8], from: usize, to: usize) -> &[u8]
     ensures { result.now ≡ slice_range document.now from to }
 {
     after(document.get(..to).unwrap_or(document), from)
 }
 
-/// Where the bytes of a content that begins at an offset end in the document, if they stand there as they
-/// are: its lines end with line feeds, and nothing stands before them.
+/// Returns where the bytes of a content that begins at an offset end in the document, if they are
+/// unchanged there: its lines end with line feeds, and nothing comes before them.
 pub fn range_end(document: &[u8], start: usize, pieces: &[Piece]) -> Option<usize>
     ensures { IfSome result (λ end. slice_range document.now start end ≡ joined document.now start pieces.now) }
 {
@@ -86,7 +86,7 @@ pub fn range_end(document: &[u8], start: usize, pieces: &[Piece]) -> Option<usiz
     Some(at)
 }
 
-/// Whether the bytes of a piece that begins at an offset stand there as they are in its content.
+/// Whether the bytes of a piece that begins at an offset are unchanged in its content.
 fn stands_as_it_is(document: &[u8], start: usize, piece: &Piece) -> bool
     ensures order { IsTrue result → start ≤ piece.now.end }
     ensures bytes { IsTrue result → slice_range document.now start piece.now.end ≡ piece_bytes document.now piece.now.kind start piece.now.end }
@@ -100,7 +100,7 @@ fn stands_as_it_is(document: &[u8], start: usize, piece: &Piece) -> bool
     }
 }
 
-/// The bytes of a content that begins at an offset. The only error is that memory ran out.
+/// Returns the bytes of a content that begins at an offset. The only error is that memory ran out.
 pub fn join(
     alloc: Global,
     document: &[u8],
@@ -118,8 +118,8 @@ pub fn join(
     Ok(bytes)
 }
 
-/// Adds the bytes of a piece that begins at an offset to those of its content. The only error is that memory
-/// ran out.
+/// Appends the bytes of a piece that begins at an offset to those of its content. The only error is
+/// that memory ran out.
 fn add(bytes: &mut Vec<u8>, document: &[u8], start: usize, piece: &Piece) -> Result<(), AllocError>
     ensures { OnOk result (bytes.new.items ≡ bytes.old.items ++ piece_bytes document.now piece.now.kind start piece.now.end) }
 {
@@ -130,7 +130,7 @@ fn add(bytes: &mut Vec<u8>, document: &[u8], start: usize, piece: &Piece) -> Res
     }
 }
 
-/// How many bytes stand before the first line feed of a text.
+/// Returns how many bytes come before the first line feed of a text.
 pub fn line_feed_in(text: &[u8]) -> Option<usize>
     ensures found { IfSome result (λ size. slice_get text.now size ≡ Some 10) }
     ensures part { IfSome result (λ size. IsPart text.now 0 size) }

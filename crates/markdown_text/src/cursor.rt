@@ -9,7 +9,7 @@ ghost use Rattle.markdown_text.specs.Contents.{IsAsciiPart};
 use commonmark_syntax::bytes::after;
 use commonmark_syntax::delimiter_run;
 
-/// A byte of a content, and the bytes around it. No character goes over its start.
+/// A byte of a content, and the bytes around it. No character extends across its start.
 #[derive(Clone, Copy)]
 pub struct Cursor<'c> {
     /// The bytes of the content.
@@ -23,28 +23,28 @@ pub struct Cursor<'c> {
 impl<'c> Cursor<'c> {
     ghost use Rattle.markdown_text.specs.Cursors.{before_of, byte_at, bytes_from, rest_of, through};
 
-    /// The byte.
+    /// Returns the byte.
     pub fn byte(&self) -> u8
         ensures { result ≡ byte_at self.now }
     {
         self.content[self.at]
     }
 
-    /// The bytes before it.
+    /// Returns the bytes before it.
     pub fn before(&self) -> &'c [u8]
         ensures { result.now ≡ before_of self.now }
     {
         &self.content[..self.at]
     }
 
-    /// The bytes up to it, and the byte itself.
+    /// Returns the bytes up to it, and the byte itself.
     pub fn through(&self) -> &'c [u8]
         ensures { result.now ≡ through self.now }
     {
         &self.content[..self.at + 1]
     }
 
-    /// The bytes from it on.
+    /// Returns the bytes from it on.
     pub fn rest(&self) -> &'c [u8]
         ensures length { length result.now ≡ bytes_from self.now }
         ensures rest { result.now ≡ rest_of self.now }
@@ -52,7 +52,7 @@ impl<'c> Cursor<'c> {
         after(self.content, self.at)
     }
 
-    /// The length of the run that the byte begins: all bytes that stand there and are like it.
+    /// Returns the length of the run that the byte begins: all bytes in a row that equal it.
     pub fn run_length(&self) -> usize
         ensures exact { Leaves (delimiter_run (byte_at self.now)) (rest_of self.now) (drop result (rest_of self.now)) }
         ensures run { IsRunOf (rest_of self.now) (byte_at self.now) result }

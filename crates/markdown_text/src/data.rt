@@ -1,4 +1,5 @@
-//! Data (micromark): text that stands for itself, with the white space and the addresses of mail in it.
+//! Data (micromark): text that stands for itself, with the white space and the email addresses in
+//! it.
 
 ghost use Rattle.std.specs.Prelude.{Bool, List, OnOk, ◌<◌, ◌≡◌, true};
 ghost use Rattle.event_writer.specs.Stages.{Enclosing, inlines};
@@ -14,7 +15,8 @@ use character_references::references::References;
 use markdown_events::event::Name;
 use std::alloc::AllocError;
 
-/// Writes data of one line up to an offset. White space that begins or ends a line, or the text, is apart.
+/// Writes data of one line up to an offset. White space that begins or ends a line, or the text, is
+/// written separately.
 pub fn write<R: References>(
     output: &mut Output<'_, '_, R>,
     end: usize,
@@ -42,7 +44,7 @@ pub fn write<R: References>(
     write_break(output, end, next)
 }
 
-/// Writes a hard break up to an offset, if it has any bytes: before a line ending alone it has.
+/// Writes a hard break up to an offset, if it has any bytes. It has some only before a line ending.
 fn write_break<R: References>(
     output: &mut Output<'_, '_, R>,
     end: usize,
@@ -65,7 +67,7 @@ fn write_break<R: References>(
     }
 }
 
-/// Writes data up to an offset, with the addresses of mail in it where they are links.
+/// Writes data up to an offset, with the email addresses in it if they are links.
 fn write_text<R: References>(output: &mut Output<'_, '_, R>, end: usize) -> Result<(), AllocError>
     requires stands { Stands output.old }
     requires part { IsPart (bytes_of output.old) output.old.at end }

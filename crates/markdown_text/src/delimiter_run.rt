@@ -13,7 +13,7 @@ use markdown_attention::flanks::Flanks;
 use markdown_attention::run::Run;
 use markdown_options::ParseOptions;
 
-/// Whether a run of so many of these markers is one of delimiters.
+/// Whether a run of `size` of these markers is a delimiter run.
 pub fn is_delimiter_run(marker: u8, size: usize, options: &ParseOptions) -> bool
     requires { IsMarker marker }
     ensures on { IsTrue result → is_marker_on options.now.constructs marker ≡ true }
@@ -27,8 +27,8 @@ pub fn is_delimiter_run(marker: u8, size: usize, options: &ParseOptions) -> bool
     options.constructs.gfm_strikethrough && is_short
 }
 
-/// The run of so many markers at the cursor. What it can open and close is what CommonMark says of a run
-/// between the characters beside it.
+/// Returns the run of `size` markers at the cursor. What it can open and close follows from the
+/// characters beside it (CommonMark).
 pub fn run_at(cursor: Cursor<'_>, size: usize) -> Run
     requires { size ≤ bytes_from cursor }
     ensures whole { IsWhole (view result) (byte_at cursor.entry) cursor.entry.at size (view result).can_open (view result).can_close }

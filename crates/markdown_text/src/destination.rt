@@ -27,7 +27,7 @@ pub fn write<R: References>(output: &mut Output<'_, '_, R>, size: usize) -> Resu
     output.exit()
 }
 
-/// Writes what stands in the span of a destination, up to an offset.
+/// Writes the content of the span of a destination, up to an offset.
 fn write_inside<R: References>(output: &mut Output<'_, '_, R>, end: usize) -> Result<(), AllocError>
     requires stands { Stands output.old }
     requires none_waits { output.old.data ≡ output.old.at }

@@ -26,32 +26,32 @@ use markdown_pieces::identifiers::Identifiers;
 use markdown_pieces::piece::{Piece, PieceKind};
 use std::alloc::{AllocError, Global};
 
-/// What a document is read with (ours).
+/// The document, its options and what it defines, as needed to read it (ours).
 ///
-/// With `ParseOptions::default()` and empty identifiers, `[a](b)` is a link, and `[a]` is none.
+/// With `ParseOptions::default()` and empty identifiers, `[a](b)` is a link, and `[a]` is not.
 #[derive(Drop)]
 pub struct Reading<'r, R> {
-    /// Where memory is asked for.
+    /// The allocator.
     pub alloc: Global,
     /// The document.
     pub document: &'r [u8],
     /// How it is read: a construct that is off has no span.
     pub options: ParseOptions,
-    /// What the document defines.
+    /// The identifiers that the document defines.
     pub identifiers: &'r Identifiers,
     /// What character references stand for.
     pub references: &'r R,
 }
 
-/// Writes the pieces of a document, with the inlines in its texts and strings (micromark). The only error is that
-/// memory ran out.
+/// Writes the pieces of a document, with the inlines in its texts and strings (micromark). The only
+/// error is that memory ran out.
 ///
-/// A text, and the texts of the next lines where a line ending comes after it, are one content. It is a text
-/// in a paragraph, a heading or the cell of a table, and elsewhere a string, with escapes and character
-/// references alone.
+/// A text, and the texts of the next lines if a line ending comes after it, are one content. In a
+/// paragraph, a heading or the cell of a table it is a text. Elsewhere it is a string, which has
+/// only escapes and character references.
 ///
-/// Of `a` the pieces are `Enter(Paragraph)`, `Text` up to 1, and `Exit(Paragraph)`. The writer gets the enter of
-/// a `Name::Paragraph`, a `Name::Data` up to offset 1, and the exit.
+/// The pieces of `a` are `Enter(Paragraph)`, `Text` up to 1, and `Exit(Paragraph)`. The writer gets
+/// the enter of a `Name::Paragraph`, a `Name::Data` up to offset 1, and the exit.
 pub fn write<'c, 'd, R: References>(
     reading: &'c Reading<'c, R>,
     pieces: &'c [Piece],
@@ -89,8 +89,8 @@ pub fn write<'c, 'd, R: References>(
     Ok(writer)
 }
 
-/// Where the mark of a task may come: in the first block of an item, if it is a paragraph, at its start (GFM). The
-/// item may begin with a line ending.
+/// Where the mark of a task may come: at the start of the first block of an item, if that is a
+/// paragraph (GFM). The item may begin with a line ending.
 #[derive(Clone, Copy, PartialEq, Eq, Debug)]
 enum TaskPlace {
     /// Not before the next item.
@@ -102,7 +102,7 @@ enum TaskPlace {
 }
 
 impl TaskPlace {
-    /// The place after a piece of this kind.
+    /// Returns the place after a piece of this kind.
     fn after(self, kind: PieceKind) -> TaskPlace
         ensures { result ≡ next_task_place self kind }
     {
@@ -123,7 +123,7 @@ fn may_be_task(options: &ParseOptions, place: TaskPlace) -> bool
     options.constructs.gfm_task_list_item && place == TaskPlace::InParagraph
 }
 
-/// The name of the last span that has begun, after a piece.
+/// Returns the name of the last span that has begun, after a piece.
 fn name_after(kind: PieceKind, before: Option<Name>) -> Option<Name> {
     match kind {
         PieceKind::Enter(name) => Some(name),
@@ -131,7 +131,7 @@ fn name_after(kind: PieceKind, before: Option<Name>) -> Option<Name> {
     }
 }
 
-/// What a content in a span of this name is.
+/// Returns the kind of a content in a span of this name.
 fn content_kind(name: Option<Name>) -> ContentKind {
     match name {
         Some(
@@ -177,7 +177,7 @@ fn inlines<'c, 'd, R: References>(
     }
 }
 
-/// Writes a content that has these bytes.
+/// Writes a content with these bytes.
 fn inlines_of<'c, 'd, R: References>(
     reading: &'c Reading<'c, R>,
     writer: Writer<'d, R>,

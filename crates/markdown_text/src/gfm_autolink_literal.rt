@@ -16,10 +16,10 @@ use commonmark_syntax::extended_autolink_start;
 use markdown_attention::extended_autolink_address::{self, RefusedDomain};
 use markdown_events::event::Name;
 
-/// The autolink literal that begins at the cursor. With `in_bracket` a bracket is open there, which a closing
-/// bracket after the literal may close.
+/// Returns the autolink literal that begins at the cursor. With `in_bracket` a bracket is open
+/// there, which a closing bracket after the literal may close.
 ///
-/// Where its domain is refused for an underscore, that is kept in `refused`.
+/// If its domain is refused for an underscore, that is stored in `refused`.
 pub fn scan(cursor: Cursor<'_>, in_bracket: bool, refused: &mut RefusedDomain) -> Option<Found>
     requires refused { IsRefused cursor.content.now refused.old }
     ensures refused { IsRefused cursor.entry.content.now refused.new }
@@ -38,7 +38,7 @@ pub fn scan(cursor: Cursor<'_>, in_bracket: bool, refused: &mut RefusedDomain) -
     Some(Found::token(TokenKind::AutolinkLiteral(name), start + size))
 }
 
-/// The name of a literal that begins with this byte.
+/// Returns the name of a literal that begins with this byte.
 fn name_of(first: u8) -> Name
     ensures { (result ≡ GfmAutolinkLiteralProtocol) ⊎ (result ≡ GfmAutolinkLiteralWww) }
 {

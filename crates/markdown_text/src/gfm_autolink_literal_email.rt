@@ -1,4 +1,4 @@
-//! Autolink literals that are addresses of mail (GFM), which are found in data.
+//! Autolink literals that are email addresses (GFM), which are found in data.
 
 ghost use Rattle.std.specs.Prelude.{IfSome, MatchOption, OnOk, slice_range, ℕ, ◌≡◌, true};
 ghost use Rattle.commonmark_syntax.specs.EmailLiterals.{HasNoLiteral};
@@ -18,9 +18,9 @@ use std::alloc::AllocError;
 struct Address {
     /// The name of its span.
     name: Name,
-    /// The offset in the text at which it begins.
+    /// The offset in the text where it begins.
     start: usize,
-    /// The offset in the text at which it ends.
+    /// The offset in the text where it ends.
     end: usize,
 }
 
@@ -65,7 +65,7 @@ fn write_address<R: References>(
     Ok(())
 }
 
-/// The first address in a text.
+/// Returns the first address in a text.
 fn find(text: &[u8]) -> Option<Address>
     ensures address { IfSome result (λ address. IsAddress text.now address) }
     ensures exact { MatchOption result (HasNoLiteral text.now) (λ address. IsFirstAddress text.now address) }
@@ -78,7 +78,7 @@ fn find(text: &[u8]) -> Option<Address>
     })
 }
 
-/// The name of an address of a kind.
+/// Returns the name of an address of a kind.
 fn name_of(kind: Kind) -> Name
     ensures named { IsAddressName result }
     ensures exact { result ≡ address_name kind }

@@ -21,7 +21,8 @@ use commonmark_syntax::task_mark;
 use markdown_events::event::Name;
 use std::alloc::AllocError;
 
-/// The mark of a task that a text begins with. White space comes after it, and then more of the text.
+/// Returns the mark of a task that a text begins with. White space comes after it, and then more of
+/// the text.
 pub fn scan(text: &[u8]) -> Option<Found>
     ensures exact { MatchOption result (IsNotAt task_mark text.now) (λ found. Leaves task_mark text.now (drop found.size text.now)) }
     ensures found { IfSome result (λ found. IsFound (text_of text.now no_values true) found.kind 0 found.size) }
@@ -56,7 +57,7 @@ pub fn write<R: References>(
     output.exit()
 }
 
-/// The name of the value of a mark, which may be checked.
+/// Returns the name of the value of a mark, which may be checked.
 fn value_name(is_checked: bool) -> Name
     ensures { (result ≡ GfmTaskListItemValueChecked) ⊎ (result ≡ GfmTaskListItemValueUnchecked) }
 {

@@ -13,7 +13,7 @@ use commonmark_syntax::backslash_break;
 use markdown_events::event::Name;
 use std::alloc::AllocError;
 
-/// The length of the hard break that a text begins with: a backslash and a line ending.
+/// Returns the length of the hard break that a text begins with: a backslash and a line ending.
 pub fn scan(text: &[u8]) -> Option<usize>
     ensures exact { MatchOption result (IsNotAt backslash_break text.now) (λ size. Leaves backslash_break text.now (drop size text.now)) }
     ensures size { IfSome result (λ size. size ≡ 2) }

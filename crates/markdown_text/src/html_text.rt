@@ -1,4 +1,4 @@
-//! HTML in a text (CommonMark): tags, comments, instructions, declarations and CDATA sections.
+//! HTML in text (CommonMark): tags, comments, instructions, declarations and CDATA sections.
 
 ghost use Rattle.std.specs.Prelude.{◌≡◌, ◌<◌, IfSome, MatchOption, OnOk, drop, true};
 ghost use Rattle.commonmark_syntax.specs.HtmlTags.{AreMissing};
@@ -16,7 +16,7 @@ use commonmark_syntax::html_tag::{self, MissingEnds};
 use markdown_events::event::Name;
 use std::alloc::AllocError;
 
-/// The length of the HTML tag that begins at the cursor.
+/// Returns the length of the HTML tag that begins at the cursor.
 pub fn scan(cursor: Cursor<'_>, missing: &mut MissingEnds) -> Option<usize>
     requires missing { AreMissing cursor.content.now missing.old }
     ensures missing { AreMissing cursor.entry.content.now missing.new }

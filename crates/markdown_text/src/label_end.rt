@@ -42,8 +42,8 @@ pub struct Match {
     ghost filled: { 0 < size },
 }
 
-/// What a bracket makes with the end of its label at the cursor, if they make something. The only error is
-/// that memory ran out.
+/// Returns what a bracket makes with the end of its label at the cursor, if it makes something. The
+/// only error is that memory ran out.
 pub fn scan<R: References>(
     source: &Source<'_, R>,
     cursor: Cursor<'_>,
@@ -76,7 +76,7 @@ pub fn scan<R: References>(
     with_target(source, labelled, own, after(cursor.content, cursor.at + 1))
 }
 
-/// What a bracket of this form begins, where it is no call of a footnote.
+/// Returns what a bracket of this form begins, if it is not a call of a footnote.
 fn labelled(form: LabelForm, constructs: &Constructs) -> Option<Labelled>
     requires form { is_form_on constructs.now form ≡ true }
     requires end { constructs.now.label_end ≡ true }
@@ -91,8 +91,8 @@ fn labelled(form: LabelForm, constructs: &Constructs) -> Option<Labelled>
     }
 }
 
-/// Whether a bracket and the end of its label at the cursor are a footnote call (GFM). Whether a footnote has that
-/// label is another question.
+/// Whether a bracket and the end of its label at the cursor are a footnote call (GFM). It does not
+/// check whether a footnote has that label.
 fn is_call(cursor: Cursor<'_>, bracket: &Bracket) -> bool
     ensures form { result ≡ true → bracket.now.form ≡ Footnote }
     ensures yes { result ≡ true → Matches footnote_call (bracketed cursor.entry bracket.now) }
@@ -103,8 +103,8 @@ fn is_call(cursor: Cursor<'_>, bracket: &Bracket) -> bool
         && footnote_call::is_call(after(cursor.through(), bracket.start))
 }
 
-/// What a label makes with what comes after it. Its own text counts where it may be defined. The only
-/// error is that memory ran out.
+/// Returns what a label makes with what comes after it. Its own text counts if it may be defined.
+/// The only error is that memory ran out.
 fn with_target<R: References>(
     source: &Source<'_, R>,
     labelled: Labelled,
@@ -141,7 +141,8 @@ fn with_target<R: References>(
     Ok(is_reference.then_some(found))
 }
 
-/// What a label makes with what comes after it, where it is a reference: a collapsed or a shortcut one.
+/// Returns what a label makes with what comes after it, if it is a collapsed or a shortcut
+/// reference.
 fn with_own_label(labelled: Labelled, rest: &[u8]) -> Match
     ensures labelled { result.labelled ≡ labelled }
     ensures target { IsTarget rest.now result.target 0 (result.size - 1) }

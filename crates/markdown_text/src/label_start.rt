@@ -15,7 +15,7 @@ use character_references::references::References;
 use markdown_events::event::Name;
 use std::alloc::AllocError;
 
-/// Writes the start of a label, by what the label belongs to.
+/// Writes the start of a label, according to what the label belongs to.
 pub fn write<R: References>(
     output: &mut Output<'_, '_, R>,
     labelled: Labelled,

@@ -5,8 +5,8 @@ ghost use Rattle.markdown_text.specs.Contents.{IsAsciiPart};
 
 use markdown_options::Constructs;
 
-/// The length of the start of the label of an image that a text begins with. Where calls of footnotes
-/// are a construct, no image begins before a caret (micromark).
+/// Returns the length of the start of the label of an image that a text begins with. If calls of
+/// footnotes are on, no image begins before a caret (micromark).
 pub fn scan(text: &[u8], constructs: &Constructs) -> Option<usize>
     ensures size { IfSome result (λ size. size ≡ 2) }
     ensures ascii { IfSome result (λ size. IsAsciiPart text.now 0 size) }

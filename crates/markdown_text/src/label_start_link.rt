@@ -5,7 +5,7 @@ ghost use Rattle.markdown_text.specs.Contents.{IsAsciiPart};
 
 use markdown_options::Constructs;
 
-/// The length of the start of the label of a link that a text begins with.
+/// Returns the length of the start of the label of a link that a text begins with.
 pub fn scan(text: &[u8], constructs: &Constructs) -> Option<usize>
     ensures size { IfSome result (λ size. size ≡ 1) }
     ensures ascii { IfSome result (λ size. IsAsciiPart text.now 0 size) }

@@ -1,4 +1,4 @@
-//! The spans of a content, as they are written.
+//! The output of the spans of a content.
 
 ghost use Rattle.std.specs.Prelude.{Bool, IfOk, IfSome, List, OnOk, Some, [], drop, false, length, slice_get, slice_range, true, ℕ, ◌-◌, ◌≡◌, ◌≤◌, ◌<◌, ◌+◌, ◌++◌, ◌∷◌};
 ghost use Rattle.event_writer.specs.Stages.{Enclosing, Stage, character_reference_value, entered, exited, inlines, nothing, takes_line_endings};
@@ -27,12 +27,12 @@ use markdown_pieces::piece::Piece;
 use std::alloc::AllocError;
 use std::mem;
 
-/// What may stand in a content (micromark).
+/// What a content may contain (micromark).
 #[derive(Clone, Copy, PartialEq, Eq, Debug)]
 pub enum ContentKind {
     /// All inlines.
     Text,
-    /// Escapes and character references alone.
+    /// Only escapes and character references.
     String,
 }
 
@@ -47,22 +47,23 @@ pub enum Next {
     End,
 }
 
-/// A content whose spans are written. Between its lines stand the pieces that the block structure has there.
+/// A content whose spans are being written. Between its lines are the pieces of the block
+/// structure.
 #[derive(Drop)]
 pub struct Output<'c, 'd, R: References> {
     /// The content.
     source: &'c Source<'c, R>,
-    /// What writes the spans.
+    /// The writer of the spans.
     writer: Writer<'d, R>,
-    /// What is left of the pieces of the block structure.
+    /// The remaining pieces of the block structure.
     lines: Lines<'c>,
-    /// The offset up to which all is written.
+    /// The offset up to which everything is written.
     at: usize,
-    /// The offset up to which data comes after that.
+    /// The offset up to which data waits after that.
     data: usize,
     /// Whether nothing of this line is written yet.
     is_line_start: bool,
-    /// What may stand here.
+    /// What may occur here.
     kind: ContentKind,
     /// How many links are open.
     links: usize,
@@ -73,7 +74,8 @@ impl<'c, 'd, R: References> Output<'c, 'd, R> {
     ghost use Rattle.markdown_text.specs.Contents.{IsContent, joined, spot};
     ghost use Rattle.markdown_text.specs.Outputs.{GoesOn, Stands, WritesTo, bytes_of, constructs_of, content_end, document_of};
 
-    /// The start of a content, which is at the cursor of the writer. `pieces` are those of the block structure.
+    /// Returns the start of a content, which is at the cursor of the writer. `pieces` are those of
+    /// the block structure.
     pub fn new(
         source: &'c Source<'c, R>,
         writer: Writer<'d, R>,
@@ -113,26 +115,26 @@ impl<'c, 'd, R: References> Output<'c, 'd, R> {
         })
     }
 
-    /// The content.
+    /// Returns the content.
     pub fn source(&self) -> &'c Source<'c, R>
         ensures { result.now ≡ self.now.source.now }
     {
         self.source
     }
 
-    /// What may stand here.
+    /// Returns what may occur here.
     pub fn kind(&self) -> ContentKind {
         self.kind
     }
 
-    /// The offset up to which all is written.
+    /// Returns the offset up to which everything is written.
     pub fn at(&self) -> usize
         ensures { result ≡ self.now.at }
     {
         self.at
     }
 
-    /// The offset so many bytes after that.
+    /// Returns the offset `size` bytes after that.
     pub fn offset_after(&self, size: usize) -> usize
         requires { self.now.at + size ≤ length (bytes_of self.now) }
         ensures { result ≡ self.now.at + size }
@@ -140,31 +142,32 @@ impl<'c, 'd, R: References> Output<'c, 'd, R> {
         later(self.at, size, self.source.bytes.len())
     }
 
-    /// The bytes that are not written yet.
+    /// Returns the bytes that are not written yet.
     pub fn rest(&self) -> &'c [u8]
         ensures { result.now ≡ drop self.now.at (bytes_of self.now) }
     {
         after(self.source.bytes, self.at)
     }
 
-    /// Of these, the ones up to an offset.
+    /// Returns the bytes that are not written yet, up to an offset.
     pub fn rest_to(&self, end: usize) -> &'c [u8]
         ensures { result.now ≡ slice_range (bytes_of self.now) self.now.at end }
     {
         between(self.source.bytes, self.at, end)
     }
 
-    /// Whether nothing of this line is written yet. In a string it is true after a line ending alone.
+    /// Whether nothing of this line is written yet. In a string it is true only after a line
+    /// ending.
     pub fn is_line_start(&self) -> bool {
         self.is_line_start
     }
 
-    /// Whether addresses of mail are links here.
+    /// Whether email addresses are links here.
     pub fn may_link(&self) -> bool {
         self.kind == ContentKind::Text && self.links == 0
     }
 
-    /// Keeps that a link begins.
+    /// Records that a link begins.
     pub fn enter_link(&mut self)
         requires { Stands self.old }
         ensures writer { self.new.writer ≡ self.old.writer }
@@ -175,7 +178,7 @@ impl<'c, 'd, R: References> Output<'c, 'd, R> {
         self.links = self.links.saturating_add(1);
     }
 
-    /// Keeps that a link ends.
+    /// Records that a link ends.
     pub fn exit_link(&mut self)
         requires { Stands self.old }
         ensures writer { self.new.writer ≡ self.old.writer }
@@ -186,7 +189,7 @@ impl<'c, 'd, R: References> Output<'c, 'd, R> {
         self.links = self.links.saturating_sub(1);
     }
 
-    /// Adds data up to an offset. It is written with the data beside it.
+    /// Adds data up to an offset. It is written together with the data beside it.
     pub fn data(&mut self, end: usize)
         requires stands { Stands self.old }
         requires part { IsPart (bytes_of self.old) self.old.data end }
@@ -229,7 +232,7 @@ impl<'c, 'd, R: References> Output<'c, 'd, R> {
         calls::exit(&mut self.writer)
     }
 
-    /// Writes a token of so many bytes.
+    /// Writes a token of `size` bytes.
     pub fn token(&mut self, name: Name, size: usize) -> Result<(), AllocError>
         requires stands { Stands self.old }
         requires filled { 0 < size }
@@ -245,7 +248,7 @@ impl<'c, 'd, R: References> Output<'c, 'd, R> {
         self.token_to(name, later(self.at, size, self.source.bytes.len()))
     }
 
-    /// Writes a token up to an offset. It may take bytes of the data that waits.
+    /// Writes a token up to an offset. It may take bytes of the waiting data.
     pub fn token_to(&mut self, name: Name, end: usize) -> Result<(), AllocError>
         requires stands { Stands self.old }
         requires filled { self.old.at < end }
@@ -280,7 +283,7 @@ impl<'c, 'd, R: References> Output<'c, 'd, R> {
         Ok(())
     }
 
-    /// Writes a token up to an offset, if it has any bytes. It may take bytes of the data that waits.
+    /// Writes a token up to an offset, if it has any bytes. It may take bytes of the waiting data.
     pub fn fill_to(&mut self, name: Name, end: usize) -> Result<(), AllocError>
         requires stands { Stands self.old }
         requires part { IsPart (bytes_of self.old) self.old.at end }
@@ -320,7 +323,7 @@ impl<'c, 'd, R: References> Output<'c, 'd, R> {
         Ok(())
     }
 
-    /// Goes to an offset, and gives where it is in the document.
+    /// Moves to an offset, and returns where it is in the document.
     fn move_to(&mut self, end: usize) -> usize
         requires stands { Stands self.old }
         requires part { IsPart (bytes_of self.old) self.old.at end }
@@ -338,7 +341,7 @@ impl<'c, 'd, R: References> Output<'c, 'd, R> {
         to
     }
 
-    /// Writes a line ending, and what stands before the text of the next line.
+    /// Writes a line ending, and what comes before the text of the next line.
     pub fn line_ending(&mut self) -> Result<(), AllocError>
         requires stands { Stands self.old }
         requires feed { slice_get (bytes_of self.old) self.old.data ≡ Some 10 }
@@ -353,7 +356,8 @@ impl<'c, 'd, R: References> Output<'c, 'd, R> {
         Ok(())
     }
 
-    /// Writes a line ending as a token of this name, and what stands before the text of the next line. No data waits.
+    /// Writes a line ending as a token of this name, and what comes before the text of the next
+    /// line. No data waits.
     pub fn line_ending_as(&mut self, name: Name) -> Result<(), AllocError>
         requires stands { Stands self.old }
         requires none_waits { self.old.data ≡ self.old.at }
@@ -376,7 +380,8 @@ impl<'c, 'd, R: References> Output<'c, 'd, R> {
         Ok(())
     }
 
-    /// Writes a token for what each line has up to an offset, and white space that begins a line apart. No data waits.
+    /// Writes a token for the rest of each line up to an offset. White space that begins a line is
+    /// written separately. No data waits.
     pub fn lines(&mut self, name: Name, end: usize) -> Result<(), AllocError>
         requires stands { Stands self.old }
         requires none_waits { self.old.data ≡ self.old.at }
@@ -394,7 +399,8 @@ impl<'c, 'd, R: References> Output<'c, 'd, R> {
         Ok(())
     }
 
-    /// Writes what the line has up to an offset, or its ending where nothing of it is left.
+    /// Writes the rest of the line up to an offset, or the line ending if nothing of the line is
+    /// left.
     fn line(&mut self, name: Name, end: usize) -> Result<(), AllocError>
         requires stands { Stands self.old }
         requires none_waits { self.old.data ≡ self.old.at }
@@ -417,7 +423,7 @@ impl<'c, 'd, R: References> Output<'c, 'd, R> {
         }
     }
 
-    /// Writes a line ending, and the white space after it up to an offset at most.
+    /// Writes a line ending, and the white space after it, at most up to an offset.
     fn line_start(&mut self, end: usize) -> Result<(), AllocError>
         requires stands { Stands self.old }
         requires none_waits { self.old.data ≡ self.old.at }
@@ -439,7 +445,7 @@ impl<'c, 'd, R: References> Output<'c, 'd, R> {
         Ok(())
     }
 
-    /// Writes so many bytes of white space. No data waits.
+    /// Writes `size` bytes of white space. No data waits.
     pub fn space(&mut self, size: usize) -> Result<(), AllocError>
         requires stands { Stands self.old }
         requires none_waits { self.old.data ≡ self.old.at }
@@ -477,7 +483,7 @@ impl<'c, 'd, R: References> Output<'c, 'd, R> {
         Ok(())
     }
 
-    /// Writes the data that waits.
+    /// Writes the waiting data.
     pub fn flush(&mut self, next: Next) -> Result<(), AllocError>
         requires stands { Stands self.old }
         requires inlines { AtInlines self.old }
@@ -493,7 +499,7 @@ impl<'c, 'd, R: References> Output<'c, 'd, R> {
         data::write(self, end, next)
     }
 
-    /// Writes the data that waits at the end of the content, and gives the writer.
+    /// Writes the waiting data at the end of the content, and returns the writer.
     pub fn finish(mut self) -> Result<Writer<'d, R>, AllocError>
         requires stands { Stands self }
         requires ended { self.data ≡ length (bytes_of self) }
@@ -510,7 +516,7 @@ impl<'c, 'd, R: References> Output<'c, 'd, R> {
     }
 }
 
-/// The offset so many bytes after another. It comes no later than an end.
+/// Returns the offset `size` bytes after another. It is not after `_end`.
 fn later(from: usize, size: usize, _end: usize) -> usize
     requires { from + size ≤ _end }
     ensures { result ≡ from + size }

@@ -1,4 +1,4 @@
-//! Pieces, as the writer gets them.
+//! Pieces, as the writer receives them.
 
 ghost use Rattle.std.specs.Prelude.{IfOk, IsTrue, List, OnOk, true, ◌≡◌, ◌≢◌};
 ghost use Rattle.std.specs.Str.{IsCharBoundary};
@@ -22,10 +22,10 @@ use markdown_events::event::Name;
 use markdown_pieces::piece::{Piece, PieceKind};
 use std::alloc::AllocError;
 
-/// What is left of a content from the cursor on.
+/// The rest of a content from the cursor on.
 #[derive(Clone, Copy)]
 pub struct Lines<'c> {
-    /// The offset in the document at which the text of this line ends.
+    /// The offset in the document where the text of this line ends.
     pub end: usize,
     /// The pieces after it.
     pub later: &'c [Piece],
@@ -39,7 +39,8 @@ pub fn is_text(kind: PieceKind) -> bool
     matches!(kind, PieceKind::Text)
 }
 
-/// Writes what stands before the next text of a content, and gives what is left of the content from there on.
+/// Writes what comes before the next text of a content, and returns the rest of the content from
+/// there on.
 pub fn write_to_text<'c, R: References>(
     writer: &mut Writer<'_, R>,
     pieces: &'c [Piece],
@@ -70,7 +71,7 @@ pub fn write_to_text<'c, R: References>(
     unreachable!()
 }
 
-/// Writes a piece that is no text.
+/// Writes a piece that is not a text.
 pub fn write_piece<R: References>(
     writer: &mut Writer<'_, R>,
     piece: &Piece,
@@ -99,7 +100,8 @@ pub fn write_piece<R: References>(
     }
 }
 
-/// Writes the prefix of a block quote up to a place: its marker, and the white space after that, if there is any.
+/// Writes the prefix of a block quote up to a place: its marker, and the white space after that, if
+/// there is any.
 fn write_block_quote_prefix<R: References>(
     writer: &mut Writer<'_, R>,
     end: usize,
@@ -121,7 +123,8 @@ fn write_block_quote_prefix<R: References>(
     Ok(())
 }
 
-/// Writes white space up to an offset, and so many columns into the tab there, if it comes to anything.
+/// Writes white space up to an offset, and a number of columns into the tab there, unless it is
+/// empty.
 fn write_space<R: References>(
     writer: &mut Writer<'_, R>,
     to: usize,

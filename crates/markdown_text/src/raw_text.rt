@@ -30,7 +30,7 @@ pub enum RawText {
 impl RawText {
     ghost use Rattle.markdown_text.specs.RawTexts.{raw_data_name, raw_text_name, raw_sequence_name};
 
-    /// The name of its span.
+    /// Returns the name of its span.
     pub fn name(self) -> Name
         ensures { result ≡ raw_text_name self }
     {
@@ -40,7 +40,7 @@ impl RawText {
         }
     }
 
-    /// The name of the span of the sequence at either end.
+    /// Returns the name of the span of the sequence at either end.
     pub fn sequence(self) -> Name
         ensures { result ≡ raw_sequence_name self }
     {
@@ -50,7 +50,7 @@ impl RawText {
         }
     }
 
-    /// The name of the spans of what each line has between them.
+    /// Returns the name of the spans of the lines between them.
     pub fn data(self) -> Name
         ensures { result ≡ raw_data_name self }
     {
@@ -61,10 +61,11 @@ impl RawText {
     }
 }
 
-/// The length of the raw text that begins with the sequence of this length at the cursor, if one does.
+/// Returns the length of the raw text that begins with the sequence of this length at the cursor,
+/// if one does.
 ///
-/// `last` is what is known of the strings of its marker; it is found once for a content. The only error
-/// is that memory ran out.
+/// `last` has what is known of the strings of its marker; it is computed once for a content. The
+/// only error is that memory ran out.
 pub fn scan(
     alloc: Global,
     cursor: Cursor<'_>,
@@ -113,7 +114,7 @@ pub fn write<R: References>(
     output.exit()
 }
 
-/// Writes the two sequences of a raw text, and what each line has between them.
+/// Writes the two sequences of a raw text, and the lines between them.
 fn write_enclosed<R: References>(
     output: &mut Output<'_, '_, R>,
     kind: RawText,

@@ -25,19 +25,19 @@ use std::alloc::AllocError;
 pub struct Resource {
     /// The white space after the opening parenthesis.
     before: usize,
-    /// The destination. It is 0 where there is none.
+    /// The destination, or 0 if there is none.
     destination: usize,
     /// The white space after the destination.
     between: usize,
-    /// The title. It is 0 where there is none.
+    /// The title, or 0 if there is none.
     title: usize,
-    /// The white space after the title. It is 0 where there is no title.
+    /// The white space after the title, or 0 if there is no title.
     after: usize,
-    /// All of it, with the parentheses.
+    /// The whole resource, with the parentheses.
     pub size: usize,
 }
 
-/// The resource that a text begins with.
+/// Returns the resource that a text begins with.
 pub fn scan(text: &[u8]) -> Option<Resource>
     ensures exact { MatchOption result (IsNoResource text.now) (λ resource. LeavesResource text.now (drop resource.size text.now)) }
     ensures parts { IfSome result (λ resource. IsResource text.now resource 0 resource.size) }
@@ -63,7 +63,7 @@ pub fn scan(text: &[u8]) -> Option<Resource>
     })
 }
 
-/// The length of the destination that a text begins with, or 0 where the resource ends.
+/// Returns the length of the destination that a text begins with, or 0 if the resource ends.
 fn destination_length(text: &[u8]) -> Option<usize>
     ensures exact { MatchOption result (BeginsWithNeither text.now) (BeginsWithEither text.now) }
     ensures part { IfSome result (λ size. IsDestination text.now 0 size) }
@@ -74,8 +74,9 @@ fn destination_length(text: &[u8]) -> Option<usize>
     }
 }
 
-/// The length of the title that a text begins with, after a destination and white space of these lengths. It is 0
-/// where none may stand there, or the text begins with no marker of one.
+/// Returns the length of the title that a text begins with, after a destination and white space of
+/// these lengths. It is 0 if no title may occur there, or if the text does not begin with the
+/// marker of one.
 fn title_length(text: &[u8], destination: usize, between: usize) -> Option<usize>
     ensures exact { 0 < destination → 0 < between → MatchOption result (IsNotAt page.title text.now × (slice_index text.now 0 ≢ 41)) (HasTitle text.now) }
     ensures closed { destination ≡ 0 → result ≡ Some 0 }
@@ -92,8 +93,8 @@ fn title_length(text: &[u8], destination: usize, between: usize) -> Option<usize
     }
 }
 
-/// The length of the white space that a text begins with, after a title of this length. Without a title it is 0: the
-/// white space after the destination has been read.
+/// Returns the length of the white space that a text begins with, after a title of this length.
+/// Without a title it is 0: the white space after the destination has already been read.
 fn space_length(text: &[u8], title: usize) -> usize
     ensures bare { title ≡ 0 → result ≡ 0 }
     ensures exact { 0 < title → read blanks text.now ≡ Some (drop result text.now) }

@@ -1,4 +1,4 @@
-//! What a content is read with.
+//! A content and the settings for reading it.
 
 ghost use Rattle.std.specs.Prelude.{true, ◌≡◌};
 ghost use Rattle.std.specs.Str.{is_utf8};
@@ -8,10 +8,10 @@ use commonmark_syntax::bytes::after;
 use commonmark_syntax::label::is_text;
 use std::alloc::{AllocError, Global};
 
-/// The bytes of a content, which are UTF-8, and what its document is read with.
+/// The bytes of a content, which are UTF-8, and the settings that its document is read with.
 #[derive(Drop)]
 pub struct Source<'c, R> {
-    /// What the document is read with.
+    /// The settings that the document is read with.
     pub reading: &'c Reading<'c, R>,
     /// The bytes, with a line feed for each line ending.
     pub bytes: &'c [u8],
@@ -21,8 +21,8 @@ pub struct Source<'c, R> {
 }
 
 impl<R> Source<'_, R> {
-    /// Whether the document has a definition of a label of this content. The only error is that memory
-    /// ran out.
+    /// Whether the document has a definition for a label of this content. The only error is that
+    /// memory ran out.
     pub fn defines(&self, label: &[u8]) -> Result<bool, AllocError> {
         let alloc = self.reading.alloc;
         if self.escapes_pipes(label) {
@@ -32,7 +32,8 @@ impl<R> Source<'_, R> {
         self.reading.identifiers.defines(alloc, label)
     }
 
-    /// The same of a footnote.
+    /// Whether the document has a footnote definition for a label of this content. The only error
+    /// is that memory ran out.
     fn defines_footnote(&self, label: &[u8]) -> Result<bool, AllocError> {
         let alloc = self.reading.alloc;
         if self.escapes_pipes(label) {
@@ -42,8 +43,8 @@ impl<R> Source<'_, R> {
         self.reading.identifiers.defines_footnote(alloc, label)
     }
 
-    /// Whether a label of this content, which stands alone between brackets, is a reference. It is defined, or
-    /// references are read that are not. The only error is that memory ran out.
+    /// Whether a label of this content that is alone between brackets is a reference: it is
+    /// defined, or undefined references are read too. The only error is that memory ran out.
     pub fn refers(&self, label: &[u8]) -> Result<bool, AllocError> {
         if self.reading.options.undefined_references && is_text(label) {
             return Ok(true);
@@ -51,7 +52,8 @@ impl<R> Source<'_, R> {
         self.defines(label)
     }
 
-    /// The same of a footnote.
+    /// Whether a footnote label of this content that is alone between brackets is a reference: it
+    /// is defined, or undefined references are read too. The only error is that memory ran out.
     pub fn calls_footnote(&self, label: &[u8]) -> Result<bool, AllocError> {
         if self.reading.options.undefined_references && is_text(label) {
             return Ok(true);
@@ -65,8 +67,8 @@ impl<R> Source<'_, R> {
     }
 }
 
-/// A label without the backslashes that escape pipes for the table around it (GFM). The only error is that
-/// memory ran out.
+/// Returns a label without the backslashes that escape pipes for the table around it (GFM). The
+/// only error is that memory ran out.
 fn without_escapes(alloc: Global, label: &[u8]) -> Result<Vec<u8>, AllocError> {
     let mut bytes = Vec::new(alloc);
     for (place, byte) in label.iter().enumerate() {

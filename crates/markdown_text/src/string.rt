@@ -67,7 +67,7 @@ pub fn write<R: References>(output: &mut Output<'_, '_, R>, end: usize) -> Resul
     Ok(())
 }
 
-/// What a string begins with that is not empty. The only error is that memory ran out.
+/// Returns what a string that is not empty begins with. The only error is that memory ran out.
 fn scan<R: References>(source: &Source<'_, R>, text: &[u8]) -> Result<Found, AllocError>
     requires { 0 < length text.now }
     ensures most { IfOk result (λ found. found.size ≤ length text.now) }
@@ -93,7 +93,7 @@ fn scan<R: References>(source: &Source<'_, R>, text: &[u8]) -> Result<Found, All
     }
 }
 
-/// How many bytes of data a text begins with, of which the first is data.
+/// Returns how many bytes of data a text begins with. The first byte is data.
 fn data_length(text: &[u8]) -> usize
     requires some { 0 < length text.now }
     requires first { slice_index text.now 0 ≢ 10 }
@@ -104,7 +104,7 @@ fn data_length(text: &[u8]) -> usize
     1 + count_while(after(text, 1), is_plain)
 }
 
-/// The character escape that a text begins with, or the backslash as data.
+/// Returns the character escape that a text begins with, or the backslash as data.
 fn escape_or_data(text: &[u8]) -> Found
     requires some { 0 < length text.now }
     requires first { slice_index text.now 0 ≡ 92 }

@@ -45,10 +45,10 @@ use markdown_events::event::Name;
 use markdown_pieces::piece::Piece;
 use std::alloc::AllocError;
 
-/// A construct that is open.
+/// An open construct.
 #[derive(Clone, Copy, Debug)]
 enum Open {
-    /// Emphasis, strong emphasis or struck text.
+    /// Emphasis, strong emphasis or strikethrough.
     Attention(AttentionKind),
     /// A label with a text.
     Label(Labelled),
@@ -87,7 +87,7 @@ pub fn inlines<'c, 'd, R: References>(
     output.finish()
 }
 
-/// Writes the mark of a task, if the first token is one, and gives the tokens that are left.
+/// Writes the mark of a task, if the first token is one, and returns the remaining tokens.
 fn write_task<'t, R: References>(
     output: &mut Output<'_, '_, R>,
     tokens: &'t [Token],
@@ -144,8 +144,8 @@ fn write_tokens<R: References>(
     Ok(())
 }
 
-/// Writes the data before a token, and the token. Gives the tokens that are left of those after it: an empty label
-/// is written to its end.
+/// Writes the data before a token, and the token. Returns the remaining tokens of those after it:
+/// an empty label is written to its end.
 fn write_next<'t, R: References>(
     output: &mut Output<'_, '_, R>,
     token: &'t Token,
@@ -180,7 +180,7 @@ fn write_next<'t, R: References>(
     Ok(later)
 }
 
-/// A label with nothing in it.
+/// An empty label.
 #[derive(Clone, Copy, PartialEq, Eq, Debug)]
 struct EmptyLabel {
     /// What it belongs to.
@@ -189,7 +189,7 @@ struct EmptyLabel {
     target: Target,
 }
 
-/// The label that a token begins and the next one ends, if nothing stands between them.
+/// Returns the label that a token begins and the next one ends, if nothing is between them.
 fn empty_label(start: &Token, end: &Token) -> Option<EmptyLabel>
     ensures start { IfSome result (λ label. start.now.kind ≡ LabelStart (Some label.labelled)) }
     ensures end { IfSome result (λ label. end.now.kind ≡ LabelEnd label.labelled label.target) }
@@ -207,7 +207,7 @@ fn empty_label(start: &Token, end: &Token) -> Option<EmptyLabel>
     is_empty.then_some(EmptyLabel { labelled, target })
 }
 
-/// Writes a label with nothing in it, and what comes after it up to an offset.
+/// Writes an empty label, and what comes after it up to an offset.
 fn write_empty_label<R: References>(
     output: &mut Output<'_, '_, R>,
     label: &EmptyLabel,
@@ -266,7 +266,7 @@ fn write_token<R: References>(
     }
 }
 
-/// Writes an autolink literal up to an offset, if links may stand here.
+/// Writes an autolink literal up to an offset, if links may occur here.
 fn write_autolink_literal<R: References>(
     output: &mut Output<'_, '_, R>,
     name: Name,
@@ -320,8 +320,8 @@ fn write_run<R: References>(
     Ok(())
 }
 
-/// Writes the sequence that begins at a marker, and gives its length, which is so many at most. Where none
-/// does, it writes nothing and gives 1.
+/// Writes the sequence that begins at a marker, and returns its length, which is at most `most`. If
+/// none begins there, it writes nothing and returns 1.
 fn write_delimiter<R: References>(
     output: &mut Output<'_, '_, R>,
     delimiter: Delimiter,
@@ -350,7 +350,7 @@ fn write_delimiter<R: References>(
     }
 }
 
-/// Whether attention of a kind is the innermost construct that is open.
+/// Whether attention of a kind is the innermost open construct.
 fn is_in_attention(constructs: &[Open], kind: AttentionKind) -> bool
     ensures { (result ≡ true) ↔ (slice_get constructs.now (length constructs.now - 1) ≡ Some (Attention kind)) }
 {
@@ -441,7 +441,7 @@ fn write_label_start<R: References>(
     Ok(())
 }
 
-/// Keeps that a link begins, if a label belongs to one.
+/// Records that a link begins, if the label belongs to one.
 fn enter_labelled<R: References>(output: &mut Output<'_, '_, R>, labelled: Labelled)
     requires { Stands output.old }
     ensures writer { output.new.writer ≡ output.old.writer }
@@ -479,7 +479,8 @@ fn write_label_end<R: References>(
     Ok(())
 }
 
-/// Writes the end of a label, which is the innermost construct that is open, and what comes after it up to an offset.
+/// Writes the end of a label, which is the innermost open construct, and what comes after it up to
+/// an offset.
 fn end_label<R: References>(
     output: &mut Output<'_, '_, R>,
     labelled: Labelled,
@@ -498,7 +499,7 @@ fn end_label<R: References>(
     label_end::write(output, labelled, target, end)
 }
 
-/// Keeps that a link ends, if a label belongs to one.
+/// Records that a link ends, if the label belongs to one.
 fn exit_labelled<R: References>(output: &mut Output<'_, '_, R>, labelled: Labelled)
     requires { Stands output.old }
     ensures writer { output.new.writer ≡ output.old.writer }
@@ -510,7 +511,7 @@ fn exit_labelled<R: References>(output: &mut Output<'_, '_, R>, labelled: Labell
     }
 }
 
-/// Whether a label is the innermost construct that is open.
+/// Whether a label is the innermost open construct.
 fn is_in_label(constructs: &[Open], labelled: Labelled) -> bool
     ensures { (result ≡ true) ↔ (slice_get constructs.now (length constructs.now - 1) ≡ Some (Label labelled)) }
 {

@@ -21,7 +21,7 @@ impl Labelled {
     ghost use Rattle.markdown_text.specs.Opens.{label_start_name, labelled_name};
     ghost use Rattle.markdown_text.specs.Tokens.{has_target, label_start};
 
-    /// The name of its span.
+    /// Returns the name of its span.
     pub fn name(self) -> Name
         ensures { result ≡ labelled_name self }
     {
@@ -32,7 +32,7 @@ impl Labelled {
         }
     }
 
-    /// The name of the span of the signs that begin its label.
+    /// Returns the name of the span of the signs that begin its label.
     pub fn start_name(self) -> Name
         ensures { result ≡ label_start_name self }
     {
@@ -43,7 +43,7 @@ impl Labelled {
         }
     }
 
-    /// How many bytes are written at the start of its label.
+    /// Returns how many bytes are written at the start of its label.
     pub fn start_size(self) -> usize
         ensures { result ≡ label_start self }
     {
@@ -89,15 +89,16 @@ pub enum TokenKind {
     CharacterEscape,
     /// A character reference.
     CharacterReference(ReferenceKind),
-    /// Code, between sequences of so many backticks.
+    /// Code, with the number of backticks in each of its sequences.
     CodeText(usize),
-    /// Math, between sequences of so many dollars.
+    /// Math, with the number of dollars in each of its sequences.
     MathText(usize),
-    /// An autolink, by the name of the address in it: `Name::AutolinkProtocol` or `Name::AutolinkEmail`.
+    /// An autolink, with the name of the address in it: `Name::AutolinkProtocol` or
+    /// `Name::AutolinkEmail`.
     Autolink(Name),
     /// HTML.
     HtmlText,
-    /// An autolink literal, by its name.
+    /// An autolink literal, with its name.
     AutolinkLiteral(Name),
     /// A run of asterisks, underscores or tildes.
     Attention,
@@ -112,15 +113,15 @@ pub enum TokenKind {
 /// A construct that a text begins with, or data.
 #[derive(Clone, Copy, PartialEq, Eq, Debug)]
 pub struct Found {
-    /// What it is. None is data.
+    /// What it is. `None` is data.
     pub kind: Option<TokenKind>,
-    /// How many bytes it takes.
+    /// Its length in bytes.
     pub size: usize,
     ghost filled: { 0 < size },
 }
 
 impl Found {
-    /// A construct of so many bytes.
+    /// Returns a construct of `size` bytes.
     pub fn token(kind: TokenKind, size: usize) -> Found
         requires { 0 < size }
         ensures size { result.size ≡ size }
@@ -132,7 +133,7 @@ impl Found {
         }
     }
 
-    /// So many bytes of data.
+    /// Returns `size` bytes of data.
     pub fn data(size: usize) -> Found
         requires { 0 < size }
         ensures size { result.size ≡ size }
@@ -142,14 +143,14 @@ impl Found {
     }
 }
 
-/// A construct in a text. What lies between two tokens is data.
+/// A construct in a text. The bytes between two tokens are data.
 #[derive(Clone, Copy, PartialEq, Eq, Debug)]
 pub struct Token {
     /// What it is.
     pub kind: TokenKind,
-    /// The offset in the content at which it begins.
+    /// The offset in the content where it begins.
     pub start: usize,
-    /// The offset in the content at which it ends.
+    /// The offset in the content where it ends.
     pub end: usize,
     ghost filled: { start < end },
 }

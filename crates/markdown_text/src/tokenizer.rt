@@ -41,14 +41,15 @@ use std::alloc::AllocError;
 /// The constructs in a text.
 #[derive(Drop)]
 pub struct Tokens {
-    /// The tokens, in order. What lies between them is data.
+    /// The tokens, in order. The bytes between them are data.
     pub tokens: Vec<Token>,
-    /// What begins at each offset, as far as runs of delimiters go. It is empty where there are none.
+    /// The sequence of a delimiter run that begins at each offset, if any. It is empty if there are
+    /// no runs.
     pub delimiters: Vec<Delimiter>,
 }
 
-/// The constructs in a text. With `is_task` it may begin with the mark of a task. The only error is that
-/// memory ran out.
+/// Returns the constructs in a text. With `is_task` it may begin with the mark of a task. The only
+/// error is that memory ran out.
 pub fn tokenize<R: References>(source: &Source<'_, R>, is_task: bool) -> Result<Tokens, AllocError>
     requires task { is_task ≡ true → source.now.reading.now.options.constructs.gfm_task_list_item ≡ true }
     ensures found { IfOk result (λ found. AreTokens (text_of source.now.bytes.now (R.text source.now.reading.now.references.now) is_task) 0 found.tokens.items) }
@@ -103,7 +104,7 @@ struct Tokenizer<'c, R> {
 }
 
 impl<'c, R: References> Tokenizer<'c, R> {
-    /// At the start of a content.
+    /// Returns a tokenizer at the start of a content.
     fn new(source: &'c Source<'c, R>) -> Self
         ensures source { result.source.now ≡ source.now }
         ensures tokens { result.tokens.items ≡ [] }
@@ -123,7 +124,7 @@ impl<'c, R: References> Tokenizer<'c, R> {
         }
     }
 
-    /// Which constructs there are.
+    /// Returns which constructs are on.
     fn constructs(&self) -> &'c Constructs
         ensures { result.now ≡ self.now.source.now.reading.now.options.constructs }
     {
@@ -149,8 +150,8 @@ impl<'c, R: References> Tokenizer<'c, R> {
         Ok(())
     }
 
-    /// What begins at the cursor. With `is_task` the text may begin with the mark of a task. The only error is
-    /// that memory ran out.
+    /// Returns what begins at the cursor. With `is_task` the text may begin with the mark of a
+    /// task. The only error is that memory ran out.
     fn find(&mut self, cursor: Cursor<'_>, is_task: bool) -> Result<Found, AllocError>
         requires content { cursor.content.now ≡ self.old.source.now.bytes.now }
         requires wait { Wait self.old.source.now.reading.now.options cursor.content.now self.old.tokens.items cursor.at self.old.attention }
@@ -169,8 +170,8 @@ impl<'c, R: References> Tokenizer<'c, R> {
         self.scan(cursor)
     }
 
-    /// The mark of a task, or what else stands at the start of a text that may begin with one. The only error
-    /// is that memory ran out.
+    /// Returns the mark of a task, or what else is at the start of a text that may begin with one.
+    /// The only error is that memory ran out.
     fn task(&mut self, cursor: Cursor<'_>) -> Result<Found, AllocError>
         requires content { cursor.content.now ≡ self.old.source.now.bytes.now }
         requires start { cursor.at ≡ 0 }
@@ -190,7 +191,8 @@ impl<'c, R: References> Tokenizer<'c, R> {
         }
     }
 
-    /// What begins at the cursor, but for the mark of a task. The only error is that memory ran out.
+    /// Returns what begins at the cursor, except the mark of a task. The only error is that memory
+    /// ran out.
     fn scan(&mut self, cursor: Cursor<'_>) -> Result<Found, AllocError>
         requires content { cursor.content.now ≡ self.old.source.now.bytes.now }
         requires wait { Wait self.old.source.now.reading.now.options cursor.content.now self.old.tokens.items cursor.at self.old.attention }
@@ -210,7 +212,8 @@ impl<'c, R: References> Tokenizer<'c, R> {
         }
     }
 
-    /// The construct that begins at the cursor, but for labels and attention. The only error is that memory ran out.
+    /// Returns the construct that begins at the cursor, except labels and attention. The only error
+    /// is that memory ran out.
     fn construct(&mut self, cursor: Cursor<'_>) -> Result<Found, AllocError>
         requires content { cursor.content.now ≡ self.old.source.now.bytes.now }
         ensures found { IfOk result (λ found. IsFound (text_of cursor.entry.content.now (R.text self.old.source.now.reading.now.references.now) false) found.kind cursor.entry.at (cursor.entry.at + found.size)) }
@@ -233,7 +236,7 @@ impl<'c, R: References> Tokenizer<'c, R> {
         }
     }
 
-    /// What a backslash begins.
+    /// Returns what a backslash begins.
     fn backslash(&self, cursor: Cursor<'_>) -> Found
         requires { byte_at cursor ≡ 92 }
         ensures found { IsFound (bare cursor.entry.content.now) result.kind cursor.entry.at (cursor.entry.at + result.size) }
@@ -254,7 +257,7 @@ impl<'c, R: References> Tokenizer<'c, R> {
         Found::data(1)
     }
 
-    /// What an ampersand begins. The only error is that memory ran out.
+    /// Returns what an ampersand begins. The only error is that memory ran out.
     fn character_reference(&self, cursor: Cursor<'_>) -> Result<Found, AllocError>
         requires { byte_at cursor ≡ 38 }
         ensures found { IfOk result (λ found. IsFound (text_of cursor.entry.content.now (R.text self.now.source.now.reading.now.references.now) false) found.kind cursor.entry.at (cursor.entry.at + found.size)) }
@@ -276,7 +279,7 @@ impl<'c, R: References> Tokenizer<'c, R> {
         Ok(Found::data(1))
     }
 
-    /// What a run of backticks begins. The only error is that memory ran out.
+    /// Returns what a run of backticks begins. The only error is that memory ran out.
     fn code_text(&mut self, cursor: Cursor<'_>) -> Result<Found, AllocError>
         requires content { cursor.content.now ≡ self.old.source.now.bytes.now }
         requires byte { byte_at cursor ≡ 96 }
@@ -299,7 +302,7 @@ impl<'c, R: References> Tokenizer<'c, R> {
         }
     }
 
-    /// What a run of dollars begins. The only error is that memory ran out.
+    /// Returns what a run of dollars begins. The only error is that memory ran out.
     fn math_text(&mut self, cursor: Cursor<'_>) -> Result<Found, AllocError>
         requires content { cursor.content.now ≡ self.old.source.now.bytes.now }
         requires byte { byte_at cursor ≡ 36 }
@@ -323,7 +326,7 @@ impl<'c, R: References> Tokenizer<'c, R> {
         }
     }
 
-    /// What a run of delimiters is. The only error is that memory ran out.
+    /// Returns what a run of delimiters is. The only error is that memory ran out.
     fn attention(&mut self, cursor: Cursor<'_>) -> Result<Found, AllocError>
         requires content { cursor.content.now ≡ self.old.source.now.bytes.now }
         requires wait { Wait self.old.source.now.reading.now.options cursor.content.now self.old.tokens.items cursor.at self.old.attention }
@@ -345,7 +348,7 @@ impl<'c, R: References> Tokenizer<'c, R> {
         Ok(Found::token(TokenKind::Attention, size))
     }
 
-    /// What an angle bracket begins.
+    /// Returns what an angle bracket begins.
     fn angle_bracket(&mut self, cursor: Cursor<'_>) -> Found
         requires content { cursor.content.now ≡ self.old.source.now.bytes.now }
         requires byte { byte_at cursor ≡ 60 }
@@ -370,7 +373,8 @@ impl<'c, R: References> Tokenizer<'c, R> {
         Found::data(1)
     }
 
-    /// What an exclamation mark or an opening bracket begins. The only error is that memory ran out.
+    /// Returns what an exclamation mark or an opening bracket begins. The only error is that memory
+    /// ran out.
     fn label_start(&mut self, cursor: Cursor<'_>) -> Result<Found, AllocError>
         requires begins { BeginsLabel (byte_at cursor) }
         requires ascii { byte_at cursor < 128 }
@@ -399,7 +403,7 @@ impl<'c, R: References> Tokenizer<'c, R> {
         Ok(Found::data(1))
     }
 
-    /// Opens a bracket of so many bytes. The only error is that memory ran out.
+    /// Opens a bracket of `size` bytes. The only error is that memory ran out.
     fn open(
         &mut self,
         cursor: Cursor<'_>,
@@ -427,7 +431,7 @@ impl<'c, R: References> Tokenizer<'c, R> {
         Ok(Found::token(TokenKind::LabelStart(None), size))
     }
 
-    /// What a closing bracket ends. The only error is that memory ran out.
+    /// Returns what a closing bracket ends. The only error is that memory ran out.
     fn label_end(&mut self, cursor: Cursor<'_>) -> Result<Found, AllocError>
         requires byte { byte_at cursor ≡ 93 }
         requires opened { AreOpen self.old.tokens.items self.old.brackets.stack.items }
@@ -470,7 +474,7 @@ impl<'c, R: References> Tokenizer<'c, R> {
         Ok(Found::token(kind, found.size))
     }
 
-    /// The autolink literal, or the data, that a letter begins.
+    /// Returns the autolink literal, or the data, that a letter begins.
     fn autolink_literal(&mut self, cursor: Cursor<'_>) -> Found
         requires content { cursor.content.now ≡ self.old.source.now.bytes.now }
         requires byte { byte_at cursor ≢ 10 }
@@ -495,7 +499,7 @@ impl<'c, R: References> Tokenizer<'c, R> {
     }
 }
 
-/// Keeps what the label of a bracket belongs to.
+/// Records what the label of a bracket belongs to.
 fn set_label(tokens: &mut Vec<Token>, bracket: &Bracket, labelled: Labelled)
     requires opened { IsOpen tokens.old.items bracket.now }
     requires size { label_start labelled ≤ form_size bracket.now.form }
@@ -506,7 +510,7 @@ fn set_label(tokens: &mut Vec<Token>, bracket: &Bracket, labelled: Labelled)
     tokens[bracket.token].kind = TokenKind::LabelStart(Some(labelled));
 }
 
-/// The data at the cursor, up to a byte that may begin something.
+/// Returns the data at the cursor, up to a byte that may begin something.
 fn data(cursor: Cursor<'_>) -> Found
     requires { byte_at cursor ≢ 10 }
     ensures kind { result.kind ≡ None }

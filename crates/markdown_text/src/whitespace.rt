@@ -1,5 +1,5 @@
-//! White space: which bytes are (GFM), and what stands at the ends of data (micromark), where it begins or
-//! ends a line, or the text.
+//! White space: which bytes are white space (GFM), and the white space at the ends of data
+//! (micromark), where the data begins or ends a line, or the text.
 
 ghost use Rattle.std.specs.Prelude.{IsFalse, IsTrue, length, ◌≡◌, ◌≢◌, ◌≤◌, ◌<◌, ◌+◌, ◌-◌, drop, reverse, true};
 ghost use Rattle.commonmark_syntax.specs.Inlines.{is_gfm_white_space, spaces_break};
@@ -12,7 +12,7 @@ use commonmark_syntax::bytes::{after, count_back, count_while, is_space_or_tab};
 use commonmark_syntax::class::{Class, WhiteSpace};
 use commonmark_syntax::spaces_break;
 
-/// The white space at the ends of data that is written apart.
+/// The white space at the ends of data that is written separately.
 #[derive(Clone, Copy, PartialEq, Eq, Debug)]
 pub struct Whitespace {
     /// How many bytes at the start.
@@ -33,7 +33,7 @@ pub fn is_white_space(byte: u8) -> bool
     WhiteSpace::has(byte)
 }
 
-/// The white space at the ends of data, by where it begins and what comes next.
+/// Returns the white space at the ends of data, given where the data begins and what comes next.
 pub fn scan(
     text: &[u8],
     kind: ContentKind,
@@ -57,7 +57,7 @@ pub fn scan(
     }
 }
 
-/// How many bytes at the end of data are white space that is written apart.
+/// Returns how many bytes at the end of data are white space that is written separately.
 fn trailing_size(text: &[u8], kind: ContentKind, next: Next) -> usize
     ensures most { result ≤ length text.now }
     ensures cut { IsCut text.now (length text.now - result) }
@@ -68,7 +68,7 @@ fn trailing_size(text: &[u8], kind: ContentKind, next: Next) -> usize
     count_back(text, is_space_or_tab)
 }
 
-/// How many bytes at the start of data are.
+/// Returns how many bytes at the start of data are.
 fn leading_size(text: &[u8], is_line_start: bool) -> usize
     ensures most { result ≤ length text.now }
     ensures cut { IsCut text.now result }
@@ -79,7 +79,7 @@ fn leading_size(text: &[u8], is_line_start: bool) -> usize
     count_while(text, is_space_or_tab)
 }
 
-/// How many bytes of the white space at the end of data are a hard break.
+/// Returns how many bytes of the white space at the end of data are a hard break.
 fn break_size(text: &[u8], kind: ContentKind, next: Next, has_breaks: bool) -> usize
     ensures most { result ≤ length text.now }
     ensures cut { IsCut text.now (length text.now - result) }
@@ -92,7 +92,7 @@ fn break_size(text: &[u8], kind: ContentKind, next: Next, has_breaks: bool) -> u
     hard_break(text)
 }
 
-/// How many spaces at the end of a text are a hard break, where a line ending comes next.
+/// Returns how many spaces at the end of a text are a hard break, if a line ending comes next.
 fn hard_break(text: &[u8]) -> usize
     ensures some { 0 < result → Leaves spaces_break (reverse text.now) (drop result (reverse text.now)) }
     ensures none { result ≡ 0 → IsNotAt spaces_break (reverse text.now) }
@@ -105,7 +105,7 @@ fn hard_break(text: &[u8]) -> usize
     }
 }
 
-/// Whether white space at the end of data is written apart.
+/// Whether white space at the end of data is written separately.
 fn is_trimmed(kind: ContentKind, next: Next) -> bool {
     match next {
         Next::Span => false,

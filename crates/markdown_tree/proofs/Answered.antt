@@ -5,9 +5,9 @@ use Rattle.markdown_events.specs.Forest.{Forest, events_of}
 use Rattle.markdown_events.proofs.Unique.{one_forest}
 use Rattle.markdown_events.specs.declared.event.Event.{Event}
 use Rattle.markdown_events.specs.declared.event.Point.{Point}
-use Rattle.positions.specs.declared.unist.Position.{Position}
-use Rattle.positions.specs.declared.message.Fault.{Fault}
-use Rattle.positions.specs.declared.message.Fault.TheVariants as faults
+use Rattle.markdown_events.specs.declared.unist.Position.{Position}
+use Rattle.markdown_events.specs.declared.message.Fault.{Fault}
+use Rattle.markdown_events.specs.declared.message.Fault.TheVariants as faults
 use Rattle.markdown_nodes.specs.Tree.{Tree, only, root}
 use Rattle.markdown_nodes.specs.View.{view, views}
 use Rattle.markdown_nodes.specs.declared.mdast.Node.{Node}
@@ -20,24 +20,24 @@ use Rattle.markdown_steps.specs.Compiler.{ContainerState, State, compiled, fresh
 use Rattle.markdown_grammar.specs.Correct.{FailsRightly, IsMeaning, IsRefused}
 use Rattle.markdown_steps.specs.Extents.{extent_of, last_event}
 use Rattle.markdown_grammar.specs.Grammar.{any_content, leaf}
-use Rattle.markdown_builder.specs.PartsSoFar.{first_failing}
+use Rattle.markdown_parts.specs.PartsSoFar.{first_failing}
 use Rattle.markdown_grammar.specs.Ordered.{IsOrdered, NeverGoesBack}
 use Rattle.markdown_grammar.specs.Refusals.{IsFaultOf}
 use Rattle.markdown_grammar.specs.Refusals.{ErrorAt}
 use Rattle.markdown_steps.specs.Checks.{checked, refused, ◌>>=◌}
 use Rattle.markdown_grammar.specs.Document.{Source}
-use Rattle.nest.specs.Nest.{around_innermost, innermost}
-use Rattle.markdown_context.specs.ContainerStates.{with_break}
-use Rattle.markdown_context.specs.States.{Completes, Fails, kept_top, leaf_container, leaf_place, opens, state_of, top_of}
+use Rattle.markdown_parts.specs.Nest.{around_innermost, innermost}
+use Rattle.markdown_tree.specs.ContainerStates.{with_break}
+use Rattle.markdown_tree.specs.States.{Completes, Fails, kept_top, leaf_container, leaf_place, opens, state_of, top_of}
 use Rattle.markdown_steps.specs.Visits.{run_visits}
 use Rattle.markdown_steps.specs.Well.{AllStand}
-use Rattle.markdown_context.specs.declared.context.Context.{Context}
-use Rattle.markdown_context.specs.declared.context.Frame.{Frame}
+use Rattle.markdown_tree.specs.declared.context.Context.{Context}
+use Rattle.markdown_tree.specs.declared.context.Frame.{Frame}
 use Rattle.markdown_grammar.specs.declared.error_kind.ErrorKind.{ErrorKind}
 use Rattle.markdown_grammar.specs.declared.error_kind.ErrorKind.TheVariants.{Unbalanced, UnfinishedBreak}
 use Rattle.markdown_grammar.specs.declared.error_kind.Stop.TheVariants as stops
-use Rattle.markdown_context.proofs.Beginnings.{checked_fails, checked_through}
-use Rattle.markdown_context.proofs.Unfinished.{no_frames, pop_none}
+use Rattle.markdown_tree.proofs.Beginnings.{checked_fails, checked_through}
+use Rattle.markdown_tree.proofs.Unfinished.{no_frames, pop_none}
 use Rattle.markdown_steps.proofs.Compiled.{sound}
 use Rattle.markdown_steps.proofs.Conditions.{conditions-accept, conditions-hold}
 use Rattle.markdown_steps.proofs.BufferVisits.{accepted-walks}

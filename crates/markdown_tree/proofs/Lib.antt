@@ -1,2 +1,6 @@
+pub mod Misfits
+pub mod Beginnings
+pub mod Endings
+pub mod Unfinished
 pub mod Loop
 pub mod Answered

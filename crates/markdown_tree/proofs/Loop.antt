@@ -4,8 +4,8 @@ use Rattle.std.specs.Prelude.{slice_get}
 use Rattle.std.proofs.lemmas.List.{at_drop_more, at_drop_all}
 use Rattle.std.proofs.lemmas.Option.{slice_get_within, get_or_from_slice_get, slice_get_cases}
 use Rattle.markdown_events.specs.declared.event.Event.{Event}
-use Rattle.positions.specs.declared.message.Fault.{Fault}
-use Rattle.positions.specs.declared.message.Fault.TheVariants as faults
+use Rattle.markdown_events.specs.declared.message.Fault.{Fault}
+use Rattle.markdown_events.specs.declared.message.Fault.TheVariants as faults
 use Rattle.markdown_events.specs.declared.event.Point.{Point}
 use Rattle.markdown_grammar.specs.declared.error_kind.Stop.{Stop}
 use Rattle.markdown_grammar.specs.declared.error_kind.Stop.TheVariants as stops
@@ -14,8 +14,8 @@ use Rattle.markdown_grammar.specs.Refusals.{ErrorAt}
 use Rattle.markdown_steps.specs.Checks.{◌>>=◌}
 use Rattle.markdown_grammar.specs.Refusals.{IsFaultOf}
 use Rattle.markdown_grammar.specs.Document.{Source}
-use Rattle.markdown_context.specs.ContainerStates.{Stops}
-use Rattle.markdown_context.specs.States.{Fails}
+use Rattle.markdown_tree.specs.ContainerStates.{Stops}
+use Rattle.markdown_tree.specs.States.{Fails}
 use Rattle.markdown_steps.specs.Visits.{run_visits, step_visits}
 use Rattle.markdown_steps.specs.Well.{Well}
 use Rattle.markdown_steps.proofs.VisitCounts.{first-walks, taken-walks}

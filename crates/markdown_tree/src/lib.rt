@@ -1,6 +1,10 @@
-//! From the events of a tokenizer to a syntax tree of mdast.
+//! Builds an mdast syntax tree from the events of a tokenizer: [`compile`](to_mdast::compile).
+//!
+//! `context` has the open spans and what each event does to them, and `to_mdast` the loop over the
+//! events.
 #![tactic(auto)]
 
+mod context;
 pub mod to_mdast;
 
 pub use markdown_steps::laws;

@@ -10,14 +10,12 @@ ghost use Rattle.markdown_grammar.specs.Correct.{FailsRightly, IsMeaning};
 ghost use Rattle.markdown_steps.specs.Extents.{extent_of, last_event};
 ghost use Rattle.markdown_grammar.specs.Ordered.{IsOrdered, NeverGoesBack};
 ghost use Rattle.markdown_grammar.specs.Document.{source, source_of, source_with};
-ghost use Rattle.markdown_context.specs.States.{Completes, state_of};
+ghost use Rattle.markdown_tree.specs.States.{Completes, state_of};
 ghost use Rattle.markdown_events.specs.Steps.{event_count};
 ghost use Rattle.markdown_steps.specs.Visits.{run_visits};
 
+use crate::context::Context;
 pub use character_references::references::References;
-pub use markdown_builder::slice::Document;
-use markdown_builder::slice::position_of;
-use markdown_context::context::Context;
 use markdown_grammar::error_kind::Stop;
 pub use markdown_grammar::values::Values;
 use markdown_nodes::event::{Event, Point};
@@ -25,41 +23,43 @@ use markdown_nodes::mdast::{Node, Root};
 use markdown_nodes::message::Fault;
 pub use markdown_nodes::steps::Steps;
 use markdown_nodes::unist::Position;
+pub use markdown_parts::slice::Document;
+use markdown_parts::slice::position_of;
 use std::alloc::Global;
 
 /// Builds the mdast tree of a document from the events of its tokenizer.
 ///
-/// `bytes` are the document, to which the points of the events refer, and `references` says what its
-/// character references stand for.
+/// `bytes` is the document that the points of the events refer to. `references` says which text
+/// each character reference stands for.
 ///
-/// A tree comes exactly when the events are those of a forest that the grammar accepts over the bytes
-/// and the meaning of `references`, and it is that forest's meaning. Where the offsets of the events
-/// never go back, its spans nest and siblings stand in order, but for the starts in the first
-/// paragraphs of task items. Every other list is refused by a message with one of these rules, at
-/// the point of the first event at which something is wrong, or of the last event where something
-/// is left open:
+/// Returns a tree exactly when the events are those of a forest that the grammar accepts for these
+/// bytes and `references`. The tree is that forest's meaning. If the offsets of the events never go
+/// back, the nodes of the tree nest and siblings are in order, except for the starts in the first
+/// paragraphs of task items. Every other list is refused with a message that has one of the rules
+/// below. The message is at the point of the first event at which something is wrong, or of the
+/// last event if something is left open:
 ///
-/// - `events-unbalanced`: an exit is not that of the open span, or a span is open at the end;
-/// - `span-held`: a span stands in one that holds nothing, or a delimiter row or delimiter cell
-///   value in another;
-/// - `name-misplaced`: the container does not take the name there;
-/// - `part-repeated`: a part stands again that may stand once;
-/// - `slice-invalid`: a value that is read is no text of the document, or a sequence or a byte that is
-///   read is not in it;
-/// - `list-value-invalid`: the value of an item is no number up to 4294967295;
+/// - `events-unbalanced`: an exit does not match the open span, or a span is open at the end;
+/// - `span-held`: a span is in one that may contain no span, or a delimiter row or delimiter cell
+///   value is in another one;
+/// - `name-misplaced`: the container does not accept the name there;
+/// - `part-repeated`: a part that may occur once occurs again;
+/// - `slice-invalid`: a value that is read is not a text of the document, or a sequence or a byte
+///   that is read is not in it;
+/// - `list-value-invalid`: the value of an item is not a number up to 4294967295;
 /// - `list-value-missing`: no item of an ordered list has a value;
 /// - `reference-unknown`: `references` has no text for a character reference;
 /// - `reference-incomplete`: a character reference has no value, or no marker before it;
 /// - `fence-missing`: fenced code or math has no fence;
-/// - `heading-depth`: a heading has no sequence, or an ATX heading has one that is not one to six
-///   bytes long;
+/// - `heading-depth`: a heading has no sequence, or the sequence of an ATX heading is not one to
+///   six bytes long;
 /// - `break-unfinished`: a hard break is not followed by its line ending.
 ///
-/// `Fault::Memory` comes only where the allocator or the decoder had no memory. A refusal hands out
-/// no tree. For no events the tree is an empty root, and no memory is asked for. Which lists have a
-/// tree is ours to say; what the nodes are is mdast's, and what they say CommonMark's and GFM's.
+/// `Fault::Memory` comes only if the allocator or the decoder ran out of memory. A refusal returns
+/// no tree. For no events the tree is an empty root, and no memory is allocated. Which lists have a
+/// tree is our rule. The nodes are those of mdast, and their content is that of CommonMark and GFM.
 ///
-/// The events of `Hi`, a paragraph with one data span, give a root with a paragraph with a text.
+/// The events of `Hi`, a paragraph with one data span, produce a root with a paragraph with a text.
 pub fn compile<R: References>(
     alloc: Global,
     events: &[Event],
@@ -68,24 +68,24 @@ pub fn compile<R: References>(
 ) -> Result<Node, Fault>
     // A tree is the meaning of an accepted forest that has these events.
     ensures found { IfOk result (λ tree. IsMeaning tree events.now (source bytes.now (R.text references.now))) }
-    // A message comes only where there is no such forest.
+    // There is a message only if there is no such forest.
     ensures refused { IfErr result (λ fault. FailsRightly fault events.now (source bytes.now (R.text references.now))) }
-    // Where the offsets never go back, spans nest and siblings stand in order, but for the starts in
+    // If the offsets never go back, nodes nest and siblings are in order, except for the starts in
     // the first paragraphs of task items.
     ensures ordered { IfOk result (λ tree. NeverGoesBack events.now → IsOrdered (only (view tree))) }
-    // Without events a tree comes, whatever the allocator does.
+    // Without events there is always a tree, whatever the allocator does.
     ensures empty { events.now ≡ [] → IsOk result }
 {
     compile_with(alloc, events, bytes, references, Values::AsInDocument)
 }
 
-/// Does what [`compile`] does, with values that are read so.
+/// Does what [`compile`] does, and reads values as `values` says.
 ///
-/// [`Values::AsInDocument`] gives what [`compile`] gives. With [`Values::Whole`] texts and addresses
-/// have the columns of a split tab as spaces, and U+FFFD for each NUL, as CommonMark has them. Which
-/// lists have a tree, and why others are refused, is the same for both.
+/// With [`Values::AsInDocument`] the result is that of [`compile`]. With [`Values::Whole`], texts
+/// and addresses have the columns of a split tab as spaces, and U+FFFD for each NUL, as in
+/// CommonMark. Both accept the same lists and refuse the others for the same reasons.
 ///
-/// For the events of `>→→foo`, where `→` is a tab, whole values give a code `␠␠foo`.
+/// For the events of `>→→foo`, where `→` is a tab, whole values produce a code `␠␠foo`.
 pub fn compile_with<R: References>(
     alloc: Global,
     events: &[Event],
@@ -95,28 +95,28 @@ pub fn compile_with<R: References>(
 ) -> Result<Node, Fault>
     // A tree is the meaning of an accepted forest that has these events.
     ensures found { IfOk result (λ tree. IsMeaning tree events.now (source_with values bytes.now (R.text references.now))) }
-    // A message comes only where there is no such forest.
+    // There is a message only if there is no such forest.
     ensures refused { IfErr result (λ fault. FailsRightly fault events.now (source_with values bytes.now (R.text references.now))) }
-    // Where the offsets never go back, spans nest and siblings stand in order, but for the starts in
+    // If the offsets never go back, nodes nest and siblings are in order, except for the starts in
     // the first paragraphs of task items.
     ensures ordered { IfOk result (λ tree. NeverGoesBack events.now → IsOrdered (only (view tree))) }
-    // Without events a tree comes, whatever the allocator does.
+    // Without events there is always a tree, whatever the allocator does.
     ensures empty { events.now ≡ [] → IsOk result }
 {
     let document = Document::new(bytes, values);
     compile_document(alloc, &mut Steps::new(events), &document, references)
 }
 
-/// Does what [`compile`] does for the list in `steps`, which it reads through `steps` alone, and adds
-/// its steps to the count.
+/// Does what [`compile`] does for the list in `steps`. It reads the list through `steps` alone, and
+/// adds its steps to the count.
 ///
-/// It adds at most four steps for each event, and at a tree one for
-/// each node in each buffer: a span whose nodes are collected for a text, as those of code, of a
-/// label or of a title. Where there is no tree, it adds at most one more for each event inside a
-/// span with such a name. The bound is ours.
+/// It adds at most four steps for each event. For a tree it also adds one for each node in each
+/// buffer: a span whose nodes are collected for a text, such as code, a label or a title. If there
+/// is no tree, it adds at most one more for each event inside a span with such a name. The bound is
+/// ours.
 ///
 /// For the events of `Hi`, a paragraph with one data span, it adds at most 16 steps: there are four
-/// events, and a paragraph is no buffer.
+/// events, and a paragraph is not a buffer.
 pub fn compile_counted<R: References>(
     alloc: Global,
     steps: &mut Steps<'_>,
@@ -125,14 +125,14 @@ pub fn compile_counted<R: References>(
 ) -> Result<Node, Fault>
     // A tree is the meaning of an accepted forest that has these events.
     ensures found { IfOk result (λ tree. IsMeaning tree steps.old.events (source bytes.now (R.text references.now))) }
-    // A message comes only where there is no such forest.
+    // There is a message only if there is no such forest.
     ensures refused { IfErr result (λ fault. FailsRightly fault steps.old.events (source bytes.now (R.text references.now))) }
-    // Where the offsets never go back, spans nest and siblings stand in order, but for the starts in
+    // If the offsets never go back, nodes nest and siblings are in order, except for the starts in
     // the first paragraphs of task items.
     ensures ordered { IfOk result (λ tree. NeverGoesBack steps.old.events → IsOrdered (only (view tree))) }
-    // Without events a tree comes, whatever the allocator does.
+    // Without events there is always a tree, whatever the allocator does.
     ensures empty { steps.old.events ≡ [] → IsOk result }
-    // The list is kept.
+    // The list is unchanged.
     ensures list { steps.new.events ≡ steps.old.events }
     // Each event takes at most four steps, and each node in a buffer one.
     ensures bound { IfOk result (λ tree. (forest : Forest) → events_of forest ≡ steps.old.events
@@ -146,12 +146,12 @@ pub fn compile_counted<R: References>(
     compile_document(alloc, steps, &document, references)
 }
 
-/// Does what [`compile_counted`] does for a document, which says how values are read and which bytes are
-/// hidden. The steps are the same.
+/// Does what [`compile_counted`] does for a `Document`, which says how values are read and which
+/// bytes are hidden. The steps are the same.
 ///
-/// A hidden byte stands within a span and is no part of its value, nor of the identifier of a label: the
-/// marker of a block quote in a label over two lines, and in a table the backslash before a pipe. Which
-/// bytes these are, nobody asks here.
+/// A hidden byte is in a span, but is not part of its value or of the identifier of a label.
+/// Examples are the marker of a block quote in a label over two lines, and the backslash before a
+/// pipe in a table. This function does not check which bytes are hidden.
 ///
 /// For the events of `Hi` it adds at most 16 steps, whatever is hidden.
 pub fn compile_document<R: References>(
@@ -162,14 +162,14 @@ pub fn compile_document<R: References>(
 ) -> Result<Node, Fault>
     // A tree is the meaning of an accepted forest that has these events.
     ensures found { IfOk result (λ tree. IsMeaning tree steps.old.events (source_of document.now (R.text references.now))) }
-    // A message comes only where there is no such forest.
+    // There is a message only if there is no such forest.
     ensures refused { IfErr result (λ fault. FailsRightly fault steps.old.events (source_of document.now (R.text references.now))) }
-    // Where the offsets never go back, spans nest and siblings stand in order, but for the starts in
+    // If the offsets never go back, nodes nest and siblings are in order, except for the starts in
     // the first paragraphs of task items.
     ensures ordered { IfOk result (λ tree. NeverGoesBack steps.old.events → IsOrdered (only (view tree))) }
-    // Without events a tree comes, whatever the allocator does.
+    // Without events there is always a tree, whatever the allocator does.
     ensures empty { steps.old.events ≡ [] → IsOk result }
-    // The list is kept.
+    // The list is unchanged.
     ensures list { steps.new.events ≡ steps.old.events }
     // Each event takes at most four steps, and each node in a buffer one.
     ensures bound { IfOk result (λ tree. (forest : Forest) → events_of forest ≡ steps.old.events
@@ -182,7 +182,7 @@ pub fn compile_document<R: References>(
     compile_list(alloc, steps, document, references)
 }
 
-/// Does what [`compile_document`] does; its contract says it by the compilation on values.
+/// Does what [`compile_document`] does. Specified by the compilation on values, `compiled`.
 fn compile_list<R: References>(
     alloc: Global,
     steps: &mut Steps<'_>,
@@ -200,7 +200,7 @@ fn compile_list<R: References>(
     let length = match outcome {
         Ok(length) => length,
         Err(fault) => {
-            // The nodes are freed as those of a whole list are.
+            // The nodes are freed like those of a whole list.
             let _nodes = context.into_nodes();
             return Err(fault);
         }
@@ -224,8 +224,8 @@ struct Taken<'a> {
     outcome: Result<usize, Fault>,
 }
 
-/// Takes all events, one after the other. It stays out of its callers, whose code would crowd the loop, and
-/// hands the context out in any case, so that the loop has nothing to drop.
+/// Takes all events in order. Not inlined: the code of its callers would crowd the loop. It always
+/// returns the context, so the loop has nothing to drop.
 #[inline(never)]
 fn take_all<'a, R: References>(
     alloc: Global,
@@ -244,7 +244,7 @@ fn take_all<'a, R: References>(
     let mut context = Context::new(alloc);
     let mut index = 0;
     while let Some(event) = steps.read(index) {
-        if let Err(stop) = context.step(alloc, steps, document, references, &event) {
+        if let Err(stop) = context.step(alloc, &mut steps.count, document, references, &event) {
             return Taken {
                 context,
                 outcome: Err(stop.at(event.point)),
@@ -258,7 +258,7 @@ fn take_all<'a, R: References>(
     }
 }
 
-/// The point of the last event, where there is one.
+/// Returns the point of the last event, if there is one.
 fn last_point(steps: &mut Steps<'_>, length: usize) -> Point
     requires length { length ≡ event_count steps.old.events }
     requires some { 0 < length }
@@ -272,7 +272,8 @@ fn last_point(steps: &mut Steps<'_>, length: usize) -> Point
     }
 }
 
-/// From the first event to the last, or the first place of a document where there is none.
+/// Returns the position from the first event to the last, or the first place of a document if there
+/// is no event.
 fn root_position(steps: &mut Steps<'_>, length: usize) -> Position
     requires { length ≡ event_count steps.old.events }
     ensures position { result ≡ extent_of steps.old.events }

@@ -1,4 +1,4 @@
-//! What the arguments ask for.
+//! What the arguments request.
 
 use crate::constructs::{NAMES, Switches, help};
 use crate::form::Form;
@@ -12,7 +12,7 @@ use std::io::IsTerminal;
 /// The version of the program, and the kit that proves it.
 const VERSION: &str = "0.1.0 (rattle-kit-13f logic dac8208d650f15bf)";
 
-/// How wide a terminal is that does not say it.
+/// The width of a terminal that does not report one.
 const TERMINAL_WIDTH: usize = 80;
 
 /// The options that say what is printed: their names, the forms and the help.
@@ -51,29 +51,29 @@ const FORMS: [(&str, Form, &str); 8] = [
     ("check", Form::Check, "Print warnings, as linters do"),
 ];
 
-/// What the arguments ask for.
+/// What the arguments request.
 #[derive(Drop)]
 pub struct Request {
     /// What is printed of each document.
     pub form: Form,
-    /// How many characters a line of the outline of a tree may have, if there is a limit.
+    /// The greatest number of characters in a line of the tree outline, if there is a limit.
     pub width: Option<usize>,
     /// How the documents are read.
     pub options: ParseOptions,
-    /// Whether HTML of the document, and addresses of any scheme, pass into the HTML that is printed.
+    /// Whether HTML of the document, and addresses of any scheme, pass into the printed HTML.
     pub is_unsafe: bool,
-    /// Whether the tags that GFM disallows stand as text among HTML that passes.
+    /// Whether the tags that GFM disallows are written as text in HTML that passes.
     pub tag_filter: bool,
-    /// Where the events come from, where they are not those of our tokenizer.
+    /// Where the events come from, if they are not those of our tokenizer.
     pub events: Option<Source>,
     /// The documents, in order.
     pub documents: Vec<Source>,
 }
 
-/// What the arguments ask for. The first of them is the name of the program.
+/// Returns what the arguments request. The first of them is the name of the program.
 ///
-/// The error says which argument is wrong, or it has the help or the version where that is asked for, or
-/// memory ran out.
+/// The error says which argument is wrong, has the help or the version if it was requested, or says
+/// that memory ran out.
 pub fn read_arguments(rt: &HostRuntime, words: &[String]) -> Result<Request, Error> {
     let constructs = help(rt.alloc())?;
     let mut command = command(rt.alloc(), constructs.as_str())?;
@@ -94,7 +94,7 @@ pub fn read_arguments(rt: &HostRuntime, words: &[String]) -> Result<Request, Err
 }
 
 impl Request {
-    /// Why nobody can do what is asked for, if that is so.
+    /// Returns why the request is impossible, if it is.
     fn fault(&self) -> Option<&'static str> {
         if self.is_unsafe && self.form != Form::Html {
             return Some("'--unsafe' goes with '--html' alone");
@@ -113,8 +113,8 @@ impl Request {
     }
 }
 
-/// The status of a program whose arguments give this error: 0 after the help and the version, 3 where
-/// memory ran out, and else 2.
+/// Returns the exit status for arguments with this error: 0 after the help and the version, 3 if
+/// memory ran out, and otherwise 2.
 pub fn status(error: &Error) -> u8 {
     match error.kind() {
         ErrorKind::OutOfMemory => 3,
@@ -123,7 +123,8 @@ pub fn status(error: &Error) -> u8 {
     }
 }
 
-/// The arguments that the program takes. At the end of the help stands what it says of constructs.
+/// Returns the arguments that the program accepts. `constructs` is the text about constructs at the
+/// end of the help.
 fn command<'a>(alloc: Global, constructs: &'a str) -> Result<Command<'a>, AllocError> {
     let command = Command::new(alloc, "mdast")
         .version(VERSION)
@@ -139,7 +140,7 @@ fn command<'a>(alloc: Global, constructs: &'a str) -> Result<Command<'a>, AllocE
     command.arg(documents)
 }
 
-/// The options that say what is printed.
+/// Adds the options that say what is printed.
 fn with_forms<'a>(alloc: Global, command: Command<'a>) -> Result<Command<'a>, AllocError> {
     let mut command = command;
     for (name, _, help) in FORMS {
@@ -168,7 +169,7 @@ fn with_forms<'a>(alloc: Global, command: Command<'a>) -> Result<Command<'a>, Al
         .arg(width)
 }
 
-/// The option for UTF-16 units, which goes with JSON alone.
+/// Returns the option for UTF-16 units, which is only allowed with JSON.
 fn utf16<'a>(alloc: Global) -> Result<Arg<'a>, AllocError> {
     let help = "Count columns and offsets in UTF-16 units, as JavaScript does";
     let mut utf16 = flag(alloc, "utf16", help);
@@ -180,7 +181,7 @@ fn utf16<'a>(alloc: Global) -> Result<Arg<'a>, AllocError> {
     Ok(utf16)
 }
 
-/// The options that say how documents are read.
+/// Adds the options that say how documents are read.
 fn with_readings<'a>(alloc: Global, command: Command<'a>) -> Result<Command<'a>, AllocError> {
     let commonmark = flag(alloc, "commonmark", "Read CommonMark, without extensions");
     let gfm = flag(alloc, "gfm", "Read GFM, without frontmatter and math").conflicts_with(
@@ -201,7 +202,7 @@ fn with_readings<'a>(alloc: Global, command: Command<'a>) -> Result<Command<'a>,
         .arg(events)
 }
 
-/// An option without a value.
+/// Returns an option without a value.
 fn flag<'a>(alloc: Global, name: &'a str, help: &'a str) -> Arg<'a> {
     Arg::new(alloc, name)
         .long(name)
@@ -209,7 +210,7 @@ fn flag<'a>(alloc: Global, name: &'a str, help: &'a str) -> Arg<'a> {
         .action(ArgAction::SetTrue)
 }
 
-/// An option that names a construct, and may be given more than once.
+/// Returns an option that names a construct, and may be given more than once.
 fn construct<'a>(alloc: Global, name: &'a str, help: &'a str) -> Arg<'a> {
     Arg::new(alloc, name)
         .long(name)
@@ -220,7 +221,7 @@ fn construct<'a>(alloc: Global, name: &'a str, help: &'a str) -> Arg<'a> {
         .action(ArgAction::Append)
 }
 
-/// The form that is asked for, and JSON where none is.
+/// Returns the requested form, or JSON if none is requested.
 fn form(matches: &ArgMatches<'_>) -> Form {
     if matches.get_flag("utf16") {
         return Form::JsonUtf16;
@@ -233,7 +234,7 @@ fn form(matches: &ArgMatches<'_>) -> Form {
     Form::Json
 }
 
-/// How wide the lines of an outline of a tree may be.
+/// Returns how wide the lines of an outline of a tree may be.
 fn width(rt: &HostRuntime, matches: &ArgMatches<'_>) -> Option<usize> {
     match matches.get_one::<usize>("width") {
         Some(width) => Some(width),
@@ -241,7 +242,7 @@ fn width(rt: &HostRuntime, matches: &ArgMatches<'_>) -> Option<usize> {
     }
 }
 
-/// Where the events come from, where the option for it is given.
+/// Returns where the events come from, if the option for it is given.
 fn events(alloc: Global, matches: &ArgMatches<'_>) -> Result<Option<Source>, AllocError> {
     match matches.get_str("from-events") {
         Some(name) => Ok(Some(Source::named(alloc, name)?)),
@@ -249,7 +250,8 @@ fn events(alloc: Global, matches: &ArgMatches<'_>) -> Result<Option<Source>, All
     }
 }
 
-/// How the documents are read: as GFM with frontmatter and math, unless something else is asked for.
+/// Returns how the documents are read: as GFM with frontmatter and math, unless the arguments say
+/// otherwise.
 fn options(matches: &ArgMatches<'_>) -> ParseOptions {
     let base = if matches.get_flag("commonmark") {
         Constructs::default()
@@ -269,7 +271,7 @@ fn options(matches: &ArgMatches<'_>) -> ParseOptions {
     }
 }
 
-/// The documents that are named, or standard input where none is.
+/// Returns the documents that are named, or standard input if none is.
 fn documents(alloc: Global, matches: &ArgMatches<'_>) -> Result<Vec<Source>, AllocError> {
     let mut documents = Vec::new(alloc);
     for name in matches.get_strs("DOC").unwrap_or(&[]) {

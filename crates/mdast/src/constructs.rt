@@ -36,7 +36,7 @@ pub const NAMES: [&str; 29] = [
     "thematic_break",
 ];
 
-/// What the help says of constructs.
+/// Returns the text about constructs in the help.
 pub fn help(alloc: Global) -> Result<String, AllocError> {
     let mut text = String::from_str(
         alloc,
@@ -60,12 +60,13 @@ pub struct Switches<'a> {
 }
 
 impl Switches<'_> {
-    /// Whether a construct is on, which was on before or not. Where it is turned on and off, it is off.
+    /// Whether a construct is on after the switches, given whether it was on before. If it is
+    /// turned on and off, it is off.
     fn is_on(&self, name: &str, was_on: bool) -> bool {
         (was_on || self.on.contains(&name)) && !self.off.contains(&name)
     }
 
-    /// These constructs, after the switches.
+    /// Returns these constructs after the switches.
     pub fn turned(&self, old: &Constructs) -> Constructs {
         Constructs {
             attention: self.is_on("attention", old.attention),

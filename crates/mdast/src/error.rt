@@ -1,4 +1,4 @@
-//! Why a document gives no output.
+//! Why a document has no output.
 
 use event_lines::lines::LinesError;
 use markdown_nodes::message::{Fault, Message};
@@ -6,16 +6,16 @@ use std::alloc::{AllocError, AllocFailed};
 use std::io::{self, ErrorKind};
 use std::{error, fmt};
 
-/// Why a document gives no output.
+/// Why a document has no output.
 #[derive(Debug, Drop)]
 pub enum DocumentError {
     /// It cannot be read.
     Unread(ErrorKind),
-    /// Its byte at this offset, counted from 0, begins no character of UTF-8.
+    /// Its byte at this offset, counted from 0, does not begin a UTF-8 character.
     NotUtf8(usize),
     /// The file of its events cannot be read.
     UnreadEvents(ErrorKind),
-    /// The line with this number, counted from 1, is no event.
+    /// The line with this number, counted from 1, is not an event line.
     EventLine(usize),
     /// Its events have no tree.
     Refused(Message),
@@ -24,7 +24,7 @@ pub enum DocumentError {
 }
 
 impl DocumentError {
-    /// The error of events that cannot be read.
+    /// Returns the error of events that cannot be read.
     pub fn of_events(error: io::Error) -> DocumentError {
         match error.kind() {
             ErrorKind::OutOfMemory => DocumentError::Memory,
@@ -32,7 +32,7 @@ impl DocumentError {
         }
     }
 
-    /// The exit status: 1 where the events have no tree, 3 where memory ran out, and else 2.
+    /// Returns the exit status: 1 if the events have no tree, 3 if memory ran out, and otherwise 2.
     pub fn status(&self) -> u8 {
         match self {
             DocumentError::Refused(_) => 1,
@@ -96,7 +96,7 @@ impl fmt::Display for DocumentError {
 
 impl error::Error for DocumentError {}
 
-/// Why a file cannot be read, for people.
+/// Returns why a file cannot be read, for people.
 fn cause(kind: ErrorKind) -> &'static str {
     match kind {
         ErrorKind::NotFound => "no such file",

@@ -23,19 +23,19 @@ pub enum Form {
     Json,
     /// The tree as JSON, with columns and offsets in UTF-16 units.
     JsonUtf16,
-    /// The tree as an outline for people, a line for each node.
+    /// The tree as an outline for people, one line for each node.
     Tree,
     /// The tree as Debug writes it.
     Debug,
-    /// The events, a line for each.
+    /// The events, one on each line.
     Events,
-    /// The headings, a line for each.
+    /// The headings, one on each line.
     Outline,
     /// The plain text.
     Text,
     /// HTML.
     Html,
-    /// What a linter warns of, a line for each warning.
+    /// The warnings of a linter, one on each line.
     Check,
 }
 
@@ -44,12 +44,12 @@ pub enum Form {
 pub struct Output {
     /// The text.
     pub text: String,
-    /// Whether it warns of something.
+    /// Whether it contains a warning.
     pub has_warnings: bool,
 }
 
 impl Output {
-    /// A text that warns of nothing.
+    /// Returns a text without warnings.
     fn plain(text: String) -> Output {
         Output {
             text,
@@ -57,7 +57,7 @@ impl Output {
         }
     }
 
-    /// A line that warns of nothing.
+    /// Returns a line without warnings.
     fn line(text: String) -> Result<Output, AllocError> {
         let mut text = text;
         text.push_str("\n")?;
@@ -65,7 +65,7 @@ impl Output {
     }
 }
 
-/// What is printed of a document with this text.
+/// Returns what is printed of a document with this text.
 pub fn render(
     rt: &HostRuntime,
     request: &Request,
@@ -87,7 +87,7 @@ pub fn render(
     })
 }
 
-/// The tree of a document, from the events that are asked for.
+/// Returns the tree of a document, from the requested events.
 fn tree_of(rt: &HostRuntime, request: &Request, text: &str) -> Result<Node, DocumentError> {
     let alloc = rt.alloc();
     match &request.events {
@@ -96,7 +96,8 @@ fn tree_of(rt: &HostRuntime, request: &Request, text: &str) -> Result<Node, Docu
     }
 }
 
-/// The events of a document: those of the file that is asked for, or those of the tokenizer.
+/// Returns the events of a document: those of the file that is requested, or those of the
+/// tokenizer.
 fn events_of(rt: &HostRuntime, request: &Request, text: &str) -> Result<Vec<Event>, DocumentError> {
     let Some(source) = &request.events else {
         return Ok(to_events(rt.alloc(), text, &request.options)?);
@@ -107,7 +108,7 @@ fn events_of(rt: &HostRuntime, request: &Request, text: &str) -> Result<Vec<Even
     }
 }
 
-/// The HTML of a tree.
+/// Returns the HTML of a tree.
 fn page(alloc: Global, request: &Request, tree: &Node) -> Result<String, AllocError> {
     if request.is_unsafe {
         let options = UnsafeHtmlOptions {
@@ -120,7 +121,7 @@ fn page(alloc: Global, request: &Request, tree: &Node) -> Result<String, AllocEr
     }
 }
 
-/// The warnings of a linter, a line for each, with the name of the document.
+/// Returns the warnings of a linter, one on each line, with the name of the document.
 fn checked(alloc: Global, source: &Source, tree: &Node) -> Result<Output, AllocError> {
     let mut text = String::new(alloc);
     let warnings = warnings(alloc, tree)?;

@@ -5,11 +5,11 @@ use markdown::Walk;
 use markdown::mdast::Node;
 use std::alloc::{AllocError, Global};
 
-/// The outline of a tree: a line for each node, as unist-util-inspect draws it.
+/// Returns the outline of a tree: one line for each node, as unist-util-inspect draws it.
 ///
-/// A line has the kind of the node, how many children it has, its position and its fields, the value last.
-/// Where a width is given, longer lines are cut to so many characters. The only error is that memory ran
-/// out.
+/// A line has the kind of the node, how many children it has, its position and its fields, the
+/// value last. If a width is given, longer lines are cut to that many characters. The only error is
+/// that memory ran out.
 ///
 /// For the document `# Hi` the first two lines are `root[1] (1:1-1:5, 0-4)` and
 /// `└─0 heading[1] (1:1-1:5, 0-4) depth: 1`.
@@ -35,7 +35,7 @@ struct Level {
 }
 
 impl Level {
-    /// The children of a node, before the first has a line.
+    /// Returns the children of a node, before the first has a line.
     fn of(node: &Node) -> Level {
         Level {
             count: node.child_nodes().len(),
@@ -48,12 +48,12 @@ impl Level {
         self.drawn >= self.count
     }
 
-    /// How many digits the index of the last child has.
+    /// Returns how many digits the index of the last child has.
     fn digits(&self) -> usize {
         digits(self.count.saturating_sub(1))
     }
 
-    /// Appends what stands on the left of the child that is drawn last, and goes past it.
+    /// Appends the branch on the left of the next child, and counts it as drawn.
     fn push_branch(&mut self, line: &mut Line) -> Result<(), AllocError> {
         let index = self.drawn;
         self.drawn = index.saturating_add(1);
@@ -63,19 +63,19 @@ impl Level {
         line.push(" ")
     }
 
-    /// Appends what stands on the left of the nodes in that child.
+    /// Appends the trunk on the left of the nodes in that child.
     fn push_trunk(&self, line: &mut Line) -> Result<(), AllocError> {
         line.push(if self.is_drawn() { " " } else { "│" })?;
         line.push_blanks(self.digits().saturating_add(2))
     }
 }
 
-/// How many decimal digits a number has.
+/// Returns how many decimal digits a number has.
 fn digits(number: usize) -> usize {
     number.checked_ilog10().unwrap_or(0) as usize + 1
 }
 
-/// The line of a node within these levels, the outermost first.
+/// Returns the line of a node within these levels, the outermost first.
 fn line(
     alloc: Global,
     levels: &mut [Level],
@@ -91,7 +91,7 @@ fn line(
     line.finish()
 }
 
-/// Appends what stands on the left of the nodes in levels, as far as there is room.
+/// Appends the trunks on the left of the nodes in levels, until the line is full.
 fn push_trunks(levels: &[Level], line: &mut Line) -> Result<(), AllocError> {
     for level in levels {
         if line.is_full() {
@@ -102,7 +102,7 @@ fn push_trunks(levels: &[Level], line: &mut Line) -> Result<(), AllocError> {
     Ok(())
 }
 
-/// Leaves the innermost levels of which all children have lines.
+/// Leaves the innermost levels whose children all have lines.
 fn leave(levels: &mut Vec<Level>) {
     'levels: while let Some(level) = levels.last() {
         if !level.is_drawn() {

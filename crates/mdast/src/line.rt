@@ -5,19 +5,19 @@ use markdown_nodes::unist::Point;
 use std::alloc::{AllocError, Global};
 use std::fmt::Display;
 
-/// A line that has room for so many characters. What does not fit is cut off.
+/// A line with room for a number of characters. The rest is cut off.
 #[derive(Drop)]
 pub struct Line {
-    /// What stands in the line.
+    /// The text in the line.
     text: String,
-    /// For how many characters more there is room.
+    /// How many more characters fit.
     room: usize,
     /// Whether something was cut off.
     is_cut: bool,
 }
 
 impl Line {
-    /// An empty line with room for so many characters, or for any number.
+    /// Returns an empty line with room for this number of characters, or for any number.
     pub fn new(alloc: Global, width: Option<usize>) -> Line {
         Line {
             text: String::new(alloc),
@@ -26,7 +26,7 @@ impl Line {
         }
     }
 
-    /// Whether there is no more room.
+    /// Whether there is no room left.
     pub fn is_full(&self) -> bool {
         self.room == 0
     }
@@ -44,7 +44,7 @@ impl Line {
         Ok(())
     }
 
-    /// Appends so many blanks.
+    /// Appends a number of blanks.
     pub fn push_blanks(&mut self, count: usize) -> Result<(), AllocError> {
         for _ in 0..count {
             self.push(" ")?;
@@ -52,13 +52,13 @@ impl Line {
         Ok(())
     }
 
-    /// Appends something as it is displayed.
+    /// Appends a value as it is displayed.
     pub fn push_shown(&mut self, value: &impl Display) -> Result<(), AllocError> {
         let text = value.to_string(*self.text.allocator())?;
         self.push(text.as_str())
     }
 
-    /// The text of the line. Where something was cut off, it ends with an ellipsis.
+    /// Returns the text of the line. If something was cut off, it ends with an ellipsis.
     pub fn finish(self) -> Result<String, AllocError> {
         let Line {
             mut text,
@@ -71,7 +71,7 @@ impl Line {
         Ok(text)
     }
 
-    /// Appends a field with a number or a truth value.
+    /// Appends a field with a number or a boolean.
     fn push_field(&mut self, name: &str, value: &impl Display) -> Result<(), AllocError> {
         self.push(" ")?;
         self.push(name)?;
@@ -87,7 +87,7 @@ impl Line {
         self.push_value(value)
     }
 
-    /// Appends a field with a text, where there is one.
+    /// Appends a field with a text, if there is one.
     fn push_option(&mut self, name: &str, value: &Option<String>) -> Result<(), AllocError> {
         match value {
             Some(value) => self.push_text(name, value.as_str()),
@@ -149,7 +149,7 @@ impl Line {
         self.push_shown(&point.column)
     }
 
-    /// Appends the fields of a node that it has, its value last.
+    /// Appends the fields that a node has, its value last.
     fn push_fields(&mut self, node: &Node) -> Result<(), AllocError> {
         match node {
             Node::Heading(node) => self.push_field("depth", &node.depth),
@@ -225,7 +225,7 @@ impl Line {
         self.push_option("title", title)
     }
 
-    /// Appends what a reference says.
+    /// Appends the fields of a reference.
     fn push_reference(
         &mut self,
         kind: ReferenceKind,
@@ -264,7 +264,7 @@ impl Line {
     }
 }
 
-/// The name of the kind of a node, as mdast has it.
+/// Returns the name of the kind of a node, as in mdast.
 fn kind(node: &Node) -> &'static str {
     match node {
         Node::Root(_) => "root",

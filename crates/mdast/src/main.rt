@@ -1,14 +1,14 @@
-//! Prints the syntax trees of markdown documents, and what follows from them.
+//! Prints the syntax trees of markdown documents, or output derived from them.
 //!
-//! `mdast [OPTION]... [DOC]...` reads each document from a file, or from standard input where DOC is `-` or
-//! none is given. It prints the tree as JSON, with the names and fields of mdast, or what an option asks
-//! for: an outline of the tree, the events, the headings, the plain text, or what a linter warns of.
-//! `mdast --help` lists the options.
+//! `mdast [OPTION]... [DOC]...` reads each document from a file, or from standard input if DOC is
+//! `-` or none is given. It prints the tree as JSON, with the names and fields of mdast, or what an
+//! option requests: an outline of the tree, the events, the headings, the plain text, or the
+//! warnings of a linter. `mdast --help` lists the options.
 //!
-//! Results go to standard output and messages to standard error. The status is 0 where everything that
-//! was asked for was printed. It is 1 where `--check` found something, or where the events of
-//! `--from-events` have no tree. It is 2 where the arguments are wrong, a document cannot be read or the
-//! output cannot be written, and 3 where memory ran out. Of several documents the greatest counts.
+//! Results go to standard output and messages to standard error. The status is 0 if everything that
+//! was requested was printed. It is 1 if `--check` found something, or if the events of
+//! `--from-events` have no tree. It is 2 if the arguments are wrong, a document cannot be read or
+//! the output cannot be written, and 3 if memory ran out. Of several documents the greatest counts.
 #![tactic(auto)]
 
 mod arguments;
@@ -38,7 +38,7 @@ fn main(rt: HostRuntime) -> ExitCode {
     })
 }
 
-/// Does what the arguments ask for, and gives the status.
+/// Does what the arguments request, and returns the status.
 fn answer(rt: &HostRuntime, words: &Vec<String>) -> u8 {
     match read_arguments(rt, words.as_slice()) {
         Ok(request) => task::run(rt, &request),
@@ -49,7 +49,7 @@ fn answer(rt: &HostRuntime, words: &Vec<String>) -> u8 {
     }
 }
 
-/// Says why there are no arguments, and gives the status.
+/// Reports why there are no arguments, and returns the status.
 fn refuse(rt: &HostRuntime, kind: ErrorKind) -> u8 {
     let (cause, status) = match kind {
         ErrorKind::OutOfMemory => ("out of memory", 3),

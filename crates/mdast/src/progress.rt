@@ -1,30 +1,30 @@
-//! How far the program is, on standard error where that is a terminal.
+//! The progress of the program, on standard error if that is a terminal.
 
 use crate::source::Source;
 use std::io::IsTerminal;
 use std::time::{Duration, Instant};
 
-/// A document with so many bytes takes long: about a second.
+/// The size in bytes from which a document takes long to parse: about a second.
 const LARGE: usize = 8 << 20;
 
-/// Shows how far the program is.
+/// Shows the progress of the program.
 ///
-/// Nothing is shown where standard error is no terminal, nor in the first second, unless a document is
-/// large. Each line replaces the one before it.
+/// Nothing is shown if standard error is not a terminal, nor in the first second, unless a document
+/// is large. Each line replaces the one before it.
 #[derive(Drop)]
 pub struct Progress {
-    /// When the program began, where standard error is a terminal.
+    /// When the program started, if standard error is a terminal.
     start: Option<Instant>,
     /// How many documents there are.
     count: usize,
-    /// Which of them the program is at, counted from 1.
+    /// The number of the current one, counted from 1.
     number: usize,
-    /// Whether a line stands on the terminal.
+    /// Whether a line is on the terminal.
     is_shown: bool,
 }
 
 impl Progress {
-    /// Before the first of so many documents.
+    /// Returns the progress before the first of `count` documents.
     pub fn new(rt: &HostRuntime, count: usize) -> Progress {
         let start = if rt.stderr().is_terminal() {
             Instant::now(rt).ok()
@@ -44,7 +44,7 @@ impl Progress {
         self.number = self.number.saturating_add(1);
     }
 
-    /// Shows that a document of so many bytes is parsed.
+    /// Shows that a document of `size` bytes is being parsed.
     pub fn show(&mut self, rt: &HostRuntime, source: &Source, size: usize) {
         let is_long = size >= LARGE || self.is_late(rt);
         if self.start.is_some() && is_long {
@@ -56,7 +56,7 @@ impl Progress {
         }
     }
 
-    /// Takes the line away.
+    /// Removes the line.
     pub fn clear(&mut self, rt: &HostRuntime) {
         if self.is_shown {
             let _ = rt.eprint("\r\u{1b}[K");
@@ -64,7 +64,7 @@ impl Progress {
         }
     }
 
-    /// Whether the program has been at work for a second.
+    /// Whether the program has been running for a second.
     fn is_late(&self, rt: &HostRuntime) -> bool {
         let Some(start) = &self.start else {
             return false;

@@ -15,7 +15,8 @@ pub enum Source {
 }
 
 impl Source {
-    /// The one that an argument names: `-` is standard input. The only error is that memory ran out.
+    /// Returns the source that an argument names: `-` is standard input. The only error is that
+    /// memory ran out.
     pub fn named(alloc: Global, name: &str) -> Result<Source, AllocError> {
         if name == "-" {
             return Ok(Source::Input);
@@ -23,7 +24,7 @@ impl Source {
         Ok(Source::File(String::from_str(alloc, name)?))
     }
 
-    /// All its bytes.
+    /// Returns all its bytes.
     pub fn read(&self, rt: &HostRuntime) -> io::Result<Vec<u8>> {
         match self {
             Source::File(name) => fs::read(rt, name.as_str()),
@@ -31,7 +32,7 @@ impl Source {
         }
     }
 
-    /// All that it says.
+    /// Returns all its text.
     pub fn read_text(&self, rt: &HostRuntime) -> Result<String, DocumentError> {
         match String::from_utf8(self.read(rt)?) {
             Ok(text) => Ok(text),
@@ -49,7 +50,7 @@ impl fmt::Display for Source {
     }
 }
 
-/// The bytes of standard input.
+/// Returns the bytes of standard input.
 fn read_input(rt: &HostRuntime) -> io::Result<Vec<u8>> {
     let mut bytes = Vec::new(rt.alloc());
     rt.reader().read_to_end(&mut bytes)?;

@@ -1,4 +1,4 @@
-//! What the program does for each document.
+//! The work of the program for each document.
 
 use crate::arguments::Request;
 use crate::error::DocumentError;
@@ -7,10 +7,10 @@ use crate::progress::Progress;
 use crate::source::Source;
 use std::io::{self, ErrorKind, Write};
 
-/// Prints what is asked for of each document, and gives the status: the greatest of theirs.
+/// Prints what is requested of each document, and returns the status: the greatest of theirs.
 ///
-/// A document that gives no output does not keep the others from being printed. Where the output cannot
-/// be written, nothing more is tried; that nobody reads it any more is no error.
+/// A document without output does not keep the others from being printed. If the output cannot be
+/// written, nothing more is tried; a closed reader is not an error.
 pub fn run(rt: &HostRuntime, request: &Request) -> u8 {
     let mut progress = Progress::new(rt, request.documents.len());
     let mut status = 0;
@@ -23,8 +23,8 @@ pub fn run(rt: &HostRuntime, request: &Request) -> u8 {
     status
 }
 
-/// Prints what is asked for of a document, or why there is nothing, and gives the status. The error is
-/// that the output cannot be written.
+/// Prints what is requested of a document, or why there is no output, and returns the status. The
+/// error is that the output cannot be written.
 fn print_document(
     rt: &HostRuntime,
     request: &Request,
@@ -45,7 +45,7 @@ fn print_document(
     }
 }
 
-/// What is printed of a document.
+/// Returns what is printed of a document.
 fn output_of(
     rt: &HostRuntime,
     request: &Request,
@@ -58,7 +58,7 @@ fn output_of(
     render(rt, request, source, text.as_str())
 }
 
-/// Says why the output cannot be written, and gives the status.
+/// Reports why the output cannot be written, and returns the status.
 fn unwritten(rt: &HostRuntime, kind: ErrorKind) -> u8 {
     if kind == ErrorKind::BrokenPipe {
         return 0;

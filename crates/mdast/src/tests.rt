@@ -1,4 +1,5 @@
-//! What arguments ask for, and how a tree is drawn. The lines are worked by hand, after unist-util-inspect.
+//! Tests of what arguments request, and of how a tree is drawn. The lines are worked out by hand,
+//! after unist-util-inspect.
 
 use crate::arguments::{Request, read_arguments, status};
 use crate::constructs::{NAMES, Switches};
@@ -34,7 +35,7 @@ root[2] (1:1-3:8, 0-14)
         └─0 text (3:7-3:8, 13-14) \"b\"
 ";
 
-/// A document is drawn so.
+/// Expects that a document is drawn like this.
 fn expect_drawn<R: Abort + AllocGlobal>(
     rt: &R,
     document: &str,
@@ -53,7 +54,7 @@ fn draws_a_tree(rt: HostRuntime) -> Result<(), AllocError> {
     expect_drawn(&rt, "a[^1]\n\n[^1]: b", Some(40), NARROW)
 }
 
-/// The last two of eleven breaks: indexes of one digit are padded to two.
+/// Draws the last two of eleven breaks: indexes of one digit are padded to two.
 #[test]
 fn pads_indexes(rt: HostRuntime) -> Result<(), AllocError> {
     let document = "***\n".repeat(rt.alloc(), 11)?;
@@ -67,7 +68,7 @@ fn pads_indexes(rt: HostRuntime) -> Result<(), AllocError> {
     Ok(())
 }
 
-/// What arguments ask for, or the status with which they end the program.
+/// Returns what arguments request, or the status with which they end the program.
 fn asked(rt: &HostRuntime, arguments: &[&str]) -> Result<Request, u8> {
     let Ok(words) = words(rt.alloc(), arguments) else {
         return Err(3);
@@ -78,7 +79,7 @@ fn asked(rt: &HostRuntime, arguments: &[&str]) -> Result<Request, u8> {
     }
 }
 
-/// The name of the program, and arguments.
+/// Returns the name of the program, and arguments.
 fn words(alloc: Global, arguments: &[&str]) -> Result<Vec<String>, AllocError> {
     let mut words = Vec::new(alloc);
     words.push(String::from_str(alloc, "mdast")?)?;
@@ -88,7 +89,8 @@ fn words(alloc: Global, arguments: &[&str]) -> Result<Vec<String>, AllocError> {
     Ok(words)
 }
 
-/// Arguments that end the program, and the status: the help and the version with 0, and mistakes with 2.
+/// Arguments that end the program, and the status: the help and the version with 0, and mistakes
+/// with 2.
 static ENDING: [(&[&str], u8); 13] = [
     (&["--help"], 0),
     (&["-h"], 0),
@@ -115,7 +117,7 @@ fn ends_with_a_status(rt: HostRuntime) {
     }
 }
 
-/// Arguments, and the form that they ask for.
+/// Arguments, and the form that they request.
 static FORMS: [(&[&str], Form); 12] = [
     (&[], Form::Json),
     (&["--json"], Form::Json),

@@ -1,21 +1,22 @@
-//! The C interface: the functions that C, and what calls C, links.
+//! The C interface: the functions that C, and languages that call C, link against.
 #![tactic(auto)]
 
-ghost use Rattle.mdast_outcomes.specs.Outcomes.{IsOutcome};
-ghost use Rattle.mdast_outcomes.specs.Parsed.{IsParsed};
+ghost use Rattle.mdast_programs.specs.Outcomes.{IsOutcome};
+ghost use Rattle.mdast_programs.specs.Parsed.{IsParsed};
 
-use mdast_outcomes::parsed::parsed;
-use mdast_outcomes::{Outcome, outcome_of};
+use mdast_programs::outcomes::parsed::parsed;
+use mdast_programs::outcomes::{Outcome, outcome_of};
 use std::alloc::Global;
 
-/// Parses a document for a caller in C, or in a language that calls C, and gives a form of its tree.
+/// Parses a document for a caller in C, or in a language that calls C, and returns a form of its
+/// tree.
 ///
-/// The outcome is set to what [`parsed`] gives for the same arguments: its statuses say when a call
-/// fails, and what the outcome then says. Whatever it had before, each of its fields is set. The form is
-/// ours.
+/// The outcome is set to the result of [`parsed`] for the same arguments. See there for the
+/// statuses, and for what the outcome says with each. Every field of the outcome is set, whatever
+/// it was before. The form is ours.
 ///
-/// For `# Hi`, the constructs `1 << 18`, which are headings with number signs alone, and the form 2, the
-/// outline, the status is 0, and `text` is `Hi (1:1)` and a line feed.
+/// For `# Hi`, the constructs `1 << 18`, which are only headings with number signs, and the form 2,
+/// the outline, the status is 0, and `text` is `Hi (1:1)` and a line feed.
 #[unsafe(no_mangle)]
 pub extern "C" fn mdast_parse(
     alloc: Global,
@@ -29,13 +30,13 @@ pub extern "C" fn mdast_parse(
     *outcome = parsed(alloc, document, constructs, form);
 }
 
-/// Parses a document for a caller in C, or in a language that calls C, and gives HTML that is safe in a
-/// page, without the HTML of the document.
+/// Parses a document for a caller in C, or in a language that calls C, and returns HTML that is
+/// safe in a page, without the HTML of the document.
 ///
-/// The same as [`mdast_parse`] with the form 4. The form is ours.
+/// It is [`mdast_parse`] with the form 4. The form is ours.
 ///
-/// For `# Hi`, the constructs `1 << 18`, which are headings with number signs alone, the status is 0, and
-/// `text` is `<h1>Hi</h1>` and a line feed.
+/// For `# Hi`, the constructs `1 << 18`, which are only headings with number signs, the status is
+/// 0, and `text` is `<h1>Hi</h1>` and a line feed.
 #[unsafe(no_mangle)]
 pub extern "C" fn mdast_html(alloc: Global, document: &[u8], constructs: u32, outcome: &mut Outcome)
     ensures { IsParsed outcome.new document.now constructs 4 }
@@ -45,9 +46,9 @@ pub extern "C" fn mdast_html(alloc: Global, document: &[u8], constructs: u32, ou
 
 /// Compiles the tree of a document for a caller in C, or in a language that calls C.
 ///
-/// The outcome is set to what [`outcome_of`] gives for the same arguments: its statuses say when a
-/// call fails, and what the outcome then says. Whatever it had before, each of its fields is set. The
-/// form is ours.
+/// The outcome is set to the result of [`outcome_of`] for the same arguments. See there for the
+/// statuses, and for what the outcome says with each. Every field of the outcome is set, whatever
+/// it was before. The form is ours.
 ///
 /// For `Hi` and the events of a paragraph with one data span the status is 0, and `text` is a root
 /// with a paragraph with a text.

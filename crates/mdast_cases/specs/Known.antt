@@ -1,4 +1,4 @@
--- What the decoders of the cases know.
+-- The decoders of the cases.
 use Rattle.std.specs.Prelude.{ℕ, List, Option, Some, None, codes, if◌then◌else◌}
 use Rattle.std.specs.Str.{bytes_eq}
 use Rattle.character_references.specs.Decoder.{decoded}
@@ -10,7 +10,7 @@ use Rattle.mdast_cases.specs.declared.decoder.CaseDecoder.TheVariants.{Usual, Bl
 abbrev pub blank : List ℕ → Option (List ℕ)
 blank value = if bytes_eq value (codes "") then Some (codes " ") else None
 
--- what each of them gives
+-- the text that each decoder knows
 abbrev pub known : CaseDecoder → List ℕ → ℕ → Option (List ℕ)
 known Usual value marker = decoded value marker
 known Blank value marker = blank value

@@ -2,21 +2,21 @@
 
 use std::alloc::{AllocError, Global};
 
-/// How many comparisons came out as they must, beside those of answers. All are of cases with a tree.
+/// How many comparisons matched, besides those of answers. All are of cases with a tree.
 #[derive(Clone, Copy)]
 pub struct Counts {
     /// Trees with their copies.
     pub copies: usize,
-    /// JSON lines, plain texts and reports, where the table has them.
+    /// JSON lines, plain texts and reports, if the table has them.
     pub forms: usize,
-    /// Lists that were cut where a span is open.
+    /// Lists that were cut while a span is open.
     pub cuts: usize,
-    /// Lists in which two exits of different names, one after the other, were swapped.
+    /// Lists in which two adjacent exits of different names were swapped.
     pub swaps: usize,
 }
 
 impl Counts {
-    /// Before anything is compared.
+    /// Returns the counts before any comparison.
     pub fn new() -> Counts {
         Counts {
             copies: 0,
@@ -26,7 +26,7 @@ impl Counts {
         }
     }
 
-    /// How a line says them.
+    /// Returns the counts as the text of a line.
     pub fn text(self, alloc: Global) -> Result<String, AllocError> {
         let Counts {
             copies,

@@ -10,7 +10,7 @@ use std::alloc::{AllocError, Global};
 pub enum CaseDecoder {
     /// That of the program `mdast_show`.
     Usual,
-    /// It gives one space for the empty value, and knows nothing else.
+    /// It knows one space for the empty value, and nothing else.
     Blank,
     /// That of the tokenizer, which knows the names of HTML.
     Html,

@@ -8,28 +8,28 @@ use std::alloc::{AllocError, Global};
 pub struct Document {
     /// Its bytes.
     pub bytes: Vec<u8>,
-    /// The offset at which each of its lines begins.
+    /// The offset where each of its lines begins.
     line_starts: Vec<usize>,
 }
 
 impl Document {
-    /// A document with these bytes, whose lines end at LF, CR and CRLF.
+    /// Returns a document with these bytes, whose lines end at LF, CR and CRLF.
     pub fn new(alloc: Global, bytes: Vec<u8>) -> Result<Document, AllocError> {
         let line_starts = line_starts(alloc, bytes.as_slice())?;
         Ok(Document { bytes, line_starts })
     }
 
-    /// Its text, if its bytes are UTF-8.
+    /// Returns its text, if its bytes are UTF-8.
     pub fn text(&self) -> Option<&str> {
         str::from_utf8(self.bytes.as_slice()).ok()
     }
 
-    /// Makes one line of it.
+    /// Turns it into a single line.
     pub fn join_lines(&mut self) {
         self.line_starts.truncate(1);
     }
 
-    /// The point of an offset, also of one after the document. A column is a byte.
+    /// Returns the point of an offset, including one after the document. A column is a byte.
     pub fn point(&self, offset: usize) -> Option<Point> {
         let line = self.line_starts.partition_point(|start| *start <= offset);
         let start = self.line_starts.get(line.checked_sub(1)?)?;
@@ -42,7 +42,7 @@ impl Document {
     }
 }
 
-/// Where the lines of a document begin.
+/// Returns where the lines of a document begin.
 fn line_starts(alloc: Global, bytes: &[u8]) -> Result<Vec<usize>, AllocError> {
     let mut starts = Vec::new(alloc);
     starts.push(0)?;
@@ -55,7 +55,7 @@ fn line_starts(alloc: Global, bytes: &[u8]) -> Result<Vec<usize>, AllocError> {
     Ok(starts)
 }
 
-/// Whether a line ends after a byte that the next one follows.
+/// Whether a line ends after a byte, given the byte after it.
 fn ends_line(byte: u8, next: Option<&u8>) -> bool {
     byte == b'\n' || byte == b'\r' && next != Some(&b'\n')
 }

@@ -3,7 +3,7 @@
 use crate::line::LineError;
 use std::alloc::Global;
 
-/// The bytes that hexadecimal digits say.
+/// Returns the bytes that hexadecimal digits stand for.
 pub fn bytes_of_digits(alloc: Global, digits: &str) -> Result<Vec<u8>, LineError> {
     let mut bytes = Vec::new(alloc);
     for pair in digits.as_bytes().chunks(2) {
@@ -12,7 +12,7 @@ pub fn bytes_of_digits(alloc: Global, digits: &str) -> Result<Vec<u8>, LineError
     Ok(bytes)
 }
 
-/// The byte that two hexadecimal digits say.
+/// Returns the byte that two hexadecimal digits stand for.
 fn byte_of_digits(pair: &[u8]) -> Option<u8> {
     let [high, low] = pair else {
         return None;

@@ -1,8 +1,9 @@
-//! Tables of cases: lists of events over documents, and what `compile` must give for each; and documents,
-//! and the tree that `to_mdast` must give. The program `mdast_replay` replays them.
+//! Tables of cases. Some cases are lists of events over documents with the expected result of
+//! `compile`; others are documents with the expected tree of `to_mdast`. The program `mdast_replay`
+//! replays them.
 //!
-//! `table` reads a table, `replay` compares one case with what `compile` gives, `counts` has the numbers
-//! of what was compared, and `run` is a run over the files of a program.
+//! `table` reads a table, `replay` compares one case with the result of `compile`, `counts` has the
+//! numbers of comparisons, and `run` is a run over the files of a program.
 #![tactic(auto)]
 
 mod case;

@@ -10,15 +10,15 @@ pub enum LineKind {
     Nothing,
     /// The beginning of a section with this name: `section Texts`.
     Section,
-    /// The beginning of a case, which is called so: `row yaml`, or `case 12`.
+    /// The beginning of a case with this name: `row yaml`, or `case 12`.
     Case,
     /// The document, between quotes and with escapes: `"a\nb"`.
     Quoted,
     /// The document, in hexadecimal: `doc 610a62`.
     Hexadecimal,
-    /// That the columns count these: `columns bytes`, where all of the document is one line.
+    /// The unit of the columns: `columns bytes`, where the whole document is one line.
     Columns,
-    /// The decoder that the case has: `decoder blank`, the one that knows the empty value.
+    /// The decoder of the case: `decoder blank`, the one that knows the empty value.
     Decoder,
     /// How values are read: `values whole`.
     Values,
@@ -26,19 +26,19 @@ pub enum LineKind {
     Spans,
     /// An event of the list: `+Data 1:1:0`.
     Event,
-    /// That the list is that of the tokenizer, and which constructs this reads: `read gfm`.
+    /// The list is that of the tokenizer, with these constructs on: `read gfm`.
     Read,
-    /// What `compile` must give: `= Root { .. }` or `! slice-invalid 1:2 (1)`.
+    /// The expected result of `compile`: `= Root { .. }` or `! slice-invalid 1:2 (1)`.
     Answer,
     /// Whether the tree is ordered: `ordered yes`.
     Ordered,
-    /// Whether the writer of events writes this list: `written yes`.
+    /// Whether the writer of events can write this list: `written yes`.
     Written,
     /// The tree as JSON: `json {"type":"root","children":[]}`.
     Json,
     /// The plain text of the tree, between quotes and with escapes: `plain "Hi"`.
     Plain,
-    /// The lines of what is found in the tree, between quotes and with escapes:
+    /// The lines of the report on the tree, between quotes and with escapes:
     /// `report "heading 1 \"Hi\"\n"`.
     Report,
 }
@@ -48,16 +48,16 @@ pub enum LineKind {
 pub struct Line<'a> {
     /// What it is.
     pub kind: LineKind,
-    /// All of it.
+    /// The whole line.
     pub whole: &'a str,
-    /// What it says: what stands after its word, or all of it where it begins with a sign.
+    /// Its content: the text after its word, or the whole line if it begins with a sign.
     pub text: &'a str,
 }
 
 /// Why a line was not read.
 #[derive(Drop)]
 pub enum LineError {
-    /// It is no line of a table, or not one that may stand there.
+    /// It is not a line of a table, or not one that may occur there.
     Unread,
     /// Memory ran out.
     Memory(AllocError),
@@ -84,7 +84,7 @@ impl From<LinesError> for LineError {
     }
 }
 
-/// A line, by the sign or the word that it begins with.
+/// Returns a line, with the kind of the sign or the word that it begins with.
 pub fn read_line(whole: &str) -> Option<Line<'_>> {
     let (kind, text) = match sign(whole.as_bytes()) {
         Some(kind) => (kind, whole),
@@ -93,7 +93,7 @@ pub fn read_line(whole: &str) -> Option<Line<'_>> {
     Some(Line { kind, whole, text })
 }
 
-/// What a line is that begins with a sign, or is empty.
+/// Returns the kind of a line that begins with a sign, or is empty.
 fn sign(line: &[u8]) -> Option<LineKind> {
     match line.first() {
         None | Some(b'#') => Some(LineKind::Nothing),
@@ -105,7 +105,7 @@ fn sign(line: &[u8]) -> Option<LineKind> {
     }
 }
 
-/// What a line is that begins with a word, and what stands after it.
+/// Returns the kind of a line that begins with a word, and the text after it.
 fn read_word(line: &str) -> Option<(LineKind, &str)> {
     if line == "doc" {
         return Some((LineKind::Hexadecimal, ""));
@@ -114,7 +114,7 @@ fn read_word(line: &str) -> Option<(LineKind, &str)> {
     Some((word_kind(word)?, rest))
 }
 
-/// What a line is that begins with this word.
+/// Returns the kind of a line that begins with this word.
 fn word_kind(word: &str) -> Option<LineKind> {
     match word {
         "section" => Some(LineKind::Section),

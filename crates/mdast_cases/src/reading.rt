@@ -1,11 +1,11 @@
-//! What the tokenizer makes of the document of a case.
+//! How the tokenizer reads the document of a case.
 
 use crate::line::LineError;
 use markdown::{Constructs, ParseOptions, to_events};
 use markdown_nodes::event::Event;
 use std::alloc::Global;
 
-/// How a document is read, as the word of a line `read` says.
+/// Returns how a document is read, from the word of a line `read`.
 pub fn options_of_word(word: &str) -> Option<ParseOptions> {
     match word {
         "commonmark" => Some(ParseOptions::default()),
@@ -18,7 +18,7 @@ pub fn options_of_word(word: &str) -> Option<ParseOptions> {
     }
 }
 
-/// The events of a document.
+/// Returns the events of a document.
 pub fn events_of_document(
     alloc: Global,
     text: &str,

@@ -1,4 +1,4 @@
-//! What is compiled of a case, and compared with what must come.
+//! Compiles a case, and compares the results with the expected ones.
 
 use crate::case::{Case, Forms};
 use crate::counts::{Counts, count};
@@ -22,14 +22,14 @@ pub enum List {
     Whole,
     /// That of the case, through a reader that counts.
     Counted,
-    /// So many of its first events.
+    /// Its first events, this many.
     First(usize),
-    /// Its events, with this one, counted from 1, and the next in each other's place.
+    /// Its events, with this one, counted from 1, and the next swapped.
     Swapped(usize),
 }
 
 impl List {
-    /// How a line names the list, after the name of its case.
+    /// Returns how a line names the list, after the name of its case.
     fn text(self, alloc: Global) -> Result<String, AllocError> {
         match self {
             List::Whole => Ok(String::new(alloc)),
@@ -40,10 +40,10 @@ impl List {
     }
 }
 
-/// Why a case is not as it must be.
+/// Why a case fails.
 #[derive(Drop)]
 pub enum ReplayError {
-    /// This list gives another answer.
+    /// This list has another answer.
     Differs(List, String),
     /// Memory ran out.
     Memory(AllocError),
@@ -61,7 +61,7 @@ impl<T: Drop> From<AllocFailed<T>> for ReplayError {
     }
 }
 
-/// The line of a case that is not as it must be, if it is not. It counts what was compared.
+/// Returns the line of a case that fails, or none if it passes. It counts the comparisons.
 pub fn difference(
     alloc: Global,
     case: &Case<'_>,
@@ -78,8 +78,8 @@ pub fn difference(
     }
 }
 
-/// Compiles a case, looks at what is made of its tree, and compiles what comes of the list when it is
-/// cut or its exits are swapped.
+/// Compiles a case, checks the forms of its tree, and compiles the list again with cuts and with
+/// swapped exits.
 fn replay(alloc: Global, case: &Case<'_>, counts: &mut Counts) -> Result<(), ReplayError> {
     read(alloc, case)?;
     let outcome = outcome(alloc, case, case.events.as_slice());
@@ -91,7 +91,8 @@ fn replay(alloc: Global, case: &Case<'_>, counts: &mut Counts) -> Result<(), Rep
     }
 }
 
-/// The tree of the document is the answer of the case, where its events are those of the tokenizer.
+/// Expects the tree of the document to be the answer of the case, if its events are those of the
+/// tokenizer.
 fn read(alloc: Global, case: &Case<'_>) -> Result<(), ReplayError> {
     match (&case.options, case.document.text()) {
         (Some(options), Some(text)) => {
@@ -102,8 +103,8 @@ fn read(alloc: Global, case: &Case<'_>) -> Result<(), ReplayError> {
     }
 }
 
-/// Looks at what is made of the tree of a case, and compiles what comes of the list when it is cut or
-/// its exits are swapped.
+/// Checks the forms of the tree of a case, and compiles the list again with cuts and with swapped
+/// exits.
 fn replay_tree(
     alloc: Global,
     case: &Case<'_>,
@@ -118,7 +119,7 @@ fn replay_tree(
     swap(alloc, case, &mut counts.swaps)
 }
 
-/// Compares an answer with the one that must come.
+/// Compares an answer with the expected one.
 fn expect(list: List, answer: Result<String, AllocError>, want: &str) -> Result<(), ReplayError> {
     let answer = answer?;
     if answer.as_str() == want {
@@ -128,7 +129,8 @@ fn expect(list: List, answer: Result<String, AllocError>, want: &str) -> Result<
     }
 }
 
-/// The tree is ordered where the offsets of the events never go back, and else as the case says.
+/// Expects the tree to be ordered if the offsets of the events never go back, and otherwise as the
+/// case says.
 fn order(alloc: Global, case: &Case<'_>, tree: &Node) -> Result<(), ReplayError> {
     let events = case.events.as_slice();
     let is_ordered = ordered(tree);
@@ -139,7 +141,8 @@ fn order(alloc: Global, case: &Case<'_>, tree: &Node) -> Result<(), ReplayError>
     Ok(())
 }
 
-/// The writer of events writes the list of the case, or refuses a part of it, where the case says which.
+/// Expects the writer of events to write the list of the case, or to refuse a part of it, if the
+/// case says which.
 fn written(alloc: Global, case: &Case<'_>) -> Result<(), ReplayError> {
     let Some(want) = case.written else {
         return Ok(());
@@ -157,7 +160,7 @@ fn written(alloc: Global, case: &Case<'_>) -> Result<(), ReplayError> {
     Err(ReplayError::Differs(List::Whole, answer))
 }
 
-/// How a line says whether the writer of events writes a list.
+/// Returns how a line says whether the writer of events can write a list.
 fn written_text(is_written: bool) -> &'static str {
     if is_written {
         "a list that the writer writes"
@@ -166,7 +169,7 @@ fn written_text(is_written: bool) -> &'static str {
     }
 }
 
-/// A copy of the tree equals it, and `to_debug_string` gives the answer of the case.
+/// Expects a copy of the tree to equal it, and `to_debug_string` to return the answer of the case.
 fn copy(
     alloc: Global,
     case: &Case<'_>,
@@ -183,13 +186,13 @@ fn copy(
     Ok(())
 }
 
-/// The answer of a case with this tree, by `to_debug_string`.
+/// Returns the answer of a case with this tree, from `to_debug_string`.
 fn line_answer(alloc: Global, tree: &Node) -> Result<String, AllocError> {
     let line = tree.to_debug_string(alloc)?;
     format!(in alloc; "= {line}")
 }
 
-/// The JSON, the plain text and the report of the tree are as the case says.
+/// Expects the JSON, the plain text and the report of the tree to be those of the case.
 fn forms(
     alloc: Global,
     forms: &Forms<'_>,
@@ -209,12 +212,12 @@ fn forms(
     Ok(())
 }
 
-/// The lines of what is found in a tree.
+/// Returns the lines of the report on a tree.
 fn report(alloc: Global, tree: &Node) -> Result<String, AllocError> {
     Ok(report_of(alloc, tree)?.text)
 }
 
-/// Compares what is made of a tree with what must be made, and counts it.
+/// Compares the actual form of a tree with the expected one, and counts it.
 fn expect_form(
     alloc: Global,
     what: &str,
@@ -231,7 +234,7 @@ fn expect_form(
     Err(ReplayError::Differs(List::Whole, answer))
 }
 
-/// How a line says whether a tree is ordered.
+/// Returns how a line says whether a tree is ordered.
 fn order_text(is_ordered: bool) -> &'static str {
     if is_ordered {
         "a tree that is ordered"
@@ -240,7 +243,7 @@ fn order_text(is_ordered: bool) -> &'static str {
     }
 }
 
-/// Whether no event's offset is below that of the event before it.
+/// Whether no event's offset is less than that of the event before it.
 fn never_goes_back(events: &[Event]) -> bool {
     let mut last: usize = 0;
     for event in events {
@@ -252,7 +255,7 @@ fn never_goes_back(events: &[Event]) -> bool {
     true
 }
 
-/// Each beginning of the list that leaves a span open is unbalanced at its last event.
+/// Expects each beginning of the list that leaves a span open to be unbalanced at its last event.
 fn cut(alloc: Global, case: &Case<'_>, cuts: &mut usize) -> Result<(), ReplayError> {
     let events = case.events.as_slice();
     let mut open: usize = 0;
@@ -271,8 +274,8 @@ fn cut(alloc: Global, case: &Case<'_>, cuts: &mut usize) -> Result<(), ReplayErr
     Ok(())
 }
 
-/// With two neighbouring exits of different names swapped, the list is unbalanced at the first of
-/// them.
+/// Swaps two adjacent exits of different names, and expects the list to be unbalanced at the first
+/// of them.
 fn swap(alloc: Global, case: &Case<'_>, swaps: &mut usize) -> Result<(), ReplayError> {
     let events = case.events.as_slice();
     for index in 1..events.len() {
@@ -287,7 +290,7 @@ fn swap(alloc: Global, case: &Case<'_>, swaps: &mut usize) -> Result<(), ReplayE
     Ok(())
 }
 
-/// A list that is compiled for a case is unbalanced at this event. It is counted.
+/// Expects a list that is compiled for a case to be unbalanced at this event, and counts it.
 fn expect_unbalanced(
     alloc: Global,
     case: &Case<'_>,
@@ -308,7 +311,7 @@ fn are_unlike_exits(first: Event, second: Event) -> bool {
     first.kind == Kind::Exit && second.kind == Kind::Exit && !first.name.is(second.name)
 }
 
-/// A list of events, with the one at this index and the one before it in each other's place.
+/// Returns a list of events, with the one at this index and the one before it swapped.
 fn swapped(alloc: Global, events: &[Event], index: usize) -> Result<Vec<Event>, AllocError> {
     let mut swapped = events.to_vec(alloc)?;
     if 0 < index && index < swapped.len() {
@@ -317,7 +320,7 @@ fn swapped(alloc: Global, events: &[Event], index: usize) -> Result<Vec<Event>, 
     Ok(swapped)
 }
 
-/// What `compile` gives for events over the document of a case.
+/// Returns the result of `compile` for events over the document of a case.
 fn outcome(alloc: Global, case: &Case<'_>, events: &[Event]) -> Result<Node, Fault> {
     let bytes = case.document.bytes.as_slice();
     match case.values {
@@ -334,7 +337,7 @@ fn outcome(alloc: Global, case: &Case<'_>, events: &[Event]) -> Result<Node, Fau
     }
 }
 
-/// The document of a case, with its hidden bytes.
+/// Returns the document of a case, with its hidden bytes.
 fn document_of<'c>(case: &'c Case<'_>) -> Document<'c> {
     let bytes = case.document.bytes.as_slice();
     if case.hidden.is_empty() {
@@ -344,7 +347,7 @@ fn document_of<'c>(case: &'c Case<'_>) -> Document<'c> {
     }
 }
 
-/// The answer of a case by `compile_counted`.
+/// Returns the answer of a case from `compile_counted`.
 fn counted(alloc: Global, case: &Case<'_>) -> Result<String, AllocError> {
     let mut steps = Steps::new(case.events.as_slice());
     let bytes = case.document.bytes.as_slice();
@@ -355,7 +358,7 @@ fn counted(alloc: Global, case: &Case<'_>) -> Result<String, AllocError> {
     answer(alloc, &outcome)
 }
 
-/// The answer of a case for which this comes out.
+/// Returns the answer of a case with this result.
 fn answer(alloc: Global, outcome: &Result<Node, Fault>) -> Result<String, AllocError> {
     match outcome {
         Ok(tree) => shown(alloc, tree),
@@ -364,12 +367,12 @@ fn answer(alloc: Global, outcome: &Result<Node, Fault>) -> Result<String, AllocE
     }
 }
 
-/// The answer of a case that has this tree.
+/// Returns the answer of a case with this tree.
 fn shown(alloc: Global, tree: &Node) -> Result<String, AllocError> {
     format!(in alloc; "= {tree:?}")
 }
 
-/// The answer of a case that is refused with this message.
+/// Returns the answer of a case that is refused with this message.
 fn refusal(alloc: Global, message: &Message) -> Result<String, AllocError> {
     match &message.place {
         Some(Place::Point(point)) => format!(in alloc; "! {} {point:?}", message.rule_id),
@@ -377,7 +380,7 @@ fn refusal(alloc: Global, message: &Message) -> Result<String, AllocError> {
     }
 }
 
-/// The answer of a list that is unbalanced at this point.
+/// Returns the answer of a list that is unbalanced at this point.
 fn unbalanced(alloc: Global, point: Point) -> Result<String, AllocError> {
     let place = point.to_unist();
     format!(in alloc; "! events-unbalanced {place:?}")

@@ -1,4 +1,4 @@
-//! The events of a case, written once more.
+//! Writes the events of a case again.
 
 use character_references::references::References;
 use event_writer::error::WriteError;
@@ -6,9 +6,9 @@ use event_writer::writer::Writer;
 use markdown_nodes::event::{Event, Kind, Name};
 use std::alloc::{AllocError, Global};
 
-/// The events that the writer writes where it is asked for these, or `None` where it refuses one.
+/// Returns the events that the writer writes for these events, or `None` if it refuses one.
 ///
-/// A span in which nothing stands is a token.
+/// A span that contains nothing is a token.
 pub fn rewritten<R: References>(
     alloc: Global,
     bytes: &[u8],
@@ -40,7 +40,7 @@ fn write_all<R: References>(
     Ok(())
 }
 
-/// Writes an event, or with the next one a token, and says whether it wrote a token.
+/// Writes an event, or a token together with the next event. Returns whether it wrote a token.
 fn write_next<R: References>(
     writer: &mut Writer<'_, R>,
     event: Event,

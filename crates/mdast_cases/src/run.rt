@@ -5,11 +5,11 @@ use crate::counts::Counts;
 use crate::replay::difference;
 use crate::sums::{SumsDifference, sums_difference};
 use crate::table::{TableError, cases};
-use command_line::output::say;
+use mdast_programs::output::say;
 use std::alloc::{AllocError, AllocFailed, Global};
 use std::io::Write;
 
-/// What is printed where memory ran out, which takes none.
+/// What is printed if memory ran out. Printing it allocates no memory.
 const OUT_OF_MEMORY: &str = "mdast_replay: out of memory\n";
 
 /// A file that an argument names.
@@ -17,21 +17,21 @@ const OUT_OF_MEMORY: &str = "mdast_replay: out of memory\n";
 pub struct Input {
     /// The argument.
     pub name: String,
-    /// What the file has.
+    /// The bytes of the file.
     pub bytes: Vec<u8>,
 }
 
-/// Whether all is as it must be.
+/// Whether everything passed.
 #[derive(Clone, Copy, PartialEq, Eq, Debug)]
 pub enum Verdict {
-    /// It is.
+    /// Everything passed.
     Right,
-    /// A case or a checksum is not.
+    /// A case or a checksum failed.
     Wrong,
 }
 
 impl Verdict {
-    /// The exit status of the program.
+    /// Returns the exit status of the program.
     fn status(self) -> u8 {
         match self {
             Verdict::Right => 0,
@@ -39,7 +39,7 @@ impl Verdict {
         }
     }
 
-    /// That of two parts, of which this is one.
+    /// Returns the verdict of two parts. This is one of them.
     fn and(self, other: Verdict) -> Verdict {
         match self {
             Verdict::Right => other,
@@ -55,7 +55,7 @@ pub enum RunError {
     Usage,
     /// The file of this name cannot be read.
     UnreadFile(String),
-    /// In the file of this name this line, counted from 1, cannot be read.
+    /// In the file of this name, the line with this number, counted from 1, cannot be read.
     UnreadLine(String, usize),
     /// A line cannot be written.
     Unwritten,
@@ -76,7 +76,7 @@ impl<T: Drop> From<AllocFailed<T>> for RunError {
 }
 
 impl RunError {
-    /// The exit status of the program.
+    /// Returns the exit status of the program.
     fn status(&self) -> u8 {
         match self {
             RunError::Memory(_) => 3,
@@ -84,7 +84,7 @@ impl RunError {
         }
     }
 
-    /// The line that says so. Where no line can be written it is empty.
+    /// Returns the line that says so. If no line can be written it is empty.
     fn line(&self, alloc: Global) -> Result<String, AllocError> {
         match self {
             RunError::Usage => String::from_str(
@@ -101,8 +101,8 @@ impl RunError {
     }
 }
 
-/// The exit status of a run that came to this. Where there is no verdict, it writes the line that
-/// says why.
+/// Returns the exit status of a run with this result. If there is no verdict, it writes the line
+/// that says why.
 pub fn status<O: Write>(alloc: Global, verdict: Result<Verdict, RunError>, output: &mut O) -> u8 {
     match verdict {
         Ok(verdict) => verdict.status(),
@@ -123,7 +123,7 @@ struct Table<'a> {
 }
 
 impl<'a> Table<'a> {
-    /// The table that a file has.
+    /// Returns the table in a file.
     fn read(alloc: Global, input: &'a Input) -> Result<Table<'a>, RunError> {
         let name = input.name.as_str();
         match cases(alloc, input.bytes.as_slice()) {
@@ -139,9 +139,9 @@ impl<'a> Table<'a> {
 /// Replays the tables among the files, and compares the files of checksums, whose names end in
 /// `.sums`, with the table before them.
 ///
-/// It writes a line for each file, and before it one for each case that is not as it must be. Where all
-/// cases of a table are, its line says how much was compared for those with a tree: trees with their
-/// copies, forms of trees, lists cut where a span is open, and pairs of exits swapped.
+/// It writes one line for each file, and before it one for each case that fails. If all cases of a
+/// table pass, its line says how much was compared for those with a tree: trees with their copies,
+/// forms of trees, lists cut while a span is open, and pairs of swapped exits.
 pub fn run<O: Write>(alloc: Global, inputs: &[Input], output: &mut O) -> Result<Verdict, RunError> {
     let mut verdict = Verdict::Right;
     let mut last_table = None;
@@ -179,12 +179,12 @@ fn replay<O: Write>(alloc: Global, table: &Table<'_>, output: &mut O) -> Result<
     })
 }
 
-/// The line of a case that is not as it must be.
+/// Returns the line of a case that fails.
 fn difference_line(alloc: Global, name: &str, difference: &str) -> Result<String, AllocError> {
     format!(in alloc; "{name}: {difference}\n")
 }
 
-/// The line of a table of which so many cases are not as they must be, and what was compared.
+/// Returns the line of a table with this number of failed cases, and what was compared.
 fn count_line(
     alloc: Global,
     table: &Table<'_>,
@@ -220,7 +220,7 @@ fn compare<O: Write>(
     })
 }
 
-/// The line of a file of checksums that differs so from a table, or not at all.
+/// Returns the line of a file of checksums, which says how it differs from a table, if it does.
 fn sums_line(
     alloc: Global,
     name: &str,

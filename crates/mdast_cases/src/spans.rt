@@ -1,18 +1,18 @@
 //! Spans in the notation of a row, as events.
 //!
-//! `Paragraph 0-2 { Data 0-1, Data 1-2 }` is a Paragraph from offset 0 to 2 that holds two Data. An
-//! end of a span is an offset, or a point, as `@line:column:index:vs`.
+//! `Paragraph 0-2 { Data 0-1, Data 1-2 }` is a Paragraph from offset 0 to 2 that contains two Data.
+//! An end of a span is an offset, or a point, as `@line:column:index:vs`.
 //!
-//! The text is read in pieces, which `, ` parts: `Paragraph 0-2 { Data 0-1` and `Data 1-2 }` here. A
-//! piece begins some spans, each in the one before it, and ends the last of them, and one more for
-//! each `}`.
+//! The text is read in pieces separated by `, `: here `Paragraph 0-2 { Data 0-1` and `Data 1-2 }`.
+//! A piece begins some spans, each inside the one before it, and ends the last of them, and one
+//! more for each `}`.
 
 use crate::document::Document;
 use crate::line::LineError;
 use markdown_nodes::event::{Event, Kind, Name, Point};
 use std::alloc::Global;
 
-/// The events of the spans that a text says, over a document.
+/// Returns the events of the spans in a text, over a document.
 pub fn events_of_spans(
     alloc: Global,
     document: &Document,
@@ -36,16 +36,16 @@ pub fn events_of_spans(
 /// A walk over the pieces of a text.
 #[derive(Drop)]
 struct Walk<'a> {
-    /// The document that the offsets are of.
+    /// The document that the offsets refer to.
     document: &'a Document,
     /// The events so far.
     events: Vec<Event>,
-    /// The exits of the spans that are open, the innermost last.
+    /// The exits of the open spans, the innermost last.
     open: Vec<Event>,
 }
 
 impl Walk<'_> {
-    /// Goes on over a piece.
+    /// Continues over a piece.
     fn piece(&mut self, piece: &str) -> Result<(), LineError> {
         let mut parts = piece.split(" }");
         let begun = parts.next().ok_or(LineError::Unread)?;
@@ -60,7 +60,7 @@ impl Walk<'_> {
         Ok(())
     }
 
-    /// Begins spans, each in the one before it.
+    /// Begins spans, each inside the one before it.
     fn begin_all(&mut self, spans: &str) -> Result<(), LineError> {
         for span in spans.split(" { ") {
             self.begin(span)?;
@@ -83,7 +83,7 @@ impl Walk<'_> {
     }
 }
 
-/// The enter and the exit of a span, as `Data 0-1` says them.
+/// Returns the enter and the exit of a span, from a text such as `Data 0-1`.
 fn ends(document: &Document, span: &str) -> Option<(Event, Event)> {
     let (name, ends) = span.split_once(' ')?;
     let (begin, end) = ends.split_once('-')?;
@@ -101,7 +101,7 @@ fn ends(document: &Document, span: &str) -> Option<(Event, Event)> {
     Some((enter, exit))
 }
 
-/// The point of an end of a span.
+/// Returns the point of an end of a span.
 fn point(document: &Document, text: &str) -> Option<Point> {
     match text.strip_prefix('@') {
         Some(numbers) => point_of_numbers(numbers),
@@ -109,7 +109,7 @@ fn point(document: &Document, text: &str) -> Option<Point> {
     }
 }
 
-/// The point that `line:column:index:vs` says.
+/// Returns the point that `line:column:index:vs` stands for.
 fn point_of_numbers(text: &str) -> Option<Point> {
     let mut parts = text.split(':');
     let mut numbers = [0; 4];
@@ -128,7 +128,7 @@ fn point_of_numbers(text: &str) -> Option<Point> {
     }
 }
 
-/// The number that decimal digits say, with no sign before them.
+/// Returns the number that decimal digits stand for, with no sign before them.
 fn number(digits: &str) -> Option<usize> {
     if digits.starts_with('+') {
         return None;

@@ -1,6 +1,6 @@
-//! Checksums of rows, which tell whether a row has changed since theorems were made of it.
+//! Checksums of rows, which tell whether a row has changed since theorems were generated from it.
 //!
-//! A file of checksums has a line for each row of a table, in their order: its section, its first
+//! A file of checksums has one line for each row of a table, in their order: its section, its first
 //! line and the checksum of its lines. Lines that begin with `#` are comments.
 
 use crate::case::Case;
@@ -11,12 +11,12 @@ use std::alloc::{AllocError, Global};
 pub struct Checksum(u64);
 
 impl Checksum {
-    /// That of no lines.
+    /// Returns the checksum of no lines.
     pub fn new() -> Checksum {
         Checksum(0xcbf2_9ce4_8422_2325)
     }
 
-    /// That of these lines and one more.
+    /// Returns the checksum of these lines and one more.
     pub fn with_line(self, line: &str) -> Checksum {
         let mut sum = self;
         for byte in line.bytes() {
@@ -25,7 +25,7 @@ impl Checksum {
         sum.with_byte(b'\n')
     }
 
-    /// That of these bytes and one more.
+    /// Returns the checksum of these bytes and one more.
     fn with_byte(self, byte: u8) -> Checksum {
         Checksum((self.0 ^ u64::from(byte)).wrapping_mul(0x0100_0000_01b3))
     }
@@ -56,7 +56,7 @@ pub fn sums_difference<'a>(
     Ok(lines.next().map(SumsDifference::Line))
 }
 
-/// The line of a row in a file of checksums.
+/// Returns the line of a row in a file of checksums.
 fn line_of_row(alloc: Global, case: &Case<'_>) -> Result<String, AllocError> {
     let Checksum(sum) = case.checksum;
     format!(in alloc; "{} {} {sum:016x}", case.section, case.name)

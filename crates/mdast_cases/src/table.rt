@@ -1,7 +1,7 @@
 //! Tables of cases, in the notations of `rows.txt` and of `original.txt`.
 //!
-//! Both are read line by line. A case begins with its name, then its document stands, and at the end
-//! what `compile` must give:
+//! Both are read line by line. A case begins with its name, followed by its document, and ends with
+//! the expected result of `compile`:
 //!
 //! ```text
 //! row a-text-in-a-paragraph
@@ -45,8 +45,8 @@ use std::alloc::{AllocError, AllocFailed, Global};
 /// Why a table was not read.
 #[derive(Drop)]
 pub enum TableError {
-    /// This line, counted from 1, cannot be read; or it names a case that has no document or no
-    /// answer.
+    /// The line with this number, counted from 1, cannot be read, or it names a case that has no
+    /// document or no answer.
     Unread(usize),
     /// Memory ran out.
     Memory(AllocError),
@@ -58,7 +58,7 @@ impl<T: Drop> From<AllocFailed<T>> for TableError {
     }
 }
 
-/// The cases of a table.
+/// Returns the cases of a table.
 pub fn cases(alloc: Global, table: &[u8]) -> Result<Vec<Case<'_>>, TableError> {
     let mut reader = Reader {
         alloc,
@@ -70,14 +70,14 @@ pub fn cases(alloc: Global, table: &[u8]) -> Result<Vec<Case<'_>>, TableError> {
     Ok(reader.cases)
 }
 
-/// What was read of a table so far.
+/// The part of a table that was read so far.
 #[derive(Drop)]
 struct Reader<'a> {
-    /// Where memory is asked for.
+    /// The allocator.
     alloc: Global,
-    /// The section that the lines stand in.
+    /// The section that the lines are in.
     section: &'a str,
-    /// The case that the lines are of.
+    /// The case that the lines belong to.
     draft: Option<Draft<'a>>,
     /// The cases before it.
     cases: Vec<Case<'a>>,
@@ -146,7 +146,7 @@ impl<'a> Reader<'a> {
     }
 }
 
-/// The line that these bytes are.
+/// Returns the line with these bytes.
 fn line_of_bytes(bytes: &[u8]) -> Option<Line<'_>> {
     match str::from_utf8(bytes) {
         Ok(text) => read_line(text),
@@ -154,39 +154,39 @@ fn line_of_bytes(bytes: &[u8]) -> Option<Line<'_>> {
     }
 }
 
-/// A case as far as its lines were read.
+/// A case whose lines are being read.
 #[derive(Drop)]
 struct Draft<'a> {
     /// The number of its first line.
     number: usize,
     /// Its first line.
     name: &'a str,
-    /// The document, after the line that says it.
+    /// The document, after its line.
     document: Option<Document>,
     /// What its character references stand for.
     decoder: CaseDecoder,
     /// How values are read.
     values: Values,
-    /// How the tokenizer reads the document, after the line that says it.
+    /// How the tokenizer reads the document, after the line for it.
     options: Option<ParseOptions>,
     /// The events so far.
     events: Vec<Event>,
-    /// The flags of hidden bytes, after the line that says how the tokenizer reads the document.
+    /// The flags of hidden bytes, after the line for how the tokenizer reads the document.
     hidden: Vec<bool>,
-    /// The answer, after the line that says it.
+    /// The answer, after its line.
     answer: Option<&'a str>,
-    /// Whether the tree is ordered, after the line that says it.
+    /// Whether the tree is ordered, after the line for it.
     ordered: Option<bool>,
-    /// Whether the writer of events writes the list, after the line that says it.
+    /// Whether the writer of events can write the list, after the line for it.
     written: Option<bool>,
-    /// What else is made of the tree, after the lines that say it.
+    /// The other forms of the tree, after their lines.
     forms: Forms<'a>,
     /// The checksum of its lines so far.
     checksum: Checksum,
 }
 
 impl<'a> Draft<'a> {
-    /// A case of which the first line was read.
+    /// Returns a case whose first line was read.
     fn new(alloc: Global, number: usize, name: &'a str) -> Draft<'a> {
         Draft {
             number,
@@ -205,7 +205,7 @@ impl<'a> Draft<'a> {
         }
     }
 
-    /// Adds what a line says.
+    /// Adds the content of a line.
     fn add(&mut self, alloc: Global, line: Line<'a>) -> Result<(), LineError> {
         self.checksum = self.checksum.with_line(line.whole);
         let text = line.text;
@@ -228,7 +228,7 @@ impl<'a> Draft<'a> {
         }
     }
 
-    /// Adds the document, of which these bytes were read.
+    /// Adds the document with these bytes.
     fn add_document(
         &mut self,
         alloc: Global,
@@ -238,7 +238,7 @@ impl<'a> Draft<'a> {
         once(&mut self.document, document)
     }
 
-    /// The document is one line, which must be known before the events.
+    /// Turns the document into one line, which must be done before the events are read.
     fn join_lines(&mut self, columns: &str) -> Result<(), LineError> {
         if columns != "bytes" || !self.events.is_empty() {
             return Err(LineError::Unread);
@@ -252,7 +252,7 @@ impl<'a> Draft<'a> {
         }
     }
 
-    /// The decoder is the one of this name.
+    /// Sets the decoder to the one with this name.
     fn add_decoder(&mut self, name: &str) -> Result<(), LineError> {
         if name == "blank" {
             self.decoder = CaseDecoder::Blank;
@@ -262,7 +262,7 @@ impl<'a> Draft<'a> {
         }
     }
 
-    /// Values are read as this word says.
+    /// Sets how values are read, from this word.
     fn add_values(&mut self, name: &str) -> Result<(), LineError> {
         if name == "whole" {
             self.values = Values::Whole;
@@ -272,7 +272,7 @@ impl<'a> Draft<'a> {
         }
     }
 
-    /// Adds the events of spans, for which the document must be known.
+    /// Adds the events of spans, which requires the document.
     fn add_spans(&mut self, alloc: Global, text: &str) -> Result<(), LineError> {
         let events = match &self.document {
             Some(document) => events_of_spans(alloc, document, text),
@@ -281,7 +281,7 @@ impl<'a> Draft<'a> {
         self.add_events(events)
     }
 
-    /// Adds the events of the tokenizer, for which the document must be known. The case then has its
+    /// Adds the events of the tokenizer, which requires the document. The case then has its
     /// decoder, and reads values as it does.
     fn add_reading(&mut self, alloc: Global, word: &str) -> Result<(), LineError> {
         let options = options_of_word(word).ok_or(LineError::Unread)?;
@@ -302,7 +302,7 @@ impl<'a> Draft<'a> {
         Ok(self.events.append(&mut events?)?)
     }
 
-    /// The case of a section, if nothing is missing.
+    /// Returns the case of a section, if nothing is missing.
     fn case(self, section: &'a str) -> Option<Case<'a>> {
         Some(Case {
             section,
@@ -322,12 +322,12 @@ impl<'a> Draft<'a> {
     }
 }
 
-/// The event that a line says.
+/// Returns the event of a line.
 fn events_of_line(alloc: Global, line: &str) -> Result<Vec<Event>, LineError> {
     Ok(events(alloc, line.as_bytes())?)
 }
 
-/// What `yes` or `no` says.
+/// Returns what `yes` or `no` means.
 fn answer_to(text: &str) -> Result<bool, LineError> {
     match text {
         "yes" => Ok(true),
@@ -336,7 +336,7 @@ fn answer_to(text: &str) -> Result<bool, LineError> {
     }
 }
 
-/// Keeps what a line says. A case has at most one line for it.
+/// Stores the content of a line. A case has at most one line for it.
 fn once<T: Drop>(place: &mut Option<T>, value: T) -> Result<(), LineError> {
     match place.replace(value) {
         None => Ok(()),
@@ -344,7 +344,7 @@ fn once<T: Drop>(place: &mut Option<T>, value: T) -> Result<(), LineError> {
     }
 }
 
-/// Keeps what was read of a line, if it was read.
+/// Stores what was read from a line, if it was read.
 fn once_read<T: Drop>(place: &mut Option<T>, read: Result<T, LineError>) -> Result<(), LineError> {
     once(place, read?)
 }

@@ -3,7 +3,7 @@
 use crate::line::LineError;
 use std::alloc::Global;
 
-/// The bytes that a text between quotes says: `\n`, `\r`, `\t`, `\0`, `\\` and `\"` are one byte.
+/// Returns the bytes of a text between quotes: `\n`, `\r`, `\t`, `\0`, `\\` and `\"` are one byte.
 pub fn unquoted(alloc: Global, text: &str) -> Result<Vec<u8>, LineError> {
     match between_quotes(text) {
         Some(text) => unescaped(alloc, text),
@@ -11,12 +11,12 @@ pub fn unquoted(alloc: Global, text: &str) -> Result<Vec<u8>, LineError> {
     }
 }
 
-/// What stands between the quotes of a text.
+/// Returns the part of a text between its quotes.
 fn between_quotes(text: &str) -> Option<&str> {
     text.strip_prefix('"')?.strip_suffix('"')
 }
 
-/// The bytes that a text with escapes says.
+/// Returns the bytes of a text with escapes.
 fn unescaped(alloc: Global, text: &str) -> Result<Vec<u8>, LineError> {
     let mut bytes = Vec::new(alloc);
     let mut is_escape = false;
@@ -35,7 +35,7 @@ fn unescaped(alloc: Global, text: &str) -> Result<Vec<u8>, LineError> {
     }
 }
 
-/// The byte that a byte says which stands alone or, in an escape, after a backslash.
+/// Returns the byte that a byte stands for, alone or, in an escape, after a backslash.
 fn said(byte: u8, is_escape: bool) -> Option<u8> {
     match (byte, is_escape) {
         (b'"', false) => None,
@@ -44,7 +44,7 @@ fn said(byte: u8, is_escape: bool) -> Option<u8> {
     }
 }
 
-/// The byte that a letter after a backslash says.
+/// Returns the byte that a letter after a backslash stands for.
 fn escaped(letter: u8) -> Option<u8> {
     match letter {
         b'n' => Some(b'\n'),

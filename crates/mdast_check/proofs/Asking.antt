@@ -3,7 +3,7 @@ use Rattle.std.proofs.Common.{◌≡◌, ℕ, Bool, true, false, not, cond, List
 use Rattle.std.specs.Prelude.{option_map}
 use Rattle.std.specs.List.{cons_option, filter_map, list_any}
 use Rattle.std.specs.Str.{bytes_eq}
-use Rattle.positions.specs.declared.unist.Position.{Position}
+use Rattle.markdown_events.specs.declared.unist.Position.{Position}
 use Rattle.markdown_nodes.specs.declared.mdast.Node.{Node}
 use Rattle.markdown_nodes.specs.Access.{label_of, position_of}
 use Rattle.markdown_nodes.specs.Tree.{Tree}
@@ -11,7 +11,7 @@ use Rattle.markdown_nodes.specs.View.{view}
 use Rattle.markdown_nodes.proofs.Views.{view-is}
 use Rattle.mdast_check.specs.Asking.{IsKnown, answered, open_node, unless}
 use Rattle.mdast_check.specs.References.{Reference, answers, is_open, open_in, reference, refers_to}
-use Rattle.mdast_check.specs.Walk.{walk}
+use Rattle.markdown_nodes.specs.Walk.{walk}
 use Rattle.mdast_check.specs.declared.references.Known.{Known}
 use Rattle.mdast_check.specs.declared.references.OpenKind.{OpenKind}
 use Rattle.mdast_check.specs.declared.references.OpenKind.TheVariants.{Link, Image, Footnote}

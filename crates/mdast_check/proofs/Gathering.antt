@@ -12,7 +12,7 @@ use Rattle.markdown_nodes.specs.Access.{label_of}
 use Rattle.markdown_nodes.specs.Tree.{Label, Tree}
 use Rattle.markdown_nodes.specs.View.{view}
 use Rattle.mdast_check.specs.Known.{has, with_one}
-use Rattle.mdast_check.proofs.Steps.{label-is}
+use Rattle.markdown_nodes.proofs.WalkSteps.{label-is}
 
 cond_or : (test was : Bool) → cond test true was ≡ (test || was)
 cond_or true was = refl

@@ -1,4 +1,3 @@
-pub mod Steps
 pub mod Titling
 pub mod Gathering
 pub mod Asking

@@ -3,14 +3,14 @@ use Rattle.std.proofs.Common.{◌≡◌, ◌<◌, ℕ, Bool, true, false, List, 
 use Rattle.std.specs.Prelude.{OnOk, Result, Ok, Err}
 use Rattle.std.specs.Option.{option_to_list, unwrap_or}
 use Rattle.std.proofs.lemmas.List.{length-map, length-reverse, map-append, reverse-append}
-use Rattle.positions.specs.declared.unist.Position.{Position}
+use Rattle.markdown_events.specs.declared.unist.Position.{Position}
 use Rattle.markdown_nodes.specs.declared.mdast.Node.{Node}
 use Rattle.markdown_nodes.specs.Access.{label_of, nodes_in, position_of}
 use Rattle.markdown_nodes.specs.Tree.{Tree}
 use Rattle.markdown_nodes.specs.View.{view, views}
 use Rattle.markdown_nodes.proofs.Views.{view-is}
 use Rattle.mdast_check.specs.Surroundings.{StandAround, asked_of, finding_in, findings_in}
-use Rattle.mdast_check.specs.Walk.{walk}
+use Rattle.markdown_nodes.specs.Walk.{walk}
 use Rattle.mdast_check.specs.Warnings.{Around, Finding, Warned, around, findings, warned, warnings_after, warnings_at, warnings_of}
 use Rattle.mdast_check.specs.declared.warnings.Problem.{Problem}
 use Rattle.mdast_check.specs.declared.warnings.Warning.{Warning}
@@ -24,20 +24,6 @@ pub record WarnedSoFar (tree : Tree) (it : Surroundings) (texts : List Bool) (fo
   pub stand : StandAround it tree before
   pub read : reverse texts ≡ map has_text coming
   pub whole : map warned found ++ warnings_after tree before coming ≡ warnings_of tree
-
-pub warned_none : (tree : Tree) (it : Surroundings) (texts : List Bool) (coming : List Tree) → StandAround it tree [] → reverse texts ≡ map has_text (walk tree) → coming ≡ walk tree → WarnedSoFar tree it texts [] coming
-warned_none tree it texts coming stand read all = record {
-  before = [];
-  stand = stand;
-  read = read ∙ ap (λ (l : List Tree). map has_text l) (sym all);
-  whole = ap (λ (l : List Tree). warnings_after tree [] l) all;
-}
-
-pub warned_all : (tree : Tree) (it : Surroundings) (texts : List Bool) (found : List Warning) (coming : List Tree) → WarnedSoFar tree it texts found coming → coming ≡ [] → map warned found ≡ warnings_of tree
-warned_all tree it texts found coming so_far none =
-    sym (append-nil (map warned found))
-    ∙ ap (λ (l : List Tree). map warned found ++ warnings_after tree so_far.before l) (sym none)
-    ∙ so_far.whole
 
 -- the answer for the next node stands at the end
 pub some_left : (texts : List Bool) (coming after : List Tree) (node : Tree) (len : ℕ) → reverse texts ≡ map has_text coming → coming ≡ node ∷ after → len ≡ length texts → 0 < len

@@ -8,9 +8,9 @@ use Rattle.markdown_nodes.specs.declared.mdast.Node.{Node}
 use Rattle.markdown_nodes.specs.Access.{label_of, nodes_in}
 use Rattle.markdown_nodes.specs.Tree.{Label, Tree, Trees, label_text_of, node, nothing, only, plain_label}
 use Rattle.markdown_nodes.specs.View.{view, views}
-use Rattle.mdast_check.specs.Walk.{walk, walks}
+use Rattle.markdown_nodes.specs.Walk.{walk, walks}
 use Rattle.mdast_check.specs.Warnings.{have_text, is_empty}
-use Rattle.mdast_check.proofs.Steps.{children-are, label-is}
+use Rattle.markdown_nodes.proofs.WalkSteps.{children-are, label-is}
 
 -- the nodes of a list, each with what is in it
 abbrev pub trees_in : Trees → List Tree
@@ -127,17 +127,6 @@ pub record ReadSoFar (tree : Tree) (nodes : List (Bor Node)) (texts orphans : Li
   pub whole : map viewed nodes ++ done ≡ walk tree
   pub read : reverse texts ≡ map has_text done
   pub known : (left : List Tree) → Orphans done left → orphans ≡ reverse (map reads_as left)
-
-nothing_known : (left : List Tree) → left ≡ [] → [] ≡ reverse (map reads_as left)
-nothing_known left none = sym (ap (λ (l : List Tree). reverse (map reads_as l)) none)
-
-pub read_none : (tree : Tree) (nodes : List (Bor Node)) → map viewed nodes ≡ walk tree → ReadSoFar tree nodes [] []
-read_none tree nodes are = record {
-  done = [];
-  whole = append-nil (map viewed nodes) ∙ are;
-  read = refl;
-  known = nothing_known;
-}
 
 pub read_all : (tree : Tree) (nodes : List (Bor Node)) (texts orphans : List Bool) → ReadSoFar tree nodes texts orphans → nodes ≡ [] → reverse texts ≡ map has_text (walk tree)
 read_all tree nodes texts orphans so_far none =

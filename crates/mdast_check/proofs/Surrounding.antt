@@ -12,14 +12,14 @@ use Rattle.mdast_check.specs.Asking.{answered}
 use Rattle.mdast_check.specs.Known.{with_one}
 use Rattle.mdast_check.specs.Surroundings.{AreUses, StandAround, asked_of}
 use Rattle.mdast_check.specs.Titles.{depth_of}
-use Rattle.mdast_check.specs.Walk.{walk}
+use Rattle.markdown_nodes.specs.Walk.{walk}
 use Rattle.mdast_check.specs.Warnings.{around, first_depth, uses}
 use Rattle.mdast_check.specs.declared.references.Known.{Known}
 use Rattle.mdast_check.specs.declared.references.OpenKind.{OpenKind}
 use Rattle.mdast_check.specs.declared.references.OpenKind.TheVariants.{Link, Image, Footnote}
 use Rattle.mdast_check.specs.declared.warnings.around.Surroundings.{Surroundings}
 use Rattle.mdast_check.proofs.Asking.{answered-is}
-use Rattle.mdast_check.proofs.Steps.{label-is}
+use Rattle.markdown_nodes.proofs.WalkSteps.{label-is}
 
 -- what was gathered is what the nodes refer to
 used-is : (known : Known) (nodes : List Tree) → AreUses known nodes → (kind : OpenKind) (text : List ℕ) → answered known kind text ≡ list_any (bytes_eq text) (uses kind nodes)

@@ -6,7 +6,7 @@ use Rattle.markdown_nodes.specs.Access.{label_of}
 use Rattle.markdown_nodes.specs.Tree.{only, plain_text}
 use Rattle.markdown_nodes.specs.View.{view}
 use Rattle.mdast_check.specs.Titles.{Titled, depth_of, titled}
-use Rattle.mdast_check.proofs.Steps.{label-is}
+use Rattle.markdown_nodes.proofs.WalkSteps.{label-is}
 
 -- the title, as the depth decides
 titled-is : (node : Node) (found depth : Option ℕ) → found ≡ depth_of (label_of node) → found ≡ depth → titled (view node) ≡ option_map (λ (d : ℕ). record { depth = d; text = plain_text (only (view node)) }) depth

@@ -3,12 +3,12 @@ use Rattle.std.proofs.Common.{◌≡◌, ◌+◌, nat_lt, ℕ, Bool, true, false
 use Rattle.std.specs.Prelude.{option_map}
 use Rattle.std.specs.List.{cons_option, filter_map}
 use Rattle.std.proofs.lemmas.List.Elements.{filter_map-append}
-use Rattle.positions.specs.declared.unist.Position.{Position}
+use Rattle.markdown_events.specs.declared.unist.Position.{Position}
 use Rattle.markdown_nodes.specs.Tree.{Label, Tree, Trees, definition, footnote_definition, footnote_reference, heading, image, image_reference, link, link_reference}
 use Rattle.mdast_check.specs.Asking.{open_node, unless}
 use Rattle.mdast_check.specs.References.{Reference, open_in, refers_to}
 use Rattle.mdast_check.specs.Undefined.{undefined_in, undefined_of}
-use Rattle.mdast_check.specs.Walk.{walk}
+use Rattle.markdown_nodes.specs.Walk.{walk}
 use Rattle.mdast_check.specs.Warnings.{Around, Finding, around, definition_duplicate, definition_unused, findings, footnote_unused, have_text, heading_jump, image_without_alt, is_empty, jump_from, link_without_address, link_without_text, reference_undefined, warnings_after, warnings_at, warnings_of, when}
 use Rattle.mdast_check.specs.declared.references.OpenKind.{OpenKind}
 use Rattle.mdast_check.specs.declared.references.OpenKind.TheVariants.{Link, Image, Footnote}

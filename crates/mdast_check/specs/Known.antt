@@ -7,15 +7,15 @@ use Rattle.std.specs.Cmp.Lexicographic.{slice_cmp}
 use Rattle.std.specs.Ordering.{nat_cmp}
 use denote.Ref.{Bor}
 
--- whether a set has a text
+-- whether a set contains a text
 abbrev pub has : BTreeSet (Bor (List ℕ)) → List ℕ → Bool
 has set text = contains_by (λ other. slice_cmp nat_cmp text other.now) set
 
--- whether a text is the one that is added, if one is, or was there
+-- whether a text is in a set after one text, or none, was added; `was` says whether it was there before
 abbrev pub with_one : Option (Bor (List ℕ)) → List ℕ → Bool → Bool
 with_one None text was = was
 with_one (Some added) text was = bytes_eq text added.now || was
 
--- a set has the texts of a list, and no others
+-- a set contains the texts of a list, and no others
 abbrev pub HasAll : BTreeSet (Bor (List ℕ)) → List (List ℕ) → Type 0
 HasAll set texts = (text : List ℕ) → has set text ≡ list_any (bytes_eq text) texts

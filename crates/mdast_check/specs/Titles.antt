@@ -3,7 +3,7 @@ use Rattle.std.specs.Prelude.{ℕ, List, Option, Some, None, option_map, string_
 use Rattle.std.specs.List.{filter_map}
 use Rattle.markdown_nodes.specs.Tree.{Label, Tree, heading, only, plain_text}
 use Rattle.mdast_check.specs.declared.outline.Title.{Title}
-use Rattle.mdast_check.specs.Walk.{walk}
+use Rattle.markdown_nodes.specs.Walk.{walk}
 
 -- a heading: its depth and its plain text
 pub record Titled : Type 0 where
@@ -15,7 +15,7 @@ abbrev pub depth_of : Label → Option ℕ
 depth_of (heading depth) = Some depth
 depth_of _ = None
 
--- what a node says, where it is a heading
+-- a node as a heading, if it is one
 abbrev pub titled : Tree → Option Titled
 titled tree = option_map (λ depth. record { depth = depth; text = plain_text (only tree) }) (depth_of tree.label)
 
@@ -23,6 +23,6 @@ titled tree = option_map (λ depth. record { depth = depth; text = plain_text (o
 abbrev pub titles : Tree → List Titled
 titles tree = filter_map titled (walk tree)
 
--- what a `Title` says
+-- a `Title` as a heading
 abbrev pub said : Title → Titled
 said title = record { depth = title.depth; text = string_bytes title.text }

@@ -1,4 +1,4 @@
-//! Laws of the definitions, each the contract of a function that takes and gives nothing.
+//! Laws of the definitions. Each is the contract of a function that takes and returns nothing.
 
 ghost use Rattle.std.specs.Prelude.{◌≡◌};
 ghost use Rattle.std.specs.List.{filter_map};
@@ -7,7 +7,7 @@ ghost use Rattle.mdast_check.specs.References.{open_in};
 ghost use Rattle.mdast_check.specs.Undefined.{undefined_in};
 ghost use Rattle.mdast_check.specs.Warnings.{warnings_of};
 
-/// The references that are undefined, as [`warnings`](crate::warnings::warnings) tells them, are those that
+/// The references that [`warnings`](crate::warnings::warnings) reports as undefined are those that
 /// [`open_references`](crate::references::open_references) finds.
 ///
 /// For a root of a LinkReference `a` both are that one, whether it has text or not.

@@ -5,25 +5,26 @@ ghost use Rattle.markdown_nodes.specs.Access.{label_of};
 ghost use Rattle.markdown_nodes.specs.View.{view};
 ghost use Rattle.mdast_check.specs.Titles.{depth_of, said, titled, titles};
 
-use crate::walk::Walk;
 use markdown_nodes::mdast::Node;
+use markdown_nodes::walk::Walk;
 use std::alloc::{AllocError, Global};
 
 /// A heading of a document.
 #[derive(Debug, PartialEq, Eq, Drop)]
 pub struct Title {
-    /// Its depth: 1 for the highest in markdown, 6 for the lowest; in a tree made by hand any number.
+    /// Its depth: 1 for the highest in markdown, 6 for the lowest. In a tree made by hand it may be
+    /// any number.
     pub depth: u8,
-    /// Its plain text, as [`Node::to_string`] gives it.
+    /// Its plain text (see [`Node::to_string`]).
     pub text: String,
 }
 
-/// The headings of a tree in its order, also those in other nodes, as in a block quote.
+/// Returns the headings of a tree in order, including those in other nodes, such as a block quote.
 ///
-/// The only error is that memory ran out. What a heading is, and its depth, are mdast's; what its text
-/// is, [`Node::to_string`] says.
+/// The only error is that memory ran out. Headings and their depths are mdast's;
+/// [`Node::to_string`] defines their text.
 ///
-/// The tree of `# Hi *Earth*!` gives one title, of the depth 1 and the text `Hi Earth!`.
+/// The tree of `# Hi *Earth*!` has one title, with the depth 1 and the text `Hi Earth!`.
 pub fn headings(alloc: Global, tree: &Node) -> Result<Vec<Title>, AllocError>
     ensures { IfOk result (λ found. map said found.items ≡ titles (view tree.now)) }
 {
@@ -37,7 +38,7 @@ pub fn headings(alloc: Global, tree: &Node) -> Result<Vec<Title>, AllocError>
     Ok(found)
 }
 
-/// What a node says, where it is a heading.
+/// Returns the title of a node, if it is a heading.
 fn title_of(alloc: Global, node: &Node) -> Result<Option<Title>, AllocError>
     ensures { IfOk result (λ title. option_map said title ≡ titled (view node.now)) }
 {
@@ -48,7 +49,7 @@ fn title_of(alloc: Global, node: &Node) -> Result<Option<Title>, AllocError>
     Ok(Some(Title { depth, text }))
 }
 
-/// The depth of a heading, and `None` for any other node.
+/// Returns the depth of a heading, and `None` for any other node.
 ///
 /// The node of `## a` has the depth 2.
 pub fn depth(node: &Node) -> Option<u8>

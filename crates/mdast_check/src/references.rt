@@ -3,23 +3,23 @@
 ghost use Rattle.std.specs.Prelude.{◌≡◌, ℕ, List, IfOk, OnOk, map, option_map};
 ghost use Rattle.markdown_nodes.specs.Access.{label_of};
 ghost use Rattle.markdown_nodes.specs.View.{view};
-ghost use Rattle.mdast_check.specs.Walk.{walk};
+ghost use Rattle.markdown_nodes.specs.Walk.{walk};
 ghost use Rattle.mdast_check.specs.Known.{has, with_one};
 ghost use Rattle.mdast_check.specs.References.{definition_identifier_of, footnote_identifier_of, open_in, refers_to, told};
 ghost use Rattle.mdast_check.specs.Asking.{IsKnown, answered, open_node};
 
-use crate::walk::Walk;
 use markdown_nodes::mdast::Node;
 use markdown_nodes::unist::Position;
+use markdown_nodes::walk::Walk;
 use std::alloc::{AllocError, Global};
 use std::collections::BTreeSet;
 
 /// What a reference refers to.
 #[derive(Clone, Copy, PartialEq, Eq, Debug)]
 pub enum OpenKind {
-    /// A link, `[a]`, which takes its URL from a definition.
+    /// A link, `[a]`, whose URL is in a definition.
     Link,
-    /// An image, `![a]`, which takes its URL from a definition.
+    /// An image, `![a]`, whose URL is in a definition.
     Image,
     /// A footnote, `[^a]`.
     Footnote,
@@ -32,23 +32,23 @@ pub struct Open {
     pub kind: OpenKind,
     /// The identifier that no definition has.
     pub identifier: String,
-    /// Where the reference stands, and `None` where its node has no position. Lines and columns count
-    /// from 1; an offset counts bytes from 0.
+    /// Where the reference is, and `None` if its node has no position. Lines and columns count from
+    /// 1; an offset counts bytes from 0.
     pub position: Option<Position>,
 }
 
-/// The references of a tree that no definition in it answers, in the order of the tree.
+/// Returns the references of a tree that no definition in it answers, in the order of the tree.
 ///
 /// A link or an image by reference needs a Definition with its identifier, and a reference to a
-/// footnote a FootnoteDefinition; it may stand anywhere in the tree, also after the reference. Each
-/// open reference is listed: two to one missing identifier give two. Identifiers are compared byte by
-/// byte, since those of mdast are normalized already.
+/// footnote needs a FootnoteDefinition. The definition may be anywhere in the tree, also after the
+/// reference. Each open reference is listed: two references to one missing identifier make two
+/// entries. Identifiers are compared byte by byte, since those of mdast are already normalized.
 ///
-/// That a reference needs a definition whose label matches is CommonMark's rule, and for footnotes
-/// GitHub's. The tree of a tokenizer that keeps it has no open references; one that was edited, or put
-/// together from parts, may have some. The only error is that memory ran out.
+/// That a reference needs a definition with a matching label is CommonMark's rule, and for
+/// footnotes GitHub's. The tree of a tokenizer that follows it has no open references; a tree that
+/// was edited, or put together from parts, may have some. The only error is that memory ran out.
 ///
-/// A root of a LinkReference `a`, a FootnoteReference `c` and then a Definition `a` gives one: a
+/// A root of a LinkReference `a`, a FootnoteReference `c` and then a Definition `a` has one: a
 /// Footnote, with the identifier `c` and the position of that node.
 pub fn open_references(alloc: Global, tree: &Node) -> Result<Vec<Open>, AllocError>
     ensures { IfOk result (λ found. map told found.items ≡ open_in (view tree.now)) }
@@ -64,7 +64,7 @@ pub fn open_references(alloc: Global, tree: &Node) -> Result<Vec<Open>, AllocErr
     Ok(found)
 }
 
-/// Identifiers of definitions and of footnotes, as those that a tree defines.
+/// Identifiers of definitions and of footnotes, such as those that a tree defines.
 #[derive(Drop)]
 pub(crate) struct Known<'a> {
     /// Those of Definitions, which links and images refer to.
@@ -73,7 +73,7 @@ pub(crate) struct Known<'a> {
     pub footnotes: BTreeSet<&'a str>,
 }
 
-/// The identifiers that a tree defines, in one pass over it.
+/// Returns the identifiers that a tree defines, in one pass over it.
 pub(crate) fn known_in<'a>(alloc: Global, tree: &'a Node) -> Result<Known<'a>, AllocError>
     ensures { IfOk result (λ known. IsKnown known (walk (view tree.now))) }
 {
@@ -90,7 +90,7 @@ pub(crate) fn known_in<'a>(alloc: Global, tree: &'a Node) -> Result<Known<'a>, A
     })
 }
 
-/// Puts a text, where there is one, into a set.
+/// Adds a text, if there is one, to a set.
 pub(crate) fn put<'a>(set: &mut BTreeSet<&'a str>, text: Option<&'a str>) -> Result<(), AllocError>
     ensures { OnOk result ((other : List ℕ) → has set.new other ≡ with_one text.entry other (has set.old other)) }
 {
@@ -100,7 +100,7 @@ pub(crate) fn put<'a>(set: &mut BTreeSet<&'a str>, text: Option<&'a str>) -> Res
     Ok(())
 }
 
-/// The identifier that a definition defines, and `None` for any other node.
+/// Returns the identifier that a definition defines, and `None` for any other node.
 pub(crate) fn definition_identifier(node: &Node) -> Option<&str>
     ensures { option_map (λ text. text.now) result ≡ definition_identifier_of (label_of node.now) }
 {
@@ -110,7 +110,7 @@ pub(crate) fn definition_identifier(node: &Node) -> Option<&str>
     }
 }
 
-/// The identifier that a footnote definition defines, and `None` for any other node.
+/// Returns the identifier that a footnote definition defines, and `None` for any other node.
 pub(crate) fn footnote_identifier(node: &Node) -> Option<&str>
     ensures { option_map (λ text. text.now) result ≡ footnote_identifier_of (label_of node.now) }
 {
@@ -120,7 +120,7 @@ pub(crate) fn footnote_identifier(node: &Node) -> Option<&str>
     }
 }
 
-/// A node, where it is a reference that is not known.
+/// Returns the open reference of a node, if it is a reference that is not known.
 fn open_at<'a>(alloc: Global, node: &'a Node, known: &Known<'a>) -> Result<Option<Open>, AllocError>
     ensures { IfOk result (λ found. option_map told found ≡ open_node (answered known.now) (view node.now)) }
 {
@@ -139,7 +139,7 @@ fn open_at<'a>(alloc: Global, node: &'a Node, known: &Known<'a>) -> Result<Optio
     }))
 }
 
-/// The kind and the identifier of a reference, and `None` for any other node.
+/// Returns the kind and the identifier of a reference, and `None` for any other node.
 fn refers(node: &Node) -> Option<(OpenKind, &str)>
     ensures { option_map (λ to. (to.0, to.1.now)) result ≡ refers_to (label_of node.now) }
 {
@@ -151,7 +151,7 @@ fn refers(node: &Node) -> Option<(OpenKind, &str)>
     }
 }
 
-/// Whether an identifier is known, to which a reference of a kind refers.
+/// Whether the identifier of a reference of this kind is known.
 pub(crate) fn is_known<'a>(known: &Known<'a>, kind: OpenKind, identifier: &'a str) -> bool
     ensures { result ≡ answered known.now kind identifier.now }
 {

@@ -1,7 +1,7 @@
-//! What is found in a tree, as lines of text.
+//! The headings and open references of a tree, as lines of text.
 
 ghost use Rattle.std.specs.Prelude.{◌≡◌, ◌++◌, ◌↔◌, [], IfOk, IsFalse, OnOk, map, string_bytes};
-ghost use Rattle.quoted.specs.Quoted.{members};
+ghost use Rattle.markdown_kinds.specs.Quoted.{members};
 ghost use Rattle.markdown_nodes.specs.View.{view};
 ghost use Rattle.mdast_check.specs.References.{open_in, told};
 ghost use Rattle.mdast_check.specs.Report.{
@@ -22,7 +22,7 @@ use markdown_nodes::unist::Position;
 use std::alloc::{AllocError, Global};
 use std::collections::BTreeSet;
 
-/// What is found in a tree.
+/// The headings and open references of a tree, as text.
 #[derive(Debug, PartialEq, Eq, Drop)]
 pub struct Report {
     /// A line for each heading, and then one for each open reference.
@@ -31,13 +31,13 @@ pub struct Report {
     pub is_open: bool,
 }
 
-/// The headings and the open references of a tree, a line each.
+/// Returns the headings and the open references of a tree, one on each line.
 ///
 /// The lines are `heading DEPTH TEXT` and `open KIND IDENTIFIER POSITION`. The kinds are `link`,
-/// `image` and `footnote`. The text and the identifier stand between quotes, as `{:?}` writes them,
-/// the position as in `2:1-2:5 (4-8)`: lines and columns from 1, and bytes from 0. Where a reference
-/// has no position, its line ends after the identifier. The only error is that memory ran out. The
-/// form of the lines is ours.
+/// `image` and `footnote`. The text and the identifier are between quotes, as `{:?}` writes them.
+/// The position is written as `2:1-2:5 (4-8)`: lines and columns from 1, and bytes from 0. If a
+/// reference has no position, its line ends after the identifier. The only error is that memory ran
+/// out. The form of the lines is ours.
 ///
 /// For a heading of depth 1 with the text `Hi` the text is `heading 1 "Hi"` and a line feed.
 pub fn report_of(alloc: Global, tree: &Node) -> Result<Report, AllocError>
@@ -84,7 +84,7 @@ fn add_open(
     Ok(())
 }
 
-/// The line of a heading.
+/// Returns the line of a heading.
 fn title_line(title: &Title, escapes: &BTreeSet<char>, alloc: Global) -> Result<String, AllocError>
     ensures { IfOk result (λ line. string_bytes line ≡ heading_line (members escapes.now) (said title.now)) }
 {
@@ -95,7 +95,7 @@ fn title_line(title: &Title, escapes: &BTreeSet<char>, alloc: Global) -> Result<
     Ok(line)
 }
 
-/// The line of an open reference.
+/// Returns the line of an open reference.
 fn reference_line(it: &Open, escapes: &BTreeSet<char>, alloc: Global) -> Result<String, AllocError>
     ensures { IfOk result (λ line. string_bytes line ≡ open_line (members escapes.now) (told it.now)) }
 {
@@ -105,7 +105,7 @@ fn reference_line(it: &Open, escapes: &BTreeSet<char>, alloc: Global) -> Result<
     format!(in alloc; "open {kind} {identifier}{place}\n")
 }
 
-/// A space and a position, where there is one.
+/// Returns a space and a position, if there is one.
 fn place(position: Option<Position>, alloc: Global) -> Result<String, AllocError>
     ensures { IfOk result (λ text. string_bytes text ≡ place_text position) }
 {
@@ -115,7 +115,7 @@ fn place(position: Option<Position>, alloc: Global) -> Result<String, AllocError
     }
 }
 
-/// The word for a kind.
+/// Returns the word for a kind.
 pub(crate) fn kind_word(kind: OpenKind) -> &'static str
     ensures { result.now ≡ kind_text kind }
 {

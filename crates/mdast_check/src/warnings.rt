@@ -1,4 +1,4 @@
-//! What is wrong in a tree, as a linter tells it.
+//! What is wrong in a tree, as a linter reports it.
 
 ghost use Rattle.std.specs.Prelude.{◌≡◌, ◌++◌, IfOk, OnOk, map};
 ghost use Rattle.markdown_nodes.specs.View.{view};
@@ -11,38 +11,37 @@ mod rules;
 mod text;
 
 use crate::references::OpenKind;
-use crate::walk::Walk;
 use around::Surroundings;
 use markdown_nodes::mdast::Node;
 use markdown_nodes::unist::Position;
+use markdown_nodes::walk::Walk;
 use rules::problems;
 use std::alloc::{AllocError, Global};
 use text::texts_in;
 
-/// What is wrong with a node. `Display` writes it as a sentence for people; [`rule`](Problem::rule) gives
-/// the rule that is violated, an identifier for programs.
+/// What is wrong with a node. `Display` writes it as a sentence for people; [`rule`](Problem::rule)
+/// returns the rule that is violated, an identifier for programs.
 ///
-/// `Problem::HeadingJump { before: 1, depth: 3 }` is written as `heading of depth 3 after one of depth 1`,
-/// and its rule is `heading-jump`.
+/// `Problem::HeadingJump { before: 1, depth: 3 }` is written as
+/// `heading of depth 3 after one of depth 1`, and its rule is `heading-jump`.
 #[derive(Debug, PartialEq, Eq, Drop)]
 pub enum Problem {
-    /// A heading whose depth is greater by more than one than that of the heading before it, if there is
-    /// one.
+    /// A heading that is more than one deeper than the heading before it, if there is one.
     HeadingJump {
         /// The depth of the heading before.
         before: u8,
         /// The depth of the heading.
         depth: u8,
     },
-    /// A reference that no definition in the tree answers, as
-    /// [`open_references`](crate::references::open_references) finds it.
+    /// A reference that no definition in the tree answers (see
+    /// [`open_references`](crate::references::open_references)).
     ReferenceUndefined {
         /// What it refers to.
         kind: OpenKind,
         /// The identifier that no definition has.
         identifier: String,
     },
-    /// A Definition to which no link and no image in the tree refers.
+    /// A Definition that no link and no image in the tree refers to.
     DefinitionUnused {
         /// Its identifier.
         identifier: String,
@@ -60,40 +59,41 @@ pub enum Problem {
     },
     /// A Link with an empty URL.
     LinkWithoutAddress,
-    /// A Link, with a URL that is not empty, or a LinkReference, that has no text in it: no literal with a
-    /// value, and no image with an alternative text.
+    /// A Link with a URL that is not empty, or a LinkReference, that has no text in it: no literal
+    /// with a value, and no image with an alternative text.
     LinkWithoutText,
     /// An Image or an ImageReference with an empty alternative text.
     ImageWithoutAlt,
 }
 
-/// Something wrong with a node of a tree. `Display` writes it as `line:column: warning: reason (rule)`,
-/// where the reason is the sentence of the problem and the place is where the node starts. Where the node
-/// has no position, it begins with `warning`.
+/// Something wrong with a node of a tree. `Display` writes it as
+/// `line:column: warning: reason (rule)`, where the reason is the sentence of the problem and the
+/// place is where the node starts. If the node has no position, the text begins with `warning`.
 ///
-/// For a heading of depth 3 that starts at the first column of line 3, after one of depth 1, that is
-/// `3:1: warning: heading of depth 3 after one of depth 1 (heading-jump)`.
+/// For a heading of depth 3 that starts at the first column of line 3, after one of depth 1, the
+/// text is `3:1: warning: heading of depth 3 after one of depth 1 (heading-jump)`.
 #[derive(Debug, PartialEq, Eq, Drop)]
 pub struct Warning {
     /// What is wrong.
     pub problem: Problem,
-    /// Where the node stands, and `None` where it has no position. Lines and columns count from 1; an
+    /// Where the node is, and `None` if it has no position. Lines and columns count from 1; an
     /// offset counts bytes from 0.
     pub position: Option<Position>,
 }
 
-/// What is wrong in a tree, in the order of its nodes, and for one node in the order of [`Problem`].
+/// Returns what is wrong in a tree, in the order of its nodes, and for one node in the order of
+/// [`Problem`].
 ///
-/// The variants of `Problem` say when each warning comes. That a reference needs a definition, and that
-/// the first of two definitions counts, are rules of CommonMark and, for footnotes, of GitHub. The others
-/// are customs: linters of markdown have rules like these, and their names here are ours. Identifiers are
-/// compared byte by byte, since those of mdast are normalized already.
+/// The variants of `Problem` say when each warning occurs. That a reference needs a definition, and
+/// that the first of two definitions counts, are rules of CommonMark and, for footnotes, of GitHub.
+/// The others are conventions: linters of markdown have rules like these, and their names here are
+/// ours. Identifiers are compared byte by byte, since those of mdast are already normalized.
 ///
-/// The only error is that memory ran out. Time and memory are linear in the tree, but for the look-ups of
-/// identifiers.
+/// The only error is that memory ran out. Time and memory are linear in the size of the tree,
+/// except for the look-ups of identifiers.
 ///
-/// A root of a Heading of depth 1 and then one of depth 3 gives one warning: a `HeadingJump`, with the
-/// position of the second.
+/// A root of a Heading of depth 1 and then one of depth 3 has one warning: a `HeadingJump`, with
+/// the position of the second.
 pub fn warnings(alloc: Global, tree: &Node) -> Result<Vec<Warning>, AllocError>
     ensures { IfOk result (λ found. map warned found.items ≡ warnings_of (view tree.now)) }
 {
@@ -109,7 +109,7 @@ pub fn warnings(alloc: Global, tree: &Node) -> Result<Vec<Warning>, AllocError>
     Ok(found)
 }
 
-/// Adds what is wrong with a node, of which is known whether there is text in its children.
+/// Adds what is wrong with a node, given whether there is text in its children.
 fn add_warnings<'a>(
     alloc: Global,
     node: &'a Node,
@@ -126,7 +126,7 @@ fn add_warnings<'a>(
     add(found, position, second)
 }
 
-/// Adds a problem, where there is one, of a node that stands at a position.
+/// Adds a problem, if there is one, of a node at a position.
 fn add(
     found: &mut Vec<Warning>,
     position: Option<Position>,

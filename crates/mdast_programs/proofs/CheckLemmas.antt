@@ -3,7 +3,7 @@ use Rattle.std.proofs.Common.{◌≡◌, ℕ, List, [], ◌∷◌, Option, Some,
 use Rattle.std.specs.Prelude.{IfSome, IsSomeAnd, ◌≢◌, ◌⊎◌}
 use Rattle.std.specs.Io.KnownBytes.{Appends}
 use Rattle.markdown_events.specs.declared.event.Event.{Event}
-use Rattle.positions.specs.declared.message.Message.{Message}
+use Rattle.markdown_events.specs.declared.message.Message.{Message}
 use Rattle.markdown_nodes.specs.View.{view}
 use Rattle.markdown_nodes.specs.declared.mdast.Node.{Node}
 use Rattle.markdown_grammar.specs.Correct.{IsMeaning, Refuses}

@@ -1,2 +1,3 @@
+mod OutcomeLemmas
 mod RunLemmas
 pub mod CheckLemmas

@@ -1,10 +1,10 @@
--- What a run says.
+-- The output of a run.
 use Rattle.std.specs.Prelude.{◌≡◌, ℕ, Bool, List, ◌++◌, Option, IfSome, IsSomeAnd, codes, ⊤}
 use Rattle.std.specs.Fmt.{decimal}
 use Rattle.std.specs.Io.KnownBytes.{IsAtEnd}
 use Rattle.markdown_events.specs.declared.event.Event.{Event}
-use Rattle.positions.specs.declared.message.Message.{Message}
-use Rattle.positions.specs.Messages.{message_text}
+use Rattle.markdown_events.specs.declared.message.Message.{Message}
+use Rattle.markdown_events.specs.Messages.{message_text}
 use Rattle.markdown_nodes.specs.declared.mdast.Node.{Node}
 use Rattle.markdown_nodes.specs.Shown.{shown}
 use Rattle.markdown_nodes.specs.Tree.{Tree}
@@ -20,18 +20,18 @@ use Rattle.event_lines.specs.Lines.{lines, IsFirstUnread}
 abbrev pub over : List ℕ → Source
 over doc = source doc decoded
 
--- what an answer of the compiler says of events
+-- an answer of the compiler is right for events: their tree, or a message that refuses them
 abbrev pub IsCompiled : Answer → List Event → List ℕ → Type 0
 IsCompiled (answers.Tree tree) events doc = IsMeaning tree events (over doc)
 IsCompiled (answers.Refused message) events doc = Refuses message events (over doc)
 IsCompiled (answers.UnreadLine number) events doc = ⊥
 IsCompiled answers.UnreadEvents events doc = ⊥
 
--- a tree is the meaning of the list that known bytes stand for
+-- a tree is the meaning of the events that the known bytes say
 abbrev pub Means : Option (List ℕ) → List ℕ → Node → Type 0
 Means known doc tree = IfSome known (λ all. IsSomeAnd (lines all) (λ events. IsMeaning tree events (over doc)))
 
--- what an answer says of an input with these known bytes, of which these are left
+-- an answer is right for an input with these known bytes, of which these are left
 abbrev pub IsAnswer : Answer → Option (List ℕ) → Option (List ℕ) → List ℕ → Type 0
 IsAnswer (answers.Tree tree) known left doc = IsAtEnd left × Means known doc tree
 IsAnswer (answers.Refused message) known left doc = IsAtEnd left × IfSome known (λ all. IsSomeAnd (lines all) (λ events. Refuses message events (over doc)))
@@ -40,17 +40,18 @@ IsAnswer answers.UnreadEvents known left doc = ⊤
 
 -- ---- The lines that are written
 
--- `line:column (offset): reason (rule_id)`, and a line feed
+-- `line:column (offset): reason (rule_id)`, and an LF
 abbrev pub message_line : Message → List ℕ
 message_line m = message_text m ++ codes "\n"
 
--- the list that known bytes stand for is refused, and the line of a message that says why is one that `Said` holds of
+-- the events that the known bytes say are refused, and `Said` holds of the line of a message that says why
 abbrev pub IsRefusedWith : Option (List ℕ) → List ℕ → (List ℕ → Type 0) → Type 0
 IsRefusedWith known doc Said =
     IfSome known (λ all. IsSomeAnd (lines all) (λ events.
     (message : Message) × Refuses message events (over doc) × Said (message_line message)))
 
--- the line of a tree: its text as Debug writes it, and a line feed; which characters beyond ASCII stand as their Unicode escape is left open
+-- the line of a tree: its text as Debug writes it, and an LF; it is left open which characters beyond ASCII are written
+-- as Unicode escapes
 abbrev pub IsLineOf : Tree → List ℕ → Type 0
 IsLineOf tree line = (escapes : ℕ → Bool) × (line ≡ shown escapes tree ++ codes "\n")
 

@@ -2,17 +2,17 @@
 
 ghost use Rattle.std.specs.Prelude.{◌≡◌, ◌≤◌, List, ℕ, IfOk, IfSome, IsSome, string_bytes};
 ghost use Rattle.std.specs.Io.KnownBytes.{IsAtEnd, Appends};
-ghost use Rattle.command_line.specs.Programs.{memory_line};
+ghost use Rattle.mdast_programs.specs.Programs.{memory_line};
 ghost use Rattle.markdown_nodes.specs.declared.mdast.Node.{Node};
 ghost use Rattle.mdast_programs.specs.Run;
 ghost use Rattle.mdast_programs.specs.Run.{IsAnswer, IsCompiled, IsLineOf, IsRefusedWith, Means, Prints, status_of};
 ghost use Rattle.mdast_programs.specs.declared.run.Answer.TheVariants as answers;
 ghost use Rattle.markdown_nodes.specs.View.{view};
 
+use crate::input::{ReadError, read_all};
+use crate::output::say;
+use crate::program::{OUT_OF_MEMORY, UNREADABLE_EVENTS};
 use character_references::decoder::Decoder;
-use command_line::input::{ReadError, read_all};
-use command_line::output::say;
-use command_line::program::{OUT_OF_MEMORY, UNREADABLE_EVENTS};
 use event_lines::lines::{LinesError, events};
 use markdown_nodes::event::Event;
 use markdown_nodes::mdast::Node;
@@ -22,7 +22,7 @@ use std::alloc::{AllocError, Global};
 use std::io::{Read, Write};
 use std::mem;
 
-/// What a run comes to, if memory does not run out.
+/// The result of a run, if memory does not run out.
 #[derive(Debug, Drop)]
 pub enum Answer {
     /// The tree that the events stand for.
@@ -31,13 +31,13 @@ pub enum Answer {
     Refused(Message),
     /// This line of the events, counted from 1, cannot be read.
     UnreadLine(usize),
-    /// The events cannot be read: a read failed, or none of those that
-    /// [`read_all`](command_line::input::read_all) makes met the end.
+    /// The events cannot be read: a read failed, or none of the reads of
+    /// [`read_all`](crate::input::read_all) reached the end.
     UnreadEvents,
 }
 
 impl Answer {
-    /// The exit status of the program.
+    /// Returns the exit status of the program.
     pub fn status(&self) -> u8
         ensures { result ≡ status_of self.now }
     {
@@ -48,7 +48,7 @@ impl Answer {
         }
     }
 
-    /// What the program prints.
+    /// Returns what the program prints.
     pub fn line(&self, alloc: Global) -> Result<String, AllocError>
         ensures { IfOk result (λ line. Prints self.now (string_bytes line)) }
     {
@@ -61,20 +61,20 @@ impl Answer {
     }
 }
 
-/// What a run came to.
+/// The outcome of a run.
 #[derive(Debug, Drop)]
-pub struct Outcome {
+pub struct RunOutcome {
     /// The exit status.
     pub status: u8,
     /// The answer, if memory did not run out before there was one.
     pub answer: Option<Answer>,
 }
 
-impl Outcome {
-    /// Gives the exit status, and forgets the answer: the tree is not given back node by node.
+impl RunOutcome {
+    /// Returns the exit status, and forgets the answer: the tree is not freed node by node.
     ///
     /// It is for the last step of a program, whose memory ends with it. In `main`,
-    /// `run_whole(..).forget()` is 0 where a tree was printed.
+    /// `run_whole(..).forget()` is 0 if a tree was printed.
     pub fn forget(self) -> u8
         ensures { result ≡ self.status }
     {
@@ -84,27 +84,27 @@ impl Outcome {
     }
 }
 
-/// Prints the tree that the events in `input` stand for over the bytes of a document, or what is
-/// wrong, and gives the exit status.
+/// Prints the tree of a document and the events in `input`, or what is wrong. Returns the exit
+/// status.
 ///
-/// The status is 0 for a tree, 1 where the events are refused, 2 where they cannot be read or the
-/// line cannot be written, and 3 where memory ran out. What the contract says of the bytes of `input`
-/// and `output` it says where their types name them, as a slice and a `Vec` do.
+/// The status is 0 for a tree, 1 if the events are refused, 2 if they cannot be read or the line
+/// cannot be written, and 3 if memory ran out. The contract describes the bytes of `input` and
+/// `output` only where their types name them, as a slice and a `Vec` do.
 ///
-/// Over the document `Hi` and the four event lines of a paragraph with one data span it prints the line
-/// of a root with a paragraph with a text, and gives 0.
+/// Over the document `Hi` and the four event lines of a paragraph with one data span it prints the
+/// line of a root with a paragraph with a text, and returns 0.
 pub fn run<I: Read, O: Write>(alloc: Global, doc: &[u8], input: &mut I, output: &mut O) -> u8
     ensures bound { result ≤ 3 }
 
     // The events were read to their end.
     ensures end { result ≤ 1 → IsAtEnd (I.remaining input.new) }
 
-    // They are events with a tree, and what is written is the line of that tree.
+    // The events have a tree, and its line is written.
     ensures tree { result ≡ 0 → (tree : Node) × Means (I.remaining input.old) doc.now tree
         × ((line : List ℕ) × IsLineOf (view tree) line
         × Appends (O.contents output.old) (O.contents output.new) line) }
 
-    // They are events without one, and a message of the compiler is written.
+    // The events have no tree, and a message of the compiler is written.
     ensures refused { result ≡ 1
         → IsRefusedWith (I.remaining input.old) doc.now (Appends (O.contents output.old) (O.contents output.new)) }
 
@@ -114,19 +114,19 @@ pub fn run<I: Read, O: Write>(alloc: Global, doc: &[u8], input: &mut I, output: 
     run_whole(alloc, doc, input, output).status
 }
 
-/// Does what [`run`] does, and hands the answer back.
+/// Does what [`run`] does, and also returns the answer.
 ///
-/// A library lets the outcome go, and the tree is dropped. A program that ends here may
-/// [`forget`](Outcome::forget) it.
+/// A library drops the outcome, and with it the tree. A program that ends here may
+/// [`forget`](RunOutcome::forget) it.
 ///
-/// Over the document `Hi` and the four event lines of a paragraph with one data span the status is 0, and
-/// the answer a root.
+/// Over the document `Hi` and the four event lines of a paragraph with one data span the status is
+/// 0, and the answer a root.
 pub fn run_whole<I: Read, O: Write>(
     alloc: Global,
     doc: &[u8],
     input: &mut I,
     output: &mut O,
-) -> Outcome
+) -> RunOutcome
     ensures bound { result.status ≤ 3 }
     ensures end { result.status ≤ 1 → IsAtEnd (I.remaining input.new) }
     ensures tree { result.status ≡ 0 → (tree : Node) × Means (I.remaining input.old) doc.now tree
@@ -136,13 +136,13 @@ pub fn run_whole<I: Read, O: Write>(
         → IsRefusedWith (I.remaining input.old) doc.now (Appends (O.contents output.old) (O.contents output.new)) }
     ensures memory { result.status ≡ 3 → Appends (O.contents output.old) (O.contents output.new) memory_line }
 
-    // The answer is one of the events, and there is one where a tree or a refusal was written.
+    // The answer is the one for the events, and it is present if a tree or a refusal was written.
     ensures answer { IfSome result.answer (λ answer. IsAnswer answer (I.remaining input.old) (I.remaining input.new) doc.now) }
     ensures answered { result.status ≤ 1 → IsSome result.answer }
 {
     let Ok(answer) = answer_to(alloc, doc, input) else {
         let status = say(output, OUT_OF_MEMORY, 3);
-        return Outcome {
+        return RunOutcome {
             status,
             answer: None,
         };
@@ -151,13 +151,13 @@ pub fn run_whole<I: Read, O: Write>(
         Ok(line) => say(output, line.as_str(), answer.status()),
         Err(_) => say(output, OUT_OF_MEMORY, 3),
     };
-    Outcome {
+    RunOutcome {
         status,
         answer: Some(answer),
     }
 }
 
-/// What the events come to.
+/// Returns the answer for the events.
 pub fn answer_to<I: Read>(alloc: Global, doc: &[u8], input: &mut I) -> Result<Answer, AllocError>
     ensures { IfOk result (λ answer. IsAnswer answer (I.remaining input.old) (I.remaining input.new) doc.now) }
 {
@@ -171,12 +171,12 @@ pub fn answer_to<I: Read>(alloc: Global, doc: &[u8], input: &mut I) -> Result<An
         Err(LinesError::Unread(number)) => return Ok(Answer::UnreadLine(number)),
         Err(LinesError::Memory(error)) => return Err(error),
     };
-    // The tree needs the events and not their lines.
+    // The tree needs the events but not their lines.
     drop(text);
     compiled(alloc, &events, doc)
 }
 
-/// What the compiler says of the events.
+/// Returns the answer of the compiler for the events.
 fn compiled(alloc: Global, events: &[Event], doc: &[u8]) -> Result<Answer, AllocError>
     ensures { IfOk result (λ answer. IsCompiled answer events.now doc.now) }
 {
@@ -187,7 +187,7 @@ fn compiled(alloc: Global, events: &[Event], doc: &[u8]) -> Result<Answer, Alloc
     }
 }
 
-/// The line of a tree: its text as Debug writes it, and a line feed.
+/// Returns the line of a tree: its text as Debug writes it, and a line feed.
 fn tree_line(alloc: Global, tree: &Node) -> Result<String, AllocError>
     ensures { IfOk result (λ line. IsLineOf (view tree.now) (string_bytes line)) }
 {
@@ -196,7 +196,7 @@ fn tree_line(alloc: Global, tree: &Node) -> Result<String, AllocError>
     Ok(line)
 }
 
-/// `mdast_show: event line 2 cannot be read`
+/// Returns `mdast_show: event line 2 cannot be read`, with this number.
 fn unread_line(alloc: Global, number: usize) -> Result<String, AllocError>
     ensures { IfOk result (λ line. Prints (answers.UnreadLine number) (string_bytes line)) }
 {
@@ -206,7 +206,7 @@ fn unread_line(alloc: Global, number: usize) -> Result<String, AllocError>
     Ok(line)
 }
 
-/// `line:column (offset): reason (rule_id)`
+/// Returns the line of a message: `line:column (offset): reason (rule_id)`.
 fn message_line(alloc: Global, message: &Message) -> Result<String, AllocError>
     ensures { IfOk result (λ line. string_bytes line ≡ Run.message_line message.now) }
 {

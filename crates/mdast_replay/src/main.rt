@@ -1,17 +1,17 @@
-//! Replays tables of cases: lists of events over documents, and what `compile` must give for each; and
-//! documents, and the tree that `to_mdast` must give for each. A tree must be ordered where the offsets
-//! of the events never go back, and else as the table says.
+//! Replays tables of cases. Some cases are lists of events over documents with the expected result
+//! of `compile`; others are documents with the expected tree of `to_mdast`. A tree must be ordered
+//! if the offsets of the events never go back, and otherwise as the table says.
 //!
-//! `mdast_replay FILE..` reads each file, a table or, where its name ends in `.sums`, the checksums
-//! of the table before it. It prints a line for each file, and one for each case that is not as it
-//! must be. The line of a table whose cases all are says how much was compared. The program ends with 0
-//! where all are, with 1 where one is not, with 2 where the arguments are wrong or a file cannot be
-//! read, and with 3 where memory ran out.
+//! `mdast_replay FILE..` reads each file: a table or, if its name ends in `.sums`, the checksums of
+//! the table before it. It prints one line for each file, and one for each case that fails. The
+//! line of a table whose cases all pass says how much was compared. The exit status is 0 if
+//! everything passed, 1 if something failed, 2 if the arguments are wrong or a file cannot be read,
+//! and 3 if memory ran out.
 #![tactic(auto)]
 
-use command_line::document::file;
-use command_line::input::ReadError;
 use mdast_cases::run::{Input, RunError, run, status};
+use mdast_programs::document::file;
+use mdast_programs::input::ReadError;
 use std::alloc::AllocError;
 use std::env;
 use std::io::{self, ErrorKind};
@@ -26,7 +26,7 @@ fn main(rt: HostRuntime) -> ExitCode {
     ExitCode::from(status(rt.alloc(), verdict, &mut output))
 }
 
-/// The files that the arguments name.
+/// Returns the files that the arguments name.
 fn inputs(rt: &HostRuntime) -> Result<Vec<Input>, RunError> {
     let mut arguments = match env::args(rt) {
         Ok(arguments) => arguments,
@@ -46,7 +46,7 @@ fn inputs(rt: &HostRuntime) -> Result<Vec<Input>, RunError> {
     Ok(inputs)
 }
 
-/// The file of this name.
+/// Returns the file with this name.
 fn input(rt: &HostRuntime, name: String) -> Result<Input, RunError> {
     match file(rt, name.as_str()) {
         Ok(bytes) => Ok(Input { name, bytes }),

@@ -1,15 +1,15 @@
-//! Prints the syntax tree that a document and the events of its tokenizer stand for, or what is found
-//! in it.
+//! Prints the syntax tree of a document and the events of its tokenizer, or what a check finds in
+//! it.
 //!
 //! `mdast_show DOC < EVENTS` reads the document from the file `DOC`, and event lines from standard
-//! input. It prints one line: the tree, or what is wrong. `mdast_show --check DOC < EVENTS` prints a
-//! line for each heading, and then one for each reference that no definition answers.
+//! input. It prints one line: the tree, or what is wrong. `mdast_show --check DOC < EVENTS` prints
+//! one line for each heading, and then one for each reference that no definition answers.
 #![tactic(auto)]
 
-use command_line::document::{arguments, document};
-use command_line::output::say;
-use command_line::request::{DocumentError, Request};
 use mdast_programs::check::run_check;
+use mdast_programs::document::{arguments, document};
+use mdast_programs::output::say;
+use mdast_programs::request::{DocumentError, Request};
 use mdast_programs::run::run_whole;
 use std::io::{self, Write};
 use std::process::ExitCode;
@@ -22,7 +22,7 @@ fn main(rt: HostRuntime) -> ExitCode {
     })
 }
 
-/// Does what the arguments ask for, and gives the exit status.
+/// Does what the arguments request, and returns the exit status.
 fn answer<O: Write>(rt: &HostRuntime, output: &mut O) -> Result<u8, DocumentError> {
     match request(rt)? {
         Request::Show(name) => {
@@ -37,7 +37,7 @@ fn answer<O: Write>(rt: &HostRuntime, output: &mut O) -> Result<u8, DocumentErro
     }
 }
 
-/// What the arguments of the program ask for.
+/// Returns what the arguments of the program request.
 fn request(rt: &HostRuntime) -> Result<Request, DocumentError> {
     let [first, second, third] = arguments(rt)?;
     Request::of(first, second, third).ok_or(DocumentError::Usage)

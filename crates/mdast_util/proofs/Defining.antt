@@ -11,7 +11,7 @@ use Rattle.markdown_nodes.specs.Tree.{Tree}
 use Rattle.markdown_nodes.specs.View.{view}
 use Rattle.markdown_nodes.proofs.Views.{view-Definition}
 use Rattle.mdast_check.specs.References.{definition_identifier_of}
-use Rattle.mdast_check.proofs.Steps.{label-is}
+use Rattle.markdown_nodes.proofs.WalkSteps.{label-is}
 use Rattle.mdast_util.specs.Definitions.{as_tree, if_defines}
 
 -- a node with no identifier defines none

@@ -4,13 +4,13 @@ use Rattle.std.specs.List.{repeat}
 use Rattle.std.specs.Option.{option_map_or}
 use Rattle.std.proofs.lemmas.Bool.Decides.{nat_tests}
 use Rattle.markdown_nodes.specs.declared.mdast.Node.{Node}
-use Rattle.positions.specs.declared.unist.Position.{Position}
+use Rattle.markdown_events.specs.declared.unist.Position.{Position}
 use Rattle.markdown_nodes.specs.Access.{label_of, position_of}
 use Rattle.markdown_nodes.specs.Tree.{Tree, only, plain_text}
 use Rattle.markdown_nodes.specs.View.{view}
 use Rattle.markdown_nodes.proofs.Views.{view-is}
 use Rattle.mdast_check.specs.Titles.{depth_of}
-use Rattle.mdast_check.proofs.Steps.{label-is}
+use Rattle.markdown_nodes.proofs.WalkSteps.{label-is}
 use Rattle.mdast_util.specs.Outline.{heading_line, in_one_line, indent, line_of, place_text}
 
 -- once more at the end is once more at the front

@@ -3,14 +3,14 @@ use Rattle.std.proofs.Common.{◌≡◌, ◌<◌, ◌∷◌, ℕ, suc, zero, Boo
 use Rattle.std.specs.Prelude.{option_map, unwrap_or}
 use Rattle.std.specs.List.{find}
 use Rattle.std.proofs.lemmas.List.Elements.{Contains-append_cases, Contains-append_left, Contains-append_right}
-use Rattle.positions.specs.declared.unist.Position.{Position}
+use Rattle.markdown_events.specs.declared.unist.Position.{Position}
 use Rattle.markdown_nodes.specs.declared.mdast.Node.{Node}
 use Rattle.markdown_nodes.specs.Access.{nodes_in}
 use Rattle.markdown_nodes.specs.Tree.{Label, Tree, Trees, node, nothing, only}
 use Rattle.markdown_nodes.specs.View.{view, views}
 use Rattle.markdown_nodes.proofs.Views.{view-is}
 use Rattle.markdown_grammar.specs.Ordered.{InOrder, IsOrdered, Standing, elsewhere}
-use Rattle.mdast_check.specs.Walk.{walk, walks}
+use Rattle.markdown_nodes.specs.Walk.{walk, walks}
 use Rattle.mdast_util.specs.Places.{deepest, holds}
 use Rattle.mdast_util.proofs.Children.{held}
 
@@ -60,10 +60,6 @@ pub record AreInOrder (nodes : Trees) : Type 0 where
   pub high : ℕ
   pub holds : InOrder standing free low high nodes
 
-below_order : (place : Option Position) (label : Label) (children : Trees) → IsOrdered (node label children place nothing) → AreInOrder children
-below_order None label children h = absurd h
-below_order (Some here) label children h = record { standing = _; free = _; low = _; high = _; holds = h }
-
 first_order : (place : Option Position) (label : Label) (children rest : Trees) → AreInOrder (node label children place rest) → AreInOrder children
 first_order None label children rest h = absurd h.holds
 first_order (Some here) label children rest h = record { standing = _; free = _; low = _; high = _; holds = h.holds.2 }
@@ -104,14 +100,6 @@ pub record Reaches (offset : ℕ) (tree here : Node) : Type 0 where
   pub in_order : IsOrdered (only (view tree)) → AreInOrder (view here).children
   pub answers : IsOrdered (only (view tree)) → deepest offset (only (view tree)) ≡ Some (deepest_in offset (view here))
 
-pub reaches_first : (offset : ℕ) (tree : Node) → holds offset (view tree).position ≡ true → Reaches offset tree tree
-reaches_first offset tree is = record {
-  inside = (0, omega arith, refl);
-  held = is;
-  in_order = λ ordered. below_order (view tree).position _ _ ordered;
-  answers = λ _. ap (λ (b : Bool). cond b (Some (deepest_in offset (view tree))) None) is;
-}
-
 -- what the nodes in a node say of one of them, if they are in order
 abbrev pub FindsIn : ℕ → List Node → Option Node → Type 0
 FindsIn offset nodes found = (standing : Standing) (free : Bool) (low high : ℕ) → InOrder standing free low high (views nodes) → found ≡ find (λ (x : Node). holds offset (view x).position) nodes
@@ -138,17 +126,7 @@ reaches_child offset tree here child nodes so_far are says one is =
       answers = λ ordered. so_far.answers ordered ∙ ap (λ (t : Tree). Some t) (finds offset tree here nodes (Some child) so_far are says ordered);
     }
 
--- which has fewer nodes in it
-pub child_smaller : (here child : Node) (nodes : List Node) → nodes ≡ nodes_in here → Contains nodes child → length (walks (view child).children) < length (walks (view here).children)
-child_smaller here child nodes are one =
-    let same : length (walks (view here).children) ≡ length (walks (views nodes)) = ap (λ (ts : Trees). length (walks ts)) (children-are here ∙ sym (ap views are)) in
-    omega (arith, same, smaller nodes child one)
-
 -- no child holds the byte
 pub reaches_last : (offset : ℕ) (tree here : Node) (nodes : List Node) → Reaches offset tree here → nodes ≡ nodes_in here → FindsIn offset nodes None → IsOrdered (only (view tree)) → Some (view here) ≡ deepest offset (only (view tree))
 reaches_last offset tree here nodes so_far are says ordered =
     sym (so_far.answers ordered ∙ ap (λ (t : Tree). Some t) (finds offset tree here nodes None so_far are says ordered))
-
--- the tree does not hold the byte
-pub reaches_none : (offset : ℕ) (tree : Node) → holds offset (view tree).position ≡ false → None ≡ deepest offset (only (view tree))
-reaches_none offset tree is = sym (ap (λ (b : Bool). cond b (Some (deepest_in offset (view tree))) None) is)

@@ -4,7 +4,7 @@ use Rattle.markdown_nodes.specs.declared.mdast.Node.{Node}
 use Rattle.markdown_nodes.specs.Access.{label_of}
 use Rattle.markdown_nodes.specs.Tree.{Label}
 use Rattle.markdown_nodes.specs.View.{view}
-use Rattle.mdast_check.proofs.Steps.{label-is}
+use Rattle.markdown_nodes.proofs.WalkSteps.{label-is}
 use Rattle.mdast_util.specs.PlainText.{begins_line, ended, with_words, words}
 
 pub with_words-is : (node : Node) (begins : Bool) (old said it : List ℕ) → begins ≡ begins_line (label_of node) → said ≡ cond begins (ended old) old → it ≡ words (label_of node) → said ++ it ≡ with_words old (view node)

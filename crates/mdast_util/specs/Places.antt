@@ -1,20 +1,20 @@
 -- The nodes at an offset, which counts bytes from 0.
 use Rattle.std.specs.Prelude.{◌≡◌, ◌&&◌, ℕ, Bool, false, true, Option, None, Some, Contains, if◌then◌else◌, nat_le, nat_lt, unwrap_or}
-use Rattle.positions.specs.declared.unist.Position.{Position}
+use Rattle.markdown_events.specs.declared.unist.Position.{Position}
 use Rattle.markdown_nodes.specs.Tree.{Tree, Trees, node, nothing}
-use Rattle.mdast_check.specs.Walk.{walk}
+use Rattle.markdown_nodes.specs.Walk.{walk}
 
--- whether a position holds the byte at an offset: it starts at it or before it, and ends after it
+-- whether a position holds the byte at an offset: it starts at the byte or before it, and ends after it
 abbrev pub holds : ℕ → Option Position → Bool
 holds offset None = false
 holds offset (Some here) = nat_le here.start.offset offset && nat_lt offset here.end.offset
 
--- whether a position ends at an offset or before it, as one that is not there does
+-- whether a position ends at an offset or before it, or is missing
 abbrev pub ends_by : ℕ → Option Position → Bool
 ends_by offset None = true
 ends_by offset (Some here) = nat_le here.end.offset offset
 
--- the deepest node that holds the byte: in the first of the nodes that does, the deepest of those in it, or itself where none of them does
+-- the deepest node that holds the byte: of the first node that does, the deepest one in it, or the node itself if none in it does
 abbrev pub deepest : ℕ → Trees → Option Tree
 deepest offset nothing = None
 deepest offset (node label children here rest) =

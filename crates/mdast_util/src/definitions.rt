@@ -6,17 +6,17 @@ ghost use Rattle.markdown_nodes.specs.View.{view};
 ghost use Rattle.mdast_util.specs.Definitions.{as_tree, definition_in, if_defines};
 
 use markdown_nodes::mdast::{Definition, Node};
-use mdast_check::walk::Walk;
+use markdown_nodes::walk::Walk;
 use std::alloc::{AllocError, Global};
 
-/// The first Definition of a tree, in its order, with an identifier, and `None` where there is
+/// Returns the first Definition of a tree, in its order, with an identifier, or `None` if there is
 /// none.
 ///
-/// A link or an image by reference takes its URL and its title from it. Where several definitions
-/// have one identifier, the first counts (CommonMark). Identifiers are compared byte by byte, since
-/// those of mdast are normalized already. The only error is that memory ran out.
+/// A link or an image by reference gets its URL and its title from it. If several definitions have
+/// one identifier, the first counts (CommonMark). Identifiers are compared byte by byte, since
+/// those of mdast are already normalized. The only error is that memory ran out.
 ///
-/// In the tree of `[a]: b\n[a]: c` the identifier `a` gives the definition with the URL `b`.
+/// In the tree of `[a]: b\n[a]: c` the identifier `a` has the definition with the URL `b`.
 pub fn definition_of<'a>(
     alloc: Global,
     tree: &'a Node,
@@ -33,7 +33,7 @@ pub fn definition_of<'a>(
     Ok(None)
 }
 
-/// A node, if it is a Definition with an identifier.
+/// Returns the Definition of a node, if it is one with this identifier.
 fn if_defines<'a>(node: &'a Node, identifier: &str) -> Option<&'a Definition>
     ensures { option_map (λ node. as_tree node.now) result ≡ if_defines identifier.now (view node.now) }
 {

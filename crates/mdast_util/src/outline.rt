@@ -6,21 +6,21 @@ ghost use Rattle.mdast_util.specs.Outline.{in_one_line, indent, line_of, outline
 
 use markdown_nodes::mdast::Node;
 use markdown_nodes::unist::{Point, Position};
+use markdown_nodes::walk::Walk;
 use mdast_check::outline::depth;
-use mdast_check::walk::Walk;
 use std::alloc::{AllocError, Global};
 
-/// The headings of a tree as a table of contents: a line each, in the order of the tree, also for
-/// those in other nodes, as in a block quote.
+/// Returns the headings of a tree as a table of contents. Each is on its own line, in the order of
+/// the tree, including those in other nodes, such as a block quote.
 ///
-/// A line has two blanks for each level below the first, then the plain text of the heading, as
-/// [`Node::to_string`] gives it but with a blank for each line feed, and then a blank and the place
-/// of its start in parentheses: line and column, which count from 1. A heading without a position
-/// has no place. A depth of 0, which only a tree made by hand has, stands as 1. The only error is
-/// that memory ran out. The form of the lines is ours.
+/// A line has two blanks for each level below the first, then the plain text of the heading (see
+/// [`Node::to_string`], but with a blank for each line feed), and then a blank and the place of its
+/// start in parentheses: line and column, which count from 1. A heading without a position has no
+/// place. A depth of 0, which only a tree made by hand has, counts as 1. The only error is that
+/// memory ran out. The form of the lines is ours.
 ///
-/// The tree of `# Use\n\n## Events` gives `Use (1:1)` and then `  Events (3:1)`, each with a line
-/// feed.
+/// The tree of `# Use\n\n## Events` produces `Use (1:1)` and then `  Events (3:1)`, each with a
+/// line feed.
 pub fn outline(alloc: Global, tree: &Node) -> Result<String, AllocError>
     ensures { IfOk result (λ text. string_bytes text ≡ outline_of (view tree.now)) }
 {
@@ -32,7 +32,7 @@ pub fn outline(alloc: Global, tree: &Node) -> Result<String, AllocError>
     Ok(text)
 }
 
-/// Adds the line of a heading, and nothing for any other node.
+/// Appends the line of a heading, or nothing for any other node.
 fn add_line(alloc: Global, node: &Node, text: &mut String) -> Result<(), AllocError>
     ensures { OnOk result (string_bytes text.new ≡ string_bytes text.old ++ line_of (view node.now)) }
 {
@@ -45,7 +45,7 @@ fn add_line(alloc: Global, node: &Node, text: &mut String) -> Result<(), AllocEr
     text.push_str("\n")
 }
 
-/// Adds two blanks for each level below the first.
+/// Appends two blanks for each level below the first.
 fn add_indent(text: &mut String, depth: u8) -> Result<(), AllocError>
     ensures { OnOk result (string_bytes text.new ≡ string_bytes text.old ++ indent depth) }
 {
@@ -55,7 +55,7 @@ fn add_indent(text: &mut String, depth: u8) -> Result<(), AllocError>
     Ok(())
 }
 
-/// Adds a value, with a blank for each line feed in it.
+/// Appends a value, with a blank for each line feed in it.
 fn add_in_one_line(text: &mut String, value: &str) -> Result<(), AllocError>
     ensures { OnOk result (string_bytes text.new ≡ string_bytes text.old ++ in_one_line value.now) }
 {
@@ -68,7 +68,7 @@ fn add_in_one_line(text: &mut String, value: &str) -> Result<(), AllocError>
     text.push_str(rest)
 }
 
-/// A blank and line and column of the start of a position, where there is one.
+/// Returns a blank and the line and column where a position starts, if there is one.
 fn place(alloc: Global, position: Option<Position>) -> Result<String, AllocError>
     ensures { IfOk result (λ text. string_bytes text ≡ place_text position) }
 {
@@ -78,7 +78,7 @@ fn place(alloc: Global, position: Option<Position>) -> Result<String, AllocError
     }
 }
 
-/// ` (3:1)`: a blank, and line and column of a point in parentheses.
+/// Returns a blank and the line and column of a point in parentheses: ` (3:1)`.
 fn start_text(alloc: Global, point: Point) -> Result<String, AllocError>
     ensures { IfOk result (λ text. string_bytes text ≡ start_text point) }
 {

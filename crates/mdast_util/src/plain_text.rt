@@ -1,4 +1,4 @@
-//! The text of a document, as a search reads it.
+//! The text of a document, as a search needs it.
 
 ghost use Rattle.std.specs.Prelude.{◌≡◌, IfOk, OnOk, string_bytes};
 ghost use Rattle.markdown_nodes.specs.Access.{label_of};
@@ -6,18 +6,19 @@ ghost use Rattle.markdown_nodes.specs.View.{view};
 ghost use Rattle.mdast_util.specs.PlainText.{begins_line, ended, text_in_lines, with_words, words};
 
 use markdown_nodes::mdast::Node;
-use mdast_check::walk::Walk;
+use markdown_nodes::walk::Walk;
 use std::alloc::{AllocError, Global};
 
-/// The text of a tree without its markup, as a search reads it.
+/// Returns the text of a tree without its markup, as a search needs it.
 ///
 /// Each paragraph, heading and table cell, and each block of code or math, begins a line. Text,
-/// code and math give their value, an image its alternative text, and a hard break a line feed.
-/// HTML, frontmatter and definitions give nothing. If there is any text, it ends with a line feed.
-/// An empty block after others gives an empty line. The only error is that memory ran out. The rule
-/// is ours; [`Node::to_string`] gives the values of all literals, with nothing between them.
+/// code and math contribute their value, an image its alternative text, and a hard break a line
+/// feed. HTML, frontmatter and definitions contribute nothing. If there is any text, it ends with a
+/// line feed. An empty block after others makes an empty line. The only error is that memory ran
+/// out. The rule is ours. [`Node::to_string`] instead returns the values of all literals, with
+/// nothing between them.
 ///
-/// The tree of `# Hi *Earth*!\n\nNext` gives `Hi Earth!\nNext\n`.
+/// The tree of `# Hi *Earth*!\n\nNext` has the text `Hi Earth!\nNext\n`.
 pub fn plain_text(alloc: Global, tree: &Node) -> Result<String, AllocError>
     ensures { IfOk result (λ text. string_bytes text ≡ text_in_lines (view tree.now)) }
 {
@@ -30,7 +31,7 @@ pub fn plain_text(alloc: Global, tree: &Node) -> Result<String, AllocError>
     Ok(text)
 }
 
-/// Adds the words of a node, on a line of their own where the node begins one.
+/// Appends the words of a node, on a line of their own if the node begins one.
 fn add_words(text: &mut String, node: &Node) -> Result<(), AllocError>
     ensures { OnOk result (string_bytes text.new ≡ with_words (string_bytes text.old) (view node.now)) }
 {
@@ -40,7 +41,7 @@ fn add_words(text: &mut String, node: &Node) -> Result<(), AllocError>
     text.push_str(words(node))
 }
 
-/// Adds a line feed, unless the text is empty.
+/// Appends a line feed, unless the text is empty.
 fn end_line(text: &mut String) -> Result<(), AllocError>
     ensures { OnOk result (string_bytes text.new ≡ ended (string_bytes text.old)) }
 {
@@ -64,7 +65,7 @@ fn begins_line(node: &Node) -> bool
     }
 }
 
-/// What a node says by itself, without the nodes in it.
+/// Returns the text of a node itself, without the nodes in it.
 fn words(node: &Node) -> &str
     ensures { result.now ≡ words (label_of node.now) }
 {

@@ -18,8 +18,8 @@ const COLON: (usize, Name) = (3, Name::GfmTableDelimiterMarker);
 
 const LINE: (usize, Name) = (3, Name::GfmTableDelimiterFiller);
 
-/// Outlines that begin with a table, and how its columns are aligned: by the colons of each cell of its
-/// own first row, and in no other way where it has none.
+/// Outlines that begin with a table, and how its columns are aligned: by the colons of each cell of
+/// its own first row, and not at all if it has none.
 pub static TABLES: [(&[(usize, Name)], &[AlignKind]); 3] = [
     (
         &[
@@ -42,7 +42,7 @@ pub static TABLES: [(&[(usize, Name)], &[AlignKind]); 3] = [
     ),
 ];
 
-/// How the columns of the table that begins at this index are aligned, if one begins there.
+/// Returns how the columns of the table that begins at this index are aligned, if one begins there.
 pub fn table_align(
     alloc: Global,
     events: &[Event],
@@ -62,7 +62,7 @@ pub fn table_align(
     }
 }
 
-/// The table of an outline is aligned so.
+/// Expects the table of an outline to be aligned like this.
 fn is_aligned(
     rt: &impl Abort,
     alloc: Global,

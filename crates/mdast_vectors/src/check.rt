@@ -1,5 +1,6 @@
-//! What is found in trees that no list of events gives. A reference to a link or an image is answered
-//! by a definition, one to a footnote by a footnote definition. The cases of `forms.txt` have more.
+//! The findings in trees that no list of events produces. A reference to a link or an image is
+//! answered by a definition, one to a footnote by a footnote definition. The cases of `forms.txt`
+//! have more.
 
 use crate::expect::{prints, same};
 use crate::trees::{add, alone, blockquote, own, quoted, root, text};
@@ -18,7 +19,7 @@ fn heading(depth: u8, children: Vec<Node>) -> Node {
     })
 }
 
-/// A link by reference, with no text.
+/// Returns a link by reference, with no text.
 fn link(alloc: Global, identifier: &str) -> Result<Node, AllocError> {
     Ok(Node::LinkReference(mdast::LinkReference {
         children: Vec::new(alloc),
@@ -29,7 +30,7 @@ fn link(alloc: Global, identifier: &str) -> Result<Node, AllocError> {
     }))
 }
 
-/// An image by reference, with the alternative text `b`.
+/// Returns an image by reference, with the alternative text `b`.
 fn image(alloc: Global, identifier: &str) -> Result<Node, AllocError> {
     Ok(Node::ImageReference(mdast::ImageReference {
         position: None,
@@ -40,7 +41,7 @@ fn image(alloc: Global, identifier: &str) -> Result<Node, AllocError> {
     }))
 }
 
-/// A reference to a footnote.
+/// Returns a reference to a footnote.
 fn footnote(alloc: Global, identifier: &str) -> Result<Node, AllocError> {
     Ok(Node::FootnoteReference(mdast::FootnoteReference {
         position: None,
@@ -49,7 +50,7 @@ fn footnote(alloc: Global, identifier: &str) -> Result<Node, AllocError> {
     }))
 }
 
-/// A definition of the place `b`.
+/// Returns a definition with the address `b`.
 fn definition(alloc: Global, identifier: &str) -> Result<Node, AllocError> {
     Ok(Node::Definition(mdast::Definition {
         position: None,
@@ -60,13 +61,13 @@ fn definition(alloc: Global, identifier: &str) -> Result<Node, AllocError> {
     }))
 }
 
-/// The open references of a tree are printed so.
+/// Expects the open references of a tree to be printed like this.
 fn opens(rt: &impl Abort, alloc: Global, tree: &Node, want: &str) -> Result<(), AllocError> {
     let found = open_references(alloc, tree)?;
     prints(rt, alloc, &found, want)
 }
 
-/// The headings of a tree are printed so.
+/// Expects the headings of a tree to be printed like this.
 fn lists(rt: &impl Abort, alloc: Global, tree: &Node, want: &str) -> Result<(), AllocError> {
     let found = headings(alloc, tree)?;
     prints(rt, alloc, &found, want)
@@ -98,7 +99,7 @@ fn depths(rt: HostRuntime) -> Result<(), AllocError> {
     Ok(())
 }
 
-/// A root of a link to `a` and a definition of `A`.
+/// Returns a root of a link to `a` and a definition of `A`.
 fn capital(alloc: Global) -> Result<Node, AllocError> {
     let mut nodes = Vec::new(alloc);
     add(&mut nodes, link(alloc, "a"))?;
@@ -106,7 +107,7 @@ fn capital(alloc: Global) -> Result<Node, AllocError> {
     Ok(root(nodes))
 }
 
-/// Identifiers are compared as they are: those of mdast are normalized already.
+/// Identifiers are compared unchanged: those of mdast are already normalized.
 #[test]
 fn identifiers_in_capitals(rt: HostRuntime) -> Result<(), AllocError> {
     let tree = capital(rt.alloc())?;
@@ -118,12 +119,12 @@ fn identifiers_in_capitals(rt: HostRuntime) -> Result<(), AllocError> {
     )
 }
 
-/// The digits of a number.
+/// Returns the digits of a number.
 fn digits(alloc: Global, number: u32) -> Result<String, AllocError> {
     format!(in alloc; "{number}")
 }
 
-/// Puts a link to a number, and where it is a multiple of three its definition, at the end of nodes.
+/// Appends a link to a number, and its definition if it is a multiple of three.
 fn add_number(alloc: Global, nodes: &mut Vec<Node>, number: u32) -> Result<(), AllocError> {
     let identifier = digits(alloc, number)?;
     add(nodes, link(alloc, identifier.as_str()))?;
@@ -133,7 +134,8 @@ fn add_number(alloc: Global, nodes: &mut Vec<Node>, number: u32) -> Result<(), A
     add(nodes, definition(alloc, identifier.as_str()))
 }
 
-/// A root of links to a hundred identifiers, and definitions of those that are a multiple of three.
+/// Returns a root of links to a hundred identifiers, and definitions of those that are a multiple
+/// of three.
 fn hundred(alloc: Global) -> Result<Node, AllocError> {
     let mut nodes = Vec::new(alloc);
     for number in 0..100 {
@@ -142,7 +144,7 @@ fn hundred(alloc: Global) -> Result<Node, AllocError> {
     Ok(root(nodes))
 }
 
-/// Stops the test where this open reference is not to this number.
+/// Stops the test if this open reference is not to this number.
 fn is_to(
     rt: &impl Abort,
     alloc: Global,
@@ -155,7 +157,7 @@ fn is_to(
     Ok(())
 }
 
-/// Which of a hundred identifiers are missing: those that are no multiple of three.
+/// Of a hundred identifiers, those that are not multiples of three are missing.
 #[test]
 fn a_hundred_identifiers(rt: HostRuntime) -> Result<(), AllocError> {
     let tree = hundred(rt.alloc())?;
@@ -170,10 +172,10 @@ fn a_hundred_identifiers(rt: HostRuntime) -> Result<(), AllocError> {
     Ok(())
 }
 
-/// How many block quotes stand in one another.
+/// The number of nested block quotes.
 const LEVELS: usize = 100_000;
 
-/// A block quote of a heading of the text `a` and an image of `b`.
+/// Returns a block quote of a heading of the text `a` and an image of `b`.
 fn titled(alloc: Global) -> Result<Node, AllocError> {
     let mut nodes = Vec::new(alloc);
     add(&mut nodes, Ok(heading(6, alone(alloc, text(alloc, "a"))?)))?;
@@ -181,7 +183,7 @@ fn titled(alloc: Global) -> Result<Node, AllocError> {
     Ok(blockquote(nodes))
 }
 
-/// A root of that in as many block quotes, a link to `c` and a definition of `b`.
+/// Returns a root of that in nested block quotes, a link to `c` and a definition of `b`.
 fn levels(alloc: Global) -> Result<Node, AllocError> {
     let mut nodes = Vec::new(alloc);
     add(&mut nodes, quoted(alloc, titled(alloc)?, LEVELS))?;

@@ -6,10 +6,10 @@ use markdown_nodes::mdast::{Break, Emphasis, Node, Paragraph};
 use std::alloc::{AllocError, Global};
 use std::process::Abort;
 
-/// How many characters stand in one text.
+/// The number of characters in one text.
 const BATCH: u32 = 4096;
 
-/// The characters from this one on, as many as a batch has, without surrogates.
+/// Returns the characters from this one on, one batch of them, without surrogates.
 fn characters(alloc: Global, first: u32) -> Result<String, AllocError> {
     let mut value = String::new(alloc);
     for offset in 0..BATCH {
@@ -20,19 +20,19 @@ fn characters(alloc: Global, first: u32) -> Result<String, AllocError> {
     Ok(value)
 }
 
-/// A paragraph of this text.
+/// Returns a paragraph of this text.
 fn paragraph_of(alloc: Global, value: &str) -> Result<Node, AllocError> {
     Ok(paragraph(alone(alloc, text(alloc, value))?))
 }
 
-/// How a paragraph of a text is printed, where std prints the text.
+/// Returns how a paragraph of a text is printed, if std prints the text.
 fn line_of(alloc: Global, value: &str) -> Result<String, AllocError> {
     format!(in alloc;
         "Paragraph {{ children: [Text {{ value: {value:?}, position: None }}], position: None }}"
     )
 }
 
-/// A text is quoted in a tree as std quotes it in a `str`. Its characters are counted.
+/// Expects a text to be quoted in a tree as std quotes it in a `str`. Its characters are counted.
 fn quoted(rt: &impl Abort, alloc: Global, value: &str) -> Result<usize, AllocError> {
     let tree = paragraph_of(alloc, value)?;
     let line = line_of(alloc, value)?;
@@ -40,8 +40,8 @@ fn quoted(rt: &impl Abort, alloc: Global, value: &str) -> Result<usize, AllocErr
     Ok(value.chars().count())
 }
 
-/// A text is quoted in a tree as std quotes it in a `str`, whatever characters are in it. All are tried
-/// but the 2,048 surrogates, which are no characters.
+/// A text is quoted in a tree as std quotes it in a `str`, whatever its characters. All are tried
+/// except the 2,048 surrogates, which are not characters.
 #[test]
 fn each_character_is_quoted_as_std_quotes_it(rt: HostRuntime) -> Result<(), AllocError> {
     let mut found: usize = 0;
@@ -53,7 +53,7 @@ fn each_character_is_quoted_as_std_quotes_it(rt: HostRuntime) -> Result<(), Allo
     Ok(())
 }
 
-/// An emphasis of a break and the text `b`.
+/// Returns an emphasis of a break and the text `b`.
 fn emphasis(alloc: Global) -> Result<Node, AllocError> {
     let mut children = Vec::new(alloc);
     add(&mut children, Ok(Node::Break(Break { position: None })))?;
@@ -64,7 +64,7 @@ fn emphasis(alloc: Global) -> Result<Node, AllocError> {
     }))
 }
 
-/// A paragraph of the text `a`, an emphasis of a break and the text `b`, and the text `c`.
+/// Returns a paragraph of the text `a`, an emphasis of a break and the text `b`, and the text `c`.
 fn siblings(alloc: Global) -> Result<Paragraph, AllocError> {
     let mut children = Vec::new(alloc);
     add(&mut children, text(alloc, "a"))?;
@@ -87,7 +87,7 @@ fn siblings_stand_after_commas(rt: HostRuntime) -> Result<(), AllocError> {
     says(&rt, tree.to_debug_string(rt.alloc()), line)
 }
 
-/// The pretty form of a tree is its form on one line.
+/// Expects the pretty form of a tree to be its form on one line.
 fn pretty_is_debug(rt: &impl Abort, alloc: Global, tree: &Node) -> Result<(), AllocError> {
     let line = format!(in alloc; "{tree:?}")?;
     says(rt, format!(in alloc; "{tree:#?}"), line.as_str())

@@ -8,10 +8,10 @@ use character_references::references::References;
 use std::alloc::AllocError;
 use std::process::Abort;
 
-/// A value with its marker, and its text where there is one.
+/// A value with its marker, and its text if it has one.
 type Known = (&'static str, u8, Option<&'static str>);
 
-/// What the decoder of the programs says.
+/// What the decoder of the programs knows.
 static KNOWN: [Known; 28] = [
     ("amp", b'&', Some("&")),
     ("lt", b'&', Some("<")),
@@ -43,12 +43,12 @@ static KNOWN: [Known; 28] = [
     ("amp", b'#', None),
 ];
 
-/// A table of names, in which one stands twice, one has no text, one line has no `=`, and one text has
-/// one.
+/// A table of names. One name occurs twice, one has no text, one line has no `=`, and one text
+/// contains one.
 const TABLE: &str =
     "copy=\u{A9}\nnot a line\ncopy=c\nempty=\nequals==\nNotEqualTilde=\u{2242}\u{338}";
 
-/// What the decoder with that table says.
+/// What the decoder with that table knows.
 static NAMED: [Known; 13] = [
     ("copy", b'&', Some("\u{A9}")),
     ("empty", b'&', Some("")),
@@ -65,7 +65,7 @@ static NAMED: [Known; 13] = [
     ("", b'&', None),
 ];
 
-/// Stops where a decoder says something else than a table.
+/// Stops the test if a decoder differs from a table.
 fn expect<R: References, A: Abort + AllocGlobal>(
     rt: &A,
     decoder: &R,
@@ -88,7 +88,7 @@ fn decodes_the_names_of_a_table(rt: HostRuntime) -> Result<(), AllocError> {
     expect(&rt, &NamedReferences { table: TABLE }, &NAMED)
 }
 
-/// What the decoder of HTML's names says. The texts are those of the HTML Standard's table.
+/// What the decoder of HTML's names knows. The texts are those of the HTML Standard's table.
 static HTML: [Known; 12] = [
     ("copy", b'&', Some("\u{A9}")),
     ("amp", b'&', Some("&")),
@@ -112,7 +112,7 @@ fn decodes_the_names_of_html(rt: HostRuntime) -> Result<(), AllocError> {
 /// What each other decoder knows.
 static NOTHING: [Known; 3] = [("amp", b'&', None), ("65", b'#', None), ("41", b'x', None)];
 
-/// A decoder that knows nothing gives nothing, also for what each other one knows.
+/// A decoder that knows nothing returns nothing, even for what each other one knows.
 #[test]
 fn decodes_nothing_at_all(rt: HostRuntime) -> Result<(), AllocError> {
     expect(&rt, &NoReferences, &NOTHING)

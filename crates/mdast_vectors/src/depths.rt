@@ -1,4 +1,4 @@
-//! Trees that are deep.
+//! Deep trees.
 
 use crate::expect::{holds, same, says};
 use crate::ordered;
@@ -9,8 +9,8 @@ use std::alloc::{AllocError, Global};
 use std::process::Abort;
 use std::test::Fail;
 
-/// As many lists, each the one child of the one item of the one before, and in the innermost item a
-/// paragraph and a blank line after it.
+/// Returns `depth` nested lists, each the only child of the only item of the one before. The
+/// innermost item has a paragraph and a blank line after it.
 fn nested_lists(alloc: Global, depth: usize) -> Result<Vec<Event>, AllocError> {
     let mut outline = Vec::new(alloc);
     let mut around: usize = 0;
@@ -25,7 +25,7 @@ fn nested_lists(alloc: Global, depth: usize) -> Result<Vec<Event>, AllocError> {
     spelled(alloc, outline.as_slice())
 }
 
-/// The `spread` of a list or of a list item.
+/// Returns the `spread` of a list or of a list item.
 fn spread(node: &Node) -> Option<bool> {
     match node {
         Node::List(list) => Some(list.spread),
@@ -34,7 +34,7 @@ fn spread(node: &Node) -> Option<bool> {
     }
 }
 
-/// The first child of a node.
+/// Returns the first child of a node.
 pub fn first_child(node: &Node) -> Option<&Node> {
     node.children()?.first()
 }
@@ -53,10 +53,10 @@ fn a_blank_line_in_the_innermost_of_nested_lists(rt: HostRuntime) -> Result<(), 
     Ok(())
 }
 
-/// How many levels the towers have.
+/// The number of levels in the towers.
 const LEVELS: usize = 100_000;
 
-/// Spans in one another, and what stands before and after the nodes in them where they are printed.
+/// Nested spans, and how their nodes are printed before and after the nodes in them.
 #[derive(Clone, Copy)]
 struct Spans<'a> {
     names: &'a [Name],
@@ -64,7 +64,7 @@ struct Spans<'a> {
     after: &'a str,
 }
 
-/// A document of a byte.
+/// A document of one byte.
 const ROOT: Spans<'static> = Spans {
     names: &[],
     before: "Root { children: [",
@@ -78,8 +78,8 @@ const PARAGRAPH: Spans<'static> = Spans {
     after: "], position: Some(1:1-1:2 (0-1)) }",
 };
 
-/// The events of spans of one byte, each in the one before: outer ones, a hundred thousand levels,
-/// and inner ones.
+/// Returns the events of nested spans of one byte: outer ones, a hundred thousand levels, and inner
+/// ones.
 fn tower(
     alloc: Global,
     outer: Spans<'_>,
@@ -99,7 +99,7 @@ fn tower(
     spelled_to(alloc, outline.as_slice(), 1)
 }
 
-/// How the tree of such events is printed.
+/// Returns how the tree of such events is printed.
 fn line(
     alloc: Global,
     outer: Spans<'_>,
@@ -115,9 +115,9 @@ fn line(
     Ok(line)
 }
 
-/// A tower over the byte `a` is compiled, read, copied, compared, printed, and dropped. Its tree is
-/// ordered. It equals its copy, and not the tree over the byte `b`, which differs in the innermost
-/// spans alone.
+/// Compiles, reads, copies, compares, prints and drops a tower over the byte `a`. Its tree is
+/// ordered. It equals its copy, but not the tree over the byte `b`, which differs only in the
+/// innermost spans.
 fn expect(
     rt: &impl Abort,
     alloc: Global,
@@ -133,7 +133,7 @@ fn expect(
     printed(rt, alloc, &copy, line.as_str())
 }
 
-/// The copy of the tree over the byte `a`, which is ordered and has this text.
+/// Returns the copy of the tree over the byte `a`, which is ordered and has this text.
 fn copied(rt: &impl Abort, alloc: Global, events: &[Event], text: &str) -> Result<Node, Fail> {
     let tree = compiled(alloc, b"a", events)?;
     says(rt, tree.to_string(alloc), text)?;
@@ -143,7 +143,8 @@ fn copied(rt: &impl Abort, alloc: Global, events: &[Event], text: &str) -> Resul
     Ok(copy)
 }
 
-/// A tree is printed so, by Debug and as a text. A difference is not shown, for its length.
+/// Expects a tree to be printed like this, by Debug and as a text. A difference is not shown, since
+/// it is too long.
 fn printed(rt: &impl Abort, alloc: Global, tree: &Node, line: &str) -> Result<(), Fail> {
     let shown = format!(in alloc; "{tree:?}")?;
     holds(rt, shown.as_str() == line);
@@ -187,7 +188,7 @@ fn a_text_in_a_hundred_thousand_emphases(rt: HostRuntime) -> Result<(), Fail> {
     expect(&rt, rt.alloc(), ROOT, emphasis, text, "a")
 }
 
-/// The label gives its text to the image, and no emphasis is left.
+/// The text of the label becomes that of the image, and no emphasis is left.
 #[test]
 fn a_text_in_a_hundred_thousand_emphases_of_a_label(rt: HostRuntime) -> Result<(), Fail> {
     let image = Spans {

@@ -1,20 +1,20 @@
-//! What the tests ask: each comparison is proved once, and not in each test.
+//! The comparisons of the tests: each is proved once, and not in each test.
 
 use std::alloc::{AllocError, Global};
 use std::fmt::Debug;
 use std::process::Abort;
 
-/// Stops the test where a value is not the one that it must be.
+/// Stops the test if a value is not the expected one.
 pub fn same<T: PartialEq + Debug + Drop>(rt: &impl Abort, found: T, want: T) {
     assert_eq!(rt; found, want);
 }
 
-/// As `same`, and says which case it is.
+/// Does what `same` does, and names the case.
 pub fn same_in<T: PartialEq + Debug + Drop>(rt: &impl Abort, found: T, want: T, case: &str) {
     assert_eq!(rt; found, want, "{case}");
 }
 
-/// Stops the test where the text that was made is not the one that it must be.
+/// Stops the test if the text that was made is not the expected one.
 pub fn says(
     rt: &impl Abort,
     found: Result<String, AllocError>,
@@ -25,7 +25,7 @@ pub fn says(
     Ok(())
 }
 
-/// Stops the test where a value is not printed so.
+/// Stops the test if a value is not printed like this.
 pub fn prints<T: Debug>(
     rt: &impl Abort,
     alloc: Global,
@@ -35,12 +35,12 @@ pub fn prints<T: Debug>(
     says(rt, format!(in alloc; "{value:?}"), want)
 }
 
-/// Stops the test where something does not hold.
+/// Stops the test if a fact is false.
 pub fn holds(rt: &impl Abort, fact: bool) {
     assert!(rt; fact);
 }
 
-/// As `holds`, and says which case it is.
+/// Does what `holds` does, and names the case.
 pub fn holds_in(rt: &impl Abort, fact: bool, case: &str) {
     assert!(rt; fact, "{case}");
 }

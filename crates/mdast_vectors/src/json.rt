@@ -1,5 +1,5 @@
-//! What trees are as JSON that no list of events gives. The cases of `forms.txt` and of the lists of the
-//! original have each kind of node.
+//! The JSON of trees that no list of events produces. The cases of `forms.txt` and of the lists of
+//! the original have each kind of node.
 
 use crate::expect::{holds, says};
 use crate::trees::{add, quoted, root, text};
@@ -20,8 +20,8 @@ fn nodes_without_positions(rt: HostRuntime) -> Result<(), AllocError> {
     )
 }
 
-/// A text at a position is so as JSON, with the points in units, over two lines, of which the second
-/// begins with a tab.
+/// Expects this JSON for a text at a position, with the points in units. The document has two
+/// lines, and the second begins with a tab.
 fn in_units(
     rt: &impl Abort,
     alloc: Global,
@@ -48,10 +48,10 @@ fn points_in_utf16_units(rt: HostRuntime) -> Result<(), AllocError> {
     in_units(&rt, rt.alloc(), "!", last, line)
 }
 
-/// How many block quotes stand in one another.
+/// The number of nested block quotes.
 const LEVELS: usize = 100_000;
 
-/// The JSON of the text `a` in so many block quotes.
+/// Returns the JSON of the text `a` in nested block quotes.
 fn levels(alloc: Global) -> Result<String, AllocError> {
     let mut line = "{\"type\":\"blockquote\",\"children\":[".repeat(alloc, LEVELS)?;
     line.push_str("{\"type\":\"text\",\"value\":\"a\"}")?;

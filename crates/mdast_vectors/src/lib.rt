@@ -1,14 +1,14 @@
-//! Worked examples of the whole layer, each a test with the values that it must give.
+//! Worked examples of the whole layer, each a test with its expected values.
 //!
-//! They show what no contract says: that calls succeed, how nodes are printed, how deep they go, and
-//! that the contracts mean what they were meant to. Their values were worked by hand from the rules
-//! of mdast, CommonMark and GFM, or are those of the tests of markdown-rs; none comes from a run of
-//! this repository. Lists of events with their trees are the tables that `mdast_replay` reads, and stand
-//! here only where they are too long, or where the tree comes from no list.
-//! `scripts/refuse-memory-in-rows` runs the tests with each allocation refused in turn.
+//! They show what no contract says: that calls succeed, how nodes are printed, how deep trees may
+//! be, and that the contracts mean what they were meant to. Their values were worked out by hand
+//! from the rules of mdast, CommonMark and GFM, or are those of the tests of markdown-rs; none
+//! comes from a run of this repository. Lists of events with their trees are in the tables that
+//! `mdast_replay` reads. They are here only if they are too long, or if the tree comes from no
+//! list. `scripts/refuse-memory-in-rows` runs the tests with each allocation refused in turn.
 //!
-//! The crate passes `ordered` on, which asks whether a tree's nodes nest and stand in order: the trees
-//! of a list whose offsets never go back do.
+//! The crate re-exports `ordered`, which says whether a tree's nodes nest and are in order. The
+//! trees of a list whose offsets never go back are ordered.
 #![tactic(auto)]
 
 #[cfg(test)]

@@ -1,13 +1,13 @@
-//! What the runs of a program print, and what its reader and its decoder take.
+//! What the runs of a program print, and what its reader and its decoder accept.
 
 ghost use Rattle.std.specs.Prelude.{◌<◌};
 
 use crate::expect::{prints, same, says};
-use command_line::request::{DocumentError, Request};
 use event_lines::lines::events;
 use event_lines::written::lines_of;
 use markdown_nodes::event::{Event, Kind, Name, Point};
 use mdast_programs::check::run_check;
+use mdast_programs::request::{DocumentError, Request};
 use mdast_programs::run::run;
 use std::alloc::{AllocError, Global};
 use std::io::{self, ErrorKind, Read, Write};
@@ -17,7 +17,7 @@ use std::test::Fail;
 /// The events of `Hi`, a paragraph with one data span.
 const HI: &[u8] = b"+Paragraph 1:1:0\n+Data 1:1:0\n-Data 1:3:2\n-Paragraph 1:3:2\n";
 
-/// A reader that gives a line feed at each read, so many times, and then its end.
+/// A reader that returns a line feed at each read, this many times, and then its end.
 #[derive(Drop)]
 struct LineFeeds(u32);
 
@@ -32,7 +32,7 @@ impl Read for LineFeeds {
     }
 }
 
-/// A reader that gives a line that cannot be read, and then fails.
+/// A reader that returns a line that cannot be read, and then fails.
 #[derive(Drop)]
 struct Failing(bool);
 
@@ -66,7 +66,7 @@ impl Read for Interrupted {
     }
 }
 
-/// A writer that takes nothing.
+/// A writer that accepts nothing.
 #[derive(Drop)]
 struct Closed;
 
@@ -80,7 +80,7 @@ impl Write for Closed {
     }
 }
 
-/// Runs the program over the document `Hi`, and compares what it does.
+/// Runs the program over the document `Hi`, and compares the result.
 fn expect<R: Abort + AllocGlobal, I: Read>(rt: &R, input: &mut I, line: &str, status: u8) {
     let mut output = Vec::new(rt.alloc());
     let found = run(rt.alloc(), b"Hi", input, &mut output);
@@ -96,7 +96,7 @@ fn prints_a_tree(rt: HostRuntime) {
     expect(&rt, &mut input, tree, 0);
 }
 
-/// A copy of an argument.
+/// Returns a copy of an argument.
 fn own(alloc: Global, argument: Option<&str>) -> Result<Option<String>, AllocError> {
     match argument {
         Some(argument) => Ok(Some(String::from_str(alloc, argument)?)),
@@ -104,7 +104,7 @@ fn own(alloc: Global, argument: Option<&str>) -> Result<Option<String>, AllocErr
     }
 }
 
-/// Copies of arguments.
+/// Returns copies of arguments.
 fn owned(
     alloc: Global,
     arguments: [Option<&str>; 3],
@@ -118,7 +118,7 @@ fn owned(
 const HEADING_AND_CALL: &[u8] =
     b"+HeadingAtx 1:1:0\n+HeadingAtxSequence 1:1:0\n-HeadingAtxSequence 1:2:1\n+SpaceOrTab 1:2:1\n-SpaceOrTab 1:3:2\n+HeadingAtxText 1:3:2\n+Data 1:3:2\n-Data 1:5:4\n-HeadingAtxText 1:5:4\n-HeadingAtx 1:5:4\n+LineEnding 1:5:4\n-LineEnding 2:1:5\n+Paragraph 2:1:5\n+GfmFootnoteCall 2:1:5\n+LabelText 2:3:7\n+Data 2:3:7\n-Data 2:4:8\n-LabelText 2:4:8\n-GfmFootnoteCall 2:5:9\n-Paragraph 2:5:9\n";
 
-/// Runs the program that checks a tree, and compares what it does.
+/// Runs the program that checks a tree, and compares the result.
 fn expect_check<R: Abort + AllocGlobal>(rt: &R, doc: &[u8], events: &[u8], text: &str, status: u8) {
     let mut input = events;
     let mut output = Vec::new(rt.alloc());
@@ -140,7 +140,7 @@ const LINK_AND_CALL: &[u8] =
 const SHARP_S: &[u8] =
     b"+Link 1:1:0\n+LabelText 1:2:1\n+Data 1:2:1\n-Data 1:5:4\n-LabelText 1:5:4\n-Link 1:6:5\n";
 
-/// Documents, their events, what the run that checks them prints, and the status with which it ends.
+/// Documents, their events, what the run that checks them prints, and its exit status.
 static CHECKED: [(&[u8], &[u8], &str, u8); 8] = [
     (b"Hi", HI, "", 0),
     (
@@ -185,7 +185,7 @@ fn checks_headings_and_references(rt: HostRuntime) {
     }
 }
 
-/// What some arguments ask for is printed so.
+/// Expects the request of some arguments to be printed like this.
 fn expect_request<R: Abort + AllocGlobal>(
     rt: &R,
     arguments: [Option<&str>; 3],
@@ -196,7 +196,7 @@ fn expect_request<R: Abort + AllocGlobal>(
     prints(rt, rt.alloc(), &found, request)
 }
 
-/// Arguments of `mdast_show`, and what they ask for.
+/// Arguments of `mdast_show`, and what they request.
 static REQUESTS: [(Option<&str>, Option<&str>, Option<&str>, &str); 7] = [
     (None, None, None, "None"),
     (Some("hi.md"), None, None, "Some(Show(\"hi.md\"))"),
@@ -278,7 +278,7 @@ fn numbers_a_line_that_cannot_be_read(rt: HostRuntime) -> Result<(), AllocError>
     Ok(())
 }
 
-/// An event at a line, a column and an index, with virtual spaces.
+/// Returns an event at a line, a column and an index, with virtual spaces.
 fn event(kind: Kind, name: Name, numbers: [usize; 4]) -> Event {
     let [line, column, index, vs] = numbers;
     let point = Point {
@@ -302,7 +302,7 @@ fn reads_virtual_spaces(rt: HostRuntime) -> Result<(), Fail> {
     Ok(())
 }
 
-/// Events are written as they are read: a sign, a name, and numbers without zeros before them.
+/// Events are written as they are read: a sign, a name, and numbers without leading zeros.
 #[test]
 fn writes_lines(rt: HostRuntime) -> Result<(), Fail> {
     let lines = "+SpaceOrTab 1:1:0\n-SpaceOrTab 1:3:0:2\n+Data 12:1:345\n-Data 12:3:347\n";
@@ -312,7 +312,7 @@ fn writes_lines(rt: HostRuntime) -> Result<(), Fail> {
     Ok(())
 }
 
-/// Two events at one point.
+/// Returns two events at one point.
 fn events_at(numbers: [usize; 4]) -> [Event; 2] {
     [
         event(Kind::Enter, Name::Data, numbers),
@@ -324,7 +324,7 @@ fn events_at(numbers: [usize; 4]) -> [Event; 2] {
     ]
 }
 
-/// Puts the lines of these events at the end of a text, with this text of their point.
+/// Appends the lines of these events to a text, with this text of their point.
 fn say_twice(text: &mut String, point: &str) -> Result<(), AllocError> {
     text.push_str("+Data ")?;
     text.push_str(point)?;
@@ -334,7 +334,7 @@ fn say_twice(text: &mut String, point: &str) -> Result<(), AllocError> {
     Ok(())
 }
 
-/// Points as they are said, some of them again.
+/// Points as they are written, some of them repeated.
 static POINTS: [(&str, [usize; 4]); 9] = [
     ("1:1:0", [1, 1, 0, 0]),
     ("1:1:01", [1, 1, 1, 0]),
@@ -356,7 +356,7 @@ static POINTS: [(&str, [usize; 4]); 9] = [
     ),
 ];
 
-/// The lines of two events at each of these points.
+/// Returns the lines of two events at each of these points.
 fn text_of_points(alloc: Global) -> Result<String, AllocError> {
     let mut text = String::new(alloc);
     for (said, _) in &POINTS {
@@ -365,7 +365,7 @@ fn text_of_points(alloc: Global) -> Result<String, AllocError> {
     Ok(text)
 }
 
-/// Two events at each of these points.
+/// Returns two events at each of these points.
 fn events_of_points(alloc: Global) -> Result<Vec<Event>, AllocError> {
     let mut events = Vec::new(alloc);
     for (_, numbers) in &POINTS {
@@ -374,7 +374,7 @@ fn events_of_points(alloc: Global) -> Result<Vec<Event>, AllocError> {
     Ok(events)
 }
 
-/// A point that is said again is the same, however long its text is, and another one is read.
+/// A repeated point is the same, however long its text is, and a different one is read.
 #[test]
 fn reads_points_that_are_said_again(rt: HostRuntime) -> Result<(), Fail> {
     let text = text_of_points(rt.alloc())?;

@@ -1,4 +1,4 @@
-//! What `compile` asks of memory.
+//! How `compile` uses memory.
 
 use crate::expect::{holds, says};
 use crate::ordered;
@@ -42,7 +42,7 @@ fn a_decoder_without_memory(rt: HostRuntime) -> Result<(), Fail> {
     Ok(())
 }
 
-/// `scripts/refuse-memory-in-rows` shows that this asks for none.
+/// `scripts/refuse-memory-in-rows` shows that this allocates none.
 #[test]
 fn no_events_ask_for_no_memory(rt: HostRuntime) {
     let answer = compiled(rt.alloc(), b"", &[]);
@@ -52,8 +52,8 @@ fn no_events_ask_for_no_memory(rt: HostRuntime) {
     );
 }
 
-/// The events of block quotes in one another, each to this byte, with three paragraphs before the
-/// quote in it and one after.
+/// Returns the events of nested block quotes, each up to this byte, with three paragraphs before
+/// the quote in it and one after.
 fn wide_and_deep(alloc: Global, depth: usize, end: usize) -> Result<Vec<Event>, AllocError> {
     let mut outline = Vec::new(alloc);
     for level in 0..depth {
@@ -71,7 +71,7 @@ fn wide_and_deep(alloc: Global, depth: usize, end: usize) -> Result<Vec<Event>, 
     spelled_to(alloc, outline.as_slice(), end)
 }
 
-/// A tree is printed alike by Debug and as a text.
+/// Expects a tree to be printed in the same way by Debug and as a text.
 fn is_printed_alike(rt: &impl Abort, alloc: Global, tree: &Node) -> Result<(), AllocError> {
     let line = tree.to_debug_string(alloc)?;
     let shown = format!(in alloc; "{tree:?}")?;
@@ -79,7 +79,7 @@ fn is_printed_alike(rt: &impl Abort, alloc: Global, tree: &Node) -> Result<(), A
     Ok(())
 }
 
-/// `scripts/release-memory` shows that all memory is given back, whichever request is refused.
+/// `scripts/release-memory` shows that all memory is freed, whichever request is refused.
 #[test]
 fn a_wide_and_deep_tree(rt: HostRuntime) -> Result<(), Fail> {
     let events = wide_and_deep(rt.alloc(), 20, 1)?;
@@ -92,7 +92,7 @@ fn a_wide_and_deep_tree(rt: HostRuntime) -> Result<(), Fail> {
     Ok(())
 }
 
-/// The innermost block quote of a tree of `wide_and_deep`.
+/// Returns the innermost block quote of a tree of `wide_and_deep`.
 fn innermost(tree: &mut Node) -> Option<&mut Node> {
     let mut node = tree;
     for _ in 0..20 {

@@ -6,7 +6,7 @@ use markdown_nodes::unist;
 use std::alloc::{AllocError, Global};
 use std::process::Abort;
 
-/// Names, and how they are written.
+/// Names, and how they are spelled.
 static WRITTEN: [(Name, &str); 4] = [
     (Name::Data, "Data"),
     (Name::BlockQuote, "BlockQuote"),
@@ -17,7 +17,7 @@ static WRITTEN: [(Name, &str); 4] = [
     ),
 ];
 
-/// A name is written so, also by Debug, and is found by that.
+/// Expects a name to be spelled like this, also by Debug, and to be found by its spelling.
 fn is_written(rt: &impl Abort, alloc: Global, name: Name, text: &str) -> Result<(), AllocError> {
     same(rt, name.text(), text);
     holds(rt, Name::find(text) == Some(name));
@@ -43,8 +43,8 @@ fn other_words_are_no_names(rt: HostRuntime) {
     holds(&rt, !Name::HtmlFlow.is(Name::HtmlText));
 }
 
-/// Names, and whether each is that of a span that holds nothing, a delimiter row, or a delimiter cell
-/// value.
+/// Names, and whether each is that of a span that may contain no span, a delimiter row, or a
+/// delimiter cell value.
 static ROLES: [(Name, bool, bool, bool); 6] = [
     (Name::LineEnding, true, false, false),
     (Name::BlankLineEnding, true, false, false),

@@ -1,7 +1,7 @@
 //! A stack that is never empty.
 
 use crate::expect::same;
-use nest::Nest;
+use markdown_parts::nest::Nest;
 use std::alloc::AllocError;
 
 #[test]

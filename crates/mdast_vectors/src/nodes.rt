@@ -1,5 +1,5 @@
-//! What the calls on nodes give, and how nodes are printed: a test for each of the 29 kinds, by their
-//! names, and then larger trees. The cases of `mdast_replay` have trees of each kind, too.
+//! The results of the calls on nodes, and how nodes are printed: a test for each of the 29 kinds,
+//! by their names, and then larger trees. The cases of `mdast_replay` also have trees of each kind.
 
 mod literals;
 mod parents;
@@ -12,7 +12,7 @@ use markdown_nodes::unist::Position;
 use std::alloc::{AllocError, Global};
 use std::process::Abort;
 
-/// A node's copy equals it, and is printed so, by Debug and as a text.
+/// Expects a node's copy to equal it, and to be printed like this, by Debug and as a text.
 fn printed(rt: &impl Abort, alloc: Global, node: &Node, want: &str) -> Result<(), AllocError> {
     let copy = node.clone(alloc)?;
     holds_in(rt, copy == *node, want);
@@ -20,7 +20,7 @@ fn printed(rt: &impl Abort, alloc: Global, node: &Node, want: &str) -> Result<()
     says(rt, copy.to_debug_string(alloc), want)
 }
 
-/// Both calls say that a node has so many children, or none and no place for any.
+/// Expects both calls to say that a node has this number of children, or that it can have none.
 fn has_children(rt: &impl Abort, node: &mut Node, count: Option<usize>, case: &str) {
     let found = node.children().map(|children| children.len());
     same_in(rt, found, count, case);
@@ -28,13 +28,13 @@ fn has_children(rt: &impl Abort, node: &mut Node, count: Option<usize>, case: &s
     same_in(rt, found, count, case);
 }
 
-/// How a node is printed, with `prefix` and `back` round its position.
+/// Returns how a node is printed, with `prefix` and `back` around its position.
 fn line(alloc: Global, prefix: &str, position: &str, back: &str) -> Result<String, AllocError> {
     format!(in alloc; "{prefix}position: {position}{back}")
 }
 
-/// A node with no position: its text, and how it is printed with `prefix` and `back` round the
-/// position.
+/// Expects this text of a node with no position, and that it is printed with `prefix` and `back`
+/// around the position.
 fn carried(
     rt: &impl Abort,
     alloc: Global,
@@ -53,7 +53,7 @@ fn carried(
     printed(rt, alloc, node, somewhere.as_str())
 }
 
-/// The code `c`.
+/// Returns the code `c`.
 fn code(alloc: Global) -> Result<Node, AllocError> {
     Ok(Node::InlineCode(InlineCode {
         value: own(alloc, "c")?,
@@ -61,7 +61,7 @@ fn code(alloc: Global) -> Result<Node, AllocError> {
     }))
 }
 
-/// An emphasis of the code `c`.
+/// Returns an emphasis of the code `c`.
 fn stressed(alloc: Global) -> Result<Node, AllocError> {
     Ok(Node::Emphasis(Emphasis {
         children: alone(alloc, code(alloc))?,
@@ -69,7 +69,7 @@ fn stressed(alloc: Global) -> Result<Node, AllocError> {
     }))
 }
 
-/// An image of `b`.
+/// Returns an image of `b`.
 fn image(alloc: Global) -> Result<Node, AllocError> {
     Ok(Node::Image(Image {
         position: None,
@@ -79,7 +79,7 @@ fn image(alloc: Global) -> Result<Node, AllocError> {
     }))
 }
 
-/// The HTML `<d>`.
+/// Returns the HTML `<d>`.
 fn html(alloc: Global) -> Result<Node, AllocError> {
     Ok(Node::Html(Html {
         value: own(alloc, "<d>")?,
@@ -87,7 +87,8 @@ fn html(alloc: Global) -> Result<Node, AllocError> {
     }))
 }
 
-/// A paragraph of the text `a`, an image of `b`, an emphasis of the code `c`, a break and `<d>`.
+/// Returns a paragraph of the text `a`, an image of `b`, an emphasis of the code `c`, a break and
+/// `<d>`.
 fn words(alloc: Global) -> Result<Node, AllocError> {
     let mut children = Vec::new(alloc);
     add(&mut children, text(alloc, "a"))?;
@@ -98,7 +99,7 @@ fn words(alloc: Global) -> Result<Node, AllocError> {
     Ok(paragraph(children))
 }
 
-/// Puts a text at the end of the children of a node.
+/// Appends a text to the children of a node.
 fn add_text(alloc: Global, node: &mut Node, value: &str) -> Result<(), AllocError> {
     match node.children_mut() {
         Some(children) => add(children, text(alloc, value)),
@@ -127,7 +128,7 @@ fn child_nodes_of_a_paragraph_and_of_a_text(rt: HostRuntime) -> Result<(), Alloc
     Ok(())
 }
 
-/// A table with a column.
+/// Returns a table with a column.
 fn table(alloc: Global) -> Result<Node, AllocError> {
     Ok(Node::Table(Table {
         children: Vec::new(alloc),
@@ -156,7 +157,7 @@ fn positions_count(rt: HostRuntime) -> Result<(), AllocError> {
     Ok(())
 }
 
-/// The length of a node as Debug prints it.
+/// Returns the length of a node as Debug prints it.
 fn debug_length(alloc: Global, node: &Node) -> Result<usize, AllocError> {
     let line = format!(in alloc; "{node:?}")?;
     Ok(line.len())
@@ -168,7 +169,7 @@ fn thousand_block_quotes(rt: HostRuntime) -> Result<(), AllocError> {
     let copy = node.clone(rt.alloc())?;
     holds(&rt, copy == node);
     says(&rt, copy.to_string(rt.alloc()), "a")?;
-    // 1,000 times `Blockquote { children: [` and `], position: None }`, and the text within
+    // 1,000 times `Blockquote { children: [` and `], position: None }`, and the text within.
     same(&rt, debug_length(rt.alloc(), &copy)?, 43_035);
     Ok(())
 }

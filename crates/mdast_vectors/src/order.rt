@@ -1,4 +1,5 @@
-//! Which trees are ordered. The rows of `mdast_replay` have lists whose trees are, and some whose are not.
+//! Which trees are ordered. The rows of `mdast_replay` have lists whose trees are ordered, and some
+//! whose are not.
 
 use crate::expect::{holds, same};
 use crate::ordered;
@@ -6,14 +7,14 @@ use markdown_nodes::mdast::{List, ListItem, Node, Paragraph, Root};
 use markdown_nodes::unist::Position;
 use std::alloc::{AllocError, Global};
 
-/// The position in the first line from one byte to another.
+/// Returns the position in the first line from one byte to another.
 fn between(start: usize, end: usize) -> Option<Position> {
     let first = start.saturating_add(1);
     let last = end.saturating_add(1);
     Some(Position::new(1, first, start, 1, last, end))
 }
 
-/// A paragraph without children.
+/// Returns a paragraph without children.
 fn paragraph(alloc: Global, position: Option<Position>) -> Node {
     Node::Paragraph(Paragraph {
         children: Vec::new(alloc),
@@ -21,7 +22,7 @@ fn paragraph(alloc: Global, position: Option<Position>) -> Node {
     })
 }
 
-/// A root of five bytes with these nodes.
+/// Returns a root of five bytes with these nodes.
 fn root(children: Vec<Node>) -> Node {
     Node::Root(Root {
         children,
@@ -29,7 +30,7 @@ fn root(children: Vec<Node>) -> Node {
     })
 }
 
-/// A root of five bytes with paragraphs between these bytes, or nowhere.
+/// Returns a root of five bytes with paragraphs between these bytes, or without a position.
 fn paragraphs(alloc: Global, places: &[Option<(usize, usize)>]) -> Result<Node, AllocError> {
     let mut children = Vec::new(alloc);
     for place in places {
@@ -39,7 +40,7 @@ fn paragraphs(alloc: Global, places: &[Option<(usize, usize)>]) -> Result<Node, 
     Ok(root(children))
 }
 
-/// The tree of `* [x]`, with the paragraph of its item at this position.
+/// Returns the tree of `* [x]`, with the paragraph of its item at this position.
 fn checked_item(alloc: Global, position: Option<Position>) -> Result<Node, AllocError> {
     let item = Node::ListItem(ListItem {
         children: Vec::from_array(alloc, [paragraph(alloc, position)])?,
@@ -65,9 +66,9 @@ fn the_first_paragraph_of_a_checked_item(rt: HostRuntime) -> Result<(), AllocErr
     Ok(())
 }
 
-/// Where the paragraphs in a root of five bytes stand, and whether the root is ordered: each has a
-/// position, begins and ends in the root, does not end before it begins, and does not begin before an
-/// earlier one ends.
+/// Where the paragraphs in a root of five bytes are, and whether the root is ordered. It is ordered
+/// if each has a position, begins and ends in the root, does not end before it begins, and does not
+/// begin before an earlier one ends.
 static PARAGRAPHS: [(&[Option<(usize, usize)>], bool); 7] = [
     (&[Some((0, 5))], true),
     (&[Some((0, 1)), None], false),

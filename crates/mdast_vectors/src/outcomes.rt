@@ -1,8 +1,8 @@
-//! What a call from another language comes to, with each status that a test can bring about. The values
-//! were worked by hand.
+//! The outcomes of calls from other languages, with each status that a test can produce. The values
+//! were worked out by hand.
 
 use crate::expect::same;
-use mdast_outcomes::{Outcome, outcome_of};
+use mdast_programs::outcomes::{Outcome, outcome_of};
 use std::process::Abort;
 
 /// The events of `Hi`, a paragraph with one data span.
@@ -12,7 +12,7 @@ const HI: &[u8] = b"+Paragraph 1:1:0\n+Data 1:1:0\n-Data 1:3:2\n-Paragraph 1:3:2
 const COPY: &[u8] =
     b"+CharacterReference 1:1:0\n+CharacterReferenceMarker 1:1:0\n-CharacterReferenceMarker 1:2:1\n+CharacterReferenceValue 1:2:1\n-CharacterReferenceValue 1:6:5\n-CharacterReference 1:7:6\n";
 
-/// An outcome with this status that says nothing else.
+/// Returns an outcome with only this status.
 pub fn bare(status: u32) -> Outcome {
     Outcome {
         status,
@@ -25,7 +25,7 @@ pub fn bare(status: u32) -> Outcome {
     }
 }
 
-/// An outcome has these fields.
+/// Expects an outcome to have these fields.
 pub fn same_outcome(rt: &impl Abort, outcome: &Outcome, wanted: &Outcome) {
     same(rt, outcome.status, wanted.status);
     same(
@@ -48,7 +48,7 @@ pub fn same_outcome(rt: &impl Abort, outcome: &Outcome, wanted: &Outcome) {
     same(rt, outcome.offset, wanted.offset);
 }
 
-/// A call comes to an outcome with these fields.
+/// Expects the outcome of a call to have these fields.
 fn expect<R: Abort + AllocGlobal>(rt: &R, input: [&[u8]; 3], wanted: &Outcome) {
     let [document, event_lines, references] = input;
     let outcome = outcome_of(rt.alloc(), document, event_lines, references);

@@ -1,5 +1,5 @@
-//! Events of spans in one line, mostly where it does not matter at which point they stand, and what
-//! is compiled of events.
+//! Events of spans in one line, mostly where their exact points do not matter, and the compilation
+//! of events.
 
 use character_references::decoder::Decoder;
 use markdown_nodes::event::{Event, Kind, Name, Point};
@@ -8,17 +8,17 @@ use markdown_nodes::message::Fault;
 use markdown_tree::to_mdast::compile;
 use std::alloc::{AllocError, Global};
 
-/// What `compile` gives for events over a document, with the decoder of the program.
+/// Returns the result of `compile` for events over a document, with the decoder of the program.
 pub fn compiled(alloc: Global, document: &[u8], events: &[Event]) -> Result<Node, Fault> {
     compile(alloc, events, document, &Decoder)
 }
 
-/// The events of spans in order, each with how many others it stands in.
+/// Returns the events of spans in order, each with the number of spans around it.
 pub fn spelled(alloc: Global, outline: &[(usize, Name)]) -> Result<Vec<Event>, AllocError> {
     spelled_to(alloc, outline, 0)
 }
 
-/// The events of such spans, all from the first byte of the document to this one.
+/// Returns the events of such spans, all from the first byte of the document to this one.
 pub fn spelled_to(
     alloc: Global,
     outline: &[(usize, Name)],
@@ -35,7 +35,7 @@ pub fn spelled_to(
     Ok(events)
 }
 
-/// Ends the innermost of the open spans, until so many are left.
+/// Ends the innermost of the open spans, until this number is left.
 fn leave(
     events: &mut Vec<Event>,
     names: &mut Vec<Name>,
@@ -58,7 +58,7 @@ pub fn exit(name: Name) -> Event {
     event_at(Kind::Exit, name, 0)
 }
 
-/// An event in the first line.
+/// Returns an event in the first line.
 pub fn event_at(kind: Kind, name: Name, index: usize) -> Event {
     let point = Point {
         line: 1,

@@ -8,7 +8,7 @@ use std::alloc::Global;
 use std::process::Abort;
 use std::test::Fail;
 
-/// How each name is written.
+/// How each name is spelled.
 const NAMES: &str = "
     Data CharacterEscapeValue CodeFlowChunk CodeTextData FrontmatterChunk HtmlFlowData
     HtmlTextData MathFlowChunk MathTextData AutolinkEmail AutolinkProtocol CharacterReference
@@ -43,11 +43,11 @@ const NAMES: &str = "
     ThematicBreakSequence
 ";
 
-/// A word is no name.
+/// A word is not a name.
 #[derive(Debug, Drop)]
 struct Unknown;
 
-/// All names.
+/// Returns all names.
 fn names(alloc: Global) -> Result<Vec<Name>, Fail> {
     let mut names = Vec::new(alloc);
     for text in NAMES.split_whitespace() {
@@ -56,7 +56,7 @@ fn names(alloc: Global) -> Result<Vec<Name>, Fail> {
     Ok(names)
 }
 
-/// A span of the inner name in one of the outer name gives a tree or a message.
+/// Expects a tree or a message for a span of the inner name in one of the outer name.
 fn is_answered(rt: &impl Abort, alloc: Global, outer: Name, inner: Name) {
     let events = [
         event_at(Kind::Enter, outer, 0),

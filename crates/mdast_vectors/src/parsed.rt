@@ -1,9 +1,9 @@
-//! What a call from another language comes to that takes a document alone, with each status that a test
-//! can bring about. The values were worked by hand.
+//! The outcomes of calls from other languages that take only a document, with each status that a
+//! test can produce. The values were worked out by hand.
 
 use crate::outcomes::{bare, same_outcome};
-use mdast_outcomes::Outcome;
-use mdast_outcomes::parsed::parsed;
+use mdast_programs::outcomes::Outcome;
+use mdast_programs::outcomes::parsed::parsed;
 use std::process::Abort;
 
 /// The bits of all constructs.
@@ -12,14 +12,14 @@ const EVERYTHING: u32 = 0x1fff_ffff;
 /// A heading with a character of two bytes, and a paragraph.
 const PARTS: &str = "# é *b*\n\nc\n";
 
-/// A call comes to an outcome with these fields.
+/// Expects the outcome of a call to have these fields.
 fn expect<R: Abort + AllocGlobal>(rt: &R, document: &[u8], options: [u32; 2], wanted: &Outcome) {
     let [constructs, form] = options;
     let outcome = parsed(rt.alloc(), document, constructs, form);
     same_outcome(rt, &outcome, wanted);
 }
 
-/// A call comes to a text.
+/// Expects a call to return this text.
 fn gives<R: Abort + AllocGlobal>(rt: &R, document: &str, options: [u32; 2], text: &'static [u8]) {
     let mut wanted = bare(0);
     wanted.text = text;

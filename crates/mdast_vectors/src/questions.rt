@@ -1,5 +1,4 @@
-//! What programs ask of the tree of a document: the node at a byte, a definition, the outline, and
-//! the text.
+//! Queries of the tree of a document: the node at a byte, a definition, the outline, and the text.
 
 use crate::expect::{same, says};
 use crate::trees::{alone, root, text};
@@ -12,7 +11,7 @@ use mdast_util::plain_text::plain_text;
 use std::alloc::{AllocError, Global};
 use std::process::Abort;
 
-/// The tree of a document, with all constructs.
+/// Returns the tree of a document, with all constructs.
 fn read(alloc: Global, document: &str) -> Result<Node, AllocError> {
     let options = ParseOptions {
         constructs: Constructs::everything(),
@@ -21,7 +20,7 @@ fn read(alloc: Global, document: &str) -> Result<Node, AllocError> {
     to_mdast(alloc, document, &options)
 }
 
-/// From which byte to which the deepest node at a byte goes.
+/// Returns the start and end offsets of the deepest node at a byte.
 fn found_at(tree: &Node, offset: usize) -> Option<(usize, usize)> {
     let here = node_at(tree, offset)?.position()?;
     Some((here.start.offset, here.end.offset))
@@ -51,7 +50,7 @@ fn deepest_nodes_of_a_document(rt: HostRuntime) -> Result<(), AllocError> {
     Ok(())
 }
 
-/// Stops the test where an identifier is not defined as this place.
+/// Stops the test if the address of an identifier is not this one.
 fn means(
     rt: &impl Abort,
     alloc: Global,
@@ -79,7 +78,7 @@ fn outline_of_a_document(rt: HostRuntime) -> Result<(), AllocError> {
     says(&rt, outline(rt.alloc(), &tree), want)
 }
 
-/// A heading of a depth that no document gives, and without a position.
+/// Returns a heading with a depth that no document produces, and without a position.
 fn heading(alloc: Global) -> Result<Node, AllocError> {
     Ok(Node::Heading(Heading {
         children: alone(alloc, text(alloc, "a"))?,
@@ -93,7 +92,7 @@ fn outline_of_a_heading_made_by_hand(rt: HostRuntime) -> Result<(), AllocError> 
     says(&rt, outline(rt.alloc(), &heading(rt.alloc())?), "a\n")
 }
 
-/// Each construct that has text, frontmatter, HTML and a definition.
+/// A document with each construct that has text, frontmatter, HTML and a definition.
 const DOCUMENT: &str =
     "---\na\n---\n\n| b | c |\n| - | - |\n| d |   |\n\n```\ne\n\nf\n```\n\n$$\ng\n$$\n\n> `h`\\\n> <i>$j$ ![k](l) ![m]\n\n<div>\n\n[m]: n\n\n# o\n";
 

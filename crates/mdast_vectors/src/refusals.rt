@@ -1,4 +1,4 @@
-//! What each refusal says. The texts are those of the table in `docs/REFUSALS.md`.
+//! The text of each refusal. The texts are those of the table in `docs/REFUSALS.md`.
 
 use crate::expect::{holds, says};
 use event_lines::lines::LinesError;
@@ -112,7 +112,7 @@ fn want_of_memory_names_no_event(rt: HostRuntime) {
     holds(&rt, matches!(&fault, Fault::Memory(_)));
 }
 
-/// Stops where a value is not printed so.
+/// Stops the test if a value is not printed like this.
 fn expect_text<T: Display, A: Abort + AllocGlobal>(
     rt: &A,
     value: &T,

@@ -1,11 +1,11 @@
-//! What a run over tables of cases says of those that are not as they must be.
+//! What a run over tables of cases prints for those that fail.
 
 use crate::expect::same;
 use mdast_cases::run::{Input, run, status};
 use std::alloc::{AllocError, Global};
 use std::process::Abort;
 
-/// A table of a row that has a tree, and of one that is refused.
+/// A table of one row that has a tree, and one that is refused.
 const ROWS: &str = r#"# A comment.
 section Texts
 
@@ -23,11 +23,12 @@ HardBreakTrailing 0-1
 ! break-unfinished 1:2 (1)
 "#;
 
-/// What is said of that table: the list of its tree is cut in both spans, whose exits are no neighbours.
+/// What is printed for that table: the list of its tree is cut in both spans, whose exits are not
+/// adjacent.
 const ROWS_LINE: &str =
     "x: 2 cases, each as it must be: 1 trees copied, 0 forms, 2 lists cut, 0 pairs of exits swapped";
 
-/// A file of this name and text.
+/// Returns a file with this name and text.
 fn input(alloc: Global, name: &str, text: &str) -> Result<Input, AllocError> {
     Ok(Input {
         name: String::from_str(alloc, name)?,
@@ -35,7 +36,7 @@ fn input(alloc: Global, name: &str, text: &str) -> Result<Input, AllocError> {
     })
 }
 
-/// Files of these names and texts.
+/// Returns files with these names and texts.
 fn inputs(alloc: Global, files: &[(&str, &str)]) -> Result<Vec<Input>, AllocError> {
     let mut inputs = Vec::new(alloc);
     for (name, text) in files {
@@ -44,7 +45,7 @@ fn inputs(alloc: Global, files: &[(&str, &str)]) -> Result<Vec<Input>, AllocErro
     Ok(inputs)
 }
 
-/// Runs the program over files, and compares what it does.
+/// Runs the program over files, and compares the result.
 fn expect<R: Abort + AllocGlobal>(
     rt: &R,
     files: &[(&str, &str)],
@@ -60,7 +61,7 @@ fn expect<R: Abort + AllocGlobal>(
     Ok(())
 }
 
-/// Tables that are not as they must be, and what is said of each.
+/// Tables that fail, and what is printed for each.
 static TURNED: [(&str, &str); 2] = [
     (
         "row a\n\"a\"\nData 0-1\n! slice-invalid 1:1 (0)\n\ncase 7\ndoc\n= Root { children: [] }\n",
@@ -80,9 +81,9 @@ fn names_turned_answers_and_orders(rt: HostRuntime) -> Result<(), AllocError> {
     Ok(())
 }
 
-/// A row, the same with one thing turned at a time, and what is said to be compared of each: the tree,
-/// the forms that the row has, the events after which a span is open, and the neighbouring exits of
-/// different names.
+/// A row, the same with one change at a time, and what is compared for each: the tree, the forms
+/// that the row has, the events after which a span is open, and the adjacent exits of different
+/// names.
 static COMPARED: [(&str, &str); 6] = [
     (
         r#"row a
@@ -133,7 +134,7 @@ report ""
 "#,
         "1 trees copied, 3 forms, 0 lists cut, 0 pairs of exits swapped",
     ),
-    // With a break in place of the paragraph, which has no line ending after it: there is no tree.
+    // With a break in place of the paragraph, without its line ending: there is no tree.
     (
         r#"row a
 ""
@@ -153,7 +154,7 @@ fn counts_what_is_compared(rt: HostRuntime) -> Result<(), AllocError> {
     Ok(())
 }
 
-/// Checksums for the rows above, what is said of them, and the status.
+/// Checksums for the rows above, what is printed for them, and the status.
 static CHECKSUMS: [(&str, &str, u8); 4] = [
     (
         "# A comment.\nTexts row a-text dd668283f150b65e\nBreaks row a-break-alone b89b56eb277dfbbe\n",

@@ -1,4 +1,4 @@
-//! What a tree shows of lists and tables is what the calls on events say of them.
+//! The tree agrees with the calls on events, for lists and tables.
 
 use crate::alignment::{TABLES, table_align};
 use crate::depths::first_child;
@@ -11,10 +11,10 @@ use std::alloc::{AllocError, Global};
 use std::process::Abort;
 use std::test::Fail;
 
-/// Where the span begins in what `placed` gives.
+/// Where the span begins in the result of `placed`.
 const BEGIN: usize = 3;
 
-/// The events of an outline in a block quote, after a paragraph.
+/// Returns the events of an outline in a block quote, after a paragraph.
 fn placed(alloc: Global, outline: &[(usize, Name)]) -> Result<Vec<Event>, AllocError> {
     let mut events = Vec::new(alloc);
     events.push(enter(Name::BlockQuote))?;
@@ -25,12 +25,12 @@ fn placed(alloc: Global, outline: &[(usize, Name)]) -> Result<Vec<Event>, AllocE
     Ok(events)
 }
 
-/// The node of what was placed.
+/// Returns the node of the outline.
 fn shown(tree: &Node) -> Option<&Node> {
     first_child(tree)?.children()?.get(1)
 }
 
-/// Whether the list that was placed is spread.
+/// Returns whether the list of the outline is spread.
 fn shown_list(tree: &Node) -> Option<bool> {
     match shown(tree)? {
         Node::List(list) => Some(list.spread),
@@ -38,7 +38,7 @@ fn shown_list(tree: &Node) -> Option<bool> {
     }
 }
 
-/// Whether each item of the list that was placed is spread, in order.
+/// Returns whether each item of the list of the outline is spread, in order.
 fn shown_items(alloc: Global, tree: &Node) -> Result<Vec<bool>, AllocError> {
     let mut items = Vec::new(alloc);
     if let Some(Node::List(list)) = shown(tree) {
@@ -51,7 +51,7 @@ fn shown_items(alloc: Global, tree: &Node) -> Result<Vec<bool>, AllocError> {
     Ok(items)
 }
 
-/// Whether each list item that begins in the events is loose, in order.
+/// Returns whether each list item that begins in the events is loose, in order.
 fn said_items(alloc: Global, events: &[Event]) -> Result<Vec<bool>, AllocError> {
     let mut items = Vec::new(alloc);
     for index in 0..events.len() {
@@ -62,7 +62,7 @@ fn said_items(alloc: Global, events: &[Event]) -> Result<Vec<bool>, AllocError> 
     Ok(items)
 }
 
-/// How the columns of the table that was placed are aligned.
+/// Returns how the columns of the table of the outline are aligned.
 fn shown_table(tree: &Node) -> Option<&[AlignKind]> {
     match shown(tree)? {
         Node::Table(table) => Some(table.align.as_slice()),
@@ -70,7 +70,7 @@ fn shown_table(tree: &Node) -> Option<&[AlignKind]> {
     }
 }
 
-/// The list of an outline, and its items, show what is said of their events.
+/// Expects the list of an outline, and its items, to agree with the calls on their events.
 fn list_shows(rt: &impl Abort, alloc: Global, outline: &[(usize, Name)]) -> Result<(), Fail> {
     let events = placed(alloc, outline)?;
     let list = list_spread(alloc, events.as_slice(), BEGIN, false)?;
@@ -90,7 +90,7 @@ fn lists_and_items_show_what_is_said_of_events(rt: HostRuntime) -> Result<(), Fa
     Ok(())
 }
 
-/// The table of an outline shows what is said of its events.
+/// Expects the table of an outline to agree with the call on its events.
 fn table_shows(rt: &impl Abort, alloc: Global, outline: &[(usize, Name)]) -> Result<(), Fail> {
     let events = placed(alloc, outline)?;
     let kinds = table_align(alloc, events.as_slice(), BEGIN)?;

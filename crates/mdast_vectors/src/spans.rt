@@ -7,7 +7,7 @@ use markdown_nodes::event::{Event, Name, span_begins};
 use std::alloc::{AllocError, Global};
 use std::process::Abort;
 
-/// What begins at each of these indexes.
+/// Expects these spans to begin at these indexes.
 fn found(
     rt: &impl Abort,
     alloc: Global,
@@ -24,8 +24,8 @@ fn found(
     Ok(())
 }
 
-/// Outlines, and where the span that begins at an index ends: at its own exit, and nowhere where it
-/// holds what it cannot hold.
+/// Outlines, and where the span that begins at an index ends: at its own exit, or nowhere if it
+/// contains a span that it may not contain.
 static SPANS: [(&[(usize, Name)], &[(usize, Option<usize>)]); 3] = [
     (
         &[(0, Name::Paragraph), (1, Name::Data)],

@@ -27,8 +27,8 @@ const BLANK: (usize, Name) = (1, Name::BlankLineEnding);
 /// A blank line in an item.
 const BLANK_WITHIN: (usize, Name) = (2, Name::BlankLineEnding);
 
-/// Outlines that begin with a list and its first item, with whether the list is loose, whether it is
-/// where its items count, and whether that item is.
+/// Outlines that begin with a list and its first item, with whether the list is loose, whether it
+/// is loose if its items count, and whether that item is.
 pub static LISTS: [(&[(usize, Name)], bool, bool, bool); 9] = [
     (&[LIST, ITEM, PREFIX, BLANK, ITEM], false, false, false),
     (
@@ -61,7 +61,7 @@ pub static LISTS: [(&[(usize, Name)], bool, bool, bool); 9] = [
     (&[LIST, ITEM, PREFIX, TEXT, BLANK_WITHIN], false, true, true),
 ];
 
-/// Whether the list that begins at this index is loose, if one begins there.
+/// Returns whether the list that begins at this index is loose, if one begins there.
 pub fn list_spread(
     alloc: Global,
     events: &[Event],
@@ -82,7 +82,7 @@ pub fn list_spread(
     }
 }
 
-/// Whether the list item that begins at this index is loose, if one begins there.
+/// Returns whether the list item that begins at this index is loose, if one begins there.
 pub fn item_spread(
     alloc: Global,
     events: &[Event],
@@ -102,8 +102,8 @@ pub fn item_spread(
     }
 }
 
-/// Whether the list of an outline is loose, whether it is where its items count, and whether its first
-/// item is.
+/// Returns whether the list of an outline is loose, whether it is loose if its items count, and
+/// whether its first item is.
 fn looseness(alloc: Global, outline: &[(usize, Name)]) -> Result<[Option<bool>; 3], AllocError> {
     let events = spelled(alloc, outline)?;
     Ok([

@@ -1,14 +1,15 @@
-//! What the calls on texts give.
+//! The results of the calls on texts.
 
 use crate::expect::{same, says};
 use markdown_nodes::decimal::push_decimal;
 use markdown_nodes::text::{line_endings_to_spaces, normalize_identifier, raw_text, trim_eol};
 use std::alloc::{AllocError, Global};
 
-/// A value, and the text that must come of it.
+/// A value, and the expected text.
 type Case = (&'static str, &'static str);
 
-/// A value, whether the line endings at its start and at its end go, and the text that must come.
+/// A value, whether the line endings at its start and at its end are removed, and the expected
+/// text.
 static TRIMMED: [(&str, bool, bool, &str); 3] = [
     ("\na\n", true, true, "a"),
     ("\r\n", true, true, ""),
@@ -22,7 +23,7 @@ fn one_line_ending_goes(rt: HostRuntime) {
     }
 }
 
-/// Values of inline code, whether they are in a table, and the text that must come.
+/// Values of inline code, whether they are in a table, and the expected text.
 static RAW: [(&str, bool, &str); 8] = [
     (" a ", false, "a"),
     ("   ", false, "   "),
@@ -61,13 +62,13 @@ static INLINE: [Case; 4] = [
     ("\r\n", " "),
 ];
 
-/// The text of inline code.
+/// Returns the text of inline code.
 fn inline_code(alloc: Global, value: &str) -> Result<String, AllocError> {
     let spaced = line_endings_to_spaces(alloc, value)?;
     raw_text(alloc, spaced.as_str(), false)
 }
 
-// Inline code: its line endings become spaces before its padding goes.
+// Inline code: its line endings become spaces before its padding is removed.
 #[test]
 fn inline_code_is_one_line(rt: HostRuntime) -> Result<(), AllocError> {
     for (value, want) in &INLINE {
@@ -94,7 +95,7 @@ static NUMBERED: [(usize, &str); 5] = [
     (usize::MAX, "a18446744073709551615"),
 ];
 
-/// The letter `a` and the digits of a number.
+/// Returns the letter `a` and the digits of a number.
 fn numbered(alloc: Global, number: usize) -> Result<String, AllocError> {
     let mut text = String::from_str(alloc, "a")?;
     push_decimal(&mut text, number)?;

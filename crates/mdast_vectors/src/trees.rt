@@ -3,12 +3,12 @@
 use markdown_nodes::mdast::{Blockquote, Node, Paragraph, Root, Text};
 use std::alloc::{AllocError, Global};
 
-/// A copy of a text.
+/// Returns a copy of a text.
 pub fn own(alloc: Global, text: &str) -> Result<String, AllocError> {
     String::from_str(alloc, text)
 }
 
-/// A text of this value.
+/// Returns a text of this value.
 pub fn text(alloc: Global, value: &str) -> Result<Node, AllocError> {
     Ok(Node::Text(Text {
         value: own(alloc, value)?,
@@ -16,7 +16,7 @@ pub fn text(alloc: Global, value: &str) -> Result<Node, AllocError> {
     }))
 }
 
-/// A root with these children.
+/// Returns a root with these children.
 pub fn root(children: Vec<Node>) -> Node {
     Node::Root(Root {
         children,
@@ -24,7 +24,7 @@ pub fn root(children: Vec<Node>) -> Node {
     })
 }
 
-/// A paragraph with these children.
+/// Returns a paragraph with these children.
 pub fn paragraph(children: Vec<Node>) -> Node {
     Node::Paragraph(Paragraph {
         children,
@@ -32,19 +32,19 @@ pub fn paragraph(children: Vec<Node>) -> Node {
     })
 }
 
-/// Puts a node, if it was made, at the end of others.
+/// Appends a node, if it was made.
 pub fn add(nodes: &mut Vec<Node>, node: Result<Node, AllocError>) -> Result<(), AllocError> {
     Ok(nodes.push(node?)?)
 }
 
-/// A node alone.
+/// Returns a list of one node.
 pub fn alone(alloc: Global, node: Result<Node, AllocError>) -> Result<Vec<Node>, AllocError> {
     let mut nodes = Vec::new(alloc);
     add(&mut nodes, node)?;
     Ok(nodes)
 }
 
-/// A block quote with these children.
+/// Returns a block quote with these children.
 pub fn blockquote(children: Vec<Node>) -> Node {
     Node::Blockquote(Blockquote {
         children,
@@ -52,7 +52,7 @@ pub fn blockquote(children: Vec<Node>) -> Node {
     })
 }
 
-/// A node in as many block quotes, each in the one before it.
+/// Returns a node in `depth` nested block quotes.
 pub fn quoted(alloc: Global, node: Node, depth: usize) -> Result<Node, AllocError> {
     let mut node = node;
     for _ in 0..depth {

@@ -1,4 +1,4 @@
-//! All that is said of a list that is no forest's. The cases of `forms.txt` have more.
+//! The whole message for a list that is not that of a forest. The cases of `forms.txt` have more.
 
 use crate::expect::same;
 use crate::outline::{compiled, event_at};
@@ -10,7 +10,7 @@ use std::alloc::{AllocError, Global};
 use std::process::Abort;
 use std::test::Fail;
 
-/// What is said of a list that has no tree.
+/// Returns the message for a list that has no tree.
 fn said(answer: Result<Node, Fault>) -> Result<Option<Message>, AllocError> {
     match answer {
         Ok(_) => Ok(None),
@@ -19,7 +19,7 @@ fn said(answer: Result<Node, Fault>) -> Result<Option<Message>, AllocError> {
     }
 }
 
-/// These events over `ab` are unbalanced at this point, and the message is whole.
+/// Expects these events over `ab` to be unbalanced at this point, and the message to be complete.
 fn unbalanced(rt: &impl Abort, alloc: Global, events: &[Event], point: Point) -> Result<(), Fail> {
     let want = Message {
         place: Some(Place::Point(point)),

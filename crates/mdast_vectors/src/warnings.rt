@@ -1,4 +1,4 @@
-//! What is wrong in trees, and how it is printed. The trees are made by hand, and so are the lines.
+//! What is wrong in trees, and how it is printed. The trees and the lines are written by hand.
 
 use crate::expect::{same, says};
 use crate::trees::{add, alone, blockquote, own, root, text};
@@ -9,7 +9,7 @@ use mdast_check::warnings::{Problem, Warning, warnings};
 use std::alloc::{AllocError, Global};
 use std::process::Abort;
 
-/// A heading without text.
+/// Returns a heading without text.
 fn heading(alloc: Global, depth: u8) -> Result<Node, AllocError> {
     Ok(Node::Heading(mdast::Heading {
         children: Vec::new(alloc),
@@ -18,7 +18,7 @@ fn heading(alloc: Global, depth: u8) -> Result<Node, AllocError> {
     }))
 }
 
-/// A root of headings of these depths.
+/// Returns a root of headings of these depths.
 fn headings(alloc: Global, depths: &[u8]) -> Result<Node, AllocError> {
     let mut nodes = Vec::new(alloc);
     for depth in depths {
@@ -27,7 +27,7 @@ fn headings(alloc: Global, depths: &[u8]) -> Result<Node, AllocError> {
     Ok(root(nodes))
 }
 
-/// A link of these nodes.
+/// Returns a link of these nodes.
 fn link(alloc: Global, url: &str, children: Vec<Node>) -> Result<Node, AllocError> {
     Ok(Node::Link(mdast::Link {
         children,
@@ -37,7 +37,7 @@ fn link(alloc: Global, url: &str, children: Vec<Node>) -> Result<Node, AllocErro
     }))
 }
 
-/// A link by reference of these nodes.
+/// Returns a link by reference of these nodes.
 fn reference(alloc: Global, identifier: &str, children: Vec<Node>) -> Result<Node, AllocError> {
     Ok(Node::LinkReference(mdast::LinkReference {
         children,
@@ -48,12 +48,12 @@ fn reference(alloc: Global, identifier: &str, children: Vec<Node>) -> Result<Nod
     }))
 }
 
-/// A link by reference of the text `t`.
+/// Returns a link by reference of the text `t`.
 fn shown(alloc: Global, identifier: &str) -> Result<Node, AllocError> {
     reference(alloc, identifier, alone(alloc, text(alloc, "t"))?)
 }
 
-/// An image with this alternative text.
+/// Returns an image with this alternative text.
 fn image(alloc: Global, alt: &str) -> Result<Node, AllocError> {
     Ok(Node::Image(mdast::Image {
         position: None,
@@ -63,7 +63,7 @@ fn image(alloc: Global, alt: &str) -> Result<Node, AllocError> {
     }))
 }
 
-/// An image by reference with this alternative text.
+/// Returns an image by reference with this alternative text.
 fn image_reference(alloc: Global, identifier: &str, alt: &str) -> Result<Node, AllocError> {
     Ok(Node::ImageReference(mdast::ImageReference {
         position: None,
@@ -74,7 +74,7 @@ fn image_reference(alloc: Global, identifier: &str, alt: &str) -> Result<Node, A
     }))
 }
 
-/// A call of a footnote.
+/// Returns a call of a footnote.
 fn call(alloc: Global, identifier: &str) -> Result<Node, AllocError> {
     Ok(Node::FootnoteReference(mdast::FootnoteReference {
         position: None,
@@ -83,7 +83,7 @@ fn call(alloc: Global, identifier: &str) -> Result<Node, AllocError> {
     }))
 }
 
-/// A definition of the place `u`.
+/// Returns a definition with the address `u`.
 fn definition(alloc: Global, identifier: &str) -> Result<Node, AllocError> {
     Ok(Node::Definition(mdast::Definition {
         position: None,
@@ -94,7 +94,7 @@ fn definition(alloc: Global, identifier: &str) -> Result<Node, AllocError> {
     }))
 }
 
-/// A footnote of these nodes.
+/// Returns a footnote of these nodes.
 fn footnote(alloc: Global, identifier: &str, children: Vec<Node>) -> Result<Node, AllocError> {
     Ok(Node::FootnoteDefinition(mdast::FootnoteDefinition {
         children,
@@ -104,7 +104,7 @@ fn footnote(alloc: Global, identifier: &str, children: Vec<Node>) -> Result<Node
     }))
 }
 
-/// The lines of warnings.
+/// Returns the lines of warnings.
 fn lines(alloc: Global, found: &[Warning]) -> Result<String, AllocError> {
     let mut text = String::new(alloc);
     for warning in found {
@@ -113,7 +113,7 @@ fn lines(alloc: Global, found: &[Warning]) -> Result<String, AllocError> {
     Ok(text)
 }
 
-/// The warnings about a tree are printed so.
+/// Expects the warnings about a tree to be printed like this.
 fn warns(rt: &impl Abort, alloc: Global, tree: &Node, want: &str) -> Result<(), AllocError> {
     let found = warnings(alloc, tree)?;
     says(rt, lines(alloc, &found), want)
@@ -145,7 +145,7 @@ fn headings_of_any_depth(rt: HostRuntime) -> Result<(), AllocError> {
     )
 }
 
-/// A root of a block quote of a heading of depth 1, and then a heading of depth 3.
+/// Returns a root of a block quote of a heading of depth 1, and then a heading of depth 3.
 fn quoted_heading(alloc: Global) -> Result<Node, AllocError> {
     let mut nodes = Vec::new(alloc);
     add(&mut nodes, Ok(blockquote(alone(alloc, heading(alloc, 1))?)))?;
@@ -164,7 +164,7 @@ fn a_heading_in_a_block_quote_stands_before(rt: HostRuntime) -> Result<(), Alloc
     )
 }
 
-/// References to `a`, `b` and `c`, and then a definition of `a` and a footnote `b`.
+/// Returns references to `a`, `b` and `c`, and then a definition of `a` and a footnote `b`.
 fn references(alloc: Global) -> Result<Node, AllocError> {
     let mut nodes = Vec::new(alloc);
     add(&mut nodes, shown(alloc, "a"))?;
@@ -190,8 +190,8 @@ fn references_that_nothing_defines(rt: HostRuntime) -> Result<(), AllocError> {
     )
 }
 
-/// Definitions of `a` twice and of `b`, footnotes `a` twice and `b`, and then an image of `b` and, in a
-/// footnote `c`, a call of `c`.
+/// Returns definitions of `a` twice and of `b`, footnotes `a` twice and `b`, and then an image of
+/// `b` and, in a footnote `c`, a call of `c`.
 fn definitions(alloc: Global) -> Result<Node, AllocError> {
     let mut nodes = Vec::new(alloc);
     add(&mut nodes, definition(alloc, "a"))?;
@@ -225,9 +225,9 @@ fn definitions_that_nothing_needs(rt: HostRuntime) -> Result<(), AllocError> {
     )
 }
 
-/// A link to nowhere without text, one to nowhere with text, one to `u` without text, one of an empty text
-/// in a block quote, one of an image with an alternative text, one of an image without one, and one by
-/// reference without text.
+/// Returns a link to nowhere without text, one to nowhere with text, one to `u` without text, one
+/// of an empty text in a block quote, one of an image with an alternative text, one of an image
+/// without one, and one by reference without text.
 fn links(alloc: Global) -> Result<Node, AllocError> {
     let mut nodes = Vec::new(alloc);
     add(&mut nodes, link(alloc, "", Vec::new(alloc)))?;
@@ -265,7 +265,7 @@ fn links_and_images_that_are_empty(rt: HostRuntime) -> Result<(), AllocError> {
     )
 }
 
-/// A link of a link without text and of a text beside it.
+/// Returns a link of a link without text and of a text beside it.
 fn link_beside_text(alloc: Global) -> Result<Node, AllocError> {
     let mut nodes = Vec::new(alloc);
     add(&mut nodes, link(alloc, "u", Vec::new(alloc)))?;
@@ -274,7 +274,7 @@ fn link_beside_text(alloc: Global) -> Result<Node, AllocError> {
     link(alloc, "u", nodes)
 }
 
-/// Text counts for the links that it stands in, and for none beside it.
+/// Text counts for the links around it, and for none beside it.
 #[test]
 fn links_in_a_link(rt: HostRuntime) -> Result<(), AllocError> {
     let tree = link_beside_text(rt.alloc())?;
@@ -287,14 +287,14 @@ fn links_in_a_link(rt: HostRuntime) -> Result<(), AllocError> {
     )
 }
 
-/// An image by reference without an alternative text, at a place.
+/// Returns an image by reference without an alternative text, at a place.
 fn placed_image(alloc: Global, identifier: &str) -> Result<Node, AllocError> {
     let mut image = image_reference(alloc, identifier, "")?;
     image.position_set(Some(Position::new(3, 5, 20, 4, 1, 27)));
     Ok(image)
 }
 
-/// A warning begins with the line and the column at which its node starts.
+/// A warning begins with the line and the column where its node starts.
 #[test]
 fn warnings_with_a_position(rt: HostRuntime) -> Result<(), AllocError> {
     let tree = placed_image(rt.alloc(), "a")?;
@@ -307,7 +307,7 @@ fn warnings_with_a_position(rt: HostRuntime) -> Result<(), AllocError> {
     )
 }
 
-/// An identifier stands in one line, whatever it has.
+/// An identifier is on one line, whatever its characters.
 #[test]
 fn identifiers_in_one_line(rt: HostRuntime) -> Result<(), AllocError> {
     let tree = call(
@@ -322,7 +322,7 @@ fn identifiers_in_one_line(rt: HostRuntime) -> Result<(), AllocError> {
     )
 }
 
-/// A program asks for the rule.
+/// Programs use the rule.
 #[test]
 fn rules_of_problems(rt: HostRuntime) {
     same(&rt, Problem::LinkWithoutAddress.rule(), "link-empty");
@@ -330,10 +330,10 @@ fn rules_of_problems(rt: HostRuntime) {
     same(&rt, Problem::ImageWithoutAlt.rule(), "image-without-alt");
 }
 
-/// How many links stand in one another.
+/// The number of nested links.
 const LEVELS: usize = 100_000;
 
-/// A node in as many links to `u`, each in the one before it.
+/// Returns a node in nested links to `u`.
 fn linked(alloc: Global, node: Node) -> Result<Node, AllocError> {
     let mut node = node;
     for _ in 0..LEVELS {

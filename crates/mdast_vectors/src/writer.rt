@@ -1,6 +1,6 @@
 //! The writer of events: what its calls write over small documents, and that a refused call leaves
-//! it as it was. The points are worked by hand; those of the tabs in a block quote stand in
-//! `docs/EVENTS.md`, too.
+//! it unchanged. The points are worked out by hand; those of the tabs in a block quote are also in
+//! `docs/EVENTS.md`.
 
 use crate::expect::{holds_in, same_in};
 use character_references::decoder::NoReferences;
@@ -56,7 +56,7 @@ fn make_all(
     Ok(())
 }
 
-/// What a writer has written, compared with event lines.
+/// Compares what a writer has written with event lines.
 fn finishes(
     rt: &impl Abort,
     alloc: Global,
@@ -155,7 +155,7 @@ fn calls_write_these_events(rt: HostRuntime) -> Result<(), AllocError> {
     Ok(())
 }
 
-/// A document, calls, one that is then refused, and calls that go on as if it had not been made.
+/// A document, calls, one that is then refused, and calls that continue as if it had not been made.
 type Refused = (
     &'static str,
     &'static [Call],
@@ -165,11 +165,11 @@ type Refused = (
 );
 
 static REFUSED: [Refused; 12] = [
-    // The root takes no label.
+    // The root accepts no label.
     ("", &[], Call::Enter(Name::LabelText), &[], ""),
     // No span is open.
     ("", &[], Call::Exit, &[], ""),
-    // A heading has to have a sequence.
+    // A heading must have a sequence.
     (
         "#",
         &[Call::Enter(Name::HeadingAtx)],
@@ -177,7 +177,7 @@ static REFUSED: [Refused; 12] = [
         &[Call::Token(Name::HeadingAtxSequence, 1, 0), Call::Exit],
         "+HeadingAtx 1:1:0\n+HeadingAtxSequence 1:1:0\n-HeadingAtxSequence 1:2:1\n-HeadingAtx 1:2:1\n",
     ),
-    // No heading is a token.
+    // A heading is not a token.
     (
         "#",
         &[],
@@ -213,7 +213,7 @@ static REFUSED: [Refused; 12] = [
         &[],
         "+Data 1:1:0\n-Data 1:3:2\n",
     ),
-    // A tab at column 1 has four columns, and a point in it has three of them before it at most.
+    // A tab at column 1 has four columns, and a point in it has at most three of them before it.
     (
         "\ta",
         &[],
@@ -226,7 +226,7 @@ static REFUSED: [Refused; 12] = [
         "+SpaceOrTab 1:1:0\n-SpaceOrTab 1:4:0:3\n+SpaceOrTab 1:4:0:3\n-SpaceOrTab 1:5:1\n\
          +Data 1:5:1\n-Data 1:6:2\n",
     ),
-    // No tab stands there.
+    // No tab is there.
     (
         " a",
         &[],
@@ -234,7 +234,7 @@ static REFUSED: [Refused; 12] = [
         &[Call::Token(Name::Data, 2, 0)],
         "+Data 1:1:0\n-Data 1:3:2\n",
     ),
-    // A character has two bytes, and what ends within it is no text.
+    // A character has two bytes, and a token that ends within it is not a text.
     (
         "\u{E9}",
         &[],
@@ -250,7 +250,7 @@ static REFUSED: [Refused; 12] = [
         &[Call::Token(Name::Data, 1, 0)],
         "+Data 1:1:0\n-Data 1:2:1\n",
     ),
-    // The root takes no label, be it a line ending.
+    // The root accepts no label, even if it is a line ending.
     (
         "\n",
         &[],
@@ -260,7 +260,7 @@ static REFUSED: [Refused; 12] = [
     ),
 ];
 
-/// Makes a call that is refused. The cursor stays.
+/// Makes a call that is refused. The cursor does not move.
 fn is_refused(rt: &impl Abort, writer: &mut Plain<'_>, call: Call, case: &str) {
     let before = writer.cursor();
     let is_misfit = matches!(call.make(writer), Err(WriteError::Misfit));
@@ -281,8 +281,8 @@ fn a_refused_call_leaves_the_writer_as_it_was(rt: HostRuntime) -> Result<(), All
     Ok(())
 }
 
-/// A document, and calls after which nothing can be finished: a span is open, the document goes on,
-/// and a break waits for its line ending.
+/// A document, and calls after which nothing can be finished: a span is open, the document
+/// continues, or a break waits for its line ending.
 static UNFINISHED: [(&str, &[Call]); 3] = [
     ("", &[Call::Enter(Name::Paragraph)]),
     ("ab", &[Call::Token(Name::Data, 1, 0)]),

@@ -1,4 +1,4 @@
-//! What is found in a tree.
+//! The checks of a tree.
 
 use crate::expect::holds;
 use markdown_nodes::mdast::{FootnoteReference, Heading, Node};
@@ -7,7 +7,7 @@ use mdast_check::warnings::{Problem, warnings};
 use mdast_check::{Open, OpenKind, Title, headings, open_references};
 use std::alloc::{AllocError, Global};
 
-/// A heading without children.
+/// Returns a heading without children.
 fn heading(alloc: Global) -> Node {
     Node::Heading(Heading {
         children: Vec::new(alloc),
@@ -27,7 +27,7 @@ fn a_heading_gives_a_title(rt: HostRuntime) -> Result<(), AllocError> {
     Ok(())
 }
 
-/// A reference to the footnote `a`.
+/// Returns a reference to the footnote `a`.
 fn footnote_reference(alloc: Global) -> Result<Node, AllocError> {
     Ok(Node::FootnoteReference(FootnoteReference {
         position: None,

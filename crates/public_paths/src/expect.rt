@@ -1,8 +1,8 @@
-//! What the tests ask.
+//! The comparisons of the tests.
 
 use std::process::Abort;
 
-/// Stops the test where something does not hold.
+/// Stops the test if a fact is false.
 pub fn holds(rt: &impl Abort, fact: bool) {
     assert!(rt; fact);
 }

@@ -1,4 +1,4 @@
-//! What is read off the events of a whole span.
+//! Fields that are read from the events of a whole span.
 
 use crate::expect::holds;
 use markdown_nodes::event::{Event, Kind, Name, Point, span_begins};
@@ -6,7 +6,7 @@ use markdown_nodes::infer::{gfm_table_align, list_item_loose, list_loose};
 use markdown_nodes::mdast::AlignKind;
 use std::alloc::{AllocError, Global};
 
-/// The enter and the exit of a span without content.
+/// Returns the enter and the exit of a span without content.
 fn span(name: Name) -> [Event; 2] {
     let point = Point {
         line: 1,
@@ -28,7 +28,7 @@ fn span(name: Name) -> [Event; 2] {
     ]
 }
 
-/// Whether the list that begins with the events is loose, if one does.
+/// Returns whether the list that begins with the events is loose, if one does.
 fn list(alloc: Global, events: &[Event]) -> Result<Option<bool>, AllocError> {
     let Some(_) = span_begins(alloc, events, 0)? else {
         return Ok(None);
@@ -44,7 +44,7 @@ fn list(alloc: Global, events: &[Event]) -> Result<Option<bool>, AllocError> {
     }
 }
 
-/// Whether the item that begins with the events is loose, if one does.
+/// Returns whether the item that begins with the events is loose, if one does.
 fn item(alloc: Global, events: &[Event]) -> Result<Option<bool>, AllocError> {
     let Some(_) = span_begins(alloc, events, 0)? else {
         return Ok(None);
@@ -60,7 +60,7 @@ fn item(alloc: Global, events: &[Event]) -> Result<Option<bool>, AllocError> {
     }
 }
 
-/// How the columns of the table that begins with the events are aligned, if one does.
+/// Returns how the columns of the table that begins with the events are aligned, if one does.
 fn columns(alloc: Global, events: &[Event]) -> Result<Option<Vec<AlignKind>>, AllocError> {
     let Some(_) = span_begins(alloc, events, 0)? else {
         return Ok(None);

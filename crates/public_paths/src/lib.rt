@@ -1,6 +1,6 @@
-//! The paths of what is public, each as a crate that stands on these writes it. A module here has the
-//! `use` lines for a module there, and a test that uses what they name: so no path is lost unnoticed.
-//! What the calls give is told by other tests.
+//! The public paths, as a crate that depends on these writes them. A module here has the `use`
+//! lines for a module there, and a test that uses the named items, so a lost path is noticed. Other
+//! tests check the results of the calls.
 #![tactic(auto)]
 
 #[cfg(test)]

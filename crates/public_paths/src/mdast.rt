@@ -10,7 +10,7 @@ use markdown_nodes::mdast::{
 use markdown_nodes::unist::Position;
 use std::alloc::{AllocError, Global};
 
-/// What mdast calls the type of a node, by the structs of the 29 kinds.
+/// Returns mdast's name for the type of a node, from the structs of the 29 kinds.
 fn type_of(node: &Node) -> &'static str {
     match node {
         Node::Root(Root { .. }) => "root",
@@ -45,7 +45,7 @@ fn type_of(node: &Node) -> &'static str {
     }
 }
 
-/// A paragraph without children.
+/// Returns a paragraph without children.
 fn paragraph(alloc: Global) -> Node {
     Node::Paragraph(Paragraph {
         children: Vec::new(alloc),

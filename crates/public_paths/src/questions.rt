@@ -1,4 +1,4 @@
-//! What programs ask of a tree.
+//! Queries of a tree.
 
 use crate::expect::holds;
 use markdown_nodes::mdast::{Break, Definition, Heading, Node, Text};
@@ -18,7 +18,7 @@ fn a_byte_has_a_node(rt: HostRuntime) {
     holds(&rt, node_at(&node, 1).is_none());
 }
 
-/// A definition of `a` as `b`.
+/// Returns a definition of `a` as `b`.
 fn definition(alloc: Global) -> Result<Node, AllocError> {
     Ok(Node::Definition(Definition {
         position: None,

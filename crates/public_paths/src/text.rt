@@ -1,4 +1,4 @@
-//! What is done to texts.
+//! Transformations of texts.
 
 use crate::expect::holds;
 use markdown_nodes::text::{line_endings_to_spaces, normalize_identifier, raw_text, trim_eol};

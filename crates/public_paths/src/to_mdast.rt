@@ -6,7 +6,7 @@ use markdown_nodes::mdast::Node;
 use markdown_tree::to_mdast::{References, Steps, compile, compile_counted};
 use std::alloc::{AllocError, Global};
 
-/// A decoder of a user, which knows nothing.
+/// A user's decoder, which knows nothing.
 struct Nothing;
 
 impl References for Nothing {
@@ -48,7 +48,7 @@ const ENTER: Event = Event {
 fn steps_read_events(rt: HostRuntime) {
     let events = [ENTER];
     let mut steps = Steps::new(&events);
-    steps.tick();
+    steps.count.tick();
     holds(&rt, steps.read(0) == Some(ENTER));
     holds(&rt, steps.read(1).is_none());
 }

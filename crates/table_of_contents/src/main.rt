@@ -1,6 +1,8 @@
-//! A first program: `table_of_contents FILE..` prints the table of contents of each markdown file.
+//! The first example program: `table_of_contents FILE..` prints the table of contents of each
+//! markdown file.
 //!
-//! A line is printed for each heading, wherever it stands, under the one that it belongs to.
+//! It prints one line for each heading, at any depth of the tree, below the heading that it belongs
+//! to.
 #![tactic(auto)]
 
 use markdown::mdast::{Heading, Node};
@@ -18,7 +20,7 @@ fn main(rt: HostRuntime) -> io::Result<()> {
     Ok(())
 }
 
-/// A line for each heading of a tree.
+/// Returns one line for each heading of a tree.
 fn table_of_contents(alloc: Global, tree: &Node) -> Result<String, AllocError> {
     let mut lines = String::new(alloc);
     let mut walk = Walk::new(alloc, tree);
@@ -30,7 +32,7 @@ fn table_of_contents(alloc: Global, tree: &Node) -> Result<String, AllocError> {
     Ok(lines)
 }
 
-/// Adds the line of a heading: two spaces for each level above it, and its plain text.
+/// Appends the line of a heading: two spaces for each level above it, and its plain text.
 fn add_line(
     alloc: Global,
     node: &Node,

@@ -10,7 +10,7 @@ use std::process::Abort;
 const DOCUMENT: &str =
     "*a* <a:b> <bc:d> \\* &amp; `a` www.a.b [^a] ~~a~~ a\\\nb  \n<i> ![a](b) [a](b) $a$\n\n* [x] a\n\n[^a]: b\n";
 
-/// Stops the test where the document has no span of a name with all constructs, or has one with these.
+/// Stops the test if the document has no span of a name with all constructs, or has one with these.
 fn switches(
     rt: &impl Abort,
     alloc: Global,

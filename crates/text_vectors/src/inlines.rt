@@ -154,7 +154,8 @@ fn autolinks(rt: HostRuntime) -> Result<(), AllocError> {
     )
 }
 
-/// Documents, and where the autolink literal in each begins and ends. Data stands before and after it.
+/// Documents, and where the autolink literal in each begins and ends. Data comes before and after
+/// it.
 const LITERALS: [(&str, &str, usize, usize); 14] = [
     ("~http://a.b", "Protocol", 1, 11),
     ("a\u{b}www.a.b", "Www", 2, 9),
@@ -187,7 +188,7 @@ fn autolink_literals(rt: HostRuntime) -> Result<(), AllocError> {
     Ok(())
 }
 
-/// Data up to an offset as a text, where there is any.
+/// Returns data up to an offset as a text, if there is any.
 fn data_to(alloc: Global, end: usize, is_there: bool) -> Result<String, AllocError> {
     if is_there {
         format!(in alloc; "Data:{end} ")
@@ -196,7 +197,7 @@ fn data_to(alloc: Global, end: usize, is_there: bool) -> Result<String, AllocErr
     }
 }
 
-/// Documents in which nothing is an autolink literal.
+/// Documents that contain no autolink literal.
 const NO_LITERALS: [&str; 15] = [
     "http://a",
     "www.a",

@@ -58,7 +58,8 @@ fn calls_need_a_definition(rt: HostRuntime) -> Result<(), AllocError> {
     )
 }
 
-/// Documents without definitions, a name, and whether a span has it where references need no definition.
+/// Documents without definitions, a name, and whether a span has it if references need no
+/// definition.
 static UNDEFINED: [(&str, Name, bool); 10] = [
     ("[a][b]", Name::Link, true),
     ("[a][]", Name::Link, true),

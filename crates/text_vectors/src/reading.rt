@@ -1,11 +1,11 @@
-//! What the tests ask of the events of a document.
+//! The event queries of the tests.
 
 use markdown::{Constructs, ParseOptions, to_events};
 use markdown_events::event::{Event, Kind, Name};
 use std::alloc::{AllocError, Global};
 use std::process::Abort;
 
-/// The events of a document with these constructs.
+/// Returns the events of a document with these constructs.
 pub fn events(
     alloc: Global,
     document: &str,
@@ -29,7 +29,7 @@ pub fn has(
     Ok(events.iter().any(|event| event.name == name))
 }
 
-/// Whether a document has a span of a name, with all constructs, where references need no definition.
+/// Whether a document has a span of a name, with all constructs, if references need no definition.
 pub fn has_undefined(alloc: Global, document: &str, name: Name) -> Result<bool, AllocError> {
     let options = ParseOptions {
         constructs: Constructs::everything(),
@@ -40,8 +40,8 @@ pub fn has_undefined(alloc: Global, document: &str, name: Name) -> Result<bool, 
     Ok(events.iter().any(|event| event.name == name))
 }
 
-/// The events of a document as a text, with all constructs. `(A` begins a span, `)` ends one, and `A:1` is a
-/// token up to offset 1.
+/// Returns the events of a document as a text, with all constructs. `(A` begins a span, `)` ends
+/// one, and `A:1` is a token up to offset 1.
 pub fn shown(alloc: Global, document: &str) -> Result<String, AllocError> {
     let events = events(alloc, document, Constructs::everything())?;
     let mut text = String::new(alloc);
@@ -52,8 +52,8 @@ pub fn shown(alloc: Global, document: &str) -> Result<String, AllocError> {
     Ok(text)
 }
 
-/// Adds an event to a text, and gives the name that it enters. `entered` is the one before it, if that is an
-/// enter: it is a token where this is an exit.
+/// Appends an event to a text, and returns the name that it enters. `entered` is the name of the
+/// event before it, if that is an enter: then an exit completes a token.
 fn show(
     text: &mut String,
     event: &Event,
@@ -79,14 +79,14 @@ fn show(
     }
 }
 
-/// Stops the test where a document does not have these events.
+/// Stops the test if a document does not have these events.
 pub fn shows(rt: &impl Abort, alloc: Global, document: &str, want: &str) -> Result<(), AllocError> {
     let found = shown(alloc, document)?;
     assert_eq!(rt; found.as_str(), want, "{document}");
     Ok(())
 }
 
-/// Stops the test where something does not hold.
+/// Stops the test if a fact is false.
 pub fn holds(rt: &impl Abort, fact: bool, case: &str) {
     assert!(rt; fact, "{case}");
 }

@@ -1,5 +1,5 @@
 use Rattle.std.proofs.Common.{length}
-use Rattle.mdast_check.specs.Levels.{coming}
+use Rattle.markdown_nodes.specs.WalkLevels.{coming}
 use Rattle.links.proofs.links.Given as goal
 
 abbrev pub decreases-loop-walk : goal.decreases-loop-walk

@@ -1,4 +1,4 @@
-//! Which items keep the rules of each content model.
+//! Which items satisfy the rules of each content model.
 
 ghost use Rattle.std.specs.Prelude.{◌≡◌, false};
 ghost use Rattle.std.specs.List.{list_any};
@@ -13,9 +13,9 @@ use crate::part_set::PartSet;
 use markdown_events::role::{Content, ItemKind, Part};
 
 impl ContentModel {
-    /// Whether a container that began with this content model takes an item after these parts.
+    /// Whether a container that began with this content model accepts an item after these parts.
     ///
-    /// A link takes a label, and after it no other.
+    /// A link accepts a label, and after it no other.
     pub fn takes(self, stood: &PartSet, what: ItemKind) -> bool
         ensures { result ≡ takes (grammar_model self) (contains stood.now) what }
     {
@@ -49,10 +49,10 @@ impl ContentModel {
         }
     }
 
-    /// Whether what must stand in a container that began with this content model has stood: a part,
-    /// or in an ordered list a number.
+    /// Whether a container that began with this content model has what it requires: a part, or in
+    /// an ordered list a number.
     ///
-    /// In an ATX heading it has once its first sequence has stood.
+    /// An ATX heading has it once its first sequence has occurred.
     pub fn has_required(self, stood: &PartSet, is_numbered: bool) -> bool
         ensures { result ≡ has_required (grammar_model self) (contains stood.now) is_numbered }
     {
@@ -67,7 +67,7 @@ impl ContentModel {
         }
     }
 
-    /// Whether nothing must stand in a container of this content model.
+    /// Whether a container of this content model requires nothing.
     ///
     /// For a paragraph it is true, for an ATX heading false.
     pub fn requires_nothing(self) -> bool
@@ -92,7 +92,7 @@ fn is_content(what: ItemKind) -> bool
     matches!(what, ItemKind::Content(_))
 }
 
-/// Whether an autolink takes an item.
+/// Whether an autolink accepts an item.
 fn autolink_takes(stood: &PartSet, what: ItemKind) -> bool
     ensures { result ≡ takes grammar.autolink (contains stood.now) what }
 {
@@ -105,7 +105,7 @@ fn autolink_takes(stood: &PartSet, what: ItemKind) -> bool
     }
 }
 
-/// Whether a link or an image takes an item.
+/// Whether a link or an image accepts an item.
 fn media_takes(stood: &PartSet, what: ItemKind) -> bool
     ensures { result ≡ takes grammar.media (contains stood.now) what }
 {
@@ -123,7 +123,7 @@ fn media_takes(stood: &PartSet, what: ItemKind) -> bool
     }
 }
 
-/// Whether the call of a footnote takes an item.
+/// Whether the call of a footnote accepts an item.
 fn footnote_call_takes(stood: &PartSet, what: ItemKind) -> bool
     ensures { result ≡ takes grammar.footnote_call (contains stood.now) what }
 {
@@ -134,7 +134,7 @@ fn footnote_call_takes(stood: &PartSet, what: ItemKind) -> bool
     }
 }
 
-/// Whether a resource takes an item.
+/// Whether a resource accepts an item.
 fn resource_takes(stood: &PartSet, what: ItemKind) -> bool
     ensures { result ≡ takes grammar.resource (contains stood.now) what }
 {
@@ -148,7 +148,7 @@ fn resource_takes(stood: &PartSet, what: ItemKind) -> bool
     }
 }
 
-/// Whether the reference of a link or an image takes an item.
+/// Whether the reference of a link or an image accepts an item.
 fn reference_takes(stood: &PartSet, what: ItemKind) -> bool
     ensures { result ≡ takes grammar.reference (contains stood.now) what }
 {
@@ -159,7 +159,7 @@ fn reference_takes(stood: &PartSet, what: ItemKind) -> bool
     }
 }
 
-/// Whether a definition takes an item.
+/// Whether a definition accepts an item.
 fn definition_takes(stood: &PartSet, what: ItemKind) -> bool
     ensures { result ≡ takes grammar.definition (contains stood.now) what }
 {
@@ -174,7 +174,7 @@ fn definition_takes(stood: &PartSet, what: ItemKind) -> bool
     }
 }
 
-/// Whether a character reference takes an item.
+/// Whether a character reference accepts an item.
 fn character_reference_takes(stood: &PartSet, what: ItemKind) -> bool
     ensures { result ≡ takes grammar.character_reference (contains stood.now) what }
 {
@@ -191,7 +191,7 @@ fn character_reference_takes(stood: &PartSet, what: ItemKind) -> bool
     }
 }
 
-/// Whether a marker of a character reference has stood.
+/// Whether a marker of a character reference has occurred.
 fn has_marker(stood: &PartSet) -> bool
     ensures { result ≡ list_any (contains stood.now) grammar.markers }
 {
@@ -200,7 +200,7 @@ fn has_marker(stood: &PartSet) -> bool
         || stood.contains(Part::CharacterReferenceMarkerHexadecimal)
 }
 
-/// Whether the first fence of a block of code takes an item.
+/// Whether the first fence of a block of code accepts an item.
 fn code_fence_takes(stood: &PartSet, what: ItemKind) -> bool
     ensures { result ≡ takes grammar.code_fence (contains stood.now) what }
 {
@@ -211,7 +211,7 @@ fn code_fence_takes(stood: &PartSet, what: ItemKind) -> bool
     }
 }
 
-/// Whether the first fence of a block of math takes an item.
+/// Whether the first fence of a block of math accepts an item.
 fn math_fence_takes(stood: &PartSet, what: ItemKind) -> bool
     ensures { result ≡ takes grammar.math_fence (contains stood.now) what }
 {
@@ -221,7 +221,7 @@ fn math_fence_takes(stood: &PartSet, what: ItemKind) -> bool
     }
 }
 
-/// Whether an item of an ordered list takes an item.
+/// Whether an item of an ordered list accepts an item.
 fn numbered_item_takes(stood: &PartSet, what: ItemKind) -> bool
     ensures { result ≡ takes grammar.numbered_item (contains stood.now) what }
 {
@@ -232,7 +232,7 @@ fn numbered_item_takes(stood: &PartSet, what: ItemKind) -> bool
     }
 }
 
-/// Whether a paragraph that may have a check mark takes an item.
+/// Whether a paragraph that may have a check mark accepts an item.
 fn task_paragraph_takes(stood: &PartSet, what: ItemKind) -> bool
     ensures { result ≡ takes grammar.task_paragraph (contains stood.now) what }
 {
@@ -245,7 +245,7 @@ fn task_paragraph_takes(stood: &PartSet, what: ItemKind) -> bool
     }
 }
 
-/// Whether the definition of a footnote takes an item.
+/// Whether the definition of a footnote accepts an item.
 fn footnote_definition_takes(stood: &PartSet, what: ItemKind) -> bool
     ensures { result ≡ takes grammar.footnote_definition (contains stood.now) what }
 {
@@ -258,7 +258,7 @@ fn footnote_definition_takes(stood: &PartSet, what: ItemKind) -> bool
     }
 }
 
-/// Whether an ATX heading takes an item, whatever has stood in it.
+/// Whether an ATX heading accepts an item, whatever is in it so far.
 fn heading_atx_takes(what: ItemKind) -> bool
     ensures { result ≡ takes grammar.heading_atx (λ _. false) what }
 {
@@ -268,7 +268,7 @@ fn heading_atx_takes(what: ItemKind) -> bool
     }
 }
 
-/// Whether a setext heading takes an item.
+/// Whether a setext heading accepts an item.
 fn heading_setext_takes(stood: &PartSet, what: ItemKind) -> bool
     ensures { result ≡ takes grammar.heading_setext (contains stood.now) what }
 {
@@ -283,7 +283,7 @@ fn heading_setext_takes(stood: &PartSet, what: ItemKind) -> bool
     }
 }
 
-/// Whether fenced code takes an item.
+/// Whether fenced code accepts an item.
 fn code_fenced_takes(stood: &PartSet, what: ItemKind) -> bool
     ensures { result ≡ takes grammar.code_fenced (contains stood.now) what }
 {
@@ -294,7 +294,7 @@ fn code_fenced_takes(stood: &PartSet, what: ItemKind) -> bool
     }
 }
 
-/// Whether fenced math takes an item.
+/// Whether fenced math accepts an item.
 fn math_flow_takes(stood: &PartSet, what: ItemKind) -> bool
     ensures { result ≡ takes grammar.math_flow (contains stood.now) what }
 {

@@ -2,7 +2,7 @@
 
 ghost use Rattle.std.specs.Prelude.{◌≡◌, ◌≢◌, ◌&&◌, IfOk, List, Option, false, is_some, ℕ};
 ghost use Rattle.markdown_acceptance.specs.Sites.{reads};
-ghost use Rattle.markdown_builder.specs.PartsSoFar.{place_with};
+ghost use Rattle.markdown_parts.specs.PartsSoFar.{place_with};
 ghost use Rattle.markdown_events.specs.Slices.{slice};
 ghost use Rattle.markdown_events.specs.declared.role.ItemKind.TheVariants as item_kinds;
 ghost use Rattle.markdown_events.specs.declared.role.Part.TheVariants as parts;
@@ -13,17 +13,16 @@ ghost use Rattle.markdown_grammar.specs.Document.{is_depth, is_item_number, sour
 use crate::content_model::ContentModel;
 use crate::site::Site;
 use character_references::references::References;
-use markdown_builder::number::item_number;
-use markdown_builder::slice::{Document, byte_at, length_between, text_of};
 use markdown_events::event::Point;
 use markdown_events::role::{Content, ItemKind, Part};
+use markdown_parts::number::item_number;
+use markdown_parts::slice::{Document, byte_at, length_between, text_of};
 use std::alloc::{AllocError, Global};
 
 impl Site {
-    /// Whether the value of an item that stands here, between two points, can be read, where one is
-    /// read.
+    /// Whether the value of an item at this site, between two points, can be read, if one is read.
     ///
-    /// That of data can be where its bytes are UTF-8. Memory may run out only where a character
+    /// That of data can be read if its bytes are UTF-8. Memory may run out only if a character
     /// reference is looked up.
     pub fn reads<R: References>(
         &self,
@@ -73,8 +72,8 @@ impl Site {
         }
     }
 
-    /// Whether the value of a part can be read. A character reference's is looked up, and not asked
-    /// for here.
+    /// Whether the value of a part can be read. That of a character reference is looked up, and not
+    /// checked here.
     fn reads_part(&self, document: &Document<'_>, part: Part, start: Point, end: Point) -> bool
         requires { part ≢ parts.CharacterReferenceValue }
         ensures { (text : List ℕ → ℕ → Option (List ℕ))
@@ -95,7 +94,7 @@ impl Site {
         }
     }
 
-    /// Whether the sequence of an ATX heading can be read: the first says the depth.
+    /// Whether the sequence of an ATX heading can be read: the first one sets the depth.
     fn reads_sequence(&self, document: &Document<'_>, start: Point, end: Point) -> bool
         ensures { (text : List ℕ → ℕ → Option (List ℕ))
             → result ≡ reads (source document.now.bytes text) self.now (item_kinds.Part parts.HeadingAtxSequence) start end }
@@ -107,14 +106,14 @@ impl Site {
     }
 }
 
-/// Whether a text stands between two points.
+/// Whether the bytes between two points are a text.
 fn is_text(document: &Document<'_>, start: Point, end: Point) -> bool
     ensures { result ≡ is_some (slice document.now.bytes start end) }
 {
     text_of(document, start, end).is_ok()
 }
 
-/// Whether the number of an item stands between two points.
+/// Whether the bytes between two points are the number of an item.
 fn is_number(document: &Document<'_>, start: Point, end: Point) -> bool
     ensures { result ≡ is_item_number (slice document.now.bytes start end) }
 {
@@ -124,7 +123,7 @@ fn is_number(document: &Document<'_>, start: Point, end: Point) -> bool
     }
 }
 
-/// Whether one to six bytes stand between two points, one for each step of a heading's depth.
+/// Whether there are one to six bytes between two points, one for each step of a heading's depth.
 fn is_heading_depth(document: &Document<'_>, start: Point, end: Point) -> bool
     ensures { result ≡ is_depth (Documents.length_between document.now.bytes start end) }
 {
@@ -134,7 +133,7 @@ fn is_heading_depth(document: &Document<'_>, start: Point, end: Point) -> bool
     }
 }
 
-/// Whether the decoder knows what stands between two points, after a marker.
+/// Whether the decoder knows the text between two points, after a marker.
 fn is_known<R: References>(
     alloc: Global,
     document: &Document<'_>,

@@ -9,15 +9,15 @@ use super::{Event, Kind, Name};
 use crate::around::Around;
 use std::alloc::{AllocError, Global};
 
-/// The index of the exit of the well-formed span whose enter is at this index, both counted from 0,
-/// or `None` where no such span begins there.
+/// Returns the index of the exit of the well-formed span whose enter is at this index, both counted
+/// from 0, or `None` if no such span begins there.
 ///
-/// `Some(last)` says that the events from `index` to `last`, both included, are one span: each enter
-/// has its exit, of the same name and in order; line endings, blank line endings and spaces contain
-/// no span; and no delimiter row is inside a delimiter row, and no delimiter cell value inside a
-/// delimiter cell value. It is `None` also where the index is past the end of the list. The rule is
-/// ours: the functions of [`infer`](crate::infer) ask for such a span. The only error is that memory
-/// ran out.
+/// `Some(last)` says that the events from `index` to `last`, both included, are one span. Each
+/// enter has its exit, with the same name and in order. Line endings, blank line endings and spaces
+/// contain no span. No delimiter row is inside a delimiter row, and no delimiter cell value inside
+/// a delimiter cell value. The result is also `None` if the index is past the end of the list. The
+/// rule is ours: the functions of [`infer`](crate::infer) require such a span. The only error is
+/// that memory ran out.
 ///
 /// In the events of a `Paragraph` with a `Data` in it, it is `Some(3)` at 0, `Some(2)` at 1, and
 /// `None` at 2.
@@ -47,7 +47,7 @@ struct Open {
     inside: Around,
 }
 
-/// Which event is the last of the span that these begin with.
+/// Returns the index of the last event of the span that these events begin with.
 fn last_of_span(alloc: Global, events: &[Event]) -> Result<Option<usize>, AllocError>
     ensures run { IfOk result (λ found. found ≡ run events.now [] 0) }
     ensures within { IfOk result (λ found. IfSome found (λ last. last < length events.now)) }
@@ -79,7 +79,8 @@ fn last_of_span(alloc: Global, events: &[Event]) -> Result<Option<usize>, AllocE
     }
 }
 
-/// A span of this name in the open ones, of which the last is innermost, if it can begin there.
+/// Returns an open span of this name inside the open ones, the last of which is innermost, if it
+/// may begin there.
 fn opened(spans: &[Open], name: Name) -> Option<Open>
     requires { AreOpen (reverse spans.now) }
     ensures { result ≡ opened_in (names_of (reverse spans.now)) name }
@@ -95,7 +96,7 @@ fn opened(spans: &[Open], name: Name) -> Option<Open>
     })
 }
 
-/// What is around a span that begins in the open ones.
+/// Returns the context of a span that begins in the open ones.
 fn innermost(spans: &[Open]) -> Around
     requires { AreOpen (reverse spans.now) }
     ensures { result ≡ around_of (names_of (reverse spans.now)) }

@@ -1,4 +1,5 @@
-//! The comparison of nodes: equal are those of one kind with equal fields, positions included.
+//! The comparison of nodes: two are equal if they are of one kind with equal fields, positions
+//! included.
 
 ghost use Rattle.std.specs.Prelude.{◌≡◌, ◌↔◌, IsTrue};
 ghost use Rattle.std.specs.Cmp.{on_equiv, partial_equiv_from_equiv};
@@ -26,7 +27,7 @@ use crate::mdast::{
 };
 use std::alloc::Global;
 
-/// Two nodes are equal where they are of one kind and all their fields are, positions included.
+/// Two nodes are equal if they are of one kind and all their fields are equal, positions included.
 impl PartialEq for Node {
     ghost eq = { λ a b. same_tree (view a) (view b) };
 
@@ -44,14 +45,14 @@ impl Eq for Node {
     ghost laws = { on_equiv view tree_equivalence };
 }
 
-/// Whether two columns are aligned alike.
+/// Whether two columns are aligned in the same way.
 fn same_align_kind(a: AlignKind, b: AlignKind) -> bool
     ensures { IsTrue result ↔ (a ≡ b) }
 {
     a == b
 }
 
-/// Whether two tables have the same columns.
+/// Whether the columns of two tables are aligned in the same way.
 fn same_align(xs: &[AlignKind], ys: &[AlignKind]) -> bool
     ensures { IsTrue result ↔ (xs.now ≡ ys.now) }
 {
@@ -66,35 +67,35 @@ fn same_align(xs: &[AlignKind], ys: &[AlignKind]) -> bool
     true
 }
 
-/// Whether two definitions of footnotes have the same fields but for children and position.
+/// Whether two definitions of footnotes have the same fields, except children and position.
 fn same_footnote_definition(x: &FootnoteDefinition, y: &FootnoteDefinition) -> bool
     ensures { IsTrue result ↔ (footnote_definition_label x.now ≡ footnote_definition_label y.now) }
 {
     x.identifier == y.identifier && x.label == y.label
 }
 
-/// Whether two lists have the same fields but for children and position.
+/// Whether two lists have the same fields, except children and position.
 fn same_list(x: &List, y: &List) -> bool
     ensures { IsTrue result ↔ (list_label x.now ≡ list_label y.now) }
 {
     x.ordered == y.ordered && x.start == y.start && x.spread == y.spread
 }
 
-/// Whether two references to footnotes have the same fields but for position.
+/// Whether two references to footnotes have the same fields, except position.
 fn same_footnote_reference(x: &FootnoteReference, y: &FootnoteReference) -> bool
     ensures { IsTrue result ↔ (footnote_reference_label x.now ≡ footnote_reference_label y.now) }
 {
     x.identifier == y.identifier && x.label == y.label
 }
 
-/// Whether two images have the same fields but for position.
+/// Whether two images have the same fields, except position.
 fn same_image(x: &Image, y: &Image) -> bool
     ensures { IsTrue result ↔ (image_label x.now ≡ image_label y.now) }
 {
     x.alt == y.alt && x.url == y.url && x.title == y.title
 }
 
-/// Whether two references to images have the same fields but for position.
+/// Whether two references to images have the same fields, except position.
 fn same_image_reference(x: &ImageReference, y: &ImageReference) -> bool
     ensures { IsTrue result ↔ (image_reference_label x.now ≡ image_reference_label y.now) }
 {
@@ -104,173 +105,89 @@ fn same_image_reference(x: &ImageReference, y: &ImageReference) -> bool
         && x.label == y.label
 }
 
-/// Whether two links have the same fields but for children and position.
+/// Whether two links have the same fields, except children and position.
 fn same_link(x: &Link, y: &Link) -> bool
     ensures { IsTrue result ↔ (link_label x.now ≡ link_label y.now) }
 {
     x.url == y.url && x.title == y.title
 }
 
-/// Whether two references to links have the same fields but for children and position.
+/// Whether two references to links have the same fields, except children and position.
 fn same_link_reference(x: &LinkReference, y: &LinkReference) -> bool
     ensures { IsTrue result ↔ (link_reference_label x.now ≡ link_reference_label y.now) }
 {
     x.reference_kind == y.reference_kind && x.identifier == y.identifier && x.label == y.label
 }
 
-/// Whether two blocks of code have the same fields but for position.
+/// Whether two blocks of code have the same fields, except position.
 fn same_code(x: &Code, y: &Code) -> bool
     ensures { IsTrue result ↔ (code_label x.now ≡ code_label y.now) }
 {
     x.value == y.value && x.lang == y.lang && x.meta == y.meta
 }
 
-/// Whether two blocks of math have the same fields but for position.
+/// Whether two blocks of math have the same fields, except position.
 fn same_math(x: &Math, y: &Math) -> bool
     ensures { IsTrue result ↔ (math_label x.now ≡ math_label y.now) }
 {
     x.value == y.value && x.meta == y.meta
 }
 
-/// Whether two items have the same fields but for children and position.
+/// Whether two items have the same fields, except children and position.
 fn same_list_item(x: &ListItem, y: &ListItem) -> bool
     ensures { IsTrue result ↔ (list_item_label x.now ≡ list_item_label y.now) }
 {
     x.spread == y.spread && x.checked == y.checked
 }
 
-/// Whether two definitions have the same fields but for position.
+/// Whether two definitions have the same fields, except position.
 fn same_definition(x: &Definition, y: &Definition) -> bool
     ensures { IsTrue result ↔ (definition_label x.now ≡ definition_label y.now) }
 {
     x.url == y.url && x.title == y.title && x.identifier == y.identifier && x.label == y.label
 }
 
-/// Whether two nodes are of one kind and have the same fields but for children and position.
+/// Whether two nodes are of one kind and have the same fields, except children and position.
 fn same_label(a: &Node, b: &Node) -> bool
     ensures { IsTrue result ↔ (label_of a.now ≡ label_of b.now) }
 {
-    match a {
-        Node::Root(_) => match b {
-            Node::Root(_) => true,
-            _ => false,
-        },
-        Node::Blockquote(_) => match b {
-            Node::Blockquote(_) => true,
-            _ => false,
-        },
-        Node::FootnoteDefinition(x) => match b {
-            Node::FootnoteDefinition(y) => same_footnote_definition(x, y),
-            _ => false,
-        },
-        Node::List(x) => match b {
-            Node::List(y) => same_list(x, y),
-            _ => false,
-        },
-        Node::Toml(x) => match b {
-            Node::Toml(y) => x.value == y.value,
-            _ => false,
-        },
-        Node::Yaml(x) => match b {
-            Node::Yaml(y) => x.value == y.value,
-            _ => false,
-        },
-        Node::Break(_) => match b {
-            Node::Break(_) => true,
-            _ => false,
-        },
-        Node::InlineCode(x) => match b {
-            Node::InlineCode(y) => x.value == y.value,
-            _ => false,
-        },
-        Node::InlineMath(x) => match b {
-            Node::InlineMath(y) => x.value == y.value,
-            _ => false,
-        },
-        Node::Delete(_) => match b {
-            Node::Delete(_) => true,
-            _ => false,
-        },
-        Node::Emphasis(_) => match b {
-            Node::Emphasis(_) => true,
-            _ => false,
-        },
-        Node::FootnoteReference(x) => match b {
-            Node::FootnoteReference(y) => same_footnote_reference(x, y),
-            _ => false,
-        },
-        Node::Html(x) => match b {
-            Node::Html(y) => x.value == y.value,
-            _ => false,
-        },
-        Node::Image(x) => match b {
-            Node::Image(y) => same_image(x, y),
-            _ => false,
-        },
-        Node::ImageReference(x) => match b {
-            Node::ImageReference(y) => same_image_reference(x, y),
-            _ => false,
-        },
-        Node::Link(x) => match b {
-            Node::Link(y) => same_link(x, y),
-            _ => false,
-        },
-        Node::LinkReference(x) => match b {
-            Node::LinkReference(y) => same_link_reference(x, y),
-            _ => false,
-        },
-        Node::Strong(_) => match b {
-            Node::Strong(_) => true,
-            _ => false,
-        },
-        Node::Text(x) => match b {
-            Node::Text(y) => x.value == y.value,
-            _ => false,
-        },
-        Node::Code(x) => match b {
-            Node::Code(y) => same_code(x, y),
-            _ => false,
-        },
-        Node::Math(x) => match b {
-            Node::Math(y) => same_math(x, y),
-            _ => false,
-        },
-        Node::Heading(x) => match b {
-            Node::Heading(y) => x.depth == y.depth,
-            _ => false,
-        },
-        Node::Table(x) => match b {
-            Node::Table(y) => same_align(&x.align, &y.align),
-            _ => false,
-        },
-        Node::ThematicBreak(_) => match b {
-            Node::ThematicBreak(_) => true,
-            _ => false,
-        },
-        Node::TableRow(_) => match b {
-            Node::TableRow(_) => true,
-            _ => false,
-        },
-        Node::TableCell(_) => match b {
-            Node::TableCell(_) => true,
-            _ => false,
-        },
-        Node::ListItem(x) => match b {
-            Node::ListItem(y) => same_list_item(x, y),
-            _ => false,
-        },
-        Node::Definition(x) => match b {
-            Node::Definition(y) => same_definition(x, y),
-            _ => false,
-        },
-        Node::Paragraph(_) => match b {
-            Node::Paragraph(_) => true,
-            _ => false,
-        },
+    match (a, b) {
+        (Node::Root(_), Node::Root(_)) => true,
+        (Node::Blockquote(_), Node::Blockquote(_)) => true,
+        (Node::FootnoteDefinition(x), Node::FootnoteDefinition(y)) => same_footnote_definition(
+            x, y,
+        ),
+        (Node::List(x), Node::List(y)) => same_list(x, y),
+        (Node::Toml(x), Node::Toml(y)) => x.value == y.value,
+        (Node::Yaml(x), Node::Yaml(y)) => x.value == y.value,
+        (Node::Break(_), Node::Break(_)) => true,
+        (Node::InlineCode(x), Node::InlineCode(y)) => x.value == y.value,
+        (Node::InlineMath(x), Node::InlineMath(y)) => x.value == y.value,
+        (Node::Delete(_), Node::Delete(_)) => true,
+        (Node::Emphasis(_), Node::Emphasis(_)) => true,
+        (Node::FootnoteReference(x), Node::FootnoteReference(y)) => same_footnote_reference(x, y),
+        (Node::Html(x), Node::Html(y)) => x.value == y.value,
+        (Node::Image(x), Node::Image(y)) => same_image(x, y),
+        (Node::ImageReference(x), Node::ImageReference(y)) => same_image_reference(x, y),
+        (Node::Link(x), Node::Link(y)) => same_link(x, y),
+        (Node::LinkReference(x), Node::LinkReference(y)) => same_link_reference(x, y),
+        (Node::Strong(_), Node::Strong(_)) => true,
+        (Node::Text(x), Node::Text(y)) => x.value == y.value,
+        (Node::Code(x), Node::Code(y)) => same_code(x, y),
+        (Node::Math(x), Node::Math(y)) => same_math(x, y),
+        (Node::Heading(x), Node::Heading(y)) => x.depth == y.depth,
+        (Node::Table(x), Node::Table(y)) => same_align(&x.align, &y.align),
+        (Node::ThematicBreak(_), Node::ThematicBreak(_)) => true,
+        (Node::TableRow(_), Node::TableRow(_)) => true,
+        (Node::TableCell(_), Node::TableCell(_)) => true,
+        (Node::ListItem(x), Node::ListItem(y)) => same_list_item(x, y),
+        (Node::Definition(x), Node::Definition(y)) => same_definition(x, y),
+        (Node::Paragraph(_), Node::Paragraph(_)) => true,
+        _ => false,
     }
 }
 
-/// Whether two nodes stand at the same place, or both nowhere.
+/// Whether two nodes have the same position, or both none.
 fn same_position(a: &Node, b: &Node) -> bool
     ensures { IsTrue result ↔ (position_of a.now ≡ position_of b.now) }
 {
@@ -283,7 +200,7 @@ fn same_position(a: &Node, b: &Node) -> bool
     }
 }
 
-/// Whether two nodes are the same but for their children.
+/// Whether two nodes are the same, except for their children.
 fn same_but_children(a: &Node, b: &Node) -> bool
     ensures { IsTrue result ↔ ((label_of a.now ≡ label_of b.now) × (position_of a.now ≡ position_of b.now)) }
 {
@@ -306,7 +223,7 @@ fn same_nodes(xs: &[Node], ys: &[Node]) -> bool
     true
 }
 
-/// Whether two nodes are the same. Each level of the tree takes two small frames.
+/// Whether two nodes are the same. Each level of the tree needs two small stack frames.
 #[cycle(same_node)]
 fn same_node(a: &Node, b: &Node) -> bool
     ensures { IsTrue result ↔ (view a.now ≡ view b.now) }
@@ -317,7 +234,7 @@ fn same_node(a: &Node, b: &Node) -> bool
     same_nodes(a.child_nodes(), b.child_nodes())
 }
 
-/// Two levels that are still to be compared.
+/// Two levels that are not yet compared.
 #[derive(Drop)]
 struct Pair<'a> {
     xs: &'a [Node],
@@ -337,7 +254,7 @@ fn same_trees(a: &Node, b: &Node) -> bool
     }
 }
 
-/// Whether two lists of nodes are the same: by a stack of levels, and by calls where there is no
+/// Whether two lists of nodes are the same. Uses a stack of levels, and recursion if there is no
 /// memory for it.
 fn same_levels(xs: &[Node], ys: &[Node], alloc: Global) -> bool
     ensures { IsTrue result ↔ (views xs.now ≡ views ys.now) }

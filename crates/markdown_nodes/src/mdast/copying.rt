@@ -12,7 +12,7 @@ use crate::mdast::{
 use markdown_kinds::copying::{copy_align, copy_optional};
 use std::alloc::{AllocError, Global};
 
-/// A parent, the copies of the first nodes in it, and the nodes after the one that is copied.
+/// A parent, the copies of the first nodes in it, and the nodes after the one that is being copied.
 #[derive(Drop)]
 struct Frame<'a> {
     parent: &'a Node,
@@ -20,7 +20,8 @@ struct Frame<'a> {
     copies: Vec<Node>,
 }
 
-/// A copy of a node that takes these nodes as its children; a node that is no parent drops them.
+/// Returns a copy of a node with these nodes as its children. A node that is not a parent drops
+/// them.
 #[tactic(auto, using(crate::proofs::Views::tree_rules))]
 fn remake(node: &Node, children: Vec<Node>) -> Result<Node, AllocError>
     ensures { views children.items ≡ views (nodes_in node.now) → IfOk result (λ copy. view copy ≡ view node.now) }
@@ -97,7 +98,7 @@ fn remake(node: &Node, children: Vec<Node>) -> Result<Node, AllocError>
     }
 }
 
-/// A copy of a FootnoteDefinition with these children.
+/// Returns a copy of a FootnoteDefinition with these children.
 fn copy_footnote_definition(
     node: &FootnoteDefinition,
     children: Vec<Node>,
@@ -113,7 +114,7 @@ fn copy_footnote_definition(
     }))
 }
 
-/// A copy of a Link with these children.
+/// Returns a copy of a Link with these children.
 fn copy_link(node: &Link, children: Vec<Node>) -> Result<Node, AllocError>
     ensures { views children.items ≡ views (nodes_in (nodes.Link node.now))
         → IfOk result (λ copy. view copy ≡ view (nodes.Link node.now)) }
@@ -126,7 +127,7 @@ fn copy_link(node: &Link, children: Vec<Node>) -> Result<Node, AllocError>
     }))
 }
 
-/// A copy of a LinkReference with these children.
+/// Returns a copy of a LinkReference with these children.
 fn copy_link_reference(node: &LinkReference, children: Vec<Node>) -> Result<Node, AllocError>
     ensures { views children.items ≡ views (nodes_in (nodes.LinkReference node.now))
         → IfOk result (λ copy. view copy ≡ view (nodes.LinkReference node.now)) }
@@ -140,7 +141,7 @@ fn copy_link_reference(node: &LinkReference, children: Vec<Node>) -> Result<Node
     }))
 }
 
-/// A copy of a Table with these children.
+/// Returns a copy of a Table with these children.
 fn copy_table(node: &Table, children: Vec<Node>) -> Result<Node, AllocError>
     ensures { views children.items ≡ views (nodes_in (nodes.Table node.now))
         → IfOk result (λ copy. view copy ≡ view (nodes.Table node.now)) }
@@ -152,7 +153,7 @@ fn copy_table(node: &Table, children: Vec<Node>) -> Result<Node, AllocError>
     }))
 }
 
-/// A copy of a node with all that is in it.
+/// Returns a copy of a node and of everything in it.
 pub fn copy(node: &Node, alloc: Global) -> Result<Node, AllocError>
     ensures { IfOk result (λ copy. view copy ≡ view node.now) }
 {

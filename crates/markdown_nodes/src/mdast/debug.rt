@@ -1,14 +1,14 @@
-//! The text that `{:?}` writes of a node: that of a derived Debug, with no call for each level.
+//! The text that `{:?}` writes of a node: that of a derived Debug, written without recursion.
 
 ghost use Rattle.std.specs.Fmt.{WritesOnOk};
 ghost use Rattle.std.specs.Prelude.{◌≡◌, ◌⊎◌, ◌++◌, ℕ, Bool, [], Some, IsNone, codes, if◌then◌else◌};
-ghost use Rattle.positions.specs.Places.{position_text};
+ghost use Rattle.markdown_events.specs.Places.{position_text};
 ghost use Rattle.markdown_nodes.specs.Access.{label_of, nodes_in, position_of};
 ghost use Rattle.markdown_nodes.specs.Shown.{closing, content_end, fields, opening, position_alone, shown};
 ghost use Rattle.markdown_nodes.specs.Tree.{«break», thematic_break};
 ghost use Rattle.markdown_nodes.specs.View.{view};
-ghost use Rattle.quoted.specs.Quoted.{members};
-ghost use Rattle.quoted.specs.TextFields.{option_text};
+ghost use Rattle.markdown_kinds.specs.Quoted.{members};
+ghost use Rattle.markdown_kinds.specs.TextFields.{option_text};
 
 use crate::mdast::Node;
 use crate::mdast::escapes::escapes_of;
@@ -17,12 +17,12 @@ use markdown_kinds::debug::{
     write_image_reference_fields, write_item_fields, write_list_fields, write_reference,
     write_value,
 };
-use quoted::fields::{write_association, write_option, write_resource};
+use markdown_kinds::quoted::fields::{write_association, write_option, write_resource};
 use std::alloc::Global;
 use std::collections::BTreeSet;
 use std::fmt;
 
-/// A node, with the characters beyond ASCII that stand as their Unicode escape in its text.
+/// A node, and the characters beyond ASCII that are written as Unicode escapes in its text.
 #[derive(Drop)]
 pub struct Escaped<'a> {
     pub node: &'a Node,
@@ -38,14 +38,14 @@ impl fmt::Debug for Escaped<'_> {
     }
 }
 
-/// A parent, and the nodes in it that are still to be written.
+/// A parent, and the nodes in it that are not yet written.
 #[derive(Drop)]
 struct Frame<'a> {
     parent: &'a Node,
     rest: &'a [Node],
 }
 
-/// Writes what `{:?}` writes of a node. It fails where there is no memory for it.
+/// Writes what `{:?}` writes of a node. It fails if memory runs out.
 pub fn write_line<W: fmt::Write>(node: &Node, f: &mut fmt::Formatter<W>) -> fmt::Result
     ensures { (escapes : ℕ → Bool) × WritesOnOk W.write_str_gives f.old result (shown escapes (view node.now)) f.new }
 {
@@ -58,7 +58,7 @@ pub fn write_line<W: fmt::Write>(node: &Node, f: &mut fmt::Formatter<W>) -> fmt:
     write_tree(node, &escapes, f, alloc)
 }
 
-/// The allocator of a list or a text of a node. A break and a thematic break have neither.
+/// Returns the allocator of a list or a text of a node. A break and a thematic break have neither.
 fn allocator(node: &Node) -> Option<Global>
     ensures bare { IsNone result → nodes_in node.now ≡ [] }
     ensures kind { IsNone result → (label_of node.now ≡ «break») ⊎ (label_of node.now ≡ thematic_break) }
@@ -96,7 +96,7 @@ fn allocator(node: &Node) -> Option<Global>
     }
 }
 
-/// Writes a break or a thematic break, which have a position alone.
+/// Writes a break or a thematic break, whose only field is the position.
 fn write_break<W: fmt::Write>(node: &Node, f: &mut fmt::Formatter<W>) -> fmt::Result
     ensures { WritesOnOk W.write_str_gives f.old result (position_alone (label_of node.now) (position_of node.now)) f.new }
 {
@@ -105,7 +105,7 @@ fn write_break<W: fmt::Write>(node: &Node, f: &mut fmt::Formatter<W>) -> fmt::Re
     f.write_str(" }")
 }
 
-/// Writes a node with all that is in it. It fails where there is no memory for the stack.
+/// Writes a node with everything in it. It fails if there is no memory for the stack.
 pub fn write_tree<W: fmt::Write>(
     node: &Node,
     escapes: &BTreeSet<char>,
@@ -140,7 +140,7 @@ pub fn write_tree<W: fmt::Write>(
     }
 }
 
-/// Writes what stands before the children of a node, after a comma where it is a later one.
+/// Writes the text before the children of a node, after a comma if it is not the first node.
 fn begin<W: fmt::Write>(node: &Node, later: bool, f: &mut fmt::Formatter<W>) -> fmt::Result
     ensures { WritesOnOk W.write_str_gives f.old result ((if later then codes ", " else []) ++ opening (label_of node.now)) f.new }
 {
@@ -150,7 +150,7 @@ fn begin<W: fmt::Write>(node: &Node, later: bool, f: &mut fmt::Formatter<W>) -> 
     f.write_str(opening(node))
 }
 
-/// Writes what stands after the children of a node.
+/// Writes the text after the children of a node.
 fn close<W: fmt::Write>(
     node: &Node,
     escapes: &BTreeSet<char>,
@@ -164,7 +164,7 @@ fn close<W: fmt::Write>(
     f.write_str(" }")
 }
 
-/// What stands before the children, the value or the position of a node.
+/// Returns the text before the children, the value or the position of a node.
 fn opening(node: &Node) -> &'static str
     ensures { result.now ≡ opening (label_of node.now) }
 {

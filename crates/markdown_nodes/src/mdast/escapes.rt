@@ -1,32 +1,23 @@
-//! The characters beyond ASCII that std's Debug writes as their Unicode escape.
+//! The characters beyond ASCII that std's Debug writes as Unicode escapes.
 
 use crate::mdast::Node;
+use crate::walk::Walk;
 use markdown_kinds::escapes::{add_text, add_texts};
 use std::alloc::{AllocError, Global};
 use std::collections::BTreeSet;
 
-/// The characters beyond ASCII in the texts of a node, and of all that is in it, that `{:?}` writes
-/// as their Unicode escape.
+/// Returns the characters beyond ASCII that `{:?}` writes as Unicode escapes, of the texts of a
+/// node and of everything in it.
 ///
-/// Which they are is std's to say, as its Debug of a string writes them. The only error is that memory
-/// ran out.
+/// Std decides which characters these are, by how its Debug writes a string. The only error is that
+/// memory ran out.
 pub fn escapes_of(node: &Node, alloc: Global) -> Result<BTreeSet<char>, AllocError> {
     let mut escapes = BTreeSet::new(alloc);
-    add_node(node, &mut escapes)?;
-    let mut levels: Vec<&[Node]> = Vec::new(alloc);
-    let mut level = node.child_nodes();
-    'walk: loop {
-        if let Some((first, rest)) = level.split_first() {
-            add_node(first, &mut escapes)?;
-            levels.push(rest)?;
-            level = first.child_nodes();
-        } else {
-            let Some(rest) = levels.pop() else {
-                return Ok(escapes);
-            };
-            level = rest;
-        }
+    let mut walk = Walk::new(alloc, node);
+    'nodes: while let Some(node) = walk.next()? {
+        add_node(node, &mut escapes)?;
     }
+    Ok(escapes)
 }
 
 /// Adds those in the texts of a node alone.

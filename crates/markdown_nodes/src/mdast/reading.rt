@@ -6,9 +6,10 @@ ghost use Rattle.markdown_nodes.specs.Tree.{only, plain_text, value_of};
 ghost use Rattle.markdown_nodes.specs.View.{view};
 
 use crate::mdast::Node;
+use crate::walk::Walk;
 use std::alloc::{AllocError, Global};
 
-/// The value of a literal, and no characters for any other kind.
+/// Returns the value of a literal, or an empty text for any other kind.
 fn value(node: &Node) -> &str
     ensures { result.now ≡ value_of (label_of node.now) }
 {
@@ -25,23 +26,14 @@ fn value(node: &Node) -> &str
     }
 }
 
-/// Appends the plain text of a node to a text. After an error an unknown part of it stands there.
+/// Appends the plain text of a node to a text. After an error an unknown part of it has been
+/// appended.
 pub fn add_text(node: &Node, text: &mut String, alloc: Global) -> Result<(), AllocError>
     ensures { OnOk result (string_bytes text.new ≡ string_bytes text.old ++ plain_text (only (view node.now))) }
 {
-    text.push_str(value(node))?;
-    let mut levels: Vec<&[Node]> = Vec::new(alloc);
-    let mut level = node.child_nodes();
-    'walk: loop {
-        if let Some((first, rest)) = level.split_first() {
-            text.push_str(value(first))?;
-            levels.push(rest)?;
-            level = first.child_nodes();
-        } else {
-            let Some(rest) = levels.pop() else {
-                return Ok(());
-            };
-            level = rest;
-        }
+    let mut walk = Walk::new(alloc, node);
+    'nodes: while let Some(node) = walk.next()? {
+        text.push_str(value(node))?;
     }
+    Ok(())
 }

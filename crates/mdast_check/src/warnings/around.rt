@@ -1,35 +1,35 @@
-//! What the rules ask about a node besides the node itself.
+//! What the rules need to know about a node besides the node itself.
 
 ghost use Rattle.std.specs.Prelude.{◌≡◌, List, IfOk, OnOk, [], ◌∷◌, option_map};
 ghost use Rattle.markdown_nodes.specs.Access.{label_of};
 ghost use Rattle.markdown_nodes.specs.Tree.{Tree};
 ghost use Rattle.markdown_nodes.specs.View.{view};
 ghost use Rattle.mdast_check.specs.Surroundings.{AreUses, StandAround};
-ghost use Rattle.mdast_check.specs.Walk.{walk};
+ghost use Rattle.markdown_nodes.specs.Walk.{walk};
 ghost use Rattle.mdast_check.specs.Warnings.{call_identifier_of, link_identifier_of};
 
 use crate::outline::depth;
 use crate::references::{Known, definition_identifier, footnote_identifier, known_in, put};
-use crate::walk::Walk;
 use markdown_nodes::mdast::Node;
+use markdown_nodes::walk::Walk;
 use std::alloc::{AllocError, Global};
 use std::collections::BTreeSet;
 
-/// What the tree around a node says, and the nodes before it.
+/// The tree around a node and the nodes before it, as the rules need them.
 #[derive(Drop)]
 pub(crate) struct Surroundings<'a> {
     /// The depth of the last heading before the node.
     pub depth: Option<u8>,
     /// The identifiers that the tree defines.
     pub defined: Known<'a>,
-    /// The identifiers to which the tree refers.
+    /// The identifiers that the tree refers to.
     pub used: Known<'a>,
     /// The identifiers that nodes before this one define.
     pub before: Known<'a>,
 }
 
 impl<'a> Surroundings<'a> {
-    /// What stands around the first node of a tree, the tree itself.
+    /// Returns the surroundings of the first node of a tree, the tree itself.
     pub fn new(alloc: Global, tree: &'a Node) -> Result<Surroundings<'a>, AllocError>
         ensures { IfOk result (λ around. StandAround around (view tree.now) []) }
     {
@@ -47,7 +47,7 @@ impl<'a> Surroundings<'a> {
         })
     }
 
-    /// Goes past a node: from now on it stands before.
+    /// Passes a node: from now on it counts as before.
     pub fn pass(&mut self, node: &'a Node) -> Result<(), AllocError>
         ensures { OnOk result ((tree : Tree) (before : List Tree) → StandAround self.old tree before → StandAround self.new tree (view node.now ∷ before)) }
     {
@@ -58,7 +58,7 @@ impl<'a> Surroundings<'a> {
     }
 }
 
-/// The identifiers to which a tree refers, in one pass over it.
+/// Returns the identifiers that a tree refers to, in one pass over it.
 fn uses_in<'a>(alloc: Global, tree: &'a Node) -> Result<Known<'a>, AllocError>
     ensures { IfOk result (λ known. AreUses known (walk (view tree.now))) }
 {
@@ -75,7 +75,7 @@ fn uses_in<'a>(alloc: Global, tree: &'a Node) -> Result<Known<'a>, AllocError>
     })
 }
 
-/// The identifier to which a link or an image refers, and `None` for any other node.
+/// Returns the identifier that a link or an image refers to, and `None` for any other node.
 fn link_identifier(node: &Node) -> Option<&str>
     ensures { option_map (λ text. text.now) result ≡ link_identifier_of (label_of node.now) }
 {
@@ -86,7 +86,7 @@ fn link_identifier(node: &Node) -> Option<&str>
     }
 }
 
-/// The identifier of the footnote that a node calls, and `None` for any other node.
+/// Returns the identifier of the footnote that a node calls, and `None` for any other node.
 fn call_identifier(node: &Node) -> Option<&str>
     ensures { option_map (λ text. text.now) result ≡ call_identifier_of (label_of node.now) }
 {

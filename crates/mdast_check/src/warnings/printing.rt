@@ -11,9 +11,9 @@ use markdown_nodes::unist::Position;
 use std::fmt;
 
 impl Problem {
-    /// The rule that is violated, an identifier for programs (ours): `heading-jump`, `reference-undefined`,
-    /// `definition-unused`, `footnote-unused`, `definition-duplicate`, `link-empty` or
-    /// `image-without-alt`.
+    /// Returns the rule that is violated, an identifier for programs (ours): `heading-jump`,
+    /// `reference-undefined`, `definition-unused`, `footnote-unused`, `definition-duplicate`,
+    /// `link-empty` or `image-without-alt`.
     ///
     /// For `Problem::LinkWithoutText` it is `link-empty`, as for `Problem::LinkWithoutAddress`.
     pub fn rule(&self) -> &'static str
@@ -73,7 +73,7 @@ impl fmt::Display for Warning {
     }
 }
 
-/// Writes where a position starts, and nothing where there is none.
+/// Writes where a position starts, or nothing if there is none.
 fn write_start<W: fmt::Write>(position: &Option<Position>, f: &mut fmt::Formatter<W>) -> fmt::Result
     ensures { WritesOnOk W.write_str_gives f.old result (start_text position.now) f.new }
 {
@@ -86,7 +86,7 @@ fn write_start<W: fmt::Write>(position: &Option<Position>, f: &mut fmt::Formatte
     }
 }
 
-/// An identifier, which is printed between quotes.
+/// An identifier that is printed between quotes.
 #[derive(Drop)]
 struct Named<'a>(&'a str);
 
@@ -98,8 +98,8 @@ impl fmt::Display for Named<'_> {
     }
 }
 
-/// Writes an identifier between quotes and in one line: a control character, or the end of a line, as a
-/// blank.
+/// Writes an identifier between quotes and on one line: a control character or the end of a line
+/// becomes a blank.
 fn write_named<W: fmt::Write>(identifier: &str, f: &mut fmt::Formatter<W>) -> fmt::Result
     ensures { WritesOnOk W.write_str_gives f.old result (named identifier.now) f.new }
 {
@@ -110,7 +110,7 @@ fn write_named<W: fmt::Write>(identifier: &str, f: &mut fmt::Formatter<W>) -> fm
     f.write_str("\"")
 }
 
-/// Writes a character, and a blank for a control character or the end of a line.
+/// Writes a character, or a blank for a control character or the end of a line.
 fn write_on_line<W: fmt::Write>(c: char, f: &mut fmt::Formatter<W>) -> fmt::Result
     ensures { WritesOnOk W.write_str_gives f.old result (on_line c) f.new }
 {

@@ -25,7 +25,8 @@ use crate::warnings::around::Surroundings;
 use markdown_nodes::mdast::Node;
 use std::alloc::{AllocError, Global};
 
-/// What is wrong with a node, of which is known whether there is text in its children: two things at most.
+/// Returns what is wrong with a node, given whether there is text in its children: two problems at
+/// most.
 pub(crate) fn problems<'a>(
     alloc: Global,
     node: &'a Node,
@@ -63,7 +64,7 @@ pub(crate) fn problems<'a>(
     }
 }
 
-/// What is wrong with a definition of an identifier.
+/// Returns what is wrong with a definition of an identifier.
 fn in_definition<'a>(
     alloc: Global,
     around: &Surroundings<'a>,
@@ -76,7 +77,7 @@ fn in_definition<'a>(
     Ok((unused, repeated))
 }
 
-/// What is wrong with a footnote with an identifier.
+/// Returns what is wrong with a footnote with an identifier.
 fn in_footnote<'a>(
     alloc: Global,
     around: &Surroundings<'a>,
@@ -89,7 +90,8 @@ fn in_footnote<'a>(
     Ok((unused, repeated))
 }
 
-/// A heading that is more than one deeper than the heading before it, where there is one.
+/// Returns the problem of a heading that is more than one deeper than the heading before it, if
+/// there is one.
 fn jump(before: Option<u8>, depth: u8) -> Option<Problem>
     ensures { finding_in result ≡ jump_from before depth }
 {
@@ -101,7 +103,7 @@ fn jump(before: Option<u8>, depth: u8) -> Option<Problem>
     }
 }
 
-/// A reference of a kind to an identifier that nothing defines.
+/// Returns the problem of a reference of a kind to an identifier that nothing defines.
 fn undefined<'a>(
     alloc: Global,
     around: &Surroundings<'a>,
@@ -117,7 +119,7 @@ fn undefined<'a>(
     Ok(Some(Problem::ReferenceUndefined { kind, identifier }))
 }
 
-/// A definition of an identifier to which no link and no image refers.
+/// Returns the problem of a definition of an identifier that no link and no image refers to.
 fn unused_definition<'a>(
     alloc: Global,
     around: &Surroundings<'a>,
@@ -132,7 +134,7 @@ fn unused_definition<'a>(
     Ok(Some(Problem::DefinitionUnused { identifier }))
 }
 
-/// A footnote with an identifier that nothing calls.
+/// Returns the problem of a footnote with an identifier that nothing calls.
 fn unused_footnote<'a>(
     alloc: Global,
     around: &Surroundings<'a>,
@@ -147,7 +149,8 @@ fn unused_footnote<'a>(
     Ok(Some(Problem::FootnoteUnused { identifier }))
 }
 
-/// A definition of an identifier that one before it defines too, for references of a kind.
+/// Returns the problem of a definition of an identifier that an earlier one also defines, for
+/// references of a kind.
 fn duplicate<'a>(
     alloc: Global,
     around: &Surroundings<'a>,
@@ -163,7 +166,7 @@ fn duplicate<'a>(
     Ok(Some(Problem::DefinitionDuplicate { identifier }))
 }
 
-/// A link with an empty URL, or else without text.
+/// Returns the problem of a link with an empty URL, or else without text.
 fn empty_link(url: &str, has_text: bool) -> Option<Problem>
     ensures { finding_in result ≡ (if is_empty url.now then link_without_address ∷ [] else when (not has_text) link_without_text) }
 {
@@ -173,7 +176,7 @@ fn empty_link(url: &str, has_text: bool) -> Option<Problem>
     textless(has_text)
 }
 
-/// A link without text.
+/// Returns the problem of a link without text.
 fn textless(has_text: bool) -> Option<Problem>
     ensures { finding_in result ≡ when (not has_text) link_without_text }
 {
@@ -184,7 +187,7 @@ fn textless(has_text: bool) -> Option<Problem>
     }
 }
 
-/// An image with an empty alternative text.
+/// Returns the problem of an image with an empty alternative text.
 fn without_alt(alt: &str) -> Option<Problem>
     ensures { finding_in result ≡ when (is_empty alt.now) image_without_alt }
 {

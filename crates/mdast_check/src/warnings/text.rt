@@ -5,18 +5,19 @@ ghost use Rattle.std.specs.List.{list_any};
 ghost use Rattle.markdown_nodes.specs.Access.{label_of};
 ghost use Rattle.markdown_nodes.specs.Tree.{label_text_of};
 ghost use Rattle.markdown_nodes.specs.View.{view};
-ghost use Rattle.mdast_check.specs.Walk.{walk};
+ghost use Rattle.markdown_nodes.specs.Walk.{walk};
 ghost use Rattle.mdast_check.specs.Warnings.{have_text};
 
-use crate::walk::Walk;
 use markdown_nodes::mdast::Node;
+use markdown_nodes::walk::Walk;
 use std::alloc::{AllocError, Global};
 
-/// Of each node of a tree, whether there is text in its children, the last node first. So the answer for
-/// the first node comes off the end.
+/// Returns for each node of a tree whether there is text in its children, the last node first. The
+/// answer for the first node is therefore at the end of the list.
 ///
-/// From the last node to the first, a node has text where a child has, or its own is not empty. What is
-/// known of its children stands at the end of what is known of the nodes whose parent has not come yet.
+/// The nodes are visited from the last to the first. A node has text if a child has, or if its own
+/// text is not empty. The answers for its children are at the end of the answers for nodes whose
+/// parent has not been visited yet.
 pub(crate) fn texts_in(alloc: Global, tree: &Node) -> Result<Vec<bool>, AllocError>
     ensures { IfOk result (λ texts. reverse texts.items ≡ map (λ node. have_text node.children) (walk (view tree.now))) }
 {
@@ -31,7 +32,7 @@ pub(crate) fn texts_in(alloc: Global, tree: &Node) -> Result<Vec<bool>, AllocErr
     Ok(texts)
 }
 
-/// The nodes of a tree in order.
+/// Returns the nodes of a tree in order.
 fn nodes_in_order(alloc: Global, tree: &Node) -> Result<Vec<&Node>, AllocError>
     ensures { IfOk result (λ nodes. map (λ node. view node.now) nodes.items ≡ walk (view tree.now)) }
 {
@@ -43,7 +44,7 @@ fn nodes_in_order(alloc: Global, tree: &Node) -> Result<Vec<&Node>, AllocError>
     Ok(nodes)
 }
 
-/// Takes so many answers off the end, and says whether one of them is yes.
+/// Removes this number of answers from the end, and returns whether one of them is true.
 fn any_of_last(answers: &mut Vec<bool>, count: usize) -> bool
     ensures { (rest last : List Bool) → length last ≡ count → answers.old.items ≡ rest ++ last → (result ≡ list_any (λ answer. answer) last) × (answers.new.items ≡ rest) }
 {
@@ -53,14 +54,15 @@ fn any_of_last(answers: &mut Vec<bool>, count: usize) -> bool
     any
 }
 
-/// Whether one of some answers is yes.
+/// Whether one of the answers is true.
 fn any_of(answers: &[bool]) -> bool
     ensures { result ≡ list_any (λ answer. answer) answers.now }
 {
     answers.iter().any(|answer| *answer)
 }
 
-/// The value of a literal, the alternative text of an image, and no characters for any other kind.
+/// Returns the value of a literal, the alternative text of an image, or an empty text for any other
+/// kind.
 fn own_text(node: &Node) -> &str
     ensures { result.now ≡ label_text_of (label_of node.now) }
 {

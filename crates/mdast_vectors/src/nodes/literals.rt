@@ -7,7 +7,7 @@ use markdown_nodes::mdast::Node;
 use std::alloc::AllocError;
 use std::process::Abort;
 
-/// A node of the value `a`.
+/// Checks a node with the value `a`.
 fn literal<R: Abort + AllocGlobal>(
     rt: &R,
     mut node: Node,

@@ -7,7 +7,7 @@ use markdown_nodes::mdast::{Node, ReferenceKind};
 use std::alloc::AllocError;
 use std::process::Abort;
 
-/// A node with the empty list of children.
+/// Checks a node with the empty list of children.
 fn parent<R: Abort + AllocGlobal>(
     rt: &R,
     mut node: Node,

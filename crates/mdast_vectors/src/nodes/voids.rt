@@ -7,7 +7,7 @@ use markdown_nodes::mdast::{Node, ReferenceKind};
 use std::alloc::AllocError;
 use std::process::Abort;
 
-/// A node with neither children nor a value.
+/// Checks a node with neither children nor a value.
 fn void<R: Abort + AllocGlobal>(
     rt: &R,
     mut node: Node,

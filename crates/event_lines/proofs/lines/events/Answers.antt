@@ -1,5 +1,4 @@
 use Rattle.std.proofs.Common.{◌<◌, length, arith}
-use Rattle.std.proofs.lemmas.Grind.{common_steps}
 use Rattle.std.proofs.lemmas.Bool.Decides.{nat_tests}
 use Rattle.event_lines.proofs.CutLemmas.{rest_shorter}
 use Rattle.event_lines.proofs.LinesLemmas.{reads_wrong, reads_next}
@@ -25,9 +24,3 @@ loop-rest-preserved c =
       room = omega arith;
       last_point = c.in-Some.ensures.last_point;
     }
-
-pub loop-rest-preserved-then-rest-eq10 : goal.loop-rest-preserved-then-rest-eq10
-loop-rest-preserved-then-rest-eq10 c = grind (arith, common_steps)
-
-pub returns-clause-ok : goal.returns-clause-ok
-returns-clause-ok c = grind (arith, common_steps)

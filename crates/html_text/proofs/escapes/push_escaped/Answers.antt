@@ -1,5 +1,4 @@
 use Rattle.std.proofs.Common.{◌≡◌, ℕ, ◌+◌, ◌<◌, List, ◌++◌, ap, ◌∙◌, drop, get_or, length, refl, sym, arith}
-use Rattle.std.proofs.lemmas.Grind.{common_steps}
 use Rattle.std.proofs.lemmas.List.{drop_more}
 use Rattle.std.proofs.lemmas.Str.{IsCharBoundary-start}
 use Rattle.html_text.specs.Escapes.{escape, escaped}
@@ -27,6 +26,3 @@ loop-at-preserved c =
       | else-is_escaped w ↦
           rw (w.out-is, w.start-is) (goes_on _ _ _ _ _ _ _ _ c.loop-at.invariant within here (next text at _ within here ∙ ap (λ (s : List ℕ). s ++ escaped (drop (at + 1) text)) (c.is_escaped.ensures.plain w.if-is_escaped.false)))
     ]
-
-pub push_escape-requires : goal.push_escape-requires
-push_escape-requires c = grind (arith, common_steps)

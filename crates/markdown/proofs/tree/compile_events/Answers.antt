@@ -4,7 +4,7 @@ use Rattle.markdown_events.specs.declared.event.Event.{Event}
 use Rattle.markdown_grammar.specs.Correct.{FailsRightly}
 use Rattle.markdown_grammar.specs.Document.{Given, source_of}
 use Rattle.markdown_grammar.specs.declared.values.Values.TheVariants.{Whole}
-use Rattle.positions.specs.declared.message.Fault.{Fault}
+use Rattle.markdown_events.specs.declared.message.Fault.{Fault}
 use Rattle.markdown.specs.Hidden.{hidden}
 use Rattle.markdown.proofs.tree.compile_events.Goals as goal
 

@@ -4,7 +4,7 @@ use Rattle.event_writer.specs.Finished.{IsFinished}
 use Rattle.markdown_events.specs.declared.event.Event.{Event}
 use Rattle.markdown_grammar.specs.Correct.{FailsRightly}
 use Rattle.markdown_grammar.specs.Document.{source, source_hiding}
-use Rattle.positions.specs.declared.message.Fault.{Fault}
+use Rattle.markdown_events.specs.declared.message.Fault.{Fault}
 use Rattle.markdown.specs.Hidden.{hidden}
 use Rattle.markdown.proofs.Readings.{finished_hiding}
 use Rattle.markdown.proofs.Roots.{root_reaches}

@@ -1,32 +1,28 @@
 use Rattle.std.proofs.Common.{Some, ap, sym, ◌∙◌, arith}
-use Rattle.std.proofs.lemmas.Grind.{common_steps}
 use Rattle.markdown_events.specs.declared.role.Content.{Content}
 use Rattle.markdown_nodes.specs.View.{views}
 use Rattle.markdown_blocks.specs.Parents.{parent_label}
-use Rattle.markdown_builder.specs.PartsSoFar.{placed}
-use Rattle.markdown_builder.proofs.Parents as parents
+use Rattle.markdown_parts.specs.PartsSoFar.{placed}
+use Rattle.markdown_nodes.proofs.Views as nodes_views
 use Rattle.markdown_blocks.proofs.parent.parent.Goals as goal
 
 pub returns-in-BlockQuote : goal.returns-in-BlockQuote
-returns-in-BlockQuote c = parents.blockquote_made (record { children = c.args.children; position = Some c.args.position }) ∙ ap (λ (k : Content). placed (parent_label k) (views c.args.children.items) c.args.position) (sym c.in-BlockQuote.is)
+returns-in-BlockQuote c = nodes_views.view-Blockquote (record { children = c.args.children; position = Some c.args.position }) ∙ ap (λ (k : Content). placed (parent_label k) (views c.args.children.items) c.args.position) (sym c.in-BlockQuote.is)
 
 pub returns-in-Emphasis : goal.returns-in-Emphasis
-returns-in-Emphasis c = parents.emphasis_made (record { children = c.args.children; position = Some c.args.position }) ∙ ap (λ (k : Content). placed (parent_label k) (views c.args.children.items) c.args.position) (sym c.in-Emphasis.is)
+returns-in-Emphasis c = nodes_views.view-Emphasis (record { children = c.args.children; position = Some c.args.position }) ∙ ap (λ (k : Content). placed (parent_label k) (views c.args.children.items) c.args.position) (sym c.in-Emphasis.is)
 
 pub returns-in-Strong : goal.returns-in-Strong
-returns-in-Strong c = parents.strong_made (record { children = c.args.children; position = Some c.args.position }) ∙ ap (λ (k : Content). placed (parent_label k) (views c.args.children.items) c.args.position) (sym c.in-Strong.is)
+returns-in-Strong c = nodes_views.view-Strong (record { children = c.args.children; position = Some c.args.position }) ∙ ap (λ (k : Content). placed (parent_label k) (views c.args.children.items) c.args.position) (sym c.in-Strong.is)
 
 pub returns-in-Strikethrough : goal.returns-in-Strikethrough
-returns-in-Strikethrough c = parents.delete_made (record { children = c.args.children; position = Some c.args.position }) ∙ ap (λ (k : Content). placed (parent_label k) (views c.args.children.items) c.args.position) (sym c.in-Strikethrough.is)
+returns-in-Strikethrough c = nodes_views.view-Delete (record { children = c.args.children; position = Some c.args.position }) ∙ ap (λ (k : Content). placed (parent_label k) (views c.args.children.items) c.args.position) (sym c.in-Strikethrough.is)
 
 pub returns-in-Paragraph : goal.returns-in-Paragraph
-returns-in-Paragraph c = parents.paragraph_made (record { children = c.args.children; position = Some c.args.position }) ∙ ap (λ (k : Content). placed (parent_label k) (views c.args.children.items) c.args.position) (sym c.in-Paragraph.is)
+returns-in-Paragraph c = nodes_views.view-Paragraph (record { children = c.args.children; position = Some c.args.position }) ∙ ap (λ (k : Content). placed (parent_label k) (views c.args.children.items) c.args.position) (sym c.in-Paragraph.is)
 
 pub returns-in-TableRow : goal.returns-in-TableRow
-returns-in-TableRow c = parents.table_row_made (record { children = c.args.children; position = Some c.args.position }) ∙ ap (λ (k : Content). placed (parent_label k) (views c.args.children.items) c.args.position) (sym c.in-TableRow.is)
+returns-in-TableRow c = nodes_views.view-TableRow (record { children = c.args.children; position = Some c.args.position }) ∙ ap (λ (k : Content). placed (parent_label k) (views c.args.children.items) c.args.position) (sym c.in-TableRow.is)
 
 pub returns-in-TableCell : goal.returns-in-TableCell
-returns-in-TableCell c = parents.table_cell_made (record { children = c.args.children; position = Some c.args.position }) ∙ ap (λ (k : Content). placed (parent_label k) (views c.args.children.items) c.args.position) (sym c.in-TableCell.is)
-
-pub unreachable-requires : goal.unreachable-requires
-unreachable-requires c = grind (arith, common_steps)
+returns-in-TableCell c = nodes_views.view-TableCell (record { children = c.args.children; position = Some c.args.position }) ∙ ap (λ (k : Content). placed (parent_label k) (views c.args.children.items) c.args.position) (sym c.in-TableCell.is)

@@ -1,5 +1,4 @@
 use Rattle.std.proofs.Common.{false, refl, rules, ◌<◌, ◌≡◌, arith}
-use Rattle.std.proofs.lemmas.Grind.{common_steps}
 use Rattle.std.specs.Vec.{vec_len}
 use denote.Hole.Carrier
 use Rattle.markdown_nodes.specs.declared.mdast.Node.TheViews.{out-Node}
@@ -20,12 +19,3 @@ returns-in_default-first c =
     let some : 0 < vec_len v = c.in-Some.ensures.variant.0 refl in
     let none : is_paragraph (label_of c.in-Some.first.now) ≡ false = search rules in
     nodes_stay v.items (vec_len v) c.in-Some.first.now v.ok.0 some c.in-Some.ensures.value none
-
-pub returns-in_default : goal.returns-in_default
-returns-in_default c = grind (arith, common_steps)
-
-pub part_some-nodes : goal.part_some-nodes
-part_some-nodes c = grind (arith, common_steps)
-
-pub part_none-nodes : goal.part_none-nodes
-part_none-nodes c = grind (arith, common_steps)

@@ -1,10 +1,9 @@
 use Rattle.std.proofs.Common.{ap, refl, string_bytes, sym, ◌<◌, ◌==◌, ◌∙◌, arith}
-use Rattle.std.proofs.lemmas.Grind.{common_steps}
 use Rattle.std.specs.Vec.{vec_len}
 use denote.Hole.Carrier
 use Rattle.markdown_nodes.specs.declared.mdast.Node.TheViews.{out-Node}
 use Rattle.markdown_blocks.proofs.Trims.{first_views, not_cut, text_goes, text_starts, text_stays, with_first}
-use Rattle.markdown_joining.proofs.Views.{no_text}
+use Rattle.markdown_parts.proofs.Views.{no_text}
 use Rattle.markdown_blocks.proofs.task.trim_first.Goals as goal
 
 pub returns-in_default : goal.returns-in_default
@@ -35,27 +34,3 @@ returns-else-is_empty-clause-cut c =
     let v = c.args.nodes.now in
     let some : 0 < vec_len v = c.in_ok-first.ensures.variant.0 refl in
     rw c.in-Text.is (text_starts v.items (vec_len v) c.in_ok-first.first.now c.in-Text.text _ c.trim_text.new.text c.in_ok-start.start v.ok.0 some c.in_ok-first.ensures.value c.in-Text.is c.in-Text.text-is c.in_ok-start.ensures.cut c.in_ok-start.ensures.place (ap (λ n. n == 0) (sym c.trim_text.new.text.value.bytes.ok.0) ∙ sym c.if-is_empty.ensures))
-
-pub returns-then-is_empty-clause-kept : goal.returns-then-is_empty-clause-kept
-returns-then-is_empty-clause-kept c = grind (arith, common_steps)
-
-pub remove_node-requires : goal.remove_node-requires
-remove_node-requires c = grind (arith, common_steps)
-
-pub part_some-nodes : goal.part_some-nodes
-part_some-nodes c = grind (arith, common_steps)
-
-pub part_none-nodes : goal.part_none-nodes
-part_none-nodes c = grind (arith, common_steps)
-
-pub returns-in_err-first-clause-kept : goal.returns-in_err-first-clause-kept
-returns-in_err-first-clause-kept c = grind (arith, common_steps)
-
-pub returns-else-is_empty-clause-kept : goal.returns-else-is_empty-clause-kept
-returns-else-is_empty-clause-kept c = grind (arith, common_steps)
-
-pub returns-in_err-start-clause-kept : goal.returns-in_err-start-clause-kept
-returns-in_err-start-clause-kept c = grind (arith, common_steps)
-
-pub returns-in_err-first-clause-cut : goal.returns-in_err-first-clause-cut
-returns-in_err-first-clause-cut c = grind (arith, common_steps)

@@ -1,5 +1,4 @@
 use Rattle.std.proofs.Common.{◌≡◌, ◌∙◌, subst, IfOk, List, arith}
-use Rattle.std.proofs.lemmas.Grind.{common_steps}
 use Rattle.markdown_events.specs.declared.infer.AlignKind.{AlignKind}
 use Rattle.markdown_events.proofs.Aligns.{align_at}
 use Rattle.markdown_events.proofs.infer.gfm_table_align.Goals as goal
@@ -10,9 +9,3 @@ returns-clause-value c = λ children begins.
 
 pub returns-clause-memory : goal.returns-clause-memory
 returns-clause-memory c = λ children begins none. c.table_align.ensures.memory (align_at c.args.events.now c.args.index children begins ∙ none)
-
-pub overflow_add-index : goal.overflow_add-index
-overflow_add-index c = grind (arith, common_steps)
-
-pub offset_bounds-events-index : goal.offset_bounds-events-index
-offset_bounds-events-index c = grind (arith, common_steps)

@@ -1,5 +1,4 @@
 use Rattle.std.proofs.Common.{ap, ◌∙◌, arith}
-use Rattle.std.proofs.lemmas.Grind.{common_steps}
 use Rattle.markdown_events.specs.Walks.{item_walk, no_child}
 use Rattle.markdown_events.proofs.Loose.{after_enter, item-walked}
 use Rattle.markdown_events.proofs.infer.list_item_loose.Goals as goal
@@ -10,9 +9,3 @@ returns c = λ children begins.
     c.item_walk.ensures
     ∙ ap (λ es. item_walk es 0 no_child) (after_enter c.args.events.now c.args.index name start end children spelled)
     ∙ item-walked children name end spelled.0
-
-pub offset_bounds-events-index : goal.offset_bounds-events-index
-offset_bounds-events-index c = grind (arith, common_steps)
-
-pub overflow_add-index : goal.overflow_add-index
-overflow_add-index c = grind (arith, common_steps)

@@ -1,5 +1,4 @@
 use Rattle.std.proofs.Common.{ap, ◌∙◌, arith}
-use Rattle.std.proofs.lemmas.Grind.{common_steps}
 use Rattle.markdown_events.specs.Walks.{list_walk, no_ends}
 use Rattle.markdown_events.proofs.Loose.{after_enter}
 use Rattle.markdown_events.proofs.Lists.{list-walked}
@@ -11,9 +10,3 @@ returns c = λ children begins.
     c.list_walk.ensures
     ∙ ap (λ es. list_walk c.args.include_items es 0 no_ends) (after_enter c.args.events.now c.args.index name start end children spelled)
     ∙ list-walked c.args.include_items children name end spelled.0
-
-pub overflow_add-index : goal.overflow_add-index
-overflow_add-index c = grind (arith, common_steps)
-
-pub offset_bounds-events-index : goal.offset_bounds-events-index
-offset_bounds-events-index c = grind (arith, common_steps)

@@ -1,5 +1,4 @@
 use Rattle.std.proofs.Common.{arith, refl, sym, true≢false}
-use Rattle.std.proofs.lemmas.Grind.{common_steps}
 use Rattle.std.proofs.lemmas.Bool.{eqb-true}
 use Rattle.std.proofs.lemmas.List.{nil_from_length}
 use Rattle.markdown_nodes.proofs.Levels.{walks_call, walks_down, walks_into, walks_past, walks_up}
@@ -52,12 +51,3 @@ walk-preserved t c = record {
   walks = rw c.in-Err.ensures.items (asks_past (bounds_of c.args.whole.limits) (bounds_of c.walk.level.limits) (bounds_of c.level_in-inner.result.limits) (bounds_of c.after-next.result) c.args.whole.nodes.now c.walk.level.nodes.now c.in-Some.rest.now c.level_in-inner.result.nodes.now c.in-Some.first.now c.in-Some-position.here.now c.walk.levels.items c.walk.invariant.walks c.in-Some.ensures.cases.0 (sym c.in-Some-position.ensures) (c.if-not-admit.ensures.0 refl) c.level_in-inner.ensures.nodes c.level_in-inner.ensures.limits (c.if-not-in_order.ensures.0 refl) c.after-next.ensures);
   fewer = rw c.in-Err.ensures.items (omega (arith, c.walk.invariant.fewer, walks_past (λ (level : Level). level.nodes.now) c.walk.level.nodes.now c.in-Some.rest.now c.in-Some.first.now c.walk.levels.items c.in-Some.ensures.cases.0));
 }
-
-pub walk-init : goal.walk-init
-walk-init c = grind (arith, common_steps)
-
-pub returns-in_default-pop : goal.returns-in_default-pop
-returns-in_default-pop c = grind (arith, common_steps)
-
-pub walk-smaller : goal.walk-smaller
-walk-smaller c = grind (arith, common_steps)

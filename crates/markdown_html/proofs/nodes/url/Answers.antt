@@ -5,7 +5,7 @@ use Rattle.markdown_nodes.specs.Access.{label_of}
 use Rattle.markdown_nodes.specs.Tree.{Tree}
 use Rattle.markdown_nodes.specs.View.{view}
 use Rattle.markdown_nodes.proofs.Views.{view-Definition}
-use Rattle.mdast_check.proofs.Steps.{label-is}
+use Rattle.markdown_nodes.proofs.WalkSteps.{label-is}
 use Rattle.markdown_html.specs.Html.{url_of}
 use Rattle.markdown_html.proofs.nodes.url.Goals as goal
 

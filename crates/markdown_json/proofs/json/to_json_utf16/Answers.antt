@@ -1,7 +1,7 @@
 use Rattle.std.proofs.Common.{◌≡◌, IfOk, string_bytes, subst}
-use Rattle.positions.specs.declared.unist.Point.{Point}
+use Rattle.markdown_events.specs.declared.unist.Point.{Point}
 use Rattle.markdown_json.specs.Json.{json_counted}
-use Rattle.json_fields.proofs.Utf16Counts.{counted-is}
+use Rattle.markdown_json.proofs.Utf16Counts.{counted-is}
 use Rattle.markdown_nodes.specs.View.{view}
 use Rattle.markdown_json.proofs.json.to_json_utf16.Goals as goal
 

@@ -1,5 +1,4 @@
 use Rattle.std.proofs.Common.{rules, arith}
-use Rattle.std.proofs.lemmas.Grind.{common_steps}
 use Rattle.markdown_grammar.specs.Document.{source_of}
 use Rattle.markdown_tree.proofs.Answered.{found, ordered_so, other_bound, refused_so, tree_bound}
 use Rattle.markdown_tree.proofs.to_mdast.compile_document.Goals as goal
@@ -23,6 +22,3 @@ returns-clause-bound_without g c =
 
 pub returns-clause-empty : goal.returns-clause-empty
 returns-clause-empty g c = search rules
-
-pub returns-clause-list : goal.returns-clause-list
-returns-clause-list g c = grind (arith, common_steps)

@@ -1,13 +1,12 @@
 use Rattle.std.proofs.Common.{Global, List, Some, Vec, arith, ap, length, sym, ◌∙◌}
-use Rattle.std.proofs.lemmas.Grind.{common_steps}
 use Rattle.markdown_events.specs.declared.event.Event.{Event}
-use Rattle.positions.specs.declared.unist.Position.{Position}
+use Rattle.markdown_events.specs.declared.unist.Position.{Position}
 use Rattle.markdown_steps.specs.Compiler.{point_of}
 use Rattle.markdown_steps.specs.Extents.{extent_of, last_event}
 use Rattle.markdown_grammar.specs.Document.{source_of}
 use Rattle.markdown_nodes.specs.View.{views}
 use Rattle.markdown_nodes.specs.declared.mdast.Node.{Node}
-use Rattle.markdown_context.specs.States.{state_of}
+use Rattle.markdown_tree.specs.States.{state_of}
 use Rattle.markdown_tree.proofs.Answered.{left_fails, no_leaf_open, root_nodes, some_event, tree_gives}
 use Rattle.markdown_tree.proofs.to_mdast.compile_list.Goals as goal
 
@@ -66,36 +65,3 @@ returns-clause-bound g c =
     let length = (rw c.in-Ok.is at c.take_all-context.ensures.length) in
     let ends = c.root_position.ensures.count in
     omega (arith, taken, length, ends)
-
-pub returns-in-Err-clause-empty : goal.returns-in-Err-clause-empty
-returns-in-Err-clause-empty g c = grind (arith, common_steps)
-
-pub returns-in-Err-clause-gives : goal.returns-in-Err-clause-gives
-returns-in-Err-clause-gives g c = grind (arith, common_steps)
-
-pub last_point-requires-clause-length : goal.last_point-requires-clause-length
-last_point-requires-clause-length g c = grind (arith, common_steps)
-
-pub root_position-requires : goal.root_position-requires
-root_position-requires g c = grind (arith, common_steps)
-
-pub returns-in-Err-clause-list : goal.returns-in-Err-clause-list
-returns-in-Err-clause-list g c = grind (arith, common_steps)
-
-pub returns-in-Some-clause-fits : goal.returns-in-Some-clause-fits
-returns-in-Some-clause-fits g c = grind (arith, common_steps)
-
-pub returns-clause-list : goal.returns-clause-list
-returns-clause-list g c = grind (arith, common_steps)
-
-pub returns-in-Err-clause-fits : goal.returns-in-Err-clause-fits
-returns-in-Err-clause-fits g c = grind (arith, common_steps)
-
-pub returns-clause-empty : goal.returns-clause-empty
-returns-clause-empty g c = grind (arith, common_steps)
-
-pub returns-in-Some-clause-list : goal.returns-in-Some-clause-list
-returns-in-Some-clause-list g c = grind (arith, common_steps)
-
-pub returns-clause-fits : goal.returns-clause-fits
-returns-clause-fits g c = grind (arith, common_steps)

@@ -1,6 +1,5 @@
 use Rattle.std.proofs.Common.{List, arith, subst}
 use Rattle.std.specs.Prelude.{IfErr, IfOk}
-use Rattle.std.proofs.lemmas.Grind.{common_steps}
 use Rattle.markdown_grammar.specs.Correct.{FailsRightly, IsMeaning}
 use Rattle.markdown_events.specs.declared.event.Event.{Event}
 use Rattle.markdown_grammar.specs.Document.{Given, source_of, source_with}
@@ -15,9 +14,3 @@ pub returns-clause-refused : goal.returns-clause-refused
 returns-clause-refused g c =
     subst (λ (events : List Event). IfErr c.compile_document.result (λ fault. FailsRightly fault events (source_with c.args.values c.args.bytes.now (g.R.References.text c.args.references.now)))) c.new.ensures.list
     (subst (λ (given : Given). IfErr c.compile_document.result (λ fault. FailsRightly fault c.new.result.events (source_of given (g.R.References.text c.args.references.now)))) c.new-document.ensures c.compile_document.ensures.refused)
-
-pub returns-clause-ordered : goal.returns-clause-ordered
-returns-clause-ordered g c = grind (arith, common_steps)
-
-pub returns-clause-empty : goal.returns-clause-empty
-returns-clause-empty g c = grind (arith, common_steps)

@@ -1,9 +1,8 @@
 use Rattle.std.proofs.Common.{ap, sym, ◌∙◌, arith}
-use Rattle.std.proofs.lemmas.Grind.{common_steps}
 use Rattle.std.specs.Prelude.{slice_get}
 use Rattle.std.proofs.lemmas.Option.{slice_get_within}
 use Rattle.markdown_grammar.specs.Document.{source_of}
-use Rattle.markdown_context.specs.States.{state_of}
+use Rattle.markdown_tree.specs.States.{state_of}
 use Rattle.markdown_tree.proofs.Loop.{goes_on, stops_here, stops_within, is_done, past_end}
 use Rattle.markdown_tree.proofs.to_mdast.take_all.Goals as goal
 
@@ -15,7 +14,7 @@ returns-in-Err-clause-gives g c =
 pub returns-in-Err-clause-bound : goal.returns-in-Err-clause-bound
 returns-in-Err-clause-bound g c =
     let at = c.in-Some.ensures.event ∙ ap (λ es. slice_get es c.loop-event.index) c.loop-event.invariant.1 in
-    stops_within (source_of c.args.document.now (g.R.References.text c.args.references.now)) c.args.steps.now.events _ _ _ _ c.loop-event.index c.in-Some.event (state_of c.loop-event.context) at c.in-Some.ensures.count c.step.ensures.bound c.loop-event.invariant.0
+    stops_within (source_of c.args.document.now (g.R.References.text c.args.references.now)) c.args.steps.now.events _ _ _ _ c.loop-event.index c.in-Some.event (state_of c.loop-event.context) at (ap (λ v. v.count) c.steps.view_is ∙ c.in-Some.ensures.count) c.step.ensures.bound c.loop-event.invariant.0
 
 pub loop-event-smaller : goal.loop-event-smaller
 loop-event-smaller g c =
@@ -26,8 +25,8 @@ loop-event-smaller g c =
 pub loop-event-preserved : goal.loop-event-preserved
 loop-event-preserved g c =
     let at = c.in-Some.ensures.event ∙ ap (λ es. slice_get es c.loop-event.index) c.loop-event.invariant.1 in (
-      goes_on (source_of c.args.document.now (g.R.References.text c.args.references.now)) c.args.steps.now.events _ _ _ _ c.loop-event.index c.in-Some.event (state_of c.loop-event.context) (state_of c.step.new.self) at c.in_default-step.ensures.gives c.in-Some.ensures.count c.step.ensures.bound c.loop-event.invariant.0,
-      c.step.ensures.list ∙ c.in-Some.ensures.list ∙ c.loop-event.invariant.1,
+      goes_on (source_of c.args.document.now (g.R.References.text c.args.references.now)) c.args.steps.now.events _ _ _ _ c.loop-event.index c.in-Some.event (state_of c.loop-event.context) (state_of c.step.new.self) at c.in_default-step.ensures.gives (ap (λ v. v.count) c.steps.view_is ∙ c.in-Some.ensures.count) c.step.ensures.bound c.loop-event.invariant.0,
+      ap (λ v. v.events) c.steps.view_is ∙ c.in-Some.ensures.list ∙ c.loop-event.invariant.1,
     )
 
 pub returns-clause-gives : goal.returns-clause-gives
@@ -41,30 +40,3 @@ returns-clause-length g c =
     let past = past_end c.args.steps.now.events c.loop-event.index at in
     let within = c.loop-event.invariant.0.within in
     omega (arith, past, within)
-
-pub returns-clause-bound : goal.returns-clause-bound
-returns-clause-bound g c = grind (arith, common_steps)
-
-pub overflow_add-index : goal.overflow_add-index
-overflow_add-index g c = grind (arith, common_steps)
-
-pub returns-clause-list : goal.returns-clause-list
-returns-clause-list g c = grind (arith, common_steps)
-
-pub step-requires : goal.step-requires
-step-requires g c = grind (arith, common_steps)
-
-pub loop-event-init : goal.loop-event-init
-loop-event-init g c = grind (arith, common_steps)
-
-pub returns-in-Err-clause-length : goal.returns-in-Err-clause-length
-returns-in-Err-clause-length g c = grind (arith, common_steps)
-
-pub returns-clause-empty : goal.returns-clause-empty
-returns-clause-empty g c = grind (arith, common_steps)
-
-pub returns-in-Err-clause-list : goal.returns-in-Err-clause-list
-returns-in-Err-clause-list g c = grind (arith, common_steps)
-
-pub returns-in-Err-clause-empty : goal.returns-in-Err-clause-empty
-returns-in-Err-clause-empty g c = grind (arith, common_steps)

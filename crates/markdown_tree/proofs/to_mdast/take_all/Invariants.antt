@@ -1,6 +1,6 @@
 use Rattle.std.proofs.Common.{◌≡◌, ◌-◌, length}
 use Rattle.markdown_grammar.specs.Document.{source_of}
-use Rattle.markdown_context.specs.States.{state_of}
+use Rattle.markdown_tree.specs.States.{state_of}
 use Rattle.markdown_tree.proofs.Loop.{Stands}
 use Rattle.markdown_tree.proofs.to_mdast.take_all.Given as goal
 

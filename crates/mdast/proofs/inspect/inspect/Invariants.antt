@@ -1,5 +1,5 @@
 use Rattle.std.proofs.Common.{length}
-use Rattle.mdast_check.specs.Levels.{coming}
+use Rattle.markdown_nodes.specs.WalkLevels.{coming}
 use Rattle.mdast.proofs.inspect.inspect.Given as goal
 
 abbrev pub decreases-nodes : goal.decreases-nodes

@@ -1,7 +1,7 @@
 use Rattle.std.proofs.Common.{◌≡◌, ◌++◌, length, map}
 use Rattle.std.specs.List.{filter_map}
 use Rattle.markdown_nodes.specs.View.{view}
-use Rattle.mdast_check.specs.Levels.{coming}
+use Rattle.markdown_nodes.specs.WalkLevels.{coming}
 use Rattle.mdast_check.specs.Titles.{said, titled, titles}
 use Rattle.mdast_check.proofs.outline.headings.Given as goal
 

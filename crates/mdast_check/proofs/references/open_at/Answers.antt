@@ -1,5 +1,4 @@
 use Rattle.std.proofs.Common.{sym, ◌∙◌, arith}
-use Rattle.std.proofs.lemmas.Grind.{common_steps}
 use Rattle.mdast_check.specs.Asking.{answered}
 use Rattle.mdast_check.proofs.Asking.{asks_nothing, is_answered, is_told}
 use Rattle.mdast_check.proofs.references.open_at.Goals as goal
@@ -14,6 +13,3 @@ returns-then-is_known c =
 pub returns : goal.returns
 returns c =
     is_told (answered c.args.known.now) c.args.node.now c.refers.result c.in-Some.kind c.in-Some.identifier _ _ c.refers.ensures c.in-Some.is (sym c.is_known.ensures ∙ c.if-is_known.false) c.in_ok-identifier.ensures.ok (c.copied-position.ensures ∙ c.position.ensures)
-
-pub is_known-requires-text-identifier : goal.is_known-requires-text-identifier
-is_known-requires-text-identifier c = grind (arith, common_steps)

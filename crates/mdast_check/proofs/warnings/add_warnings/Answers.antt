@@ -2,7 +2,7 @@ use Rattle.std.proofs.Common.{map, ap, ◌∙◌}
 use Rattle.mdast_check.specs.Surroundings.{asked_of}
 use Rattle.mdast_check.specs.Warnings.{have_text, warned}
 use Rattle.mdast_check.proofs.Linting.{adds, on_ok}
-use Rattle.mdast_check.proofs.Steps.{children-are}
+use Rattle.markdown_nodes.proofs.WalkSteps.{children-are}
 use Rattle.mdast_check.proofs.warnings.add_warnings.Goals as goal
 
 pub problems-requires : goal.problems-requires

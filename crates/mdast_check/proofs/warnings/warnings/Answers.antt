@@ -1,7 +1,7 @@
 use Rattle.markdown_nodes.specs.View.{view}
-use Rattle.mdast_check.specs.Levels.{coming}
+use Rattle.markdown_nodes.specs.WalkLevels.{coming}
 use Rattle.mdast_check.proofs.Linting.{next_read, some_left, warns}
-use Rattle.mdast_check.proofs.Steps.{next_is}
+use Rattle.markdown_nodes.proofs.WalkSteps.{next_is}
 use Rattle.mdast_check.proofs.warnings.warnings.Goals as goal
 
 pub add_warnings-requires : goal.add_warnings-requires

@@ -1,6 +1,6 @@
 use Rattle.std.proofs.Common.{length}
 use Rattle.markdown_nodes.specs.View.{view}
-use Rattle.mdast_check.specs.Levels.{coming}
+use Rattle.markdown_nodes.specs.WalkLevels.{coming}
 use Rattle.mdast_check.proofs.Linting.{WarnedSoFar}
 use Rattle.mdast_check.proofs.warnings.warnings.Given as goal
 

@@ -1,5 +1,4 @@
 use Rattle.std.proofs.Common.{◌≡◌, ℕ, List, sym, subst, ◌∙◌, arith}
-use Rattle.std.proofs.lemmas.Grind.{common_steps}
 use Rattle.std.specs.Io.KnownBytes.{Appends}
 use Rattle.mdast_programs.proofs.CheckLemmas.{closed_written, open_written, refused_written, status_said}
 use Rattle.mdast_programs.proofs.check.run_check.Goals as goal
@@ -21,42 +20,3 @@ returns-in-Ok-checked-clause-refused g c one =
     let wrote = c.say-in-Ok-checked.ensures.written (λ two. let z : 2 ≡ 1 = sym two ∙ one in cc) in
     refused_written c.in-Ok.answer _ _ _ _ c.args.doc.now _ _ (status_said _ _ 1 c.say-in-Ok-checked.ensures.status one (λ z. cc)) c.in-Ok.ensures c.in-Ok-checked.ensures
     (subst (λ (t : List ℕ). Appends (g.O.Write.contents c.args.output.now) (g.O.Write.contents c.say-in-Ok-checked.new.output) t) c.as_str.ensures.value wrote)
-
-pub returns-in_default-clause-refused : goal.returns-in_default-clause-refused
-returns-in_default-clause-refused g c = grind (arith, common_steps)
-
-pub returns-clause-end : goal.returns-clause-end
-returns-clause-end g c = grind (arith, common_steps)
-
-pub returns-clause-opens : goal.returns-clause-opens
-returns-clause-opens g c = grind (arith, common_steps)
-
-pub returns-in_default-clause-closed : goal.returns-in_default-clause-closed
-returns-in_default-clause-closed g c = grind (arith, common_steps)
-
-pub returns-clause-refused : goal.returns-clause-refused
-returns-clause-refused g c = grind (arith, common_steps)
-
-pub returns-in-Ok-checked-clause-memory : goal.returns-in-Ok-checked-clause-memory
-returns-in-Ok-checked-clause-memory g c = grind (arith, common_steps)
-
-pub returns-clause-closed : goal.returns-clause-closed
-returns-clause-closed g c = grind (arith, common_steps)
-
-pub returns-in-Ok-checked-clause-bound : goal.returns-in-Ok-checked-clause-bound
-returns-in-Ok-checked-clause-bound g c = grind (arith, common_steps)
-
-pub returns-clause-bound : goal.returns-clause-bound
-returns-clause-bound g c = grind (arith, common_steps)
-
-pub returns-in-Ok-checked-clause-end : goal.returns-in-Ok-checked-clause-end
-returns-in-Ok-checked-clause-end g c = grind (arith, common_steps)
-
-pub returns-in_default-clause-end : goal.returns-in_default-clause-end
-returns-in_default-clause-end g c = grind (arith, common_steps)
-
-pub returns-in_default-clause-bound : goal.returns-in_default-clause-bound
-returns-in_default-clause-bound g c = grind (arith, common_steps)
-
-pub returns-in_default-clause-opens : goal.returns-in_default-clause-opens
-returns-in_default-clause-opens g c = grind (arith, common_steps)

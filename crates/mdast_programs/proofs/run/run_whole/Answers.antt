@@ -1,5 +1,4 @@
 use Rattle.std.proofs.Common.{◌≡◌, refl, sym, ◌∙◌, subst, List, ℕ, arith}
-use Rattle.std.proofs.lemmas.Grind.{common_steps}
 use Rattle.std.specs.Io.KnownBytes.{Appends}
 use Rattle.mdast_programs.proofs.RunLemmas.{answer_not_three, not_written, status_kept, tree_written}
 use Rattle.mdast_programs.proofs.run.run_whole.Goals as goal
@@ -18,12 +17,6 @@ returns-clause-tree g c zero = elim c.match-line.branch [
 pub returns-clause-answered : goal.returns-clause-answered
 returns-clause-answered g c small = refl
 
-pub returns-clause-bound : goal.returns-clause-bound
-returns-clause-bound g c = grind (arith, common_steps)
-
-pub returns-in_default-clause-tree : goal.returns-in_default-clause-tree
-returns-in_default-clause-tree g c = grind (arith, common_steps)
-
 pub returns-clause-memory : goal.returns-clause-memory
 returns-clause-memory g c three = elim c.match-line.branch [
   | in-Ok-line w ↦ absurd (answer_not_three w.say-status-in-Ok-line.result _ c.in-Ok.answer w.status.ensures w.say-status-in-Ok-line.ensures.status (sym w.status-is ∙ three))
@@ -32,27 +25,6 @@ returns-clause-memory g c three = elim c.match-line.branch [
       let wrote = w.say-status-in-Err.ensures.written (λ two. let z : 2 ≡ 3 = sym two ∙ ended in cc) in
       rw (sym w.output-is) at wrote
 ]
-
-pub returns-in_default-clause-refused : goal.returns-in_default-clause-refused
-returns-in_default-clause-refused g c = grind (arith, common_steps)
-
-pub returns-in_default-clause-end : goal.returns-in_default-clause-end
-returns-in_default-clause-end g c = grind (arith, common_steps)
-
-pub returns-in_default-clause-bound : goal.returns-in_default-clause-bound
-returns-in_default-clause-bound g c = grind (arith, common_steps)
-
-pub returns-in_default-clause-answered : goal.returns-in_default-clause-answered
-returns-in_default-clause-answered g c = grind (arith, common_steps)
-
-pub returns-clause-end : goal.returns-clause-end
-returns-clause-end g c = grind (arith, common_steps)
-
-pub returns-in_default-clause-memory : goal.returns-in_default-clause-memory
-returns-in_default-clause-memory g c = grind (arith, common_steps)
-
-pub returns-clause-refused : goal.returns-clause-refused
-returns-clause-refused g c = grind (arith, common_steps)
 
 pub returns-clause-answer : goal.returns-clause-answer
 returns-clause-answer g c = c.in-Ok.ensures

@@ -1,8 +1,8 @@
 use Rattle.std.proofs.Common.{◌≡◌, [], length, string_bytes}
 use Rattle.std.specs.Prelude.{fold}
 use Rattle.markdown_nodes.specs.View.{view}
-use Rattle.mdast_check.specs.Levels.{coming}
-use Rattle.mdast_check.specs.Walk.{walk}
+use Rattle.markdown_nodes.specs.WalkLevels.{coming}
+use Rattle.markdown_nodes.specs.Walk.{walk}
 use Rattle.mdast_util.specs.PlainText.{with_words}
 use Rattle.mdast_util.proofs.plain_text.plain_text.Given as goal
 

@@ -1,5 +1,4 @@
 use Rattle.std.proofs.Common.{rules, arith}
-use Rattle.std.proofs.lemmas.Grind.{common_steps}
 use Rattle.markdown_blocks.proofs.heading.AtxParts.take_sequence.Goals as goal
 
 pub returns-in_default : goal.returns-in_default
@@ -10,6 +9,3 @@ returns-in_default-depth_of c = search rules
 
 pub returns : goal.returns
 returns c = search rules
-
-pub returns-then-is_some : goal.returns-then-is_some
-returns-then-is_some c = grind (arith, common_steps)

@@ -1,6 +1,5 @@
 use Rattle.std.proofs.Common.{None, arith}
-use Rattle.std.proofs.lemmas.Grind.{common_steps}
-use Rattle.markdown_builder.specs.PartsSoFar.{place_with}
+use Rattle.markdown_parts.specs.PartsSoFar.{place_with}
 use Rattle.markdown_grammar.specs.Document.{source_of}
 use Rattle.markdown_nodes.specs.View.{views}
 use Rattle.markdown_containers.specs.Containers.{summary_with}
@@ -15,21 +14,3 @@ returns-clause-taken c text line_endings in_table = elim c.match-self.branch [
   | in-Definition-DefinitionLabelString w ↦ part_kept (source_of c.args.document.now text) (summary_with containers.AnyContent (views c.args.nodes.items)) c.args.start c.args.end c.args.part _ _ _ _ _ _ _ w.in-Definition-DefinitionLabelString.is-0 w.in-Definition-DefinitionLabelString.is-1 w.self-is w.result-is (λ l t. w.take_label.ensures.taken text (place_with l t None)) line_endings in_table
   | in-FootnoteDefinition-FootnoteDefinitionLabelString w ↦ part_kept (source_of c.args.document.now text) (summary_with containers.AnyContent (views c.args.nodes.items)) c.args.start c.args.end c.args.part _ _ _ _ _ _ _ w.in-FootnoteDefinition-FootnoteDefinitionLabelString.is-0 w.in-FootnoteDefinition-FootnoteDefinitionLabelString.is-1 w.self-is w.result-is (λ l t. w.take_label-in-FootnoteDefinition-FootnoteDefinitionLabelString.ensures.taken text (place_with l t None)) line_endings in_table
 ]
-
-pub take_label-requires : goal.take_label-requires
-take_label-requires c = grind (arith, common_steps)
-
-pub unreachable-requires : goal.unreachable-requires
-unreachable-requires c = grind (arith, common_steps)
-
-pub take_string-requires : goal.take_string-requires
-take_string-requires c = grind (arith, common_steps)
-
-pub returns-clause-list : goal.returns-clause-list
-returns-clause-list c = grind (arith, common_steps)
-
-pub take_label-requires-in-FootnoteDefinition-FootnoteDefinitionLabelString : goal.take_label-requires-in-FootnoteDefinition-FootnoteDefinitionLabelString
-take_label-requires-in-FootnoteDefinition-FootnoteDefinitionLabelString c = grind (arith, common_steps)
-
-pub returns-clause-bound : goal.returns-clause-bound
-returns-clause-bound c = grind (arith, common_steps)

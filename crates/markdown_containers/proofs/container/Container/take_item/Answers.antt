@@ -1,5 +1,4 @@
 use Rattle.std.proofs.Common.{arith}
-use Rattle.std.proofs.lemmas.Grind.{common_steps}
 use Rattle.markdown_events.specs.declared.role.Content.TheVariants as contents
 use Rattle.markdown_events.specs.declared.role.ItemKind.TheVariants.{Content as content}
 use Rattle.markdown_containers.specs.declared.container.Container.TheVariants as containers
@@ -8,6 +7,3 @@ use Rattle.markdown_containers.proofs.container.Container.take_item.Goals as goa
 
 pub returns-in-ListOrdered : goal.returns-in-ListOrdered
 returns-in-ListOrdered c s p a b ts = content_kept s p a b ts (content contents.ListItem) _ _ _ _ (containers.ListOrdered c.take_item.new.self) c.in-NumberedItem.is c.in-ListOrdered.is (c.take_item.ensures s p a b ts)
-
-pub returns-in-ListItem : goal.returns-in-ListItem
-returns-in-ListItem c = grind (arith, common_steps)

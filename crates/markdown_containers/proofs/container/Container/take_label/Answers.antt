@@ -1,6 +1,5 @@
 use Rattle.std.proofs.Common.{None, refl, arith}
-use Rattle.std.proofs.lemmas.Grind.{common_steps}
-use Rattle.markdown_builder.specs.PartsSoFar.{place_with}
+use Rattle.markdown_parts.specs.PartsSoFar.{place_with}
 use Rattle.markdown_events.specs.declared.role.Part.TheVariants as parts
 use Rattle.markdown_grammar.specs.Document.{source_of}
 use Rattle.markdown_nodes.specs.View.{views}
@@ -18,12 +17,3 @@ pub returns-in-FootnoteCall : goal.returns-in-FootnoteCall
 returns-in-FootnoteCall c text =
     part_kept (source_of c.args.document.now text) (summary_with containers.AnyContent (views c.args.nodes.items)) c.args.start c.args.end parts.LabelText parts.LabelText _ _ (containers.FootnoteCall c.take_label-in-FootnoteCall.new.self) (containers.FootnoteCall c.take_label-in-FootnoteCall.new.self) c.take_label-in-FootnoteCall.result c.take_label-in-FootnoteCall.result c.in-FootnoteCall.is refl refl refl
     (λ l t. c.take_label-in-FootnoteCall.ensures text (place_with l t None))
-
-pub unreachable-requires : goal.unreachable-requires
-unreachable-requires c = grind (arith, common_steps)
-
-pub take_label-requires-in-FootnoteCall : goal.take_label-requires-in-FootnoteCall
-take_label-requires-in-FootnoteCall c = grind (arith, common_steps)
-
-pub take_label-requires : goal.take_label-requires
-take_label-requires c = grind (arith, common_steps)

@@ -1,6 +1,5 @@
 use Rattle.std.proofs.Common.{List, None, Option, refl, ℕ, ◌∙◌, arith}
-use Rattle.std.proofs.lemmas.Grind.{common_steps}
-use Rattle.markdown_builder.specs.PartsSoFar.{place_with}
+use Rattle.markdown_parts.specs.PartsSoFar.{place_with}
 use Rattle.markdown_events.specs.declared.event.Point.{Point}
 use Rattle.markdown_events.specs.declared.role.Part.{Part}
 use Rattle.markdown_grammar.specs.Document.{Source, source_of}
@@ -33,6 +32,3 @@ returns g c line_endings in_table =
       | in-CodeFenced-CodeFencedFence-2 w ↦ part_kept s nothing_yet a b q _ _ _ _ _ _ _ w.in-CodeFenced-CodeFencedFence.is-0 w.in-CodeFenced-CodeFencedFence.is-1 (w.self-is ∙ w.in-CodeFenced-CodeFencedFence.is-0) w.result-is
           (λ l t. (refl, later_math_fence s (place_with l t None) a b _ (leaf_here q _ _ _ w.in-CodeFenced-CodeFencedFence.is-0 w.in-CodeFenced-CodeFencedFence.is-1 c.requires.leaf))) line_endings in_table
     ]
-
-pub unreachable-requires : goal.unreachable-requires
-unreachable-requires g c = grind (arith, common_steps)

@@ -1,5 +1,4 @@
 use Rattle.std.proofs.Common.{arith}
-use Rattle.std.proofs.lemmas.Grind.{common_steps}
 use Rattle.markdown_events.specs.declared.role.Content.TheVariants as contents
 use Rattle.markdown_events.specs.declared.role.ItemKind.TheVariants.{Content as content}
 use Rattle.markdown_containers.specs.declared.container.Container.TheVariants as containers
@@ -11,9 +10,3 @@ returns-in-ListItem c s p a b ts = content_kept s p a b ts (content contents.Par
 
 pub returns-in-NumberedItem : goal.returns-in-NumberedItem
 returns-in-NumberedItem c s p a b ts = content_kept s p a b ts (content contents.Paragraph) _ _ _ _ (containers.NumberedItem c.take_paragraph-in-NumberedItem.new.self) c.in-TaskParagraph.is c.in-NumberedItem.is (c.take_paragraph-in-NumberedItem.ensures s p a b ts)
-
-pub returns : goal.returns
-returns c = grind (arith, common_steps)
-
-pub returns-2 : goal.returns-2
-returns-2 c = grind (arith, common_steps)

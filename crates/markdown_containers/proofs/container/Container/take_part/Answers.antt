@@ -1,5 +1,4 @@
 use Rattle.std.proofs.Common.{arith}
-use Rattle.std.proofs.lemmas.Grind.{common_steps}
 use Rattle.markdown_containers.proofs.Kept.{parts_kept}
 use Rattle.markdown_containers.proofs.container.Container.take_part.Goals as goal
 use Rattle.markdown_containers.proofs.container.Container.take_part.Goals.{in-Media-Resource-Resource, in-Media-Reference-Reference, in-CodeFenced-CodeFence-CodeFencedFence, in-MathFlow-MathFence-MathFlowFence}
@@ -11,18 +10,3 @@ returns c s p a b ts = elim c.match-self.branch [
   | in-CodeFenced-CodeFence-CodeFencedFence w ↦ parts_kept s p a b ts c.args.part _ _ _ _ _ _ _ w.in-CodeFenced-CodeFence-CodeFencedFence.is-0 w.in-CodeFenced-CodeFence-CodeFencedFence.is-1 w.in-CodeFenced-CodeFence-CodeFencedFence.is-2 w.self-is (w.take_fence.ensures s p a b ts)
   | in-MathFlow-MathFence-MathFlowFence w ↦ parts_kept s p a b ts c.args.part _ _ _ _ _ _ _ w.in-MathFlow-MathFence-MathFlowFence.is-0 w.in-MathFlow-MathFence-MathFlowFence.is-1 w.in-MathFlow-MathFence-MathFlowFence.is-2 w.self-is (w.take_fence-in-MathFlow-MathFence-MathFlowFence.ensures s p a b ts)
 ]
-
-pub unreachable-requires : goal.unreachable-requires
-unreachable-requires c = grind (arith, common_steps)
-
-pub take_fence-requires-in-MathFlow-MathFence-MathFlowFence : goal.take_fence-requires-in-MathFlow-MathFence-MathFlowFence
-take_fence-requires-in-MathFlow-MathFence-MathFlowFence c = grind (arith, common_steps)
-
-pub take_resource-requires : goal.take_resource-requires
-take_resource-requires c = grind (arith, common_steps)
-
-pub take_fence-requires : goal.take_fence-requires
-take_fence-requires c = grind (arith, common_steps)
-
-pub take_reference-requires : goal.take_reference-requires
-take_reference-requires c = grind (arith, common_steps)

@@ -1,6 +1,5 @@
 use Rattle.std.proofs.Common.{arith, true, ◌≡◌}
-use Rattle.std.proofs.lemmas.Grind.{common_steps}
-use Rattle.markdown_builder.specs.PartsSoFar.{place_with}
+use Rattle.markdown_parts.specs.PartsSoFar.{place_with}
 use Rattle.markdown_grammar.specs.Document.{source_of}
 use Rattle.markdown_nodes.specs.View.{views}
 use Rattle.markdown_containers.specs.Containers.{current_model_of, is_text_part, marker_of, summary_with}
@@ -18,33 +17,5 @@ returns-in_ok-text-in_default c =
         text_is_read (source_of c.args.document.now text) (current_model_of c.args.self.now) p c.args.part c.args.start c.args.end such,
         c.take_value.ensures (views c.args.nodes.items) c.in_ok-text-in_default.ensures.text (source_of c.args.document.now text) p c.args.start c.args.end,
       );
-      list = c.values_of.ensures.list;
       bound = omega (arith, visits, bound);
     }
-
-pub take_value-requires : goal.take_value-requires
-take_value-requires c = grind (arith, common_steps)
-
-pub returns-in-ReferenceString-clause-bound : goal.returns-in-ReferenceString-clause-bound
-returns-in-ReferenceString-clause-bound c = grind (arith, common_steps)
-
-pub take_identified-requires-clause-such : goal.take_identified-requires-clause-such
-take_identified-requires-clause-such c = grind (arith, common_steps)
-
-pub take_label-requires : goal.take_label-requires
-take_label-requires c = grind (arith, common_steps)
-
-pub returns-in-ReferenceString-clause-taken : goal.returns-in-ReferenceString-clause-taken
-returns-in-ReferenceString-clause-taken c = grind (arith, common_steps)
-
-pub returns-in-LabelText-clause-taken : goal.returns-in-LabelText-clause-taken
-returns-in-LabelText-clause-taken c = grind (arith, common_steps)
-
-pub returns-in-ReferenceString-clause-list : goal.returns-in-ReferenceString-clause-list
-returns-in-ReferenceString-clause-list c = grind (arith, common_steps)
-
-pub returns-in-LabelText-clause-bound : goal.returns-in-LabelText-clause-bound
-returns-in-LabelText-clause-bound c = grind (arith, common_steps)
-
-pub take_identified-requires-clause-fits : goal.take_identified-requires-clause-fits
-take_identified-requires-clause-fits c = grind (arith, common_steps)

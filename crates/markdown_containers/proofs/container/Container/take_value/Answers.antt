@@ -1,5 +1,4 @@
 use Rattle.std.proofs.Common.{arith}
-use Rattle.std.proofs.lemmas.Grind.{common_steps}
 use Rattle.std.specs.Prelude.{string_bytes}
 use Rattle.markdown_containers.proofs.Kept.{words_kept}
 use Rattle.markdown_containers.proofs.container.Container.take_value.Goals as goal
@@ -15,6 +14,3 @@ returns c = elim c.match-self.branch [
   | in-CodeFence-CodeFencedFenceMeta w ↦ words_kept (string_bytes c.args.text) c.args.part _ _ _ _ _ w.in-CodeFence-CodeFencedFenceMeta.is-0 w.in-CodeFence-CodeFencedFenceMeta.is-1 w.self-is w.take_meta.ensures
   | in-MathFence-MathFlowFenceMeta w ↦ words_kept (string_bytes c.args.text) c.args.part _ _ _ _ _ w.in-MathFence-MathFlowFenceMeta.is-0 w.in-MathFence-MathFlowFenceMeta.is-1 w.self-is w.take_meta-in-MathFence-MathFlowFenceMeta.ensures
 ]
-
-pub unreachable-requires : goal.unreachable-requires
-unreachable-requires c = grind (arith, common_steps)

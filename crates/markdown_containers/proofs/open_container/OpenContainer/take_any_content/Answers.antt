@@ -8,8 +8,8 @@ use Rattle.markdown_containers.specs.Containers.{marker_of, summary_of_nodes}
 use Rattle.markdown_containers.specs.declared.container.Container.TheVariants as containers
 use Rattle.markdown_containers.specs.ContainerStates.{place_of}
 use Rattle.markdown_blocks.specs.Columns.{columns_of}
-use Rattle.markdown_builder.specs.Marks.{marks_of}
-use Rattle.markdown_builder.specs.PartsSoFar.{place_with}
+use Rattle.markdown_parts.specs.Marks.{marks_of}
+use Rattle.markdown_parts.specs.PartsSoFar.{place_with}
 use Rattle.markdown_containers.proofs.Keeping.{nodes_keep}
 use Rattle.markdown_containers.proofs.SpanEnds.{content_left, made_no_text, no_reference}
 use Rattle.markdown_containers.proofs.open_container.OpenContainer.take_any_content.Goals as goal

@@ -1,5 +1,4 @@
 use Rattle.std.proofs.Common.{None, false, refl, sym, ap, subst, ◌∙◌, arith}
-use Rattle.std.proofs.lemmas.Grind.{common_steps}
 use Rattle.markdown_steps.specs.ChildFacts.{ChildFacts}
 use Rattle.markdown_nodes.specs.Tree.{Trees, join}
 use Rattle.markdown_nodes.specs.View.{views}
@@ -15,8 +14,8 @@ use Rattle.markdown_events.specs.declared.role.ItemKind.TheVariants.{Content as 
 use Rattle.markdown_containers.specs.Containers.{Keeps, marker_of, initial_model_of}
 use Rattle.markdown_grammar.specs.Document.{source_of}
 use Rattle.markdown_containers.specs.ContainerStates.{summary_of_container, place_of}
-use Rattle.markdown_builder.specs.Marks.{marks_of}
-use Rattle.markdown_builder.specs.PartsSoFar.{place_with}
+use Rattle.markdown_parts.specs.Marks.{marks_of}
+use Rattle.markdown_parts.specs.PartsSoFar.{place_with}
 use Rattle.markdown_containers.proofs.SpanEnds.{content_lacks, content_left, made_no_text, unmade_stops}
 use Rattle.markdown_containers.proofs.open_container.OpenContainer.take_content.Goals as goal
 
@@ -30,7 +29,6 @@ returns-in_err-node-in_default c = record {
   left = λ columns s inner_table same. passed_on _ c.args.ending.end c.from_residual.result _ _ c.from_residual.ensures
       (unmade_stops _ _ _ _ c.args.ending.end _ c.in_err-node-in_default.ensures.node
       (content_lacks s c.args.ending.in_table inner_table c.args.self.now c.args.own c.args.content c.args.ending.start c.args.ending.end (child_facts (marks_of c.args.ending.marks) columns)));
-  list = c.node.ensures.list;
   bound = c.node.ensures.bound;
 }
 
@@ -56,24 +54,5 @@ returns-in_ok-put-in_default c = record {
       c.requires.such c.in_ok-node-in_default.ensures.node.0
       (c.take_content.ensures s (place_of c.args.ending.in_table c.args.self.now) c.args.ending.start c.args.ending.end (views c.args.own.nodes.items)) refl
       (c.in_ok-put-in_default.ensures ∙ ap (λ (ts : Trees). join (views c.args.self.now.nodes.items) ts) (c.in_ok-node-in_default.ensures.node.1 columns s c.args.self.now.line_endings (marker_of c.args.self.now.container) same));
-  list = c.node.ensures.list;
   bound = c.node.ensures.bound;
 }
-
-pub take_content-requires-clause-such : goal.take_content-requires-clause-such
-take_content-requires-clause-such c = grind (arith, common_steps)
-
-pub node-requires : goal.node-requires
-node-requires c = grind (arith, common_steps)
-
-pub take_content-requires-clause-initial_model : goal.take_content-requires-clause-initial_model
-take_content-requires-clause-initial_model c = grind (arith, common_steps)
-
-pub returns-in_err-put-in_default : goal.returns-in_err-put-in_default
-returns-in_err-put-in_default c = grind (arith, common_steps)
-
-pub take_reference-requires : goal.take_reference-requires
-take_reference-requires c = grind (arith, common_steps)
-
-pub returns-in-CharacterReference-clause-bound : goal.returns-in-CharacterReference-clause-bound
-returns-in-CharacterReference-clause-bound c = grind (arith, common_steps)

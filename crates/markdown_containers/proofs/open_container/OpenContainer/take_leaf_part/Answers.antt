@@ -1,5 +1,4 @@
 use Rattle.std.proofs.Common.{refl, arith}
-use Rattle.std.proofs.lemmas.Grind.{common_steps}
 use Rattle.markdown_containers.proofs.PartEnds.{leaf_part_taken}
 use Rattle.markdown_containers.proofs.open_container.OpenContainer.take_leaf_part.Goals as goal
 
@@ -9,9 +8,3 @@ returns g c children place =
     (record { container = c.take_leaf_part-taken.new.self; line_endings = c.has_line_endings_after-self.result; nodes = c.args.self.now.nodes })
     c.args.part c.args.ending.start c.args.ending.end children place c.take_leaf_part-taken.result
     c.take_leaf_part-taken.ensures c.has_line_endings_after-self.ensures refl
-
-pub take_leaf_part-taken-requires-clause-leaf : goal.take_leaf_part-taken-requires-clause-leaf
-take_leaf_part-taken-requires-clause-leaf g c = grind (arith, common_steps)
-
-pub take_leaf_part-taken-requires-clause-fits : goal.take_leaf_part-taken-requires-clause-fits
-take_leaf_part-taken-requires-clause-fits g c = grind (arith, common_steps)

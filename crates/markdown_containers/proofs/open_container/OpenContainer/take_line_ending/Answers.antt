@@ -1,8 +1,7 @@
 use Rattle.std.proofs.Common.{None, Some, refl, ap, ◌∙◌, arith}
-use Rattle.std.proofs.lemmas.Grind.{common_steps}
 use Rattle.std.specs.Prelude.{is_some}
 use Rattle.markdown_events.specs.Slices.{slice}
-use Rattle.positions.specs.declared.unist.Position.{Position}
+use Rattle.markdown_events.specs.declared.unist.Position.{Position}
 use Rattle.markdown_nodes.specs.Tree.{Tree, join, only}
 use Rattle.markdown_nodes.specs.View.{views}
 use Rattle.markdown_grammar.specs.Document.{Source, source_of}
@@ -39,6 +38,3 @@ returns c text children place =
     let top : OpenContainer = c.args.self.now in
     known_in s c.args.ending.in_table None c.args.pending.now c.take.new.self top top c.args.ending.start c.args.ending.end children place c.in_default.ensures.value c.in_default.ensures.after
     (nothing_in s c.args.ending.in_table top c.args.ending.start c.args.ending.end children place c.if-self.false)
-
-pub put-requires : goal.put-requires
-put-requires c = grind (arith, common_steps)

@@ -5,8 +5,8 @@ use Rattle.markdown_nodes.specs.View.{views}
 use Rattle.markdown_steps.specs.ChildFacts.{ChildFacts}
 use Rattle.markdown_steps.specs.Columns.{child_facts, no_columns}
 use Rattle.markdown_steps.specs.Compiler.{nothing_yet}
-use Rattle.markdown_builder.specs.Marks.{marks_of}
-use Rattle.markdown_builder.specs.PartsSoFar.{place_with}
+use Rattle.markdown_parts.specs.Marks.{marks_of}
+use Rattle.markdown_parts.specs.PartsSoFar.{place_with}
 use Rattle.markdown_containers.specs.Containers.{current_model_of}
 use Rattle.markdown_grammar.specs.Attributes.{Place}
 use Rattle.markdown_grammar.specs.Document.{Source, source_of}

@@ -1,11 +1,10 @@
 use Rattle.std.proofs.Common.{ap, refl, sym, ◌∙◌, arith}
-use Rattle.std.proofs.lemmas.Grind.{common_steps}
 use Rattle.markdown_nodes.specs.Tree.{Tree, Trees, join, only}
 use Rattle.markdown_nodes.specs.View.{views}
-use Rattle.positions.specs.declared.unist.Position.{Position}
+use Rattle.markdown_events.specs.declared.unist.Position.{Position}
 use Rattle.markdown_containers.specs.Containers.{summary_with}
 use Rattle.markdown_blocks.specs.Parents.{parent_label}
-use Rattle.markdown_builder.specs.PartsSoFar.{placed}
+use Rattle.markdown_parts.specs.PartsSoFar.{placed}
 use Rattle.markdown_containers.specs.declared.container.Container.TheVariants as containers
 use Rattle.markdown_containers.specs.ContainerStates.{place_of}
 use Rattle.markdown_containers.proofs.Keeping.{nodes_keep}
@@ -24,6 +23,3 @@ returns c s in_table inner_table line_endings children =
     ∙ ap (λ (p : Position). join (views c.args.self.now.nodes.items) (only (placed (parent_label c.args.content) (views c.args.nodes.items) p))) c.position_of.ensures
     ∙ ap (λ (ts : Trees). join (views c.args.self.now.nodes.items) ts)
     (sym (parent_made s (place_of in_table c.args.self.now) c.args.content c.args.start c.args.end children (summary_with containers.AnyContent (views c.args.nodes.items)) c.requires)))
-
-pub put-requires : goal.put-requires
-put-requires c = grind (arith, common_steps)

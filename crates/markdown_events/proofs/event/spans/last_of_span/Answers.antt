@@ -1,5 +1,4 @@
 use Rattle.std.proofs.Common.{◌≡◌, ◌==◌, List, [], ◌∷◌, ◌++◌, length, ap, sym, ◌∙◌, arith, reverse}
-use Rattle.std.proofs.lemmas.Grind.{common_steps}
 use Rattle.std.specs.Prelude.{vec_len}
 use Rattle.markdown_events.specs.declared.event.Event.{Event}
 use Rattle.markdown_events.specs.declared.event.spans.Open.{Open}
@@ -38,18 +37,3 @@ loop-event-preserved c =
           (some_left c.match-event.spans (ap (λ v. vec_len v == 0) w.spans-is ∙ sym w.is_empty.ensures ∙ w.if-is_empty.false)) are in
           (sym both.0 ∙ before, omega (arith, count, within), both.1)
     ]
-
-pub returns-then-is_empty-clause-within : goal.returns-then-is_empty-clause-within
-returns-then-is_empty-clause-within c = grind (arith, common_steps)
-
-pub returns-in_default-pop-clause-run : goal.returns-in_default-pop-clause-run
-returns-in_default-pop-clause-run c = grind (arith, common_steps)
-
-pub returns-then-is_empty-clause-run : goal.returns-then-is_empty-clause-run
-returns-then-is_empty-clause-run c = grind (arith, common_steps)
-
-pub opened-requires : goal.opened-requires
-opened-requires c = grind (arith, common_steps)
-
-pub returns-in_default-clause-run : goal.returns-in_default-clause-run
-returns-in_default-clause-run c = grind (arith, common_steps)

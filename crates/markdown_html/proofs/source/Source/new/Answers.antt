@@ -1,9 +1,9 @@
 use Rattle.std.specs.List.{find}
 use Rattle.markdown_nodes.specs.View.{view}
-use Rattle.mdast_check.specs.Levels.{coming}
+use Rattle.markdown_nodes.specs.WalkLevels.{coming}
 use Rattle.mdast_check.specs.References.{definition_identifier_of, footnote_identifier_of}
-use Rattle.mdast_check.specs.Walk.{walk}
-use Rattle.mdast_check.proofs.Steps.{next_is}
+use Rattle.markdown_nodes.specs.Walk.{walk}
+use Rattle.markdown_nodes.proofs.WalkSteps.{next_is}
 use Rattle.mdast_util.specs.Definitions.{defines}
 use Rattle.markdown_html.specs.Gathered.{found}
 use Rattle.markdown_html.specs.Html.{is_footnote}

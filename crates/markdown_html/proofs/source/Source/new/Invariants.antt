@@ -1,8 +1,8 @@
 use Rattle.std.proofs.Common.{◌≡◌, ℕ, List, length}
 use Rattle.std.specs.List.{find}
 use Rattle.markdown_nodes.specs.View.{view}
-use Rattle.mdast_check.specs.Levels.{coming}
-use Rattle.mdast_check.specs.Walk.{walk}
+use Rattle.markdown_nodes.specs.WalkLevels.{coming}
+use Rattle.markdown_nodes.specs.Walk.{walk}
 use Rattle.mdast_util.specs.Definitions.{defines}
 use Rattle.markdown_html.specs.Gathered.{found}
 use Rattle.markdown_html.specs.Html.{is_footnote}

@@ -1,5 +1,4 @@
 use Rattle.std.proofs.Common.{◌++◌, Option, option_to_list, refl, sym, ap, ◌∙◌, arith}
-use Rattle.std.proofs.lemmas.Grind.{common_steps}
 use Rattle.markdown_nodes.specs.declared.mdast.Node.{Node}
 use Rattle.markdown_nodes.specs.Freeing.{WithoutLast}
 use Rattle.markdown_nodes.proofs.Dropping.{descends, goes_aside, goes_up, lighter, whole}
@@ -26,6 +25,3 @@ loop-level-smaller c =
     let popped = c.pop.ensures.items ∙ ap (λ (o : Option Node). c.pop.new.self.items ++ option_to_list o) c.in-Some-pop.is in
     let rest : WithoutLast c.loop-level.level.items level = (c.drop_leaves.ensures.0, ap (λ v. v.items) (sym t.2) ∙ c.drop_leaves.ensures.1) in
     omega (arith, lighter c.loop-level.node c.drop_last_leaves.new.self c.loop-level.level.items level c.drop_last_leaves.ensures rest, goes_aside c.drop_last_leaves.new.self c.in-Some-pop.next level c.pop.new.self t.0 popped c.if-is_empty.ensures)
-
-pub drop_childless-requires-else-swap_children : goal.drop_childless-requires-else-swap_children
-drop_childless-requires-else-swap_children c = grind (arith, common_steps)

@@ -1,5 +1,4 @@
 use Rattle.std.proofs.Common.{List, ◌++◌, sym, ap, ◌∙◌, arith}
-use Rattle.std.proofs.lemmas.Grind.{common_steps}
 use Rattle.markdown_nodes.specs.declared.mdast.Node.{Node}
 use Rattle.markdown_nodes.specs.Access.{items_in}
 use Rattle.markdown_nodes.proofs.Views.{put}
@@ -10,6 +9,3 @@ returns-in-Some c =
     let children = c.in-Some.ensures.value in
     let freed = c.drop_leaves.ensures.0 in
     (freed, ap items_in (sym children) ∙ c.drop_leaves.ensures.1 ∙ ap (λ (l : List Node). l ++ freed) (sym (put c.args.self.now c.in-Some.children.now c.drop_leaves.new.nodes (sym children))))
-
-pub returns-in_default : goal.returns-in_default
-returns-in_default c = grind (arith, common_steps)

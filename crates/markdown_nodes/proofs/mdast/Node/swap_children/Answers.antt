@@ -1,5 +1,4 @@
 use Rattle.std.proofs.Common.{◌≡◌, length, sym, ap, ◌∙◌, arith}
-use Rattle.std.proofs.lemmas.Grind.{common_steps}
 use Rattle.markdown_nodes.specs.Access.{items_in, nodes_in}
 use Rattle.markdown_nodes.proofs.Views.{put}
 use Rattle.markdown_nodes.proofs.Dropping.{occupied}
@@ -10,15 +9,3 @@ returns-clause-some c = λ _.
     let children = c.in-Some.ensures.value in
     let held : c.in-Some.children.now.items ≡ nodes_in c.args.self.now = ap items_in children in
     (omega (arith, occupied c.in-Some.children.now c.if-is_empty.ensures, ap (λ l. length l) held), ap (λ v. v.items) c.swap.ensures.y_after ∙ held, put c.args.self.now c.in-Some.children.now c.swap.new.x (sym children) ∙ ap (λ v. v.items) c.swap.ensures.x_after)
-
-pub returns-clause-none : goal.returns-clause-none
-returns-clause-none c = grind (arith, common_steps)
-
-pub returns-in_default-clause-some : goal.returns-in_default-clause-some
-returns-in_default-clause-some c = grind (arith, common_steps)
-
-pub returns-in_default-clause-none : goal.returns-in_default-clause-none
-returns-in_default-clause-none c = grind (arith, common_steps)
-
-pub returns-then-is_empty-clause-some : goal.returns-then-is_empty-clause-some
-returns-then-is_empty-clause-some c = grind (arith, common_steps)

@@ -1,5 +1,4 @@
 use Rattle.std.proofs.Common.{◌≡◌, ◌<◌, true≢false, length, refl, sym, ap, ◌∙◌, arith}
-use Rattle.std.proofs.lemmas.Grind.{common_steps}
 use Rattle.markdown_nodes.specs.View.{view, views}
 use Rattle.markdown_nodes.proofs.Comparing.{same_but_children-from_views, nodes-same, same_at, same_length, same_parts, same_so_far}
 use Rattle.markdown_nodes.proofs.mdast.comparing.+same_node.Goals as goal
@@ -34,6 +33,3 @@ same_nodes-loop-i-preserved t c =
     let within : c.loop-i.i < length c.args.xs.now = omega arith in
     let within_too : c.loop-i.i < length c.args.ys.now = omega arith in
     same_so_far c.args.xs.now c.args.ys.now c.loop-i.i c.index-xs-i.result c.index-ys-i.result within within_too c.loop-i.invariant (ap view (sym c.index-xs-i.is) ∙ c.if-not-same_node.ensures.0 refl ∙ ap view c.index-ys-i.is)
-
-pub same_nodes-returns : goal.same_nodes-returns
-same_nodes-returns c = grind (arith, common_steps)

@@ -1,5 +1,4 @@
 use Rattle.std.proofs.Common.{true≢false, refl, sym, ap, ◌∙◌, arith}
-use Rattle.std.proofs.lemmas.Grind.{common_steps}
 use Rattle.std.proofs.lemmas.Bool.{eqb-true, eq-eqb}
 use Rattle.std.proofs.lemmas.List.{nil_from_length}
 use Rattle.markdown_nodes.specs.View.{views}
@@ -34,15 +33,3 @@ walk-smaller c = walks_up (λ x. x.xs.now) c.walk.left.now c.in-Some-pop.pair.xs
 
 pub walk-preserved : goal.walk-preserved
 walk-preserved c = compares_up c.args.xs.now c.args.ys.now c.walk.left.now c.walk.right.now c.walk.pairs.items _ c.in-Some-pop.pair c.walk.invariant (nil_from_length _ c.in_default.ensures.cases) (nil_from_length _ (eqb-true _ 0 (sym c.if-not-is_empty.ensures))) c.in-Some-pop.ensures.items
-
-pub walk-smaller-in-Err : goal.walk-smaller-in-Err
-walk-smaller-in-Err c = grind (arith, common_steps)
-
-pub walk-init : goal.walk-init
-walk-init c = grind (arith, common_steps)
-
-pub returns-in_default-pop : goal.returns-in_default-pop
-returns-in_default-pop c = grind (arith, common_steps)
-
-pub returns-in_default-split_first : goal.returns-in_default-split_first
-returns-in_default-split_first c = grind (arith, common_steps)

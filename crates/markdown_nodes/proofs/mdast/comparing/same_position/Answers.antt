@@ -1,9 +1,5 @@
 use Rattle.std.proofs.Common.{rules, arith}
-use Rattle.std.proofs.lemmas.Grind.{common_steps}
 use Rattle.markdown_nodes.proofs.mdast.comparing.same_position.Goals as goal
 
 pub returns-in-Some-position : goal.returns-in-Some-position
 returns-in-Some-position c = search rules
-
-pub returns-in-None : goal.returns-in-None
-returns-in-None c = grind (arith, common_steps)

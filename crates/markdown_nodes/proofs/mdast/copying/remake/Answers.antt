@@ -1,5 +1,4 @@
 use Rattle.std.proofs.Common.{rules, arith}
-use Rattle.std.proofs.lemmas.Grind.{common_steps}
 use Rattle.markdown_nodes.proofs.Copying.{like-Root, like-Blockquote, like-List, like-Delete, like-Emphasis, like-Strong, like-Heading, like-TableRow, like-TableCell, like-ListItem, like-Paragraph}
 use Rattle.markdown_nodes.specs.declared.mdast.Node.TheViews.{out-Node}
 use Rattle.markdown_nodes.specs.View.{view}
@@ -93,15 +92,3 @@ returns-in_ok-clone-in-ThematicBreak c = search rules
 pub returns-in_ok-clone-in-Definition : goal.returns-in_ok-clone-in-Definition
 unfolding out-Node view
 returns-in_ok-clone-in-Definition c = search rules
-
-pub returns-in-LinkReference : goal.returns-in-LinkReference
-returns-in-LinkReference c = grind (arith, common_steps)
-
-pub returns-in-FootnoteDefinition : goal.returns-in-FootnoteDefinition
-returns-in-FootnoteDefinition c = grind (arith, common_steps)
-
-pub returns-in-Table : goal.returns-in-Table
-returns-in-Table c = grind (arith, common_steps)
-
-pub returns-in-Link : goal.returns-in-Link
-returns-in-Link c = grind (arith, common_steps)

@@ -1,5 +1,4 @@
 use Rattle.std.proofs.Common.{[], ◌++◌, codes, if◌then◌else◌, nat_cmp, refl, sym, ◌∙◌, rules, arith}
-use Rattle.std.proofs.lemmas.Grind.{common_steps}
 use Rattle.std.specs.BTreeSet.{contains}
 use Rattle.std.proofs.Output.{has_written_append, has_written_of_eq}
 use Rattle.std.proofs.lemmas.List.{nil_from_length}
@@ -49,6 +48,3 @@ returns-in_default-pop g c = λ plain ok.
     (writes_all walk so_far.0 (if c.walk.later then codes ", " else []) _ c.walk.level.now c.walk.parent.now c.walk.frames.items c.args.node.now so_far.2 (nil_from_length _ c.in_default.ensures.cases) (nil_from_length _ (sym c.walk.frames.ok.0 ∙ c.in_default-pop.ensures.cases.0)) refl
     ∙ sym (written-is walk c.args.node.now))
     (has_written_append _ _ _ _ _ _ so_far.1 (c.in_ok-close.ensures so_far.1.plain (search rules)))
-
-pub returns-in_default-push : goal.returns-in_default-push
-returns-in_default-push g c = grind (arith, common_steps)

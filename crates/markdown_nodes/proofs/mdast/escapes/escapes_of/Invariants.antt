@@ -1,5 +1,6 @@
-use Rattle.markdown_nodes.proofs.Levels.{to_walk}
+use Rattle.std.proofs.Common.{length}
+use Rattle.markdown_nodes.specs.WalkLevels.{coming}
 use Rattle.markdown_nodes.proofs.mdast.escapes.escapes_of.Given as goal
 
-abbrev pub decreases-walk : goal.decreases-walk
-decreases-walk l = to_walk (λ x. x.now) l.level l.levels.items
+abbrev pub decreases-nodes : goal.decreases-nodes
+decreases-nodes l = length (coming l.walk)

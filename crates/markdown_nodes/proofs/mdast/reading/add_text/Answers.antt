@@ -1,24 +1,15 @@
-use Rattle.std.proofs.Common.{refl, arith}
-use Rattle.std.proofs.lemmas.Grind.{common_steps}
-use Rattle.std.proofs.lemmas.List.{nil_from_length}
-use Rattle.markdown_nodes.proofs.Levels.{walks_down, walks_up}
-use Rattle.markdown_nodes.proofs.ReadingLevels.{reads_down, reads_first, reads_up}
+use Rattle.std.proofs.Common.{◌++◌, ◌∙◌, ap}
+use Rattle.std.specs.Prelude.{string_bytes}
+use Rattle.markdown_nodes.specs.View.{view}
+use Rattle.markdown_nodes.specs.WalkLevels.{coming}
+use Rattle.markdown_nodes.proofs.WalkSteps.{next_is}
+use Rattle.markdown_nodes.proofs.WalkTexts.{value_read, values, values-walk}
 use Rattle.markdown_nodes.proofs.mdast.reading.add_text.Goals as goal
 
-pub walk-init : goal.walk-init
-walk-init c = reads_first _ _ c.value.result.now c.args.node.now _ _ c.in_ok-push_str.ensures.bytes c.value.ensures c.child_nodes-level.ensures c.new-levels.ensures.items
+pub nodes-init : goal.nodes-init
+nodes-init c = ap (λ s. string_bytes c.args.text.now ++ s) (ap values c.new-walk.ensures ∙ values-walk (view c.args.node.now))
 
-pub walk-smaller-in-Some : goal.walk-smaller-in-Some
-walk-smaller-in-Some c = walks_down (λ x. x.now) c.walk.level.now c.in-Some.rest.now c.child_nodes-level-in-Some.result.now c.in-Some.first.now c.walk.levels.items c.push.new.self.items c.in-Some.rest c.in-Some.ensures.cases.0 c.child_nodes-level-in-Some.ensures c.in_ok-push.ensures.items refl
-
-pub walk-preserved-in-Some : goal.walk-preserved-in-Some
-walk-preserved-in-Some c = reads_down _ _ c.value-in-Some.result.now c.walk.level.now c.in-Some.rest.now _ c.in-Some.first.now c.walk.levels.items _ c.in-Some.rest _ c.walk.invariant c.in-Some.ensures.cases.0 c.in_ok-push_str-2.ensures.bytes c.value-in-Some.ensures c.child_nodes-level-in-Some.ensures c.in_ok-push.ensures.items refl
-
-pub walk-smaller : goal.walk-smaller
-walk-smaller c = walks_up (λ x. x.now) c.walk.level.now c.in-Some-pop.rest.now c.walk.levels.items c.pop.new.self.items c.in-Some-pop.rest c.in-Some-pop.ensures.items refl
-
-pub walk-preserved : goal.walk-preserved
-walk-preserved c = reads_up _ c.walk.level.now _ c.walk.levels.items _ c.in-Some-pop.rest _ c.walk.invariant (nil_from_length _ c.in_default.ensures.cases) c.in-Some-pop.ensures.items refl
-
-pub returns-in_default-pop : goal.returns-in_default-pop
-returns-in_default-pop c = grind (arith, common_steps)
+pub nodes-preserved : goal.nodes-preserved
+nodes-preserved c =
+    let next = next_is c.in_ok-node.field-0 c.in-Some.node (coming c.nodes.walk) (coming c.next.new.self) c.in_ok-node.ensures.next c.in-Some.is in
+    value_read _ _ c.value.result.now _ c.in-Some.node.now (coming c.nodes.walk) (coming c.next.new.self) c.nodes.invariant next c.value.ensures c.in_ok-push_str.ensures.bytes

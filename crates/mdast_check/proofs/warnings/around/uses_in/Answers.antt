@@ -1,15 +1,14 @@
 use Rattle.std.proofs.Common.{arith, rules}
-use Rattle.std.proofs.lemmas.Grind.{common_steps}
 use Rattle.std.specs.List.{list_any}
 use Rattle.std.specs.Str.{bytes_eq}
 use Rattle.markdown_nodes.specs.View.{view}
-use Rattle.mdast_check.specs.Levels.{coming}
+use Rattle.markdown_nodes.specs.WalkLevels.{coming}
 use Rattle.mdast_check.specs.Known.{has}
-use Rattle.mdast_check.specs.Walk.{walk}
+use Rattle.markdown_nodes.specs.Walk.{walk}
 use Rattle.mdast_check.specs.Warnings.{call_identifier_of, link_identifier_of, uses}
 use Rattle.mdast_check.specs.declared.references.OpenKind.TheVariants.{Link, Footnote}
 use Rattle.mdast_check.proofs.Gathering.{gathers}
-use Rattle.mdast_check.proofs.Steps.{next_is}
+use Rattle.markdown_nodes.proofs.WalkSteps.{next_is}
 use Rattle.mdast_check.proofs.warnings.around.uses_in.Goals as goal
 
 pub nodes-preserved : goal.nodes-preserved
@@ -22,12 +21,6 @@ nodes-preserved c =
       definitions = gathers link_identifier_of c.in-Some.node.now c.link_identifier.result before after (has c.nodes.definitions) (has c.put.new.set) (λ text. list_any (bytes_eq text) (uses Link all)) next c.link_identifier.ensures c.in_ok-put.ensures c.nodes.invariant.definitions;
       footnotes = gathers call_identifier_of c.in-Some.node.now c.call_identifier.result before after (has c.nodes.footnotes) (has c.put-in-Some.new.set) (λ text. list_any (bytes_eq text) (uses Footnote all)) next c.call_identifier.ensures c.in_ok-put-2.ensures c.nodes.invariant.footnotes;
     }
-
-pub nodes-init : goal.nodes-init
-nodes-init c = grind (arith, common_steps)
-
-pub nodes-smaller : goal.nodes-smaller
-nodes-smaller c = grind (arith, common_steps)
 
 pub returns : goal.returns
 returns c = search rules

@@ -1,7 +1,7 @@
 use Rattle.std.proofs.Common.{◌≡◌, ◌++◌, length, map}
 use Rattle.markdown_nodes.specs.View.{view}
-use Rattle.mdast_check.specs.Levels.{coming}
-use Rattle.mdast_check.specs.Walk.{walk}
+use Rattle.markdown_nodes.specs.WalkLevels.{coming}
+use Rattle.markdown_nodes.specs.Walk.{walk}
 use Rattle.mdast_check.proofs.Reading.{viewed}
 use Rattle.mdast_check.proofs.warnings.text.nodes_in_order.Given as goal
 

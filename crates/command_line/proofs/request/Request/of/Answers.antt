@@ -1,8 +1,0 @@
-use Rattle.std.proofs.Common.{rules}
-use Rattle.command_line.proofs.request.Request.of.Goals as goal
-
-pub returns-then-is_some : goal.returns-then-is_some
-returns-then-is_some c = search rules
-
-pub returns : goal.returns
-returns c = search rules

@@ -1,3 +1,0 @@
-mod Escapes
-mod Fragments
-pub mod Utf16Counts

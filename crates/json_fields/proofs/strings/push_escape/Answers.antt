@@ -1,6 +1,0 @@
-use Rattle.json_fields.specs.Strings.{escape}
-use Rattle.json_fields.proofs.strings.push_escape.Goals as goal
-
-pub returns-in-34 : goal.returns-in-34
-unfolding escape
-returns-in-34 c = rw c.in-34.is c.push.ensures

@@ -1,9 +1,0 @@
-use Rattle.std.proofs.Common.{arith}
-use Rattle.std.proofs.lemmas.Grind.{common_steps}
-use Rattle.markdown_blocks.proofs.task.trim_paragraph.Goals as goal
-
-pub returns-in_default : goal.returns-in_default
-returns-in_default c = grind (arith, common_steps)
-
-pub returns-in-Some : goal.returns-in-Some
-returns-in-Some c = grind (arith, common_steps)

@@ -1,8 +1,0 @@
-pub mod OnlyPlaces
-pub mod Readings
-pub mod TextCuts
-pub mod WholeTexts
-pub mod SliceReads
-pub mod Parents
-pub mod Numbers
-pub mod HiddenWalk

@@ -1,6 +1,0 @@
-use Rattle.std.proofs.Common.{sym, ◌∙◌}
-use Rattle.markdown_builder.proofs.WholeTexts.{slice_visible}
-use Rattle.markdown_builder.proofs.value.visible_of.Goals as goal
-
-pub returns-else-hides : goal.returns-else-hides
-returns-else-hides c = slice_visible c.args.document.now c.args.start c.args.end c.in_ok-text.text.now c.in_ok-text.ensures.text (sym c.hides.ensures ∙ c.if-hides.false)

@@ -1,6 +1,0 @@
-pub mod Readings
-pub mod ValueTexts
-pub mod WholeValues
-pub mod Marks
-pub mod PartsSoFar
-pub mod Labels

@@ -1,4 +1,0 @@
-pub mod Misfits
-pub mod Beginnings
-pub mod Endings
-pub mod Unfinished

@@ -1,9 +1,0 @@
-use Rattle.std.proofs.Common.{arith}
-use Rattle.std.proofs.lemmas.Grind.{common_steps}
-use Rattle.markdown_grammar.proofs.ordered.Standing.is_first_paragraph.Goals as goal
-
-pub returns-in_default : goal.returns-in_default
-returns-in_default c = grind (arith, common_steps)
-
-pub returns-in-FirstInTask : goal.returns-in-FirstInTask
-returns-in-FirstInTask c = grind (arith, common_steps)

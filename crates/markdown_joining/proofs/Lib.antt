@@ -1,2 +1,0 @@
-mod Joins
-pub mod Views

@@ -1,0 +1,233 @@
+//! The fields of each kind of node, in the terms of mdast.
+
+ghost use Rattle.std.specs.Prelude.{◌≡◌, ◌++◌, OnOk, string_bytes};
+ghost use Rattle.markdown_json.specs.Fields.{position_field};
+ghost use Rattle.markdown_nodes.specs.Access.{label_of, position_of};
+ghost use Rattle.markdown_nodes.specs.Labels.{
+  code_label,
+  definition_label,
+  footnote_definition_label,
+  footnote_reference_label,
+  image_label,
+  image_reference_label,
+  link_label,
+  link_reference_label,
+  list_item_label,
+  list_label,
+  math_label,
+};
+ghost use Rattle.markdown_nodes.specs.Tree.{heading, table};
+ghost use Rattle.markdown_json.specs.Json.{children_end, closing, opening};
+
+use crate::fields::{
+    push_align, push_association, push_checked, push_children, push_flag, push_kind, push_literal,
+    push_number, push_option, push_parent, push_position_field, push_reference, push_resource,
+    push_start, push_text,
+};
+use crate::points::Points;
+use crate::strings::push;
+use markdown_nodes::mdast::{
+    Code, Definition, FootnoteDefinition, FootnoteReference, Heading, Image, ImageReference, Link,
+    LinkReference, List, ListItem, Math, Node, Table,
+};
+use std::alloc::AllocError;
+
+/// Appends the kind and the fields of a node, up to its children.
+pub fn push_opening(out: &mut String, node: &Node) -> Result<(), AllocError>
+    ensures { OnOk result (string_bytes out.new ≡ string_bytes out.old ++ opening (label_of node.now)) }
+{
+    match node {
+        Node::Root(_) => push_parent(out, "root"),
+        Node::Blockquote(_) => push_parent(out, "blockquote"),
+        Node::FootnoteDefinition(node) => push_footnote_definition(out, node),
+        Node::List(node) => push_list(out, node),
+        Node::Toml(node) => push_literal(out, "toml", &node.value),
+        Node::Yaml(node) => push_literal(out, "yaml", &node.value),
+        Node::Break(_) => push_kind(out, "break"),
+        Node::InlineCode(node) => push_literal(out, "inlineCode", &node.value),
+        Node::InlineMath(node) => push_literal(out, "inlineMath", &node.value),
+        Node::Delete(_) => push_parent(out, "delete"),
+        Node::Emphasis(_) => push_parent(out, "emphasis"),
+        Node::FootnoteReference(node) => push_footnote_reference(out, node),
+        Node::Html(node) => push_literal(out, "html", &node.value),
+        Node::Image(node) => push_image(out, node),
+        Node::ImageReference(node) => push_image_reference(out, node),
+        Node::Link(node) => push_link(out, node),
+        Node::LinkReference(node) => push_link_reference(out, node),
+        Node::Strong(_) => push_parent(out, "strong"),
+        Node::Text(node) => push_literal(out, "text", &node.value),
+        Node::Code(node) => push_code(out, node),
+        Node::Math(node) => push_math(out, node),
+        Node::Heading(node) => push_heading(out, node),
+        Node::Table(node) => push_table(out, node),
+        Node::ThematicBreak(_) => push_kind(out, "thematicBreak"),
+        Node::TableRow(_) => push_parent(out, "tableRow"),
+        Node::TableCell(_) => push_parent(out, "tableCell"),
+        Node::ListItem(node) => push_list_item(out, node),
+        Node::Definition(node) => push_definition(out, node),
+        Node::Paragraph(_) => push_parent(out, "paragraph"),
+    }
+}
+
+/// Appends the text after the children of a node.
+pub fn push_closing<P: Points>(out: &mut String, points: &P, node: &Node) -> Result<(), AllocError>
+    ensures { OnOk result (string_bytes out.new
+        ≡ string_bytes out.old ++ closing (P.counted points.now) (label_of node.now) (position_of node.now)) }
+{
+    push(out, children_end(node))?;
+    push_position(out, points, node)?;
+    push(out, "}")
+}
+
+/// Returns the end of the children of a parent, or an empty text for any other node.
+fn children_end(node: &Node) -> &'static str
+    ensures { result.now ≡ children_end (label_of node.now) }
+{
+    match node {
+        Node::Toml(_) => "",
+        Node::Yaml(_) => "",
+        Node::Break(_) => "",
+        Node::InlineCode(_) => "",
+        Node::InlineMath(_) => "",
+        Node::FootnoteReference(_) => "",
+        Node::Html(_) => "",
+        Node::Image(_) => "",
+        Node::ImageReference(_) => "",
+        Node::Text(_) => "",
+        Node::Code(_) => "",
+        Node::Math(_) => "",
+        Node::ThematicBreak(_) => "",
+        Node::Definition(_) => "",
+        _ => "]",
+    }
+}
+
+/// Appends the position of a node, if it has one.
+fn push_position<P: Points>(out: &mut String, points: &P, node: &Node) -> Result<(), AllocError>
+    ensures { OnOk result (string_bytes out.new ≡ string_bytes out.old ++ position_field (P.counted points.now) (position_of node.now)) }
+{
+    match node.position() {
+        Some(position) => push_position_field(out, points, *position),
+        None => Ok(()),
+    }
+}
+
+/// Appends a heading, up to its children.
+fn push_heading(out: &mut String, node: &Heading) -> Result<(), AllocError>
+    ensures { OnOk result (string_bytes out.new ≡ string_bytes out.old ++ opening (heading node.now.depth)) }
+{
+    push_kind(out, "heading")?;
+    push_number(out, "depth", node.depth as usize)?;
+    push_children(out)
+}
+
+/// Appends a list, up to its children.
+fn push_list(out: &mut String, node: &List) -> Result<(), AllocError>
+    ensures { OnOk result (string_bytes out.new ≡ string_bytes out.old ++ opening (list_label node.now)) }
+{
+    push_kind(out, "list")?;
+    push_flag(out, "ordered", node.ordered)?;
+    push_start(out, node.start)?;
+    push_flag(out, "spread", node.spread)?;
+    push_children(out)
+}
+
+/// Appends a list item, up to its children.
+fn push_list_item(out: &mut String, node: &ListItem) -> Result<(), AllocError>
+    ensures { OnOk result (string_bytes out.new ≡ string_bytes out.old ++ opening (list_item_label node.now)) }
+{
+    push_kind(out, "listItem")?;
+    push_flag(out, "spread", node.spread)?;
+    push_checked(out, node.checked)?;
+    push_children(out)
+}
+
+/// Appends a table, up to its children.
+fn push_table(out: &mut String, node: &Table) -> Result<(), AllocError>
+    ensures { OnOk result (string_bytes out.new ≡ string_bytes out.old ++ opening (table node.now.align.items)) }
+{
+    push_kind(out, "table")?;
+    push_align(out, &node.align)?;
+    push_children(out)
+}
+
+/// Appends a code block.
+fn push_code(out: &mut String, node: &Code) -> Result<(), AllocError>
+    ensures { OnOk result (string_bytes out.new ≡ string_bytes out.old ++ opening (code_label node.now)) }
+{
+    push_kind(out, "code")?;
+    push_option(out, "lang", &node.lang)?;
+    push_option(out, "meta", &node.meta)?;
+    push_text(out, "value", &node.value)
+}
+
+/// Appends a block of math.
+fn push_math(out: &mut String, node: &Math) -> Result<(), AllocError>
+    ensures { OnOk result (string_bytes out.new ≡ string_bytes out.old ++ opening (math_label node.now)) }
+{
+    push_kind(out, "math")?;
+    push_option(out, "meta", &node.meta)?;
+    push_text(out, "value", &node.value)
+}
+
+/// Appends a link, up to its children.
+fn push_link(out: &mut String, node: &Link) -> Result<(), AllocError>
+    ensures { OnOk result (string_bytes out.new ≡ string_bytes out.old ++ opening (link_label node.now)) }
+{
+    push_kind(out, "link")?;
+    push_resource(out, &node.url, &node.title)?;
+    push_children(out)
+}
+
+/// Appends an image.
+fn push_image(out: &mut String, node: &Image) -> Result<(), AllocError>
+    ensures { OnOk result (string_bytes out.new ≡ string_bytes out.old ++ opening (image_label node.now)) }
+{
+    push_kind(out, "image")?;
+    push_resource(out, &node.url, &node.title)?;
+    push_text(out, "alt", &node.alt)
+}
+
+/// Appends a link by reference, up to its children.
+fn push_link_reference(out: &mut String, node: &LinkReference) -> Result<(), AllocError>
+    ensures { OnOk result (string_bytes out.new ≡ string_bytes out.old ++ opening (link_reference_label node.now)) }
+{
+    push_kind(out, "linkReference")?;
+    push_reference(out, node.reference_kind, &node.identifier, &node.label)?;
+    push_children(out)
+}
+
+/// Appends an image by reference.
+fn push_image_reference(out: &mut String, node: &ImageReference) -> Result<(), AllocError>
+    ensures { OnOk result (string_bytes out.new ≡ string_bytes out.old ++ opening (image_reference_label node.now)) }
+{
+    push_kind(out, "imageReference")?;
+    push_reference(out, node.reference_kind, &node.identifier, &node.label)?;
+    push_text(out, "alt", &node.alt)
+}
+
+/// Appends a reference to a footnote.
+fn push_footnote_reference(out: &mut String, node: &FootnoteReference) -> Result<(), AllocError>
+    ensures { OnOk result (string_bytes out.new ≡ string_bytes out.old ++ opening (footnote_reference_label node.now)) }
+{
+    push_kind(out, "footnoteReference")?;
+    push_association(out, &node.identifier, &node.label)
+}
+
+/// Appends the definition of a footnote, up to its children.
+fn push_footnote_definition(out: &mut String, node: &FootnoteDefinition) -> Result<(), AllocError>
+    ensures { OnOk result (string_bytes out.new ≡ string_bytes out.old ++ opening (footnote_definition_label node.now)) }
+{
+    push_kind(out, "footnoteDefinition")?;
+    push_association(out, &node.identifier, &node.label)?;
+    push_children(out)
+}
+
+/// Appends a definition.
+fn push_definition(out: &mut String, node: &Definition) -> Result<(), AllocError>
+    ensures { OnOk result (string_bytes out.new ≡ string_bytes out.old ++ opening (definition_label node.now)) }
+{
+    push_kind(out, "definition")?;
+    push_association(out, &node.identifier, &node.label)?;
+    push_resource(out, &node.url, &node.title)
+}

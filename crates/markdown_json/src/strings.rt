@@ -1,0 +1,90 @@
+//! Texts as JSON strings.
+
+ghost use Rattle.std.specs.Char.{digit_char};
+ghost use Rattle.std.specs.Prelude.{◌≡◌, ◌++◌, ◌∷◌, ◌<◌, [], OnOk, IsFalse, IsTrue, string_bytes};
+ghost use Rattle.markdown_json.specs.Strings.{escape, escaped, string};
+
+use std::alloc::AllocError;
+
+/// Appends a text unchanged, like `push_str`, with a contract in bytes. The only error is that
+/// memory ran out.
+///
+/// After `{`, the text `}` makes `{}`.
+pub fn push(out: &mut String, text: &str) -> Result<(), AllocError>
+    ensures { OnOk result (string_bytes out.new ≡ string_bytes out.old ++ text.now) }
+{
+    out.push_str(text)
+}
+
+/// Appends a text between quotes. The only error is that memory ran out.
+///
+/// A line feed is written as a backslash and an `n`, so the text stays on one line.
+#[tactic(auto, unfolding(crate::specs::Strings::string))]
+pub fn push_string(out: &mut String, text: &str) -> Result<(), AllocError>
+    ensures { OnOk result (string_bytes out.new ≡ string_bytes out.old ++ string text.now) }
+{
+    push(out, "\"")?;
+    push_escaped(out, text)?;
+    push(out, "\"")
+}
+
+/// Appends a text as it is written between quotes. Bytes that need no escape are written as one
+/// fragment.
+fn push_escaped(out: &mut String, text: &str) -> Result<(), AllocError>
+    ensures { OnOk result (string_bytes out.new ≡ string_bytes out.old ++ escaped text.now) }
+{
+    let bytes = text.as_bytes();
+    let mut start = 0;
+    for at in 0..bytes.len() {
+        if is_escaped(bytes[at]) {
+            out.push_str(&text[start..at])?;
+            push_escape(out, bytes[at])?;
+            start = at + 1;
+        }
+    }
+    out.push_str(&text[start..])
+}
+
+/// Whether a byte has an escape: a quote, a backslash or a control character.
+#[tactic(auto, unfolding(crate::specs::Strings::escape))]
+fn is_escaped(byte: u8) -> bool
+    ensures ascii { IsTrue result → byte < 128 }
+    ensures plain { IsFalse result → escape byte ≡ byte ∷ [] }
+{
+    byte < b' ' || byte == b'"' || byte == b'\\'
+}
+
+/// Appends the escape of a byte.
+#[tactic(auto, unfolding(crate::specs::Strings::escape))]
+fn push_escape(out: &mut String, byte: u8) -> Result<(), AllocError>
+    requires { byte < 128 }
+    ensures { OnOk result (string_bytes out.new ≡ string_bytes out.old ++ escape byte) }
+{
+    match byte {
+        b'"' => push(out, "\\\""),
+        b'\\' => push(out, "\\\\"),
+        b'\x08' => push(out, "\\b"),
+        b'\t' => push(out, "\\t"),
+        b'\n' => push(out, "\\n"),
+        b'\x0c' => push(out, "\\f"),
+        b'\r' => push(out, "\\r"),
+        0..32 => {
+            push(out, "\\u00")?;
+            out.push(hex_digit(byte / 16))?;
+            out.push(hex_digit(byte % 16))
+        }
+        _ => out.push(byte as char),
+    }
+}
+
+/// Returns a hexadecimal digit, in lower case.
+fn hex_digit(value: u8) -> char
+    requires { value < 16 }
+    ensures { result ≡ digit_char value }
+{
+    if value < 10 {
+        (b'0' + value) as char
+    } else {
+        (b'a' - 10 + value) as char
+    }
+}

@@ -1,3 +1,0 @@
-pub mod Fences
-pub mod RawTexts
-pub mod Autolinks

@@ -1,0 +1,5 @@
+use Rattle.std.proofs.Common.{rules, arith}
+use Rattle.markdown_parts.proofs.buffer.label_of.Goals as goal
+
+pub returns-clause-text : goal.returns-clause-text
+returns-clause-text c = search rules

@@ -1,0 +1,248 @@
+//! A document, its text between two points, and the position from one to the other.
+
+ghost use Rattle.std.specs.Prelude.{◌≡◌, ◌&&◌, ◌^◌, ◌<◌, ◌≤◌, [], IfErr, Some, SomeIff, IfSome, drop, length, option_copied, true};
+ghost use Rattle.std.specs.Result.{result_ok};
+ghost use Rattle.markdown_events.specs.Slices.{between, edge, slice, text_between};
+ghost use Rattle.markdown_grammar.specs.Document.{byte_at, length_between};
+ghost use Rattle.markdown_grammar.specs.Hidden.{hides};
+ghost use Rattle.markdown_grammar.specs.Whole.{without_nul};
+ghost use Rattle.markdown_grammar.specs.declared.values.Values.TheVariants.{Whole};
+ghost use Rattle.markdown_parts.specs.WholeValues.{IsTextOf, has_nul, is_whole};
+ghost use Rattle.markdown_grammar.specs.declared.error_kind.ErrorKind.TheVariants.{InvalidSlice};
+ghost use Rattle.markdown_grammar.specs.declared.error_kind.Stop.TheVariants.{Refused};
+
+use markdown_grammar::error_kind::{ErrorKind, Stop};
+use markdown_grammar::values::Values;
+use markdown_nodes::event::Point;
+use markdown_nodes::unist::Position;
+use std::marker::Model;
+
+/// Returns the offset in bytes at which a slice begins or ends. For a point in the virtual spaces
+/// of a tab it is the byte after that tab.
+fn edge_of(point: Point) -> Option<usize>
+    ensures { SomeIff result (edge point < 2 ^ 64) (edge point) }
+{
+    if point.vs > 0 {
+        point.index.checked_add(1)
+    } else {
+        Some(point.index)
+    }
+}
+
+/// A document: its bytes, how its values are read, which bytes are hidden, and the bytes as a text
+/// if all of them are UTF-8.
+///
+/// With that text, a span is a part of it, and only its ends are checked. In a document that is not
+/// all UTF-8, each span is tested by itself. The same is done if there are hidden bytes, or a NUL
+/// in whole values: then values are not parts of the document as it is.
+#[derive(Drop)]
+pub struct Document<'a> {
+    bytes: &'a [u8],
+    values: Values,
+    /// A flag for each byte, or no flags.
+    hidden: &'a [bool],
+    text: Option<&'a str>,
+}
+
+impl<'a> Model for Document<'a> {
+    ghost use Rattle.std.specs.Prelude.{IfSome};
+    ghost use Rattle.markdown_grammar.specs.Document.{Given};
+    ghost use Rattle.markdown_parts.specs.WholeValues.{IsTextOf};
+
+    ghost Value = { Given };
+
+    ghost view = { λ d. record { bytes = d.bytes.now; values = d.values; hidden = d.hidden.now } };
+
+    ghost invariant = { λ d. IfSome d.text (λ text. IsTextOf d.values d.hidden.now d.bytes.now text.now) };
+}
+
+impl<'a> Document<'a> {
+    /// Returns the document with these bytes, whose values are read in this way. No byte is hidden.
+    pub fn new(bytes: &'a [u8], values: Values) -> Document<'a>
+        ensures { result ≡ record { bytes = bytes.now; values = values; hidden = [] } }
+    {
+        Document {
+            bytes,
+            values,
+            hidden: &[],
+            text: text_as_it_stands(bytes, values, &[]),
+        }
+    }
+
+    /// Returns the document with these bytes, with whole values. The bytes whose flag is set are
+    /// hidden. The first flag is that of the first byte; a byte without a flag is not hidden.
+    pub fn hiding(bytes: &'a [u8], hidden: &'a [bool]) -> Document<'a>
+        ensures { result ≡ record { bytes = bytes.now; values = Whole; hidden = hidden.now } }
+    {
+        Document {
+            bytes,
+            values: Values::Whole,
+            hidden,
+            text: text_as_it_stands(bytes, Values::Whole, hidden),
+        }
+    }
+
+    /// Returns its bytes.
+    ///
+    /// Those of `Document::new(b"Hi", Values::Whole)` are `b"Hi"`.
+    pub fn bytes(&self) -> &'a [u8]
+        ensures { result.now ≡ self.now.bytes }
+    {
+        self.bytes
+    }
+
+    /// Returns how many bytes it has.
+    fn len(&self) -> usize
+        ensures { result ≡ length self.now.bytes }
+    {
+        self.bytes.len()
+    }
+
+    /// Returns the bytes from an offset on, or none if that is past the end.
+    pub(crate) fn bytes_from(&self, offset: usize) -> &'a [u8]
+        ensures { result.now ≡ drop offset self.now.bytes }
+    {
+        self.bytes.get(offset..).unwrap_or(&[])
+    }
+
+    /// Whether values are whole.
+    pub(crate) fn is_whole(&self) -> bool
+        ensures { result ≡ is_whole self.now.values }
+    {
+        matches!(self.values, Values::Whole)
+    }
+
+    /// Whether there are flags that say which bytes are hidden.
+    pub fn hides(&self) -> bool
+        ensures { result ≡ hides self.now.hidden }
+    {
+        !self.hidden.is_empty()
+    }
+
+    /// Returns the flags of hidden bytes from the index of a point on, or after the tab that the
+    /// point is in.
+    pub(crate) fn hidden_from(&self, point: Point) -> &'a [bool]
+        ensures { result.now ≡ drop (edge point) self.now.hidden }
+    {
+        let flags = flags_after(self.hidden, point.index);
+        if point.vs > 0 {
+            flags_after(flags, 1)
+        } else {
+            flags
+        }
+    }
+
+    /// Returns the bytes from one index to another as a part of the document's text. It is `None`
+    /// if the document is not all UTF-8, its values are not parts of it, or an index is outside it
+    /// or inside a character.
+    pub(crate) fn part(&self, from: usize, to: usize) -> Option<&'a str>
+        ensures part { IfSome result (λ part. Some part.now ≡ text_between self.now.bytes from to) }
+        ensures no_nul { IfSome result (λ part. is_whole self.now.values ≡ true → without_nul part.now ≡ part.now) }
+        ensures shown { IfSome result (λ part. self.now.hidden ≡ []) }
+    {
+        let part = self.text?.get(from..to)?;
+        // For the proof: a text is UTF-8.
+        let _ = part.as_bytes();
+        Some(part)
+    }
+
+    /// Returns the bytes from one index to another as a text, if they are UTF-8.
+    #[inline(never)]
+    fn tested(&self, from: usize, to: usize) -> Option<&'a str>
+        requires order { from ≤ to }
+        requires within { to ≤ length self.now.bytes }
+        ensures { option_copied result ≡ text_between self.now.bytes from to }
+    {
+        str::from_utf8(&self.bytes[from..to]).ok()
+    }
+}
+
+/// Returns the range of bytes of a span, if its ends are in order and in the document.
+pub(crate) fn range_of(document: &Document<'_>, start: Point, end: Point) -> Option<(usize, usize)>
+    ensures { SomeIff result ((edge start ≤ edge end) × (edge end ≤ length document.now.bytes)) (edge start, edge end) }
+{
+    let length = document.len();
+    let from = edge_of(start)?;
+    let to = edge_of(end)?;
+    if from > to || to > length {
+        return None;
+    }
+    Some((from, to))
+}
+
+/// Returns the text of a span. It is refused as `ErrorKind::InvalidSlice` if its ends are not in
+/// order or are outside the document, or if the bytes between them are not UTF-8.
+#[inline(always)]
+pub fn text_of<'a>(document: &Document<'a>, start: Point, end: Point) -> Result<&'a str, Stop>
+    ensures text { option_copied (result_ok result) ≡ slice document.now.bytes start end }
+    ensures refused { IfErr result (λ stop. stop ≡ Refused InvalidSlice) }
+{
+    slice_of(document, start, end).ok_or(Stop::Refused(ErrorKind::InvalidSlice))
+}
+
+/// Returns the text of a span, if its ends are in order and in the document, and the bytes between
+/// them are UTF-8.
+#[inline(always)]
+#[tactic(auto, unfolding(markdown_events::specs::Slices::slice))]
+fn slice_of<'a>(document: &Document<'a>, start: Point, end: Point) -> Option<&'a str>
+    ensures { option_copied result ≡ slice document.now.bytes start end }
+{
+    let (from, to) = range_of(document, start, end)?;
+    if let Some(part) = document.part(from, to) {
+        return Some(part);
+    }
+    document.tested(from, to)
+}
+
+/// Returns the text of a document, if values are parts of it as it is: all of it is UTF-8, none of
+/// it is hidden, and it has no NUL if values are whole.
+fn text_as_it_stands<'a>(bytes: &'a [u8], values: Values, hidden: &[bool]) -> Option<&'a str>
+    ensures { IfSome result (λ text. IsTextOf values hidden.now bytes.now text.now) }
+{
+    if !hidden.is_empty() || replaces_nul(bytes, values) {
+        return None;
+    }
+    str::from_utf8(bytes).ok()
+}
+
+/// Whether values are whole and the document has a NUL.
+fn replaces_nul(bytes: &[u8], values: Values) -> bool
+    ensures { result ≡ (is_whole values && has_nul bytes.now) }
+{
+    matches!(values, Values::Whole) && bytes.contains(&0)
+}
+
+/// Returns the flags after the first `count`.
+pub(crate) fn flags_after(flags: &[bool], count: usize) -> &[bool]
+    ensures { result.now ≡ drop count flags.now }
+{
+    flags.get(count..).unwrap_or(&[])
+}
+
+/// Returns how many bytes a span has, if its ends are in order and in the document. The length of
+/// the sequence of an ATX heading is its depth.
+pub fn length_between(document: &Document<'_>, start: Point, end: Point) -> Option<usize>
+    ensures { result ≡ length_between document.now.bytes start end }
+{
+    let (from, to) = range_of(document, start, end)?;
+    Some(to - from)
+}
+
+/// Returns the byte at the offset of a point, whatever its virtual spaces, if it is in the
+/// document. The first byte of frontmatter says which language follows, and the first of the
+/// underline of a setext heading says the depth.
+pub fn byte_at(document: &Document<'_>, point: Point) -> Option<u8>
+    ensures { result ≡ byte_at document.now.bytes point }
+{
+    document.bytes.get(point.index).copied()
+}
+
+/// Returns the position from the start of a span to its end.
+pub fn position_of(start: Point, end: Point) -> Position
+    ensures { result ≡ between start end }
+{
+    Position {
+        start: start.to_unist(),
+        end: end.to_unist(),
+    }
+}

@@ -1,0 +1,107 @@
+//! Values: what a span of the document contributes to a text or an address of the tree, and to the
+//! identifier of a label.
+
+ghost use Rattle.std.specs.Prelude.{◌≡◌, ◌||◌, ◌&&◌, IfSome, is_some, true};
+ghost use Rattle.markdown_events.specs.Slices.{slice};
+ghost use Rattle.markdown_grammar.specs.Document.{value_between, visible_between};
+ghost use Rattle.markdown_grammar.specs.declared.error_kind.ErrorKind.TheVariants.{InvalidSlice};
+ghost use Rattle.markdown_parts.specs.PartsSoFar.{Makes};
+ghost use Rattle.markdown_parts.specs.WholeValues.{is_split, value_text};
+
+use crate::slice::{Document, range_of, text_of};
+use crate::visible::visible_text;
+use crate::whole::whole_value;
+use markdown_grammar::error_kind::Stop;
+use markdown_nodes::event::Point;
+use std::alloc::Global;
+
+/// The value of a span.
+#[derive(Drop)]
+pub enum Value<'a> {
+    /// A part of the document, unchanged.
+    Part(&'a str),
+    /// A new text, since it differs from the document.
+    Made(String),
+}
+
+impl Value<'_> {
+    /// Returns its text.
+    pub fn as_str(&self) -> &str
+        ensures { result.now ≡ value_text self.now }
+    {
+        match self {
+            Value::Part(part) => part,
+            Value::Made(text) => text.as_str(),
+        }
+    }
+}
+
+/// Whether the columns of a tab count between two points. The virtual spaces are checked first,
+/// since every slice needs this check.
+#[inline(always)]
+fn is_split(document: &Document<'_>, start: Point, end: Point) -> bool
+    ensures { result ≡ is_split document.now start end }
+{
+    (start.vs > 0 || end.vs > 0) && document.is_whole()
+}
+
+/// Returns the value of a span if it is an unchanged part of the document, which is nearly always
+/// the case.
+#[inline(always)]
+pub fn value_as_it_stands<'a>(document: &Document<'a>, start: Point, end: Point) -> Option<&'a str>
+    ensures read { IfSome result (λ value. is_some (slice document.now.bytes start end) ≡ true) }
+    ensures value { IfSome result (λ value. value.now ≡ value_between document.now start end) }
+{
+    if is_split(document, start, end) {
+        return None;
+    }
+    let (from, to) = range_of(document, start, end)?;
+    document.part(from, to)
+}
+
+/// Returns the value of a span: a text or an address of the tree. It is refused as
+/// `ErrorKind::InvalidSlice` if its ends are not in order or are outside the document, or if the
+/// bytes between them are not UTF-8.
+///
+/// If a span begins within a tab, its whole value begins with the remaining columns of the tab, as
+/// spaces. Hidden bytes are not part of it.
+#[inline(never)]
+pub fn value_of<'a>(
+    alloc: Global,
+    document: &Document<'a>,
+    start: Point,
+    end: Point,
+) -> Result<Value<'a>, Stop>
+    ensures { Makes result (is_some (slice document.now.bytes start end)) InvalidSlice
+        (λ value. value_text value ≡ value_between document.now start end) }
+{
+    let visible = visible_of(alloc, document, start, end)?;
+    if document.is_whole() {
+        let whole = whole_value(alloc, visible.as_str(), start, end)?;
+        Ok(Value::Made(whole))
+    } else {
+        Ok(visible)
+    }
+}
+
+/// Returns the visible bytes of a span: a label, as definitions and references are matched by it.
+/// It is refused in the same cases as its value.
+///
+/// In a block quote, `a⏎> b` is the label `a⏎ b` if the marker is hidden.
+pub fn visible_of<'a>(
+    alloc: Global,
+    document: &Document<'a>,
+    start: Point,
+    end: Point,
+) -> Result<Value<'a>, Stop>
+    ensures { Makes result (is_some (slice document.now.bytes start end)) InvalidSlice
+        (λ value. value_text value ≡ visible_between document.now start end) }
+{
+    let text = text_of(document, start, end)?;
+    if document.hides() {
+        let visible = visible_text(alloc, text, document.hidden_from(start))?;
+        Ok(Value::Made(visible))
+    } else {
+        Ok(Value::Part(text))
+    }
+}

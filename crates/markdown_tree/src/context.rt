@@ -1,0 +1,604 @@
+//! The open spans of a list of events, and what each event does to them.
+
+ghost use Rattle.std.specs.Prelude.{◌≡◌, ◌≢◌, ◌≤◌, ◌+◌, ◌&&◌, ◌||◌, None, Ok, OnOk, [], false, is_some, not, true};
+ghost use Rattle.markdown_events.specs.Names.{role_of};
+ghost use Rattle.markdown_events.specs.declared.role.ItemKind.TheVariants as item_kinds;
+ghost use Rattle.markdown_events.specs.declared.role.Role.TheVariants as roles;
+ghost use Rattle.markdown_steps.specs.Compiler;
+ghost use Rattle.markdown_steps.specs.Compiler.{enter_as, enter_checks, enter_step, exit_step, last_checks, opening};
+ghost use Rattle.markdown_blocks.specs.Parents.{is_parent};
+ghost use Rattle.markdown_parts.specs.PartsSoFar.{first_failing};
+ghost use Rattle.markdown_containers.specs.declared.container.Container.TheVariants as containers;
+ghost use Rattle.markdown_containers.specs.Containers.{misfit_of};
+ghost use Rattle.markdown_parts.specs.Nest.{innermost};
+ghost use Rattle.markdown_grammar.specs.Items as Kinds;
+ghost use Rattle.markdown_grammar.specs.Document as Documents;
+ghost use Rattle.markdown_grammar.specs.Document.{Source, given_of, source_of};
+ghost use Rattle.markdown_tree.specs.States.{
+  Begun,
+  Closed,
+  ContainerEnds,
+  Ends,
+  IsNoParent,
+  LeafEnds,
+  Opened,
+  PutIn,
+  Reaches,
+  ReachesTop,
+  item_left,
+  left_to,
+  left_visits,
+  state_of,
+  top_of,
+};
+ghost use Rattle.markdown_steps.specs.Visits.{exit_visits, step_visits};
+ghost use Rattle.markdown_steps.specs.Well.{Well, is_transparent};
+
+use character_references::references::References;
+use markdown_blocks::parent::is_parent;
+use markdown_blocks::table::Columns;
+use markdown_containers::container::Container;
+use markdown_containers::open_container::{Ending, OpenContainer, innermost_nodes};
+use markdown_grammar::error_kind::{ErrorKind, Stop};
+use markdown_nodes::around::Around;
+use markdown_nodes::count::Count;
+use markdown_nodes::event::{Event, Kind, Name, Point};
+use markdown_nodes::mdast::Node;
+use markdown_nodes::role::{Content, ItemKind, Role};
+use markdown_nodes::unist::Position;
+use markdown_parts::items::{has_line_endings, is_frontmatter, is_line_ending, is_table};
+use markdown_parts::marks::Marks;
+use markdown_parts::nest::Nest;
+use markdown_parts::slice::{Document, byte_at};
+use std::alloc::{AllocError, Global};
+
+/// The state that the next span in the innermost open one starts in: the context around it, and
+/// what is known of the spans before it.
+#[derive(Clone, Copy)]
+pub struct Interior {
+    pub around: Around,
+    /// What is known of the spans so far in the innermost open one.
+    pub marks: Marks,
+}
+
+/// An open span, with the state that was around it at its enter.
+#[derive(Clone, Copy)]
+pub struct Frame {
+    /// Where it begins: the point of its enter.
+    pub start: Point,
+    /// The state that it started in, in the span around it.
+    pub outside: Interior,
+    pub name: Name,
+    /// Whether a table was around it.
+    pub in_table: bool,
+}
+
+/// The open spans, with the open containers.
+#[derive(Drop)]
+pub struct Context<'a> {
+    pub frames: Vec<Frame>,
+    /// The open containers, the root first.
+    pub containers: Nest<OpenContainer<'a>>,
+    pub interior: Interior,
+    /// Whether the innermost significant span is a leaf, which has no container of its own.
+    pub is_leaf: bool,
+    /// Whether a table is around, at any depth.
+    pub in_table: bool,
+    pub columns: Columns,
+    /// A break that waits for its line ending.
+    pub pending: Option<Position>,
+}
+
+/// Whether a span is frontmatter, and the document has no byte where it begins.
+#[inline(always)]
+fn lacks_first_byte(document: &Document<'_>, what: ItemKind, point: &Point) -> bool
+    ensures { result ≡ (Kinds.is_frontmatter what && not (is_some (Documents.byte_at document.now.bytes point.now))) }
+{
+    is_frontmatter(what) && byte_at(document, *point).is_none()
+}
+
+impl<'a> Context<'a> {
+    /// Returns the context before the first event.
+    pub fn new(alloc: Global) -> Context<'a>
+        ensures { state_of result ≡ opening }
+    {
+        Context {
+            frames: Vec::new(alloc),
+            containers: Nest {
+                outermost: OpenContainer {
+                    container: Container::AnyContent,
+                    line_endings: false,
+                    nodes: Vec::new(alloc),
+                },
+                inner: Vec::new(alloc),
+            },
+            interior: Interior {
+                around: Around::in_the_open(),
+                marks: Marks::new(),
+            },
+            is_leaf: false,
+            in_table: false,
+            columns: Columns::new(alloc),
+            pending: None,
+        }
+    }
+
+    /// Whether a break waits for its line ending, and this item is not a line ending.
+    fn interrupts_break(&self, what: ItemKind) -> bool
+        ensures { result ≡ not (not (is_some self.now.pending) || Kinds.is_line_ending what) }
+    {
+        self.pending.is_some() && !is_line_ending(what)
+    }
+
+    /// Whether the spans in a significant span are inside a table, which may be the span itself.
+    fn is_in_table(&self, what: ItemKind) -> bool
+        ensures { result ≡ (self.now.in_table || Kinds.is_table what) }
+    {
+        self.in_table || is_table(what)
+    }
+
+    /// Whether a span is a table in a table.
+    #[inline(always)]
+    fn nests_table(&self, what: ItemKind) -> bool
+        ensures { result ≡ (self.now.in_table && Kinds.is_table what) }
+    {
+        self.in_table && is_table(what)
+    }
+
+    /// Returns the rule of the innermost container that a significant span violates, if any.
+    fn container_misfit(&self, what: ItemKind) -> Option<ErrorKind>
+        ensures { result ≡ misfit_of (innermost self.now.containers).container what }
+    {
+        self.containers.innermost().container.misfit(what)
+    }
+
+    /// Returns the rule that a significant span violates by beginning here, or `None`.
+    fn misfit(&self, document: &Document<'_>, what: ItemKind, point: &Point) -> Option<ErrorKind>
+        ensures { (s : Source) → given_of s ≡ document.now
+            → result ≡ first_failing (enter_checks s (state_of self.now).top what point.now) }
+    {
+        if self.is_leaf {
+            return Some(ErrorKind::Misplaced);
+        }
+        if self.interrupts_break(what) {
+            return Some(ErrorKind::UnfinishedBreak);
+        }
+        if let Some(error_kind) = self.container_misfit(what) {
+            return Some(error_kind);
+        }
+        if self.nests_table(what) {
+            return Some(ErrorKind::Misplaced);
+        }
+        if lacks_first_byte(document, what, point) {
+            return Some(ErrorKind::InvalidSlice);
+        }
+        None
+    }
+
+    /// Opens a significant span, if the innermost container accepts it, and returns whether it is a
+    /// leaf.
+    fn open(
+        &mut self,
+        alloc: Global,
+        document: &Document<'_>,
+        what: ItemKind,
+        point: &Point,
+    ) -> Result<bool, Stop>
+        ensures { (s : Source) → given_of s ≡ document.now → Opened s what point.now self.old self.new result }
+    {
+        if let Some(error_kind) = self.misfit(document, what, point) {
+            return Err(Stop::Refused(error_kind));
+        }
+        let around = &self.containers.innermost().container;
+        if around.takes_as_leaf(what) {
+            return Ok(true);
+        }
+        // Most containers keep no parts. If that is known, no space for parts is moved.
+        match around.opened(what) {
+            Container::AnyContent => self.put(alloc, what, Container::AnyContent)?,
+            container => self.put(alloc, what, container)?,
+        }
+        Ok(false)
+    }
+
+    /// Opens a container in the innermost one, with no nodes in it.
+    #[inline(always)]
+    fn put(
+        &mut self,
+        alloc: Global,
+        what: ItemKind,
+        container: Container<'a>,
+    ) -> Result<(), AllocError>
+        ensures { OnOk result (PutIn what container.entry self.old self.new) }
+    {
+        let inner = OpenContainer {
+            container,
+            line_endings: has_line_endings(what),
+            nodes: Vec::new(alloc),
+        };
+        inner.open_in(&mut self.containers)
+    }
+
+    /// Takes one event.
+    pub fn step<R: References>(
+        &mut self,
+        alloc: Global,
+        steps: &mut Count,
+        document: &Document<'a>,
+        references: &R,
+        event: &Event,
+    ) -> Result<(), Stop>
+        requires { Well (source_of document.now (R.text references.now)) (state_of self.old) }
+        ensures gives { Reaches self.new event.now.point result
+            (Compiler.step (source_of document.now (R.text references.now)) event.now (state_of self.old)) }
+        ensures bound { steps.new.number ≤ steps.old.number + step_visits event.now (state_of self.old) + 1 }
+    {
+        match event.kind {
+            Kind::Enter => self.enter(alloc, document, event.name, &event.point),
+            Kind::Exit => self.exit(alloc, steps, document, references, event.name, &event.point),
+        }
+    }
+
+    /// Returns the rule that is violated at the end of the list, or `None`: a span is open, or a
+    /// break waits for its line ending.
+    pub fn unfinished(&self) -> Option<ErrorKind>
+        requires { self.now.frames.items ≡ [] → self.now.is_leaf ≡ false }
+        ensures { result ≡ first_failing (last_checks (state_of self.now)) }
+    {
+        if !self.frames.is_empty() {
+            return Some(ErrorKind::Unbalanced);
+        }
+        if self.pending.is_some() {
+            return Some(ErrorKind::UnfinishedBreak);
+        }
+        None
+    }
+
+    /// Returns the nodes of the innermost container: those of the root, once all spans have ended.
+    pub fn into_nodes(self) -> Vec<Node>
+        ensures { result ≡ (innermost self.entry.containers).nodes }
+    {
+        let Context { containers, .. } = self;
+        innermost_nodes(containers)
+    }
+
+    /// Opens a span.
+    fn enter(
+        &mut self,
+        alloc: Global,
+        document: &Document<'_>,
+        name: Name,
+        point: &Point,
+    ) -> Result<(), Stop>
+        ensures { (s : Source) → given_of s ≡ document.now
+            → Reaches self.new point.now result (enter_step s name point.now (state_of self.old)) }
+    {
+        let role = name.role();
+        if !self.interior.around.allows(role) {
+            return Err(Stop::Refused(ErrorKind::Held));
+        }
+        match role {
+            Role::Transparent(_) => self.enter_transparent(alloc, name, role, point),
+            Role::Significant(what) => self.enter_significant(alloc, document, name, what, point),
+        }
+    }
+
+    /// Opens a transparent span, which changes no container.
+    fn enter_transparent(
+        &mut self,
+        alloc: Global,
+        name: Name,
+        role: Role,
+        point: &Point,
+    ) -> Result<(), Stop>
+        requires role { role ≡ role_of name }
+        requires transparent { is_transparent role ≡ true }
+        ensures { Reaches self.new point.now result (Ok (Compiler.push name point.now (state_of self.old) None (state_of self.old).top)) }
+    {
+        self.begin(alloc, name, role, point, self.is_leaf, self.in_table)?;
+        Ok(())
+    }
+
+    /// Opens a significant span, if the innermost container accepts it.
+    fn enter_significant(
+        &mut self,
+        alloc: Global,
+        document: &Document<'_>,
+        name: Name,
+        what: ItemKind,
+        point: &Point,
+    ) -> Result<(), Stop>
+        requires { role_of name ≡ roles.Significant what }
+        ensures { (s : Source) → given_of s ≡ document.now → Reaches self.new point.now result
+            (enter_as s (roles.Significant what) name point.now (state_of self.old)) }
+    {
+        let is_leaf = self.open(alloc, document, what, point)?;
+        let in_table = self.is_in_table(what);
+        self.begin(
+            alloc,
+            name,
+            Role::Significant(what),
+            point,
+            is_leaf,
+            in_table,
+        )?;
+        Ok(())
+    }
+
+    /// Pushes a span onto the stack, with the state around it, and begins the state inside it.
+    #[inline(always)]
+    fn begin(
+        &mut self,
+        alloc: Global,
+        name: Name,
+        role: Role,
+        point: &Point,
+        is_leaf: bool,
+        in_table: bool,
+    ) -> Result<(), AllocError>
+        ensures { OnOk result (Begun name role point.now is_leaf in_table self.old self.new) }
+    {
+        self.frames.push(Frame {
+            start: *point,
+            outside: self.interior,
+            name,
+            in_table: self.in_table,
+        })?;
+        self.columns.enter(alloc, self.in_table, role);
+        self.interior = Interior {
+            around: self.interior.around.inside(role),
+            marks: Marks::new(),
+        };
+        self.is_leaf = is_leaf;
+        self.in_table = in_table;
+        Ok(())
+    }
+
+    /// Closes the innermost span, if the name is its name.
+    fn exit<R: References>(
+        &mut self,
+        alloc: Global,
+        steps: &mut Count,
+        document: &Document<'a>,
+        references: &R,
+        name: Name,
+        point: &Point,
+    ) -> Result<(), Stop>
+        requires { Well (source_of document.now (R.text references.now)) (state_of self.old) }
+        ensures gives { Reaches self.new point.now result
+            (exit_step (source_of document.now (R.text references.now)) name point.now (state_of self.old)) }
+        ensures bound { steps.new.number ≤ steps.old.number + exit_visits name (state_of self.old).frames (top_of self.old).inner + 1 }
+    {
+        let Some(frame) = self.frames.pop() else {
+            return Err(Stop::Refused(ErrorKind::Unbalanced));
+        };
+        if !frame.name.is(name) {
+            return Err(Stop::Refused(ErrorKind::Unbalanced));
+        }
+        let role = frame.name.role();
+        self.leave(alloc, steps, document, references, role, frame, point)?;
+        let inner = self.interior.marks;
+        self.interior = frame.outside;
+        self.interior.marks.add(role, inner);
+        Ok(())
+    }
+
+    /// Passes what the closing span produced to its owner: that of a transparent span to the
+    /// columns, that of a leaf or a container to the container around it.
+    fn leave<R: References>(
+        &mut self,
+        alloc: Global,
+        steps: &mut Count,
+        document: &Document<'a>,
+        references: &R,
+        role: Role,
+        frame: Frame,
+        end: &Point,
+    ) -> Result<(), Stop>
+        requires { Ends role self.old }
+        ensures gives { ReachesTop self.new end.now result
+            (left_to (source_of document.now (R.text references.now)) role frame end.now self.old) }
+        ensures closed { OnOk result (Closed role self.old self.new) }
+        ensures bound { steps.new.number ≤ steps.old.number + left_visits role frame self.old + 1 }
+    {
+        match role {
+            Role::Transparent(kind) => Ok(self.columns.exit(kind, self.interior.marks)?),
+            Role::Significant(what) if self.is_leaf => {
+                self.leave_leaf(alloc, document, references, what, frame, end)
+            }
+            Role::Significant(what) => self.leave_container(
+                alloc, steps, document, what, frame, end,
+            ),
+        }
+    }
+
+    /// Closes a leaf, which the innermost container takes.
+    fn leave_leaf<R: References>(
+        &mut self,
+        alloc: Global,
+        document: &Document<'a>,
+        references: &R,
+        what: ItemKind,
+        frame: Frame,
+        end: &Point,
+    ) -> Result<(), Stop>
+        requires open { self.old.is_leaf ≡ true }
+        requires ends { LeafEnds what self.old }
+        ensures gives { ReachesTop self.new end.now result
+            (item_left (source_of document.now (R.text references.now)) what frame end.now self.old) }
+        ensures closed { OnOk result (Closed (roles.Significant what) self.old self.new) }
+    {
+        let ending = Ending {
+            start: frame.start,
+            end: *end,
+            in_table: self.in_table,
+            marks: self.interior.marks,
+        };
+        self.containers.innermost_mut().take_leaf(
+            &mut self.pending,
+            alloc,
+            document,
+            references,
+            what,
+            ending,
+        )?;
+        self.is_leaf = false;
+        Ok(())
+    }
+
+    /// Closes the innermost container, which the one around it takes.
+    fn leave_container(
+        &mut self,
+        alloc: Global,
+        steps: &mut Count,
+        document: &Document<'a>,
+        what: ItemKind,
+        frame: Frame,
+        end: &Point,
+    ) -> Result<(), Stop>
+        requires open { self.old.is_leaf ≡ false }
+        requires ends { ContainerEnds what self.old }
+        ensures gives { (s : Source) → given_of s ≡ document.now → ReachesTop self.new end.now result
+            (item_left s what frame end.now self.old) }
+        ensures closed { OnOk result (Closed (roles.Significant what) self.old self.new) }
+        ensures bound { steps.new.number ≤ steps.old.number + left_visits (roles.Significant what) frame self.old + 1 }
+    {
+        if self.pending.is_some() {
+            return Err(Stop::Refused(ErrorKind::UnfinishedBreak));
+        }
+        match self.containers.innermost().container {
+            Container::AnyContent => match what {
+                ItemKind::Content(content) if is_parent(content) => {
+                    Ok(self.leave_parent(content, frame, end)?)
+                }
+                _ => self.close_container(alloc, steps, document, what, frame, end),
+            },
+            _ => self.leave_parts(alloc, steps, document, what, frame, end),
+        }
+    }
+
+    /// Closes a parent of which only the nodes are kept, as for most containers. No other part of
+    /// its open container is moved.
+    fn leave_parent(
+        &mut self,
+        content: Content,
+        frame: Frame,
+        end: &Point,
+    ) -> Result<(), AllocError>
+        requires open { self.old.is_leaf ≡ false }
+        requires ends { ContainerEnds (item_kinds.Content content) self.old }
+        requires settled { is_some self.old.pending ≡ false }
+        requires such { is_parent content ≡ true }
+        requires container { (innermost self.old.containers).container ≡ containers.AnyContent }
+        ensures gives { OnOk result ((s : Source) →
+            item_left s (item_kinds.Content content) frame end.now self.old ≡ Ok (top_of self.new)) }
+        ensures closed { OnOk result (Closed (roles.Significant (item_kinds.Content content)) self.old self.new) }
+    {
+        let Some(
+            OpenContainer {
+                container: Container::AnyContent,
+                line_endings: _,
+                nodes,
+            },
+        ) = self.containers.inner.pop()
+        else {
+            unreachable!()
+        };
+        self.in_table = frame.in_table;
+        self.containers
+            .innermost_mut()
+            .take_parent(content, nodes, frame.start, *end)
+    }
+
+    /// Closes any other container of which only the nodes are kept. No other part of it is moved.
+    ///
+    /// Not inlined: inlining it slows the loop over the events.
+    #[inline(never)]
+    fn close_container(
+        &mut self,
+        alloc: Global,
+        steps: &mut Count,
+        document: &Document<'a>,
+        what: ItemKind,
+        frame: Frame,
+        end: &Point,
+    ) -> Result<(), Stop>
+        requires open { self.old.is_leaf ≡ false }
+        requires ends { ContainerEnds what self.old }
+        requires settled { is_some self.old.pending ≡ false }
+        requires no_parent { IsNoParent what }
+        requires container { (innermost self.old.containers).container ≡ containers.AnyContent }
+        ensures gives { (s : Source) → given_of s ≡ document.now → ReachesTop self.new end.now result
+            (item_left s what frame end.now self.old) }
+        ensures closed { OnOk result (Closed (roles.Significant what) self.old self.new) }
+        ensures bound { steps.new.number ≤ steps.old.number + left_visits (roles.Significant what) frame self.old + 1 }
+    {
+        let ending = Ending {
+            start: frame.start,
+            end: *end,
+            in_table: frame.in_table,
+            marks: self.interior.marks,
+        };
+        let Some(
+            OpenContainer {
+                container: Container::AnyContent,
+                line_endings: _,
+                nodes,
+            },
+        ) = self.containers.inner.pop()
+        else {
+            unreachable!()
+        };
+        self.in_table = frame.in_table;
+        let top = self.containers.innermost_mut();
+        match what {
+            ItemKind::Content(content) => {
+                let columns = &mut self.columns;
+                top.take_any_content(alloc, steps, document, columns, content, nodes, ending)
+            }
+            ItemKind::Part(part) => top.take_any_part(alloc, steps, document, part, nodes, ending),
+        }
+    }
+
+    /// Closes a container with parts of its own. Also not inlined.
+    #[inline(never)]
+    fn leave_parts(
+        &mut self,
+        alloc: Global,
+        steps: &mut Count,
+        document: &Document<'a>,
+        what: ItemKind,
+        frame: Frame,
+        end: &Point,
+    ) -> Result<(), Stop>
+        requires open { self.old.is_leaf ≡ false }
+        requires ends { ContainerEnds what self.old }
+        requires settled { is_some self.old.pending ≡ false }
+        requires container { (innermost self.old.containers).container ≢ containers.AnyContent }
+        ensures gives { (s : Source) → given_of s ≡ document.now → ReachesTop self.new end.now result
+            (item_left s what frame end.now self.old) }
+        ensures closed { OnOk result (Closed (roles.Significant what) self.old self.new) }
+        ensures bound { steps.new.number ≤ steps.old.number + left_visits (roles.Significant what) frame self.old + 1 }
+    {
+        let ending = Ending {
+            start: frame.start,
+            end: *end,
+            in_table: frame.in_table,
+            marks: self.interior.marks,
+        };
+        let Some(own) = self.containers.inner.pop() else {
+            unreachable!()
+        };
+        self.in_table = frame.in_table;
+        let top = self.containers.innermost_mut();
+        match what {
+            ItemKind::Content(content) => top.take_content(
+                alloc, steps, document, content, own, ending,
+            ),
+            ItemKind::Part(part) => {
+                top.take_parts(part, own);
+                Ok(())
+            }
+        }
+    }
+}

@@ -1,9 +1,0 @@
-use Rattle.std.proofs.Common.{◌≡◌, length}
-use Rattle.mdast_check.specs.Levels.{coming}
-use Rattle.mdast_check.proofs.walk.Walk.next.Given as goal
-
-abbrev pub invariant-levels : goal.invariant-levels
-invariant-levels l = coming l.self ≡ coming l.fn.self
-
-abbrev pub decreases-levels : goal.decreases-levels
-decreases-levels l = length l.self.outer.items

@@ -1,5 +1,0 @@
-use Rattle.std.proofs.Common.{rules}
-use Rattle.mdast_programs.proofs.run.Outcome.forget.Goals as goal
-
-pub returns : goal.returns
-returns c = search rules

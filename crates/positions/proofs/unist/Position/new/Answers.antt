@@ -1,5 +1,0 @@
-use Rattle.std.proofs.Common.{rules}
-use Rattle.positions.proofs.unist.Position.new.Goals as goal
-
-pub returns-clause-end : goal.returns-clause-end
-returns-clause-end c = search rules
