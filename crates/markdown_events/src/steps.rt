@@ -17,16 +17,19 @@ use std::marker::Model;
 #[derive(Drop)]
 pub struct Steps<'a> {
     events: &'a [Event],
-    /// The number of steps so far. A function that reads no event takes this alone.
-    pub count: Count,
+    /// The events read so far.
+    reads: Count,
+    /// The descents so far. A function that reads no event takes this alone.
+    pub descents: Count,
 }
 
 impl<'a> Model for Steps<'a> {
     ghost use Rattle.markdown_events.specs.Counted.{Counted};
+    ghost use Rattle.std.specs.Prelude.{◌+◌};
 
     ghost Value = { Counted };
 
-    ghost view = { λ s. record { events = s.events.now; count = s.count.number } };
+    ghost view = { λ s. record { events = s.events.now; count = s.reads.number + s.descents.number } };
 }
 
 impl<'a> Steps<'a> {
@@ -39,7 +42,8 @@ impl<'a> Steps<'a> {
     {
         Steps {
             events,
-            count: Count::zero(),
+            reads: Count::zero(),
+            descents: Count::zero(),
         }
     }
 
@@ -55,7 +59,7 @@ impl<'a> Steps<'a> {
         ensures count { self.new.count ≡ self.old.count + steps_of result }
     {
         let event = self.events.get(index)?;
-        self.count.tick();
+        self.reads.tick();
         Some(*event)
     }
 }
