@@ -8,8 +8,9 @@ use std::alloc::{AllocError, Global};
 
 /// Where the last string of each size ends, for one mark in a text.
 ///
-/// With it, the string that closes a code span is searched only if there is one. All searches
-/// together are therefore linear.
+/// With it, the string that closes a code span is searched only if there is one. A search without it
+/// either finds its string, and the code span ends there, or is the last one without it. So all
+/// searches together are linear.
 #[derive(Drop)]
 pub struct LastStrings {
     /// The offset where the last string of a size ends, indexed by the size. It is 0 if there is
@@ -79,8 +80,8 @@ impl LastStrings {
 /// Returns the length of the code span that begins with a string of `size` marks at an offset, if
 /// one does (CommonMark).
 ///
-/// `last` has what is known of the strings of the mark in the content; it is computed once. The
-/// only error is that memory ran out.
+/// `last` has what is known of the strings of the mark in the content. It is computed once, after
+/// the first string that nothing closes. The only error is that memory ran out.
 pub fn scan(
     alloc: Global,
     content: &[u8],
@@ -97,39 +98,34 @@ pub fn scan(
     ensures exact { IfOk result (λ found. MatchOption found (HasNoString mark (drop (at + size) content.now) size) (λ whole. (size ≤ whole) × FirstStringEnds mark (drop (at + size) content.now) size (whole - size))) }
     ensures most { IfOk result (λ found. IfSome found (λ whole. at + whole ≤ length content.now)) }
 {
-    if !may_close(alloc, content, mark, at + size, size, last)? {
-        return Ok(None);
+    match last {
+        Some(known) if !known.has_after(size, at + size) => return Ok(None),
+        _ => {}
     }
     match length_through_string(after(content, at + size), mark, size) {
         Some(end) => Ok(Some(size + end)),
-        None => Ok(None),
+        None => {
+            remember(alloc, content, mark, last)?;
+            Ok(None)
+        }
     }
 }
 
-/// Whether a string of `size` marks may come after an offset, by what is known of the strings of
-/// the mark. The only error is that memory ran out.
-fn may_close(
+/// Finds the last strings of a mark in a text, unless they are known. The only error is that memory
+/// ran out.
+fn remember(
     alloc: Global,
     content: &[u8],
     mark: u8,
-    at: usize,
-    size: usize,
     last: &mut Option<LastStrings>,
-) -> Result<bool, AllocError>
-    requires some { 0 < size }
-    requires within { at ≤ length content.now }
-    requires next { at < length content.now → slice_index content.now at ≢ mark }
-    requires last { IfSome last.old (AreLast mark content.now) }
-    ensures last { IfSome last.new (AreLast mark content.now) }
-    ensures none { IfOk result (λ may. may ≡ false → HasNoString mark (drop at content.now) size) }
+) -> Result<(), AllocError>
+    requires { IfSome last.old (AreLast mark content.now) }
+    ensures { IfSome last.new (AreLast mark content.now) }
 {
     if last.is_none() {
         *last = Some(LastStrings::new(alloc, content, mark)?);
     }
-    match last {
-        Some(last) => Ok(last.has_after(size, at)),
-        None => Ok(true),
-    }
+    Ok(())
 }
 
 /// Returns the length of a text through the first string of `size` marks in it. This is the rest of

@@ -1,6 +1,8 @@
 pub mod Walks
+pub mod Plain
 mod Tilings
 mod Holding
+mod Recording
 mod Misfits
 mod Consequences
 pub mod Models

@@ -1,18 +1,20 @@
--- The invariant of a writer.
-use Rattle.std.specs.Prelude.{List, false, length, ◌<◌, ◌^◌}
-use Rattle.markdown_events.specs.declared.event.Event.{Event}
-use Rattle.markdown_events.specs.declared.event.Point.{Point}
-use Rattle.markdown_grammar.specs.Document.{Source}
+-- The invariant of a recorder.
+use Rattle.std.specs.Prelude.{List, Option, [], reverse, ℕ, ◌∷◌, ◌≡◌}
+use Rattle.markdown_events.specs.declared.event.Name.{Name}
+use Rattle.markdown_grammar.specs.Document.{source}
+use Rattle.markdown_acceptance.specs.Following.{open_after}
 use Rattle.markdown_acceptance.specs.Shown.{Tracks}
-use Rattle.markdown_acceptance.specs.Stacks.{Stack}
-use Rattle.event_writer.specs.Places.{ArePlaces, IsPlace}
-use Rattle.event_writer.specs.Tilings.{Follows, origin}
+use Rattle.markdown_acceptance.specs.declared.open_spans.Frame.{Frame}
+use Rattle.event_writer.specs.Transcripts.{Transcribed}
 
--- the steps accept the events, their tokens tile the document up to the cursor, and each point is a place of the document;
--- the document has fewer than 2^61 bytes
-pub record Holds (s : Source) (events : List Event) (spans : Stack) (cursor : Point) : Type 0 where
-  pub tracks : Tracks s events spans
-  pub tiles : Follows origin false events cursor
-  pub places : ArePlaces s.bytes events
-  pub cursor_place : IsPlace s.bytes cursor
-  pub short : length s.bytes < 2 ^ 61
+-- the names are those of the open spans, the innermost first
+abbrev pub AreNamesOf : List Frame → List Name → Type 0
+AreNamesOf [] [] = Unit {0}
+AreNamesOf (frame ∷ frames) (name ∷ names) = (name ≡ frame.name) × AreNamesOf frames names
+AreNamesOf _ _ = ⊥
+
+-- the steps accept the events so far, and the names are those of the spans that are open after them, the innermost last
+abbrev pub IsRecorded : (List ℕ → ℕ → Option (List ℕ)) → Transcribed → List Name → Type 0
+IsRecorded decode t names =
+    Tracks (source t.bytes decode) t.events (open_after t.events)
+    × AreNamesOf (open_after t.events).frames (reverse names)

@@ -1,8 +1,10 @@
 pub mod Places
 pub mod Tilings
 pub mod Finished
+pub mod Transcripts
 pub mod Written
 pub mod Invariants
 pub mod Calls
+pub mod Plain
 pub mod Stages
 pub mod Standing

@@ -22,9 +22,11 @@ ghost use Rattle.std.specs.Prelude.{
 };
 ghost use Rattle.event_writer.specs.Calls.{CanReach, EndsLine, IsLineStart, is_byte_at, line_ending_length};
 ghost use Rattle.event_writer.specs.Places.{IsPlace, after_tab, column_at, line_at};
+ghost use Rattle.event_writer.specs.Plain.{IsPlain};
 ghost use Rattle.event_writer.specs.Tilings.{IsBefore};
 
 use markdown_events::event::Point;
+use markdown_events::search::find_control;
 
 /// Returns the column after a tab that begins at a column.
 fn after_tab(column: usize) -> usize
@@ -50,8 +52,38 @@ fn column_after(byte: u8, column: usize) -> Option<usize>
     }
 }
 
-/// Returns the column of an offset in the line of a point, or `None` if the line ends before it.
-fn column_of(bytes: &[u8], from: Point, to: usize) -> Option<usize>
+/// Returns the offset of the first control character at an offset or after it, or the length.
+///
+/// In `a→b`, where → is a tab, it is 1 from offset 0 on, and 3 from offset 2 on.
+pub fn plain_to(bytes: &[u8], from: usize) -> usize
+    requires { from ≤ length bytes.now }
+    ensures { IsPlain bytes.now from result }
+{
+    from + find_control(&bytes[from..])
+}
+
+/// Returns the column of an offset in the line of a point, or `None` if the line ends before it. No
+/// control character is between the point and `plain_to`.
+fn column_of(bytes: &[u8], from: Point, to: usize, plain_to: usize) -> Option<usize>
+    requires place { IsPlace bytes.now from }
+    requires short { length bytes.now < 2 ^ 61 }
+    requires order { from.index ≤ to }
+    requires within { to ≤ length bytes.now }
+    requires plain { IsPlain bytes.now from.index plain_to }
+    ensures column { IfSome result (λ column. column ≡ column_at bytes.now to) }
+    ensures line { IfSome result (λ _. from.line ≡ line_at bytes.now to) }
+    ensures none { IfNone result ((k : ℕ) × (from.index ≤ k) × (k < to) × ((slice_index bytes.now k ≡ 10) ⊎ (slice_index bytes.now k ≡ 13))) }
+    ensures bound { IfSome result (λ column. column ≤ 2 ^ 63) }
+{
+    let column = from.column - from.vs;
+    if to <= plain_to {
+        return Some(column + (to - from.index));
+    }
+    column_by_bytes(bytes, from, to)
+}
+
+/// Does what `column_of` does, byte by byte.
+fn column_by_bytes(bytes: &[u8], from: Point, to: usize) -> Option<usize>
     requires place { IsPlace bytes.now from }
     requires short { length bytes.now < 2 ^ 61 }
     requires order { from.index ≤ to }
@@ -92,13 +124,21 @@ fn has_columns(bytes: &[u8], column: usize, index: usize, virtual_spaces: usize)
 }
 
 /// Returns the point at an offset that is in the line of a point and not before it, and a number of
-/// columns into the tab there, or `None` if there is no such point.
+/// columns into the tab there, or `None` if there is no such point. No control character is between
+/// the point and `plain_to`.
 ///
 /// In `>→a`, where → is a tab, the point after the `>` is 1:2. The one at offset 1 with one virtual
 /// space is 1:3, and the one at offset 2 is 1:5.
-pub fn point_at(bytes: &[u8], from: Point, to: usize, virtual_spaces: usize) -> Option<Point>
+pub fn point_at(
+    bytes: &[u8],
+    from: Point,
+    to: usize,
+    virtual_spaces: usize,
+    plain_to: usize,
+) -> Option<Point>
     requires place { IsPlace bytes.now from }
     requires short { length bytes.now < 2 ^ 61 }
+    requires plain { IsPlain bytes.now from.index plain_to }
     ensures place { IfSome result (λ point. IsPlace bytes.now point) }
     ensures order { IfSome result (λ point. IsBefore from point) }
     ensures index { IfSome result (λ point. point.index ≡ to) }
@@ -108,7 +148,7 @@ pub fn point_at(bytes: &[u8], from: Point, to: usize, virtual_spaces: usize) -> 
     if to < from.index || to > bytes.len() || (to == from.index && virtual_spaces < from.vs) {
         return None;
     }
-    let column = column_of(bytes, from, to)?;
+    let column = column_of(bytes, from, to, plain_to)?;
     if !has_columns(bytes, column, to, virtual_spaces) {
         return None;
     }

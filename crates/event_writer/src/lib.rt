@@ -6,6 +6,8 @@
 
 mod cursor;
 pub mod laws;
+pub mod recorder;
+mod transcript;
 pub mod writer;
 
 pub use markdown_acceptance::error;

@@ -22,11 +22,11 @@ ghost use Rattle.markdown_events.specs.declared.event.Name.{Name};
 ghost use Rattle.markdown_events.specs.declared.event.Point.{Point};
 ghost use Rattle.markdown_grammar.specs.Document.{source};
 
-use crate::cursor::{line_start, point_at};
+use crate::transcript::Transcript;
 use character_references::references::References;
 use markdown_acceptance::error::WriteError;
 use markdown_acceptance::open_spans::OpenSpans;
-use markdown_events::event::{Event, Kind, Name, Point};
+use markdown_events::event::{Event, Name, Point};
 use markdown_grammar::values::Values;
 use markdown_parts::slice::Document;
 use std::alloc::{AllocError, Global};
@@ -58,28 +58,28 @@ pub struct Writer<'d, R: References> {
     /// What its character references stand for.
     references: &'d R,
     /// The events so far.
-    events: Vec<Event>,
+    transcript: Transcript<'d>,
     /// The spans that are open after them.
     spans: OpenSpans,
-    /// Where the next event is written.
-    cursor: Point,
 }
 
 impl<'d, R: References> Model for Writer<'d, R> {
-    ghost use Rattle.event_writer.specs.Invariants.{Holds};
     ghost use Rattle.event_writer.specs.Written.{Written};
+    ghost use Rattle.markdown_acceptance.specs.Shown.{Tracks};
     ghost use Rattle.markdown_grammar.specs.Document.{source};
+    ghost use Rattle.std.specs.Prelude.{◌≡◌};
 
     ghost Value = { Written R };
 
     ghost view = { λ w. record {
       given = record { bytes = w.document.bytes; references = w.references.now };
-      events = w.events.items;
-      cursor = w.cursor;
+      events = w.transcript.events;
+      cursor = w.transcript.cursor;
       spans = w.spans;
     } };
 
-    ghost invariant = { λ w. Holds (source w.document.bytes (R.text w.references.now)) w.events.items w.spans w.cursor };
+    ghost invariant = { λ w. Tracks (source w.document.bytes (R.text w.references.now)) w.transcript.events w.spans
+        × (w.transcript.bytes ≡ w.document.bytes) };
 }
 
 impl<'d, R: References> Writer<'d, R> {
@@ -98,21 +98,13 @@ impl<'d, R: References> Writer<'d, R> {
         ensures cursor { IfOk result (λ w. w.cursor ≡ origin) }
         ensures root { IfOk result (λ w. AtRoot w.spans) }
     {
-        if document.len() >= 1 << 61 {
-            return Err(AllocError);
-        }
+        let transcript = Transcript::new(alloc, document)?;
         Ok(Writer {
             alloc,
             document: Document::new(document, Values::AsInDocument),
             references,
-            events: Vec::new(alloc),
+            transcript,
             spans: OpenSpans::new(alloc),
-            cursor: Point {
-                line: 1,
-                column: 1,
-                index: 0,
-                vs: 0,
-            },
         })
     }
 
@@ -123,7 +115,7 @@ impl<'d, R: References> Writer<'d, R> {
     pub fn cursor(&self) -> Point
         ensures { result ≡ self.now.cursor }
     {
-        self.cursor
+        self.transcript.cursor()
     }
 
     /// Opens a span at the cursor.
@@ -140,14 +132,10 @@ impl<'d, R: References> Writer<'d, R> {
         ensures refused { IfMisfit result (may_open self.old.given.bytes self.old.spans name self.old.cursor ≡ false) }
         ensures hopeless { IfMisfit result (IsHopeless (source self.old.given.bytes (R.text self.old.given.references)) (self.old.events ++ enter name self.old.cursor ∷ [])) }
     {
-        let point = self.cursor;
-        self.events.reserve(1)?;
+        let point = self.transcript.cursor();
+        self.transcript.reserve(1)?;
         self.spans.enter(&self.document, name, point)?;
-        self.events.push_reserved(Event {
-            kind: Kind::Enter,
-            name,
-            point,
-        });
+        self.transcript.enter(name);
         Ok(())
     }
 
@@ -166,16 +154,12 @@ impl<'d, R: References> Writer<'d, R> {
         ensures refused { IfMisfit result (may_close (source self.old.given.bytes (R.text self.old.given.references)) self.old.spans self.old.cursor ≡ false) }
         ensures hopeless { (name : Name) → IfMisfit result (IsHopeless (source self.old.given.bytes (R.text self.old.given.references)) (self.old.events ++ exit name self.old.cursor ∷ [])) }
     {
-        let point = self.cursor;
-        self.events.reserve(1)?;
+        let point = self.transcript.cursor();
+        self.transcript.reserve(1)?;
         let name = self
             .spans
             .exit(self.alloc, &self.document, self.references, point)?;
-        self.events.push_reserved(Event {
-            kind: Kind::Exit,
-            name,
-            point,
-        });
+        self.transcript.exit(name);
         Ok(())
     }
 
@@ -201,7 +185,7 @@ impl<'d, R: References> Writer<'d, R> {
             → (end : Point) × IsPlace self.old.given.bytes end × (end.index ≡ to) × (end.vs ≡ virtual_spaces)
             × IsHopeless (source self.old.given.bytes (R.text self.old.given.references)) (self.old.events ++ enter name self.old.cursor ∷ exit name end ∷ [])) }
     {
-        match point_at(self.document.bytes(), self.cursor, to, virtual_spaces) {
+        match self.transcript.point_at(to, virtual_spaces) {
             Some(end) => self.write(name, end),
             None => Err(WriteError::Misfit),
         }
@@ -227,7 +211,7 @@ impl<'d, R: References> Writer<'d, R> {
             → (end : Point) × IsPlace self.old.given.bytes end × IsLineStart self.old.given.bytes self.old.cursor end
             × IsHopeless (source self.old.given.bytes (R.text self.old.given.references)) (self.old.events ++ enter name self.old.cursor ∷ exit name end ∷ [])) }
     {
-        match line_start(self.document.bytes(), self.cursor) {
+        match self.transcript.next_line() {
             Some(end) => self.write(name, end),
             None => Err(WriteError::Misfit),
         }
@@ -245,8 +229,8 @@ impl<'d, R: References> Writer<'d, R> {
         ensures refused { IfMisfit result (may_write (source self.old.given.bytes (R.text self.old.given.references)) self.old.spans name self.old.cursor end ≡ false) }
         ensures hopeless { IfMisfit result (IsHopeless (source self.old.given.bytes (R.text self.old.given.references)) (self.old.events ++ enter name self.old.cursor ∷ exit name end ∷ [])) }
     {
-        let start = self.cursor;
-        self.events.reserve(2)?;
+        let start = self.transcript.cursor();
+        self.transcript.reserve(2)?;
         self.spans.token(
             self.alloc,
             &self.document,
@@ -255,17 +239,7 @@ impl<'d, R: References> Writer<'d, R> {
             start,
             end,
         )?;
-        self.events.push_reserved(Event {
-            kind: Kind::Enter,
-            name,
-            point: start,
-        });
-        self.events.push_reserved(Event {
-            kind: Kind::Exit,
-            name,
-            point: end,
-        });
-        self.cursor = end;
+        self.transcript.token(name, end);
         Ok(())
     }
 
@@ -279,9 +253,9 @@ impl<'d, R: References> Writer<'d, R> {
         ensures left { IfNone result (self.entry.spans.frames ≡ [] → self.entry.spans.site.after_break ≡ false
             → self.entry.cursor.index ≢ length self.entry.given.bytes) }
     {
-        if !self.spans.is_done() || self.cursor.index != self.document.bytes().len() {
+        if !self.spans.is_done() || !self.transcript.is_at_end() {
             return None;
         }
-        Some(self.events)
+        Some(self.transcript.into_events())
     }
 }

@@ -10,7 +10,7 @@ ghost use Rattle.markdown_options.specs.Spans.{AreOn};
 ghost use Rattle.markdown_text.specs.Standings.{IsAt};
 
 use character_references::html::HtmlReferences;
-use event_writer::writer::Writer;
+use event_writer::recorder::Recorder;
 use markdown_events::event::Event;
 use markdown_flow::document::read;
 use markdown_options::ParseOptions;
@@ -38,10 +38,7 @@ pub fn to_events(
     ensures on { IfOk result (λ events. AreOn options.now.constructs events.items) }
 {
     let writer = written(alloc, value.as_bytes(), options)?;
-    match writer.finish() {
-        Some(events) => Ok(events),
-        None => unreachable!(),
-    }
+    Ok(writer.finish())
 }
 
 /// Returns a writer that has written a document to its end.
@@ -49,7 +46,7 @@ fn written<'d>(
     alloc: Global,
     document: &'d [u8],
     options: &ParseOptions,
-) -> Result<Writer<'d, HtmlReferences>, AllocError>
+) -> Result<Recorder<'d, HtmlReferences>, AllocError>
     requires { IsUtf8 document.now }
     ensures given { IfOk result (λ writer. writer.given.bytes ≡ document.now) }
     ensures end { IfOk result (λ writer. writer.cursor.index ≡ length document.now) }
@@ -64,6 +61,6 @@ fn written<'d>(
         identifiers: &blocks.identifiers,
         references: &HtmlReferences,
     };
-    let writer = Writer::new(alloc, document, &HtmlReferences)?;
+    let writer = Recorder::new(alloc, document, &HtmlReferences)?;
     write(&reading, blocks.pieces.as_slice(), writer)
 }

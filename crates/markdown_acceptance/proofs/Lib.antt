@@ -6,3 +6,4 @@ mod Stepping
 pub mod Leading
 pub mod Accepting
 pub mod Refusing
+pub mod Following

@@ -5,3 +5,4 @@ pub mod Sites
 pub mod Stacks
 pub mod Calls
 pub mod Shown
+pub mod Following

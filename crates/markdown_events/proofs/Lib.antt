@@ -1,5 +1,5 @@
 pub mod Booleans
-mod Decimals
+pub mod Decimals
 pub mod Cuts
 pub mod LineEndings
 pub mod Collapsing
@@ -7,7 +7,9 @@ pub mod Spellings
 pub mod Unique
 pub mod Loose
 pub mod Lists
+pub mod Searches
 pub mod Spans
+mod Folding
 mod GhostWalks
 pub mod OpenSpans
 pub mod Aligns

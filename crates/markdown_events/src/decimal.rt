@@ -1,18 +1,16 @@
-//! Numbers in decimal digits, and short texts that contain them. Such a text is written from its
-//! last byte to its first, in the order in which the digits of a number are computed.
+//! Numbers in decimal digits, and short texts that contain them. Such a text is written into a buffer
+//! from its last byte to its first, in the order in which the digits of a number are computed.
 
 ghost use Rattle.std.specs.Fmt.{decimal};
-ghost use Rattle.std.specs.Prelude.{◌≡◌, ◌+◌, ◌≤◌, ◌<◌, ◌++◌, ◌∷◌, OnOk, drop, string_bytes};
+ghost use Rattle.std.specs.Prelude.{◌≡◌, ◌+◌, ◌-◌, ◌/◌, ◌%◌, ◌≤◌, ◌<◌, ◌++◌, ◌∷◌, OnOk, drop, length, string_bytes};
 ghost use Rattle.std.specs.Str.{IsUtf8};
 
 use std::alloc::AllocError;
+use std::str;
 
-/// The greatest length of the text of a position, in bytes: six numbers, and seven bytes around
-/// them.
-pub(crate) const ROOM: usize = 127;
-
-/// A buffer for one such text.
-pub(crate) type Buffer = [u8; ROOM];
+/// The digits of the numbers below 100, two for each.
+static PAIRS: [u8; 200] =
+    *b"00010203040506070809101112131415161718192021222324252627282930313233343536373839404142434445464748495051525354555657585960616263646566676869707172737475767778798081828384858687888990919293949596979899";
 
 /// Appends a number in decimal digits to a text. It allocates memory only for the text.
 ///
@@ -20,76 +18,90 @@ pub(crate) type Buffer = [u8; ROOM];
 pub fn push_decimal(out: &mut String, number: usize) -> Result<(), AllocError>
     ensures { OnOk result (string_bytes out.new ≡ string_bytes out.old ++ decimal number) }
 {
-    let mut buffer = [0; ROOM];
-    let start = put_decimal(&mut buffer, ROOM, number);
+    let mut buffer = [0; 20];
+    let start = put_decimal(&mut buffer, 20, number);
     out.push_str(text(&buffer, start))
 }
 
-/// Writes a byte before the bytes from `end` on, and returns its index.
-pub(crate) fn put(buffer: &mut Buffer, end: usize, byte: u8) -> usize
-    requires room { 1 ≤ end }
-    requires within { end ≤ 127 }
-    requires ascii { byte < 128 }
-    ensures place { end ≡ result + 1 }
-    ensures text { drop result buffer.new ≡ byte ∷ drop end buffer.old }
+/// Writes a text before the bytes from `end` on, and returns the index of its first byte.
+///
+/// In a buffer of three bytes with `c` at its end, `ab` before it makes `abc`, which begins at 0.
+#[inline(always)]
+pub fn put_text(buffer: &mut [u8], end: usize, text: &str) -> usize
+    requires room { length text.now ≤ end }
+    requires within { end ≤ length buffer.old }
+    ensures place { end ≡ result + length text.now }
+    ensures text { drop result buffer.new ≡ text.now ++ drop end buffer.old }
     ensures utf8 { IsUtf8 (drop end buffer.old) → IsUtf8 (drop result buffer.new) }
 {
-    let start = end - 1;
-    buffer[start] = byte;
+    let start = end - text.len();
+    buffer[start..end].copy_from_slice(text.as_bytes());
     start
 }
 
 /// Writes the decimal digits of a number before the bytes from `end` on, and returns the index of
 /// the first one.
-pub(crate) fn put_decimal(buffer: &mut Buffer, end: usize, number: usize) -> usize
+///
+/// In a buffer of twenty bytes the number 10 before its end begins at 18.
+#[inline]
+pub fn put_decimal(buffer: &mut [u8], end: usize, number: usize) -> usize
     requires room { 20 ≤ end }
-    requires within { end ≤ 127 }
+    requires within { end ≤ length buffer.old }
     ensures room { end ≤ result + 20 }
     ensures place { result < end }
     ensures text { drop result buffer.new ≡ decimal number ++ drop end buffer.old }
     ensures utf8 { IsUtf8 (drop end buffer.old) → IsUtf8 (drop result buffer.new) }
 {
-    let mut start = end - 1;
+    let mut start = end;
     let mut rest = number;
-    while rest > 9 {
-        buffer[start] = b'0' + (rest % 10) as u8;
-        rest /= 10;
-        start -= 1;
+    while rest > 99 {
+        put_pair(buffer, start, rest % 100);
+        rest /= 100;
+        start -= 2;
     }
-    buffer[start] = b'0' + rest as u8;
-    start
+    put_first(buffer, start, rest)
 }
 
-/// Writes two numbers with a byte between them before the bytes from `end` on, and returns the
-/// index of the first digit.
-pub(crate) fn put_pair(
-    buffer: &mut Buffer,
-    end: usize,
-    first: usize,
-    between: u8,
-    second: usize,
-) -> usize
-    requires room { 41 ≤ end }
-    requires within { end ≤ 127 }
-    requires ascii { between < 128 }
-    ensures room { end ≤ result + 41 }
-    ensures place { result < end }
-    ensures text { drop result buffer.new ≡ decimal first ++ (between ∷ (decimal second ++ drop end buffer.old)) }
-    ensures utf8 { IsUtf8 (drop end buffer.old) → IsUtf8 (drop result buffer.new) }
+/// Writes the one or two digits of a number below 100 before the bytes from `end` on, and returns
+/// the index of the first one.
+#[inline(always)]
+fn put_first(buffer: &mut [u8], end: usize, number: usize) -> usize
+    requires number { number < 100 }
+    requires room { 1 ≤ end }
+    requires more { 9 < number → 2 ≤ end }
+    requires within { end ≤ length buffer.old }
+    ensures one { number ≤ 9 → end ≡ result + 1 }
+    ensures two { 9 < number → end ≡ result + 2 }
+    ensures text { drop result buffer.new ≡ decimal number ++ drop end buffer.old }
 {
-    let end = put_decimal(buffer, end, second);
-    let end = put(buffer, end, between);
-    put_decimal(buffer, end, first)
+    if number > 9 {
+        put_pair(buffer, end, number);
+        return end - 2;
+    }
+    buffer[end - 1] = b'0' + number as u8;
+    end - 1
 }
 
-/// Returns the bytes from `start` on, as a text.
-pub(crate) fn text(buffer: &Buffer, start: usize) -> &str
-    requires within { start ≤ 127 }
+/// Writes two digits of a number below 100 before the bytes from `end` on.
+#[inline(always)]
+fn put_pair(buffer: &mut [u8], end: usize, number: usize)
+    requires number { number < 100 }
+    requires room { 2 ≤ end }
+    requires within { end ≤ length buffer.old }
+    ensures { drop (end - 2) buffer.new ≡ (48 + number / 10) ∷ ((48 + number % 10) ∷ drop end buffer.old) }
+{
+    buffer[end - 2] = PAIRS[number * 2];
+    buffer[end - 1] = PAIRS[number * 2 + 1];
+}
+
+/// Returns the bytes of a buffer from `start` on, as a text.
+///
+/// From 18 on it is `10`, where that is what the last two bytes are.
+#[inline(always)]
+pub fn text(buffer: &[u8], start: usize) -> &str
+    requires within { start ≤ length buffer.now }
     requires text { IsUtf8 (drop start buffer.now) }
     ensures { result.now ≡ drop start buffer.now }
 {
-    match str::from_utf8(&buffer[start..]) {
-        Ok(text) => text,
-        Err(_) => unreachable!(),
-    }
+    unsafe { str::from_utf8_unchecked(&buffer[start..]) }
 }

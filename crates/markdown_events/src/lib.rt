@@ -3,7 +3,7 @@
 //! of a list, which counts steps.
 //!
 //! What needs no event is here, too: points and positions of unist (`unist`), messages with a place
-//! (`message`), numbers in decimal digits (`decimal`), and transformations of texts (`text`). The
+//! (`message`), numbers in decimal digits (`decimal`), searches (`search`), and transformations of texts (`text`). The
 //! crate `markdown_nodes` re-exports these modules, each under its name.
 #![tactic(auto)]
 
@@ -15,6 +15,7 @@ pub mod infer;
 pub mod laws;
 pub mod message;
 pub mod role;
+pub mod search;
 pub mod steps;
 pub mod text;
 pub mod unist;

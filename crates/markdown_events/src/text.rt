@@ -91,14 +91,19 @@ pub fn normalize_identifier(alloc: Global, value: &str) -> Result<String, AllocE
     ensures { IfOk result (λ text. string_bytes text ≡ fold value.now) }
 {
     let text = collapsed(alloc, value)?;
-    folded(alloc, text.as_str())
+    folded(alloc, text)
 }
 
-/// Returns the text with full case folding.
-fn folded(alloc: Global, value: &str) -> Result<String, AllocError>
-    ensures { IfOk result (λ text. string_bytes text ≡ encode_utf8_all (default_case_fold (chars value.now))) }
+/// Returns the text with full case folding. That of a text in ASCII is the same in lower case.
+fn folded(alloc: Global, text: String) -> Result<String, AllocError>
+    ensures { IfOk result (λ folded. string_bytes folded ≡ encode_utf8_all (default_case_fold (chars (string_bytes text)))) }
 {
-    caseless::default_case_fold_str(alloc, value)
+    if !text.as_str().is_ascii() {
+        return caseless::default_case_fold_str(alloc, text.as_str());
+    }
+    let mut lower = text;
+    lower.make_ascii_lowercase();
+    Ok(lower)
 }
 
 /// Returns the rest of a text after this first character, if it begins with it.

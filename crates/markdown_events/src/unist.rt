@@ -4,8 +4,14 @@ ghost use Rattle.std.specs.Prelude.{◌≡◌, ◌≤◌, Some, drop};
 ghost use Rattle.std.specs.Str.{IsUtf8};
 ghost use Rattle.markdown_events.specs.Places.{point_text, position_text};
 
-use crate::decimal::{Buffer, ROOM, put, put_decimal, put_pair, text};
+use crate::decimal::{put_decimal, put_text, text};
 use std::fmt;
+
+/// The greatest size of the text of a point: three numbers of up to 20 digits, and four bytes.
+const POINT_SIZE: usize = 64;
+
+/// The greatest size of the text of a position: six numbers, and seven bytes.
+const POSITION_SIZE: usize = 127;
 
 /// One place in a document (unist, `Point`). Debug prints it as `1:3 (2)`: line, column and offset.
 ///
@@ -40,7 +46,7 @@ impl fmt::Debug for Point {
     ghost debug_output = { λ point. Some (point_text point) };
 
     fn fmt<W: fmt::Write>(&self, f: &mut fmt::Formatter<W>) -> fmt::Result {
-        let mut buffer = [0; ROOM];
+        let mut buffer = [0; POINT_SIZE];
         let start = put_point(&mut buffer, *self);
         f.write_str(text(&buffer, start))
     }
@@ -85,37 +91,43 @@ impl fmt::Debug for Position {
     ghost debug_output = { λ position. Some (position_text position) };
 
     fn fmt<W: fmt::Write>(&self, f: &mut fmt::Formatter<W>) -> fmt::Result {
-        let mut buffer = [0; ROOM];
+        let mut buffer = [0; POSITION_SIZE];
         let start = put_position(&mut buffer, *self);
         f.write_str(text(&buffer, start))
     }
 }
 
 /// Writes the text of a point at the end of a buffer, and returns the index of its first byte.
-fn put_point(buffer: &mut Buffer, point: Point) -> usize
-    ensures within { result ≤ 127 }
+fn put_point(buffer: &mut [u8; POINT_SIZE], point: Point) -> usize
+    ensures within { result ≤ 64 }
     ensures text { drop result buffer.new ≡ point_text point }
     ensures utf8 { IsUtf8 (drop result buffer.new) }
 {
-    let end = put(buffer, ROOM, b')');
+    let end = put_text(buffer, POINT_SIZE, ")");
     let end = put_decimal(buffer, end, point.offset);
-    let end = put(buffer, end, b'(');
-    let end = put(buffer, end, b' ');
-    put_pair(buffer, end, point.line, b':', point.column)
+    let end = put_text(buffer, end, " (");
+    let end = put_decimal(buffer, end, point.column);
+    let end = put_text(buffer, end, ":");
+    put_decimal(buffer, end, point.line)
 }
 
 /// Writes the text of a position at the end of a buffer, and returns the index of its first byte.
-fn put_position(buffer: &mut Buffer, position: Position) -> usize
+fn put_position(buffer: &mut [u8; POSITION_SIZE], position: Position) -> usize
     ensures within { result ≤ 127 }
     ensures text { drop result buffer.new ≡ position_text position }
     ensures utf8 { IsUtf8 (drop result buffer.new) }
 {
     let Position { start, end: last } = position;
-    let end = put(buffer, ROOM, b')');
-    let end = put_pair(buffer, end, start.offset, b'-', last.offset);
-    let end = put(buffer, end, b'(');
-    let end = put(buffer, end, b' ');
-    let end = put_pair(buffer, end, last.line, b':', last.column);
-    let end = put(buffer, end, b'-');
-    put_pair(buffer, end, start.line, b':', start.column)
+    let end = put_text(buffer, POSITION_SIZE, ")");
+    let end = put_decimal(buffer, end, last.offset);
+    let end = put_text(buffer, end, "-");
+    let end = put_decimal(buffer, end, start.offset);
+    let end = put_text(buffer, end, " (");
+    let end = put_decimal(buffer, end, last.column);
+    let end = put_text(buffer, end, ":");
+    let end = put_decimal(buffer, end, last.line);
+    let end = put_text(buffer, end, "-");
+    let end = put_decimal(buffer, end, start.column);
+    let end = put_text(buffer, end, ":");
+    put_decimal(buffer, end, start.line)
 }

@@ -18,3 +18,4 @@ pub mod Definitions
 pub mod Tails
 pub mod Scanned
 mod CodeExamples
+mod LineSizes

@@ -34,6 +34,7 @@ ghost use Rattle.markdown_flow.specs.Lines.{
 use crate::space_or_tab::after_spaces;
 use commonmark_syntax::bytes::{after, is_space_or_tab};
 use commonmark_syntax::thematic_break;
+use markdown_events::search::find_control;
 use markdown_options::Constructs;
 
 /// How many columns are between two tab stops (CommonMark).
@@ -296,12 +297,12 @@ fn line_size(text: &[u8]) -> usize
     ensures in_line { IsInLine text.now 0 result }
     ensures ending { result < length text.now → EndsLine text.now result }
 {
-    for (size, byte) in text.iter().enumerate() {
-        if matches!(*byte, b'\n' | b'\r') {
-            return size;
-        }
+    let mut size = find_control(text);
+    'controls: while size < text.len() && !matches!(text[size], b'\n' | b'\r') {
+        size += 1;
+        size += find_control(&text[size..]);
     }
-    text.len()
+    size
 }
 
 /// Returns the text after the line ending that it begins with (CommonMark): a line feed, a carriage

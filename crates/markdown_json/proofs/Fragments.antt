@@ -1,61 +1,73 @@
 -- A text is written in fragments: what needs no escape, and an escape after it.
-use Rattle.std.proofs.Common.{◌≡◌, ℕ, ◌+◌, ◌-◌, ◌<◌, ◌≤◌, List, [], ◌∷◌, ◌++◌, length, take, drop, get_or, sym, ap, ◌∙◌, subst, arith, append-nil, append_assoc}
-use Rattle.std.specs.Str.{IsCharBoundary, IsUtf8}
-use Rattle.std.proofs.lemmas.List.{get_or-drop, length-drop, take_more}
-use Rattle.std.proofs.lemmas.Str.{IsCharBoundary-after_ascii}
+use Rattle.std.proofs.Common.{◌≡◌, ◌≢◌, ℕ, zero, suc, ◌+◌, ◌<◌, ◌≤◌, List, [], ◌∷◌, ◌++◌, length, take, drop, slice_index, Option, None, Some, refl, subst, sym, ap, ap₂, ◌∙◌, arith, append-nil, append_assoc, nat_eq, nat_lt, false}
+use Rattle.std.specs.Prelude.{slice_get}
+use Rattle.std.proofs.lemmas.Bool.Decides.{nat_tests}
 use Rattle.std.proofs.lemmas.Grind.{flat_map-append}
+use Rattle.std.proofs.lemmas.List.{get_or-drop, length-drop, take-append-drop}
 use Rattle.markdown_json.specs.Strings.{escape, escaped}
 
--- the bytes that are still to be written as they are
-abbrev pub fragment : List ℕ → ℕ → ℕ → List ℕ
-fragment text start at = take (at - start) (drop start text)
+-- a byte that is no control character, no quote and no backslash
+pub plain_byte : (b : ℕ) → 32 ≤ b → b ≢ 34 → b ≢ 92 → escape b ≡ b ∷ []
+unfolding escape
+plain_byte b high quote backslash =
+    let a : nat_eq b 34 ≡ false = grind (arith, nat_tests) in
+    let c : nat_eq b 92 ≡ false = grind (arith, nat_tests) in
+    let d : nat_eq b 8 ≡ false = grind (arith, nat_tests) in
+    let e : nat_eq b 9 ≡ false = grind (arith, nat_tests) in
+    let f : nat_eq b 10 ≡ false = grind (arith, nat_tests) in
+    let g : nat_eq b 12 ≡ false = grind (arith, nat_tests) in
+    let h : nat_eq b 13 ≡ false = grind (arith, nat_tests) in
+    let i : nat_lt b 32 ≡ false = grind (arith, nat_tests) in
+    rw (a, c, d, e, f, g, h, i) refl
 
--- what is written, and the fragment that is not yet written, stand for the bytes so far
-abbrev pub Fragments : List ℕ → List ℕ → List ℕ → ℕ → ℕ → Type 0
-Fragments initial out text start at = (start ≤ at) × IsCharBoundary text start × (out ++ fragment text start at ≡ initial ++ escaped (take at text))
+-- bytes that need no escape stand as they are
+pub stands : (text : List ℕ) (n : ℕ) → n ≤ length text → ((k : ℕ) → k < n → escape (slice_index text k) ≡ slice_index text k ∷ []) → escaped (take n text) ≡ take n text
+stands text zero within plain = refl
+stands [] (suc n) within plain = absurd (omega arith)
+stands (b ∷ text) (suc n) within plain = ap₂ (λ (s t : List ℕ). s ++ t) (plain 0 (omega arith)) (stands text n (omega arith) (λ k below. plain (suc k) (omega arith)))
 
--- one byte more stands for what its escape says
-one_more : (text : List ℕ) (at : ℕ) → at < length text → escaped (take (at + 1) text) ≡ escaped (take at text) ++ escape (get_or text at 0)
-one_more text at within =
-    ap (λ (t : List ℕ). escaped t) (take_more text at 0 within)
-    ∙ flat_map-append escape (take at text) (get_or text at 0 ∷ [])
-    ∙ ap (λ (s : List ℕ). escaped (take at text) ++ s) (append-nil (escape (get_or text at 0)))
+-- a fragment, the escape of the byte after it, and the rest
+pub fragment : (text : List ℕ) (n b : ℕ) (rest : List ℕ) → n ≤ length text → ((k : ℕ) → k < n → escape (slice_index text k) ≡ slice_index text k ∷ []) → drop n text ≡ b ∷ rest → escaped text ≡ take n text ++ (escape b ++ escaped rest)
+fragment text n b rest within plain after =
+    ap escaped (sym (take-append-drop n text) ∙ ap (λ s. take n text ++ s) after)
+    ∙ flat_map-append escape (take n text) (b ∷ rest)
+    ∙ ap (λ s. s ++ (escape b ++ escaped rest)) (stands text n within plain)
 
--- a byte that stands as it is makes the fragment longer
-longer : (text : List ℕ) (start at : ℕ) → start ≤ at → at < length text → fragment text start (at + 1) ≡ fragment text start at ++ get_or text at 0 ∷ []
-longer text start at low within =
-    let more : (at + 1) - start ≡ (at - start) + 1 = omega (arith, low) in
-    let there : at - start < length (drop start text) = rw (length-drop start text) (omega (arith, low, within)) in
-    let byte : get_or (drop start text) (at - start) 0 ≡ get_or text at 0 = get_or-drop start text (at - start) 0 ∙ ap (λ (i : ℕ). get_or text i 0) (let e : start + (at - start) ≡ at = omega (arith, low) in e) in
-    ap (λ (n : ℕ). take n (drop start text)) more
-    ∙ take_more (drop start text) (at - start) 0 there
-    ∙ ap (λ (b : ℕ). fragment text start at ++ b ∷ []) byte
+-- ---- The loop
 
--- a byte that stands as it is
-pub goes_on : (initial out text bytes : List ℕ) (start at : ℕ) → bytes ≡ text → Fragments initial out text start at → at < length text → escape (get_or bytes at 0) ≡ get_or bytes at 0 ∷ [] → Fragments initial out text start (at + 1)
-goes_on initial out text bytes start at same so_far within plain =
-    let stands : escape (get_or text at 0) ≡ get_or text at 0 ∷ [] = subst (λ (t : List ℕ). escape (get_or t at 0) ≡ get_or t at 0 ∷ []) same plain in (
-      omega (arith, so_far.0),
-      so_far.1,
-      ap (λ (s : List ℕ). out ++ s) (longer text start at so_far.0 within)
-          ∙ sym (append_assoc out (fragment text start at) (get_or text at 0 ∷ []))
-          ∙ ap (λ (s : List ℕ). s ++ get_or text at 0 ∷ []) so_far.2
-          ∙ append_assoc initial (escaped (take at text)) (get_or text at 0 ∷ [])
-          ∙ ap (λ (s : List ℕ). initial ++ s) (ap (λ (s : List ℕ). escaped (take at text) ++ s) (sym stands) ∙ sym (one_more text at within)),
-    )
+-- the first byte of what comes after a fragment, if there is one
+pub at_end : (text : List ℕ) → slice_get text 0 ≡ None → text ≡ []
+at_end [] none = refl
+at_end (b ∷ text) none = absurd cc
 
--- an escape after a fragment
-pub ends : (initial out part written text bytes : List ℕ) (start at : ℕ) → bytes ≡ text → Fragments initial out text start at → IsUtf8 text → at < length text → get_or bytes at 0 < 128 → part ≡ fragment text start at → written ≡ (out ++ part) ++ escape (get_or bytes at 0) → Fragments initial written text (at + 1) (at + 1)
-ends initial out part written text bytes start at same so_far utf8 within ascii cut is =
-    let none : fragment text (at + 1) (at + 1) ≡ [] = ap (λ (n : ℕ). take n (drop (at + 1) text)) (let e : (at + 1) - (at + 1) ≡ 0 = omega arith in e) in (
-      (let here : at + 1 ≤ at + 1 = omega arith in here),
-      IsCharBoundary-after_ascii text at utf8 within (subst (λ (t : List ℕ). get_or t at 0 < 128) same ascii),
-      ap (λ (s : List ℕ). written ++ s) none
-          ∙ append-nil written
-          ∙ is
-          ∙ ap (λ (t : List ℕ). (out ++ part) ++ escape (get_or t at 0)) same
-          ∙ ap (λ (s : List ℕ). (out ++ s) ++ escape (get_or text at 0)) cut
-          ∙ ap (λ (s : List ℕ). s ++ escape (get_or text at 0)) so_far.2
-          ∙ append_assoc initial (escaped (take at text)) (escape (get_or text at 0))
-          ∙ ap (λ (s : List ℕ). initial ++ s) (sym (one_more text at within)),
-    )
+pub begins : (text : List ℕ) (b : ℕ) → slice_get text 0 ≡ Some b → text ≡ b ∷ drop 1 text
+begins [] b some = absurd cc
+begins (c ∷ text) b some = let same : c ≡ b = cc in ap (λ x. x ∷ text) same
+
+-- the last fragment
+pub ends : (whole out next rest : List ℕ) (n : ℕ) → n ≤ length rest → ((k : ℕ) → k < n → escape (slice_index rest k) ≡ slice_index rest k ∷ []) → drop n rest ≡ [] → next ≡ out ++ take n rest → out ++ escaped rest ≡ whole → next ≡ whole
+ends whole out next rest n within plain none next-is so_far =
+    let all : take n rest ≡ rest = sym (append-nil (take n rest)) ∙ ap (λ s. take n rest ++ s) (sym none) ∙ take-append-drop n rest in
+    next-is
+    ∙ ap (λ s. out ++ s) (sym (stands rest n within plain) ∙ ap escaped all)
+    ∙ so_far
+
+-- a fragment with an escape after it
+pub goes_on : (whole out part written rest later : List ℕ) (n b : ℕ) → n ≤ length rest → ((k : ℕ) → k < n → escape (slice_index rest k) ≡ slice_index rest k ∷ []) → drop n rest ≡ b ∷ later → part ≡ out ++ take n rest → written ≡ part ++ escape b → out ++ escaped rest ≡ whole → written ++ escaped later ≡ whole
+goes_on whole out part written rest later n b within plain after part-is written-is so_far =
+    ap (λ s. s ++ escaped later) (written-is ∙ ap (λ s. s ++ escape b) part-is)
+    ∙ append_assoc (out ++ take n rest) (escape b) (escaped later)
+    ∙ append_assoc out (take n rest) (escape b ++ escaped later)
+    ∙ ap (λ s. out ++ s) (sym (fragment rest n b later within plain after))
+    ∙ so_far
+
+pub some : (text : List ℕ) (b : ℕ) → text ≡ b ∷ drop 1 text → 0 < length text
+some [] b is = absurd cc
+some (c ∷ text) b is = omega arith
+
+-- the byte after a fragment is that of the text
+pub first_is_ascii : (text after : List ℕ) (n b : ℕ) → after ≡ drop n text → after ≡ b ∷ drop 1 after → (n < length text → slice_index text n < 128) → slice_index after 0 < 128
+first_is_ascii text after n b back first ascii =
+    let there : n < length text = let long = some after b first in let left = ap length back ∙ length-drop n text in omega (arith, long, left) in
+    let place : n + 0 ≡ n = omega arith in
+    subst (λ c. c < 128) (sym (ap (λ t. slice_index t 0) back ∙ get_or-drop n text 0 0 ∙ ap (λ i. slice_index text i) place)) (ascii there)

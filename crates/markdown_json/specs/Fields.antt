@@ -77,9 +77,13 @@ reference reference_kind identifier label = association identifier label ++ fiel
 unfoldable pub point : Point → List ℕ
 point place = codes "{\"line\":" ++ decimal place.line ++ field (codes "column") (decimal place.column) ++ field (codes "offset") (decimal place.offset) ++ codes "}"
 
+-- the position from one point to another
+unfoldable pub position_between : Point → Point → List ℕ
+position_between start end = codes "{\"start\":" ++ point start ++ field (codes "end") (point end) ++ codes "}"
+
 -- a position, with its points counted in this way
-unfoldable pub position_value : (Point → Point) → Position → List ℕ
-position_value counted position = codes "{\"start\":" ++ point (counted position.start) ++ field (codes "end") (point (counted position.end)) ++ codes "}"
+abbrev pub position_value : (Point → Point) → Position → List ℕ
+position_value counted position = position_between (counted position.start) (counted position.end)
 
 -- the field of a position, left out if there is none
 abbrev pub position_field : (Point → Point) → Option Position → List ℕ

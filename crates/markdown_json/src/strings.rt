@@ -1,9 +1,10 @@
 //! Texts as JSON strings.
 
 ghost use Rattle.std.specs.Char.{digit_char};
-ghost use Rattle.std.specs.Prelude.{◌≡◌, ◌++◌, ◌∷◌, ◌<◌, [], OnOk, IsFalse, IsTrue, string_bytes};
+ghost use Rattle.std.specs.Prelude.{◌≡◌, ◌++◌, ◌∷◌, ◌<◌, ◌≤◌, ℕ, [], OnOk, IsFalse, IsTrue, length, slice_index, string_bytes};
 ghost use Rattle.markdown_json.specs.Strings.{escape, escaped, string};
 
+use markdown_events::search::{first_below, first_equal};
 use std::alloc::AllocError;
 
 /// Appends a text unchanged, like `push_str`, with a contract in bytes. The only error is that
@@ -33,16 +34,60 @@ pub fn push_string(out: &mut String, text: &str) -> Result<(), AllocError>
 fn push_escaped(out: &mut String, text: &str) -> Result<(), AllocError>
     ensures { OnOk result (string_bytes out.new ≡ string_bytes out.old ++ escaped text.now) }
 {
-    let bytes = text.as_bytes();
-    let mut start = 0;
-    for at in 0..bytes.len() {
-        if is_escaped(bytes[at]) {
-            out.push_str(&text[start..at])?;
-            push_escape(out, bytes[at])?;
-            start = at + 1;
-        }
+    let mut rest = text;
+    'fragments: loop {
+        let (plain, after) = rest.split_at(plain_size(rest.as_bytes()));
+        out.push_str(plain)?;
+        let Some(byte) = after.as_bytes().first() else {
+            return Ok(());
+        };
+        push_escape(out, *byte)?;
+        rest = &after[1..];
     }
-    out.push_str(&text[start..])
+}
+
+/// Returns how many bytes of a text come before the first one that has an escape.
+fn plain_size(text: &[u8]) -> usize
+    ensures within { result ≤ length text.now }
+    ensures plain { (k : ℕ) → k < result → escape (slice_index text.now k) ≡ slice_index text.now k ∷ [] }
+    ensures ascii { result < length text.now → slice_index text.now result < 128 }
+{
+    let mut at = 0;
+    while text.len() - at >= 16 {
+        let before = plain_size_of_16(&text[at..]);
+        if before < 16 {
+            return at + before;
+        }
+        at += 16;
+    }
+    at + plain_size_of_few(&text[at..])
+}
+
+/// Returns how many of the first 16 bytes of a text come before the first one that has an escape.
+#[inline(always)]
+fn plain_size_of_16(text: &[u8]) -> usize
+    requires { 16 ≤ length text.now }
+    ensures most { result ≤ 16 }
+    ensures plain { (k : ℕ) → k < result → escape (slice_index text.now k) ≡ slice_index text.now k ∷ [] }
+    ensures ascii { result < 16 → slice_index text.now result < 128 }
+{
+    let control = first_below(text, b' ');
+    let quote = first_equal(text, b'"');
+    let backslash = first_equal(text, b'\\');
+    control.min(quote).min(backslash)
+}
+
+/// Does what `plain_size` does, byte by byte.
+fn plain_size_of_few(text: &[u8]) -> usize
+    ensures within { result ≤ length text.now }
+    ensures plain { (k : ℕ) → k < result → escape (slice_index text.now k) ≡ slice_index text.now k ∷ [] }
+    ensures ascii { result < length text.now → slice_index text.now result < 128 }
+{
+    let mut at = 0;
+    while at < text.len() && !is_escaped(text[at]) {
+        at += 1;
+    }
+    at
 }
 
 /// Whether a byte has an escape: a quote, a backslash or a control character.

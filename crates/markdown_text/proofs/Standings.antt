@@ -1,5 +1,5 @@
 -- Where a writer stands, before and after its calls.
-use Rattle.std.proofs.Common.{Bool, Err, IfSome, List, None, Option, Some, [], ap, arith, false, if◌then◌else◌, inl, inr, is_some, length, not, refl, slice_range, subst, sym, true, ℕ, ◌&&◌, ◌+◌, ◌-◌, ◌<◌, ◌∷◌, ◌∙◌, ◌≡◌, ◌≤◌, ◌⊎◌}
+use Rattle.std.proofs.Common.{Bool, IfSome, List, None, Option, Some, [], ap, arith, false, if◌then◌else◌, inl, inr, is_some, length, not, refl, slice_range, subst, sym, true, ℕ, ◌&&◌, ◌+◌, ◌-◌, ◌<◌, ◌∷◌, ◌∙◌, ◌≡◌, ◌≤◌, ◌⊎◌}
 use Rattle.std.specs.Prelude.{get_or, nat_le, nat_lt, unwrap_or}
 use Rattle.std.specs.Str.{IsCharBoundary, is_utf8}
 use Rattle.std.proofs.lemmas.Str.{IsCharBoundary-after_ascii, IsUtf8-between, IsUtf8-from_is_utf8, is_utf8-from_IsUtf8}
@@ -13,9 +13,7 @@ use Rattle.event_writer.specs.Stages.{Enclosing, Stage, character_reference_valu
 use Rattle.event_writer.specs.Standing.{StandsAt, are_signs, is_decoded, is_readable}
 use Rattle.event_writer.specs.Written.{Given, Written}
 use Rattle.event_writer.proofs.Standing.{begun, broken, finished, may_begin, may_break, may_finish, may_mend, may_stand, mended, moved, moved_break, stood, weaker}
-use Rattle.markdown_acceptance.specs.Calls.{AfterToken, Closed, IfMisfit, Opened, may_close, may_open, may_write}
-use Rattle.markdown_acceptance.specs.declared.error.WriteError.{WriteError}
-use Rattle.markdown_acceptance.specs.declared.error.WriteError.TheVariants.{Misfit}
+use Rattle.markdown_acceptance.specs.Calls.{AfterToken, Closed, Opened, may_close, may_open, may_write}
 use Rattle.markdown_events.specs.Names.{role_of}
 use Rattle.markdown_events.specs.Slices.{edge, slice, text_between}
 use Rattle.markdown_events.specs.declared.event.Name.{Name}
@@ -165,17 +163,6 @@ pub cut_is_boundary : (bytes : List ℕ) (i : ℕ) → is_utf8 bytes ≡ true �
 cut_is_boundary bytes i valid within cut = cut_boundary bytes i (IsUtf8-from_is_utf8 bytes valid) within cut
 
 -- ---- A writer that goes on
-
-pub contrary : {b : Bool} → b ≡ true → b ≡ false → ⊥
-contrary may not_so = absurd (cc (sym may ∙ not_so))
-
--- what is allowed is not refused
-pub allowed : {b : Bool} (e : WriteError) → e ≡ Misfit → b ≡ true → IfMisfit {X = Unit {0}} (Err e) (b ≡ false) → ⊥
-allowed {b} e is may refused = let not_so : b ≡ false = subst (λ (x : WriteError). IfMisfit {X = Unit {0}} (Err x) (b ≡ false)) is refused in absurd (cc (sym may ∙ not_so))
-
--- the point up to which it would be refused
-pub refusal : {P : Type 0} (e : WriteError) → e ≡ Misfit → IfMisfit {X = Unit {0}} (Err e) P → P
-refusal {P} e is refused = subst (λ (x : WriteError). IfMisfit {X = Unit {0}} (Err x) P) is refused
 
 gone : (from to : Point → Type 0) (waits : Bool) (spans : Stack) (a : Stage) (outer : List Enclosing) → ((p : Point) → from p → to p) → StandsAt waits from spans a outer → StandsAt waits to spans a outer
 gone from to true spans a outer h s = moved_break from to spans a outer h s

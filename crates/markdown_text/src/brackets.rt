@@ -10,7 +10,7 @@ use crate::token::Labelled;
 use std::alloc::{AllocError, Global};
 
 /// What an opening bracket may begin.
-#[derive(Clone, Copy, PartialEq, Eq, Debug)]
+#[derive(Clone, Copy, PartialEq, Eq)]
 pub enum LabelForm {
     /// The label of a link: `[`.
     Link,
@@ -32,7 +32,7 @@ impl LabelForm {
 }
 
 /// An opening bracket.
-#[derive(Clone, Copy, PartialEq, Eq, Debug)]
+#[derive(Clone, Copy)]
 pub struct Bracket {
     /// What it may begin.
     pub form: LabelForm,

@@ -17,13 +17,12 @@ ghost use Rattle.markdown_text.specs.Spans.{IsWithin};
 ghost use Rattle.markdown_text.specs.Standings.{BreaksAt, IsAt, MayBreak, MayEndLine, MayEnter, MayExit, MayWrite, StandsIn, after_line};
 
 use character_references::references::References;
-use event_writer::error::WriteError;
-use event_writer::writer::Writer;
+use event_writer::recorder::Recorder;
 use markdown_events::event::Name;
 use std::alloc::AllocError;
 
 /// Opens a span at the cursor. The only error is that memory ran out.
-pub fn enter<R: References>(writer: &mut Writer<'_, R>, name: Name) -> Result<(), AllocError>
+pub fn enter<R: References>(writer: &mut Recorder<'_, R>, name: Name) -> Result<(), AllocError>
     requires { MayEnter writer.old name }
     ensures given { writer.new.given ≡ writer.old.given }
     ensures cursor { writer.new.cursor ≡ writer.old.cursor }
@@ -32,15 +31,12 @@ pub fn enter<R: References>(writer: &mut Writer<'_, R>, name: Name) -> Result<()
     ensures others { is_attention name ≡ false → OnOk result (attention_events writer.new.events ≡ attention_events writer.old.events) }
     ensures attention { is_attention name ≡ true → OnOk result (attention_events writer.new.events ≡ attention_events writer.old.events ++ forest.enter name writer.old.cursor ∷ []) }
 {
-    match writer.enter(name) {
-        Ok(()) => Ok(()),
-        Err(WriteError::Memory(error)) => Err(error),
-        Err(WriteError::Misfit) => unreachable!(),
-    }
+    writer.enter(name)?;
+    Ok(())
 }
 
 /// Closes the innermost span at the cursor. The only error is that memory ran out.
-pub fn exit<R: References>(writer: &mut Writer<'_, R>) -> Result<(), AllocError>
+pub fn exit<R: References>(writer: &mut Recorder<'_, R>) -> Result<(), AllocError>
     requires { MayExit writer.old }
     ensures given { writer.new.given ≡ writer.old.given }
     ensures cursor { writer.new.cursor ≡ writer.old.cursor }
@@ -49,17 +45,14 @@ pub fn exit<R: References>(writer: &mut Writer<'_, R>) -> Result<(), AllocError>
     ensures others { (own a : Stage) → (name : Name) → (outer : List Enclosing) → IsAt writer.old own (inside name a outer) → is_attention name ≡ false → OnOk result (attention_events writer.new.events ≡ attention_events writer.old.events) }
     ensures attention { (own a : Stage) → (name : Name) → (outer : List Enclosing) → IsAt writer.old own (inside name a outer) → is_attention name ≡ true → OnOk result (attention_events writer.new.events ≡ attention_events writer.old.events ++ forest.exit name writer.old.cursor ∷ []) }
 {
-    match writer.exit() {
-        Ok(()) => Ok(()),
-        Err(WriteError::Memory(error)) => Err(error),
-        Err(WriteError::Misfit) => unreachable!(),
-    }
+    writer.exit()?;
+    Ok(())
 }
 
 /// Writes a token up to an offset of the line, and a number of columns into the tab there. The only
 /// error is that memory ran out.
 pub fn token<R: References>(
-    writer: &mut Writer<'_, R>,
+    writer: &mut Recorder<'_, R>,
     name: Name,
     to: usize,
     virtual_spaces: usize,
@@ -73,17 +66,14 @@ pub fn token<R: References>(
     ensures within { (c : Constructs) → IsWithin c writer.old → is_on c name ≡ true → OnOk result (IsWithin c writer.new) }
     ensures attention { is_attention name ≡ false → OnOk result (attention_events writer.new.events ≡ attention_events writer.old.events) }
 {
-    match writer.token(name, to, virtual_spaces) {
-        Ok(()) => Ok(()),
-        Err(WriteError::Memory(error)) => Err(error),
-        Err(WriteError::Misfit) => unreachable!(),
-    }
+    writer.token(name, to, virtual_spaces)?;
+    Ok(())
 }
 
 /// Writes a hard break up to an offset of the line. It then waits for its line ending. The only
 /// error is that memory ran out.
 pub fn hard_break<R: References>(
-    writer: &mut Writer<'_, R>,
+    writer: &mut Recorder<'_, R>,
     name: Name,
     to: usize,
 ) -> Result<(), AllocError>
@@ -96,15 +86,15 @@ pub fn hard_break<R: References>(
     ensures within { (c : Constructs) → IsWithin c writer.old → is_on c name ≡ true → OnOk result (IsWithin c writer.new) }
     ensures attention { is_attention name ≡ false → OnOk result (attention_events writer.new.events ≡ attention_events writer.old.events) }
 {
-    match writer.token(name, to, 0) {
-        Ok(()) => Ok(()),
-        Err(WriteError::Memory(error)) => Err(error),
-        Err(WriteError::Misfit) => unreachable!(),
-    }
+    writer.token(name, to, 0)?;
+    Ok(())
 }
 
 /// Writes the line ending at the cursor as a token of this name. The only error is that memory ran out.
-pub fn line_ending<R: References>(writer: &mut Writer<'_, R>, name: Name) -> Result<(), AllocError>
+pub fn line_ending<R: References>(
+    writer: &mut Recorder<'_, R>,
+    name: Name,
+) -> Result<(), AllocError>
     requires ends { EndsLine writer.old.given.bytes writer.old.cursor.index }
     requires may { MayEndLine (R.text writer.old.given.references) writer.old name }
     ensures given { writer.new.given ≡ writer.old.given }
@@ -113,9 +103,6 @@ pub fn line_ending<R: References>(writer: &mut Writer<'_, R>, name: Name) -> Res
     ensures within { (c : Constructs) → IsWithin c writer.old → is_on c name ≡ true → OnOk result (IsWithin c writer.new) }
     ensures attention { is_attention name ≡ false → OnOk result (attention_events writer.new.events ≡ attention_events writer.old.events) }
 {
-    match writer.line_ending(name) {
-        Ok(()) => Ok(()),
-        Err(WriteError::Memory(error)) => Err(error),
-        Err(WriteError::Misfit) => unreachable!(),
-    }
+    writer.line_ending(name)?;
+    Ok(())
 }

@@ -22,7 +22,7 @@ use std::alloc::{AllocError, Global};
 use std::str;
 
 /// How a character reference identifies its character.
-#[derive(Clone, Copy, PartialEq, Eq, Debug)]
+#[derive(Clone, Copy)]
 pub enum ReferenceKind {
     /// By a name: `&amp;`.
     Named,
@@ -57,7 +57,7 @@ impl ReferenceKind {
 }
 
 /// The parts of a possible character reference in a text, as known without a decoder.
-#[derive(Clone, Copy, PartialEq, Eq, Debug)]
+#[derive(Clone, Copy)]
 struct Form<'c> {
     /// The kind.
     kind: ReferenceKind,

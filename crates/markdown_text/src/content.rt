@@ -9,7 +9,7 @@ use markdown_pieces::piece::{Piece, PieceKind};
 use std::alloc::{AllocError, Global};
 
 /// Where a content is after a piece.
-#[derive(Clone, Copy, PartialEq, Eq, Debug)]
+#[derive(Clone, Copy)]
 pub enum Place {
     /// After the text of a line. The content may end here.
     AfterText,

@@ -19,7 +19,7 @@ use crate::pieces::{is_text, write_piece};
 use crate::source::Source;
 use crate::{string, text};
 use character_references::references::References;
-use event_writer::writer::Writer;
+use event_writer::recorder::Recorder;
 use markdown_events::event::Name;
 use markdown_options::ParseOptions;
 use markdown_pieces::identifiers::Identifiers;
@@ -55,8 +55,8 @@ pub struct Reading<'r, R> {
 pub fn write<'c, 'd, R: References>(
     reading: &'c Reading<'c, R>,
     pieces: &'c [Piece],
-    writer: Writer<'d, R>,
-) -> Result<Writer<'d, R>, AllocError>
+    writer: Recorder<'d, R>,
+) -> Result<Recorder<'d, R>, AllocError>
     requires document { writer.given.bytes ≡ reading.now.document.now }
     requires references { writer.given.references ≡ reading.now.references.now }
     requires tiles { Tiles reading.now.document.now (spot writer.cursor) pieces.now (end_from (spot writer.cursor) pieces.now) }
@@ -91,7 +91,7 @@ pub fn write<'c, 'd, R: References>(
 
 /// Where the mark of a task may come: at the start of the first block of an item, if that is a
 /// paragraph (GFM). The item may begin with a line ending.
-#[derive(Clone, Copy, PartialEq, Eq, Debug)]
+#[derive(Clone, Copy, PartialEq, Eq)]
 enum TaskPlace {
     /// Not before the next item.
     Nowhere,
@@ -147,11 +147,11 @@ fn content_kind(name: Option<Name>) -> ContentKind {
 /// Writes a content in a span of this name, with the spans in it.
 fn inlines<'c, 'd, R: References>(
     reading: &'c Reading<'c, R>,
-    writer: Writer<'d, R>,
+    writer: Recorder<'d, R>,
     pieces: &'c [Piece],
     name: Option<Name>,
     place: TaskPlace,
-) -> Result<Writer<'d, R>, AllocError>
+) -> Result<Recorder<'d, R>, AllocError>
     requires document { writer.given.bytes ≡ reading.now.document.now }
     requires references { writer.given.references ≡ reading.now.references.now }
     requires content { IsContent pieces.now }
@@ -180,12 +180,12 @@ fn inlines<'c, 'd, R: References>(
 /// Writes a content with these bytes.
 fn inlines_of<'c, 'd, R: References>(
     reading: &'c Reading<'c, R>,
-    writer: Writer<'d, R>,
+    writer: Recorder<'d, R>,
     bytes: &'c [u8],
     pieces: &'c [Piece],
     name: Option<Name>,
     place: TaskPlace,
-) -> Result<Writer<'d, R>, AllocError>
+) -> Result<Recorder<'d, R>, AllocError>
     requires document { writer.given.bytes ≡ reading.now.document.now }
     requires references { writer.given.references ≡ reading.now.references.now }
     requires content { IsContent pieces.now }

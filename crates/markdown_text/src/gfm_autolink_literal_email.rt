@@ -14,7 +14,7 @@ use markdown_events::event::Name;
 use std::alloc::AllocError;
 
 /// An address in a text.
-#[derive(Clone, Copy, PartialEq, Eq, Debug)]
+#[derive(Clone, Copy)]
 struct Address {
     /// The name of its span.
     name: Name,

@@ -31,7 +31,7 @@ use markdown_options::Constructs;
 use std::alloc::AllocError;
 
 /// What an opening bracket and the end of its label make.
-#[derive(Clone, Copy, PartialEq, Eq, Debug)]
+#[derive(Clone, Copy)]
 pub struct Match {
     /// What they make.
     pub labelled: Labelled,

@@ -21,14 +21,14 @@ use crate::source::Source;
 use crate::{calls, data, string};
 use character_references::references::References;
 use commonmark_syntax::bytes::{after, count_while, is_space_or_tab};
-use event_writer::writer::Writer;
+use event_writer::recorder::Recorder;
 use markdown_events::event::Name;
 use markdown_pieces::piece::Piece;
 use std::alloc::AllocError;
 use std::mem;
 
 /// What a content may contain (micromark).
-#[derive(Clone, Copy, PartialEq, Eq, Debug)]
+#[derive(Clone, Copy, PartialEq, Eq)]
 pub enum ContentKind {
     /// All inlines.
     Text,
@@ -37,7 +37,7 @@ pub enum ContentKind {
 }
 
 /// What comes after data.
-#[derive(Clone, Copy, PartialEq, Eq, Debug)]
+#[derive(Clone, Copy, PartialEq, Eq)]
 pub enum Next {
     /// The enter or the exit of a span.
     Span,
@@ -54,7 +54,7 @@ pub struct Output<'c, 'd, R: References> {
     /// The content.
     source: &'c Source<'c, R>,
     /// The writer of the spans.
-    writer: Writer<'d, R>,
+    writer: Recorder<'d, R>,
     /// The remaining pieces of the block structure.
     lines: Lines<'c>,
     /// The offset up to which everything is written.
@@ -78,7 +78,7 @@ impl<'c, 'd, R: References> Output<'c, 'd, R> {
     /// the block structure.
     pub fn new(
         source: &'c Source<'c, R>,
-        writer: Writer<'d, R>,
+        writer: Recorder<'d, R>,
         pieces: &'c [Piece],
         kind: ContentKind,
     ) -> Result<Self, AllocError>
@@ -500,7 +500,7 @@ impl<'c, 'd, R: References> Output<'c, 'd, R> {
     }
 
     /// Writes the waiting data at the end of the content, and returns the writer.
-    pub fn finish(mut self) -> Result<Writer<'d, R>, AllocError>
+    pub fn finish(mut self) -> Result<Recorder<'d, R>, AllocError>
         requires stands { Stands self }
         requires ended { self.data ≡ length (bytes_of self) }
         requires inlines { AtInlines self }

@@ -17,7 +17,7 @@ ghost use Rattle.markdown_text.specs.Standings.{IsAt, IsSomewhere, MayStep};
 
 use crate::calls;
 use character_references::references::References;
-use event_writer::writer::Writer;
+use event_writer::recorder::Recorder;
 use markdown_events::event::Name;
 use markdown_pieces::piece::{Piece, PieceKind};
 use std::alloc::AllocError;
@@ -42,7 +42,7 @@ pub fn is_text(kind: PieceKind) -> bool
 /// Writes what comes before the next text of a content, and returns the rest of the content from
 /// there on.
 pub fn write_to_text<'c, R: References>(
-    writer: &mut Writer<'_, R>,
+    writer: &mut Recorder<'_, R>,
     pieces: &'c [Piece],
 ) -> Result<Lines<'c>, AllocError>
     requires content { IsContent pieces.now }
@@ -73,7 +73,7 @@ pub fn write_to_text<'c, R: References>(
 
 /// Writes a piece that is not a text.
 pub fn write_piece<R: References>(
-    writer: &mut Writer<'_, R>,
+    writer: &mut Recorder<'_, R>,
     piece: &Piece,
 ) -> Result<(), AllocError>
     requires goes { Goes writer.old.given.bytes piece.now.kind (spot writer.old.cursor) (end_of piece.now) }
@@ -103,7 +103,7 @@ pub fn write_piece<R: References>(
 /// Writes the prefix of a block quote up to a place: its marker, and the white space after that, if
 /// there is any.
 fn write_block_quote_prefix<R: References>(
-    writer: &mut Writer<'_, R>,
+    writer: &mut Recorder<'_, R>,
     end: usize,
     virtual_spaces: usize,
 ) -> Result<(), AllocError>
@@ -126,7 +126,7 @@ fn write_block_quote_prefix<R: References>(
 /// Writes white space up to an offset, and a number of columns into the tab there, unless it is
 /// empty.
 fn write_space<R: References>(
-    writer: &mut Writer<'_, R>,
+    writer: &mut Recorder<'_, R>,
     to: usize,
     virtual_spaces: usize,
 ) -> Result<(), AllocError>

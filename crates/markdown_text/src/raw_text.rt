@@ -19,7 +19,7 @@ use markdown_events::event::Name;
 use std::alloc::{AllocError, Global};
 
 /// What a raw text is.
-#[derive(Clone, Copy, PartialEq, Eq, Debug)]
+#[derive(Clone, Copy)]
 pub enum RawText {
     /// Code: `` `a` ``.
     Code,

@@ -21,7 +21,7 @@ use markdown_events::event::Name;
 use std::alloc::AllocError;
 
 /// The length of each part of a resource.
-#[derive(Clone, Copy, PartialEq, Eq, Debug)]
+#[derive(Clone, Copy)]
 pub struct Resource {
     /// The white space after the opening parenthesis.
     before: usize,

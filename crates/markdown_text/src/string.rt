@@ -18,7 +18,7 @@ use crate::token::{Found, TokenKind};
 use crate::{character_escape, character_reference};
 use character_references::references::References;
 use commonmark_syntax::bytes::{after, count_while};
-use event_writer::writer::Writer;
+use event_writer::recorder::Recorder;
 use markdown_events::event::Name;
 use markdown_pieces::piece::Piece;
 use std::alloc::AllocError;
@@ -26,9 +26,9 @@ use std::alloc::AllocError;
 /// Writes the spans of a string. `pieces` are those of the block structure.
 pub fn inlines<'c, 'd, R: References>(
     source: &'c Source<'c, R>,
-    writer: Writer<'d, R>,
+    writer: Recorder<'d, R>,
     pieces: &'c [Piece],
-) -> Result<Writer<'d, R>, AllocError>
+) -> Result<Recorder<'d, R>, AllocError>
     requires document { writer.given.bytes ≡ source.now.reading.now.document.now }
     requires content { IsContent pieces.now }
     requires tiles { Tiles writer.given.bytes (spot writer.cursor) pieces.now (end_from (spot writer.cursor) pieces.now) }

@@ -39,14 +39,14 @@ use crate::{
     html_text, label_end, label_start,
 };
 use character_references::references::References;
-use event_writer::writer::Writer;
+use event_writer::recorder::Recorder;
 use markdown_attention::delimiter::{AttentionKind, Delimiter};
 use markdown_events::event::Name;
 use markdown_pieces::piece::Piece;
 use std::alloc::AllocError;
 
 /// An open construct.
-#[derive(Clone, Copy, Debug)]
+#[derive(Clone, Copy)]
 enum Open {
     /// Emphasis, strong emphasis or strikethrough.
     Attention(AttentionKind),
@@ -57,10 +57,10 @@ enum Open {
 /// Writes the spans of a text. `pieces` are those of the block structure. With `is_task` it may begin with the mark of a task.
 pub fn inlines<'c, 'd, R: References>(
     source: &'c Source<'c, R>,
-    writer: Writer<'d, R>,
+    writer: Recorder<'d, R>,
     pieces: &'c [Piece],
     is_task: bool,
-) -> Result<Writer<'d, R>, AllocError>
+) -> Result<Recorder<'d, R>, AllocError>
     requires document { writer.given.bytes ≡ source.now.reading.now.document.now }
     requires references { writer.given.references ≡ source.now.reading.now.references.now }
     requires content { IsContent pieces.now }
@@ -181,7 +181,7 @@ fn write_next<'t, R: References>(
 }
 
 /// An empty label.
-#[derive(Clone, Copy, PartialEq, Eq, Debug)]
+#[derive(Clone, Copy)]
 struct EmptyLabel {
     /// What it belongs to.
     labelled: Labelled,

@@ -7,7 +7,7 @@ use crate::resource::Resource;
 use markdown_events::event::Name;
 
 /// What a label belongs to (CommonMark, GFM).
-#[derive(Clone, Copy, PartialEq, Eq, Debug)]
+#[derive(Clone, Copy, PartialEq, Eq)]
 pub enum Labelled {
     /// A link: `[a](b)`.
     Link,
@@ -66,7 +66,7 @@ impl Labelled {
 }
 
 /// What comes after the label of a link or an image (CommonMark).
-#[derive(Clone, Copy, PartialEq, Eq, Debug)]
+#[derive(Clone, Copy)]
 pub enum Target {
     /// Nothing: the label itself is the reference.
     Shortcut,
@@ -79,7 +79,7 @@ pub enum Target {
 }
 
 /// What a token is.
-#[derive(Clone, Copy, PartialEq, Eq, Debug)]
+#[derive(Clone, Copy)]
 pub enum TokenKind {
     /// A line ending.
     LineEnding,
@@ -111,7 +111,7 @@ pub enum TokenKind {
 }
 
 /// A construct that a text begins with, or data.
-#[derive(Clone, Copy, PartialEq, Eq, Debug)]
+#[derive(Clone, Copy)]
 pub struct Found {
     /// What it is. `None` is data.
     pub kind: Option<TokenKind>,
@@ -144,7 +144,7 @@ impl Found {
 }
 
 /// A construct in a text. The bytes between two tokens are data.
-#[derive(Clone, Copy, PartialEq, Eq, Debug)]
+#[derive(Clone, Copy)]
 pub struct Token {
     /// What it is.
     pub kind: TokenKind,

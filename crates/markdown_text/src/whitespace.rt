@@ -13,7 +13,7 @@ use commonmark_syntax::class::{Class, WhiteSpace};
 use commonmark_syntax::spaces_break;
 
 /// The white space at the ends of data that is written separately.
-#[derive(Clone, Copy, PartialEq, Eq, Debug)]
+#[derive(Clone, Copy)]
 pub struct Whitespace {
     /// How many bytes at the start.
     pub leading: usize,

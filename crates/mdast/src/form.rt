@@ -1,5 +1,8 @@
 //! What is printed of a document.
 
+ghost use Rattle.std.specs.Prelude.{◌≢◌};
+ghost use Rattle.mdast.specs.declared.form.Form.TheVariants.{Events};
+
 use crate::arguments::Request;
 use crate::error::DocumentError;
 use crate::inspect::inspect;
@@ -15,6 +18,7 @@ use mdast_check::warnings::warnings;
 use mdast_util::outline::outline;
 use mdast_util::plain_text::plain_text;
 use std::alloc::{AllocError, Global};
+use std::mem;
 
 /// What is printed of a document.
 #[derive(Clone, Copy, PartialEq, Eq, Debug)]
@@ -66,25 +70,53 @@ impl Output {
 }
 
 /// Returns what is printed of a document with this text.
+///
+/// After the last document the program ends, and its memory with it. So the nodes of that tree are
+/// not freed one by one.
 pub fn render(
     rt: &HostRuntime,
     request: &Request,
     source: &Source,
     text: &str,
+    is_last: bool,
 ) -> Result<Output, DocumentError> {
-    let alloc = rt.alloc();
-    let tree = || tree_of(rt, request, text);
-    Ok(match request.form {
-        Form::Json => Output::line(to_json(alloc, &tree()?)?)?,
-        Form::JsonUtf16 => Output::line(to_json_utf16(alloc, text.as_bytes(), &tree()?)?)?,
-        Form::Tree => Output::plain(inspect(alloc, &tree()?, request.width)?),
-        Form::Debug => Output::line(tree()?.to_debug_string(alloc)?)?,
-        Form::Events => Output::plain(lines_of(alloc, &events_of(rt, request, text)?)?),
-        Form::Outline => Output::plain(outline(alloc, &tree()?)?),
-        Form::Text => Output::plain(plain_text(alloc, &tree()?)?),
-        Form::Html => Output::plain(page(alloc, request, &tree()?)?),
-        Form::Check => checked(alloc, source, &tree()?)?,
-    })
+    match request.form {
+        Form::Events => {
+            let events = events_of(rt, request, text)?;
+            Ok(Output::plain(lines_of(rt.alloc(), &events)?))
+        }
+        _ => {
+            let tree = tree_of(rt, request, text)?;
+            let output = render_tree(rt.alloc(), request, source, text, &tree);
+            if is_last {
+                mem::forget(tree);
+            }
+            Ok(output?)
+        }
+    }
+}
+
+/// Returns what is printed of a tree.
+fn render_tree(
+    alloc: Global,
+    request: &Request,
+    source: &Source,
+    text: &str,
+    tree: &Node,
+) -> Result<Output, AllocError>
+    requires { request.now.form ≢ Events }
+{
+    match request.form {
+        Form::Json => Output::line(to_json(alloc, tree)?),
+        Form::JsonUtf16 => Output::line(to_json_utf16(alloc, text.as_bytes(), tree)?),
+        Form::Tree => Ok(Output::plain(inspect(alloc, tree, request.width)?)),
+        Form::Debug => Output::line(tree.to_debug_string(alloc)?),
+        Form::Outline => Ok(Output::plain(outline(alloc, tree)?)),
+        Form::Text => Ok(Output::plain(plain_text(alloc, tree)?)),
+        Form::Html => Ok(Output::plain(page(alloc, request, tree)?)),
+        Form::Check => checked(alloc, source, tree),
+        Form::Events => unreachable!(),
+    }
 }
 
 /// Returns the tree of a document, from the requested events.

@@ -44,6 +44,11 @@ impl Progress {
         self.number = self.number.saturating_add(1);
     }
 
+    /// Whether the current document is the last one.
+    pub fn is_last(&self) -> bool {
+        self.number >= self.count
+    }
+
     /// Shows that a document of `size` bytes is being parsed.
     pub fn show(&mut self, rt: &HostRuntime, source: &Source, size: usize) {
         let is_long = size >= LARGE || self.is_late(rt);

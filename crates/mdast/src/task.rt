@@ -55,7 +55,7 @@ fn output_of(
     progress.next();
     let text = source.read_text(rt)?;
     progress.show(rt, source, text.len());
-    render(rt, request, source, text.as_str())
+    render(rt, request, source, text.as_str(), progress.is_last())
 }
 
 /// Reports why the output cannot be written, and returns the status.

@@ -1,7 +1,8 @@
 //! The results of the calls on texts.
 
 use crate::expect::{same, says};
-use markdown_nodes::decimal::push_decimal;
+use markdown_nodes::decimal::{push_decimal, put_decimal, put_text};
+use markdown_nodes::search::{find_control, first_below, first_equal};
 use markdown_nodes::text::{line_endings_to_spaces, normalize_identifier, raw_text, trim_eol};
 use std::alloc::{AllocError, Global};
 
@@ -108,4 +109,36 @@ fn numbers_have_their_digits(rt: HostRuntime) -> Result<(), AllocError> {
         says(&rt, numbered(rt.alloc(), *number), want)?;
     }
     Ok(())
+}
+
+#[test]
+fn a_text_is_written_from_its_end(rt: HostRuntime) {
+    let mut buffer = [0; 22];
+    let end = put_text(&mut buffer, 22, ")");
+    let end = put_decimal(&mut buffer, end, 10);
+    same(&rt, put_text(&mut buffer, end, "("), 18);
+    same(&rt, &buffer[18..], b"(10)".as_slice());
+}
+
+static CONTROLLED: [(&str, usize); 5] = [
+    ("", 0),
+    ("a b", 3),
+    ("a\nb", 1),
+    ("0123456789abcdef\tg", 16),
+    ("0123456789abcdefghij", 20),
+];
+
+#[test]
+fn the_first_control_character_is_found(rt: HostRuntime) {
+    for (text, want) in &CONTROLLED {
+        same(&rt, find_control(text.as_bytes()), *want);
+    }
+}
+
+#[test]
+fn sixteen_bytes_are_searched_at_once(rt: HostRuntime) {
+    let text = b"01\t3456789abc\"ef";
+    same(&rt, first_below(text, b' '), 2);
+    same(&rt, first_equal(text, b'"'), 13);
+    same(&rt, first_equal(text, b'x'), 16);
 }

@@ -1,27 +1,27 @@
-use Rattle.std.proofs.Common.{◌≡◌, ◌+◌, ℕ, arith, ◌∙◌, sym, ap, add-one, cond, nat_eq, get_or}
-use Rattle.event_writer.specs.Places.{after_tab, column_at, line_at}
-use Rattle.event_writer.proofs.Walks.{column-below, plain}
+use Rattle.std.proofs.Common.{◌≡◌, ◌+◌, ◌-◌, arith, sym, ◌∙◌}
+use Rattle.event_writer.specs.Places.{column_at, line_at}
+use Rattle.event_writer.proofs.Plain.{up_to}
+use Rattle.event_writer.proofs.Walks.{column-below}
 use Rattle.event_writer.proofs.cursor.column_of.Goals as goal
 
-pub loop-index-init : goal.loop-index-init
-loop-index-init c = let p = c.requires.place.column in record { column = omega (arith, p); line = c.requires.place.line }
+pub overflow_add-result : goal.overflow_add-result
+overflow_add-result c =
+    let before = c.requires.place.column in
+    let bound = column-below c.args.bytes.now c.args.from.index (omega (arith, c.requires.place.within)) c.requires.short in
+    omega (arith, before, bound, c.requires.short, c.requires.within)
 
-pub column_after-requires : goal.column_after-requires
-column_after-requires c = let b = column-below c.args.bytes.now c.loop-index.index (omega arith) c.requires.short in let i = c.loop-index.invariant.column in omega (arith, b, i)
+pub returns-then-to-plain_to-clause-column : goal.returns-then-to-plain_to-clause-column
+returns-then-to-plain_to-clause-column c =
+    let before = c.requires.place.column in
+    let after = (up_to c.args.bytes.now c.args.from.index c.args.to c.args.plain_to c.requires.order c.if-to-plain_to.true c.requires.plain).1 in
+    omega (arith, before, after)
 
-pub loop-index-preserved : goal.loop-index-preserved
-loop-index-preserved c =
-    let e = plain c.args.bytes.now c.loop-index.index (omega arith) c.in_ok-column.ensures.no_feed c.in_ok-column.ensures.no_return in
-    record {
-      column = c.in_ok-column.ensures.value ∙ ap (λ (n : ℕ). cond (nat_eq (get_or c.args.bytes.now c.loop-index.index 0) 9) (after_tab n) (n + 1)) c.loop-index.invariant.column ∙ sym e.1 ∙ ap (column_at c.args.bytes.now) (sym (add-one c.loop-index.index));
-      line = c.loop-index.invariant.line ∙ sym e.0 ∙ ap (line_at c.args.bytes.now) (sym (add-one c.loop-index.index));
-    }
+pub returns-then-to-plain_to-clause-line : goal.returns-then-to-plain_to-clause-line
+returns-then-to-plain_to-clause-line c = c.requires.place.line ∙ sym (up_to c.args.bytes.now c.args.from.index c.args.to c.args.plain_to c.requires.order c.if-to-plain_to.true c.requires.plain).0
 
-pub returns-clause-column : goal.returns-clause-column
-returns-clause-column c = let is : c.loop-index.index ≡ c.args.to = omega arith in c.loop-index.invariant.column ∙ ap (column_at c.args.bytes.now) is
-
-pub returns-clause-line : goal.returns-clause-line
-returns-clause-line c = let is : c.loop-index.index ≡ c.args.to = omega arith in c.loop-index.invariant.line ∙ ap (line_at c.args.bytes.now) is
-
-pub returns-clause-bound : goal.returns-clause-bound
-returns-clause-bound c = let b = column-below c.args.bytes.now c.loop-index.index (omega arith) c.requires.short in let i = c.loop-index.invariant.column in omega (arith, b, i)
+pub returns-then-to-plain_to-clause-bound : goal.returns-then-to-plain_to-clause-bound
+returns-then-to-plain_to-clause-bound c =
+    let before = c.requires.place.column in
+    let after = (up_to c.args.bytes.now c.args.from.index c.args.to c.args.plain_to c.requires.order c.if-to-plain_to.true c.requires.plain).1 in
+    let bound = column-below c.args.bytes.now c.args.to c.requires.within c.requires.short in
+    omega (arith, before, after, bound)

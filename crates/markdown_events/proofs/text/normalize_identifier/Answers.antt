@@ -8,5 +8,5 @@ pub returns : goal.returns
 unfolding fold
 returns c =
     let value = c.args.value.now in
-    let e = ap (λ bs. encode_utf8_all (default_case_fold (chars bs))) (c.as_str.ensures.value ∙ c.in_ok-text.ensures) ∙ ap (λ cs. encode_utf8_all (default_case_fold cs)) (collapsed_chars value c.utf8.value) in
+    let e = ap (λ bs. encode_utf8_all (default_case_fold (chars bs))) c.in_ok-text.ensures ∙ ap (λ cs. encode_utf8_all (default_case_fold cs)) (collapsed_chars value c.utf8.value) in
     subst (λ (w : List ℕ). IfOk c.folded.result (λ text. string_bytes text ≡ w)) e c.folded.ensures

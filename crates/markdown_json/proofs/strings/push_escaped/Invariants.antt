@@ -1,6 +1,11 @@
-use Rattle.std.proofs.Common.{string_bytes}
-use Rattle.markdown_json.proofs.Fragments.{Fragments}
+use Rattle.std.proofs.Common.{◌≡◌, ◌++◌, length, string_bytes}
+use denote.Text.{Utf8}
+use denote.Shadow.{shadow}
+use Rattle.markdown_json.specs.Strings.{escaped}
 use Rattle.markdown_json.proofs.strings.push_escaped.Given as goal
 
-abbrev pub invariant-loop-at : goal.invariant-loop-at
-invariant-loop-at l = Fragments (string_bytes l.fn.out) (string_bytes l.out) l.text l.start l.at
+abbrev pub invariant-fragments : goal.invariant-fragments
+invariant-fragments l = (string_bytes l.out ++ escaped l.rest ≡ string_bytes l.fn.out ++ escaped l.text) × shadow (Utf8 l.rest)
+
+abbrev pub decreases-fragments : goal.decreases-fragments
+decreases-fragments l = length l.rest

@@ -12,7 +12,7 @@ use Rattle.markdown_text.proofs.pieces.write_block_quote_prefix.Goals as goal
 pub token-requires-clause-cut : goal.token-requires-clause-cut
 token-requires-clause-cut g c =
     let start = c.args.writer.now.cursor.index in
-    let here : start + 1 ≡ c.cursor-marker_end.result.index + 1 = ap (λ (p : Point). p.index + 1) (sym c.in_ok-enter.ensures.cursor ∙ sym c.cursor-marker_end.ensures) in
+    let here : start + 1 ≡ c.cursor-marker_end.result.index + 1 = ap (λ (p : Point). p.index + 1) (sym c.in_ok-enter.ensures.cursor ∙ sym c.cursor-marker_end.ensures.here) in
     subst (λ (n : ℕ). IsCharBoundary c.enter.new.writer.given.bytes n) here (subst (λ (bs : List ℕ). IsCharBoundary bs (start + 1)) (sym (ap (λ (x : Given _). x.bytes) c.enter.ensures.given))
     (cut_is_boundary c.args.writer.now.given.bytes (start + 1) c.requires.at.at.valid c.requires.goes.marker.within c.requires.goes.marker_cut))
 

@@ -1,11 +1,13 @@
-use Rattle.std.proofs.Common.{arith, ap, length}
+use Rattle.std.proofs.Common.{List, subst, sym, ap, ◌∙◌}
+use Rattle.markdown_events.specs.declared.event.Event.{Event}
 use Rattle.markdown_grammar.specs.Document.{Given, Source, source}
 use Rattle.markdown_acceptance.proofs.Leading.{tracks-none}
-use Rattle.event_writer.proofs.Holding.{holds-none}
+use Rattle.markdown_acceptance.specs.Shown.{Tracks}
 use Rattle.event_writer.proofs.writer.Writer.new.Goals as goal
 
 pub invariant_of-result : goal.invariant_of-result
 invariant_of-result g c =
-    let s : Source = source c.new.result.bytes (g.R.References.text c.args.references.now) in
-    let same = ap (λ (given : Given). length given.bytes) c.new.ensures in
-    holds-none s c.new-2.result.items c.new-3.result c.new-2.ensures.items (tracks-none s c.new-3.result c.new-3.ensures.shows) (omega (arith, same))
+    let s : Source = source c.new-2.result.bytes (g.R.References.text c.args.references.now) in (
+      subst (λ (es : List Event). Tracks s es c.new-3.result) (sym c.in_ok-transcript.ensures.events) (tracks-none s c.new-3.result c.new-3.ensures.shows),
+      c.in_ok-transcript.ensures.bytes ∙ sym (ap (λ (given : Given). given.bytes) c.new-2.ensures),
+    )

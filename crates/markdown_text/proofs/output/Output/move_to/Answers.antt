@@ -5,5 +5,5 @@ use Rattle.markdown_text.proofs.output.Output.move_to.Goals as goal
 
 pub later-to-requires : goal.later-to-requires
 later-to-requires g c =
-    subst (λ (n : ℕ). n + (c.args.end - c.args.self.now.at) ≤ c.args.self.now.lines.end) (sym (ap (λ (p : Point). p.index) c.cursor.ensures))
+    subst (λ (n : ℕ). n + (c.args.end - c.args.self.now.at) ≤ c.args.self.now.lines.end) (sym (ap (λ (p : Point). p.index) c.cursor.ensures.here))
     (put_fits c.args.self.now c.args.end c.requires.stands c.requires.part)

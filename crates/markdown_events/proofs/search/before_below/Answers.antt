@@ -1,0 +1,19 @@
+use Rattle.std.proofs.Common.{ltb, sym, ap, ◌∙◌, arith, w8}
+use lib.Count.{count_trailing_zeros}
+use lib.Lanes.{chunk}
+use Rattle.std.proofs.lemmas.Simd.{length-chunk, bitmask_splat, leading_from_mask_l, trailing_mask_l}
+use Rattle.markdown_events.proofs.search.before_below.Goals as goal
+
+pub returns-then-hits-eq0 : goal.returns-then-hits-eq0
+returns-then-hits-eq0 c =
+    let v = chunk 0 16 c.args.text.now in
+    let long = length-chunk 0 16 c.args.text.now c.requires in
+    let hits = bitmask_splat w8 ltb v 16 c.args.limit long (omega arith) in
+    sym (leading_from_mask_l (λ x. ltb x c.args.limit) v (sym hits ∙ c.if-hits-eq0.true) ∙ long)
+
+pub returns-else-hits-eq0 : goal.returns-else-hits-eq0
+returns-else-hits-eq0 c =
+    let v = chunk 0 16 c.args.text.now in
+    let long = length-chunk 0 16 c.args.text.now c.requires in
+    let hits = bitmask_splat w8 ltb v 16 c.args.limit long (omega arith) in
+    ap (count_trailing_zeros 64) hits ∙ trailing_mask_l (λ x. ltb x c.args.limit) 64 v (omega arith) (omega arith)
