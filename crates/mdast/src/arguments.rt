@@ -10,7 +10,7 @@ use std::alloc::{AllocError, Global};
 use std::io::IsTerminal;
 
 /// The version of the program, and the kit that proves it.
-const VERSION: &str = "0.1.0 (rattle-kit-13f logic dac8208d650f15bf)";
+const VERSION: &str = "0.1.0 (rattle-kit-13b logic dac8208d650f15bf)";
 
 /// The width of a terminal that does not report one.
 const TERMINAL_WIDTH: usize = 80;
@@ -78,19 +78,26 @@ pub fn read_arguments(rt: &HostRuntime, words: &[String]) -> Result<Request, Err
     let constructs = help(rt.alloc())?;
     let mut command = command(rt.alloc(), constructs.as_str())?;
     let matches = command.try_get_matches_from_mut(words)?;
-    let request = Request {
-        form: form(&matches),
-        width: width(rt, &matches),
-        options: options(&matches),
-        is_unsafe: matches.get_flag("unsafe"),
-        tag_filter: matches.get_flag("tag-filter"),
-        events: events(rt.alloc(), &matches)?,
-        documents: documents(rt.alloc(), &matches)?,
-    };
+    let request = requested(rt, &matches)?;
     match request.fault() {
         Some(fault) => Err(command.error(ErrorKind::ArgumentConflict, fault)?),
         None => Ok(request),
     }
+}
+
+/// Returns what the matches request, possible or not.
+fn requested(rt: &HostRuntime, matches: &ArgMatches<'_>) -> Result<Request, AllocError> {
+    let events = events(rt.alloc(), matches)?;
+    let documents = documents(rt.alloc(), matches)?;
+    Ok(Request {
+        form: form(matches),
+        width: width(rt, matches),
+        options: options(matches),
+        is_unsafe: matches.get_flag("unsafe"),
+        tag_filter: matches.get_flag("tag-filter"),
+        events,
+        documents,
+    })
 }
 
 impl Request {
@@ -146,27 +153,24 @@ fn with_forms<'a>(alloc: Global, command: Command<'a>) -> Result<Command<'a>, Al
     for (name, _, help) in FORMS {
         command = command.arg(flag(alloc, name, help).group("form")?)?;
     }
-    let width = Arg::new(alloc, "width")
+    let passing = "With '--html', keep the HTML of the document, and addresses of any scheme";
+    let filter =
+        "With '--unsafe', show the tags that GFM disallows as text: script, style, iframe and six more";
+    command
+        .arg(utf16(alloc)?)?
+        .arg(flag(alloc, "unsafe", passing))?
+        .arg(flag(alloc, "tag-filter", filter))?
+        .arg(columns(alloc))
+}
+
+/// Returns the option for the width of the printed tree.
+fn columns<'a>(alloc: Global) -> Arg<'a> {
+    Arg::new(alloc, "width")
         .long("width")
         .value_name("COLUMNS")
         .help("Cut the lines of '--tree' to this width [default: 80 on a terminal, else none]")
         .value_parser(value_parser!(usize))
-        .action(ArgAction::Set);
-    let passing = flag(
-        alloc,
-        "unsafe",
-        "With '--html', keep the HTML of the document, and addresses of any scheme",
-    );
-    let filter = flag(
-        alloc,
-        "tag-filter",
-        "With '--unsafe', show the tags that GFM disallows as text: script, style, iframe and six more",
-    );
-    command
-        .arg(utf16(alloc)?)?
-        .arg(passing)?
-        .arg(filter)?
-        .arg(width)
+        .action(ArgAction::Set)
 }
 
 /// Returns the option for UTF-16 units, which is only allowed with JSON.
@@ -183,23 +187,24 @@ fn utf16<'a>(alloc: Global) -> Result<Arg<'a>, AllocError> {
 
 /// Adds the options that say how documents are read.
 fn with_readings<'a>(alloc: Global, command: Command<'a>) -> Result<Command<'a>, AllocError> {
-    let commonmark = flag(alloc, "commonmark", "Read CommonMark, without extensions");
     let gfm = flag(alloc, "gfm", "Read GFM, without frontmatter and math").conflicts_with(
         "commonmark",
     )?;
-    let with = construct(alloc, "with", "Read a construct of markdown as well");
-    let without = construct(alloc, "without", "Do not read a construct of markdown");
-    let events = Arg::new(alloc, "from-events")
+    command
+        .arg(flag(alloc, "commonmark", "Read CommonMark, without extensions"))?
+        .arg(gfm)?
+        .arg(construct(alloc, "with", "Read a construct of markdown as well"))?
+        .arg(construct(alloc, "without", "Do not read a construct of markdown"))?
+        .arg(from_events(alloc))
+}
+
+/// Returns the option for the file of the events.
+fn from_events<'a>(alloc: Global) -> Arg<'a> {
+    Arg::new(alloc, "from-events")
         .long("from-events")
         .value_name("FILE")
         .help("Take the events of the document from a file, a line for each")
-        .action(ArgAction::Set);
-    command
-        .arg(commonmark)?
-        .arg(gfm)?
-        .arg(with)?
-        .arg(without)?
-        .arg(events)
+        .action(ArgAction::Set)
 }
 
 /// Returns an option without a value.

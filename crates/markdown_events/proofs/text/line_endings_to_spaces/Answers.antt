@@ -1,4 +1,5 @@
 use Rattle.std.proofs.Common.{arith, [], string_bytes, encode_utf8_all, chars, ◌∙◌, ap, sym, map-id, false}
+use Rattle.std.proofs.lemmas.Grind.{common_steps}
 use Rattle.std.proofs.lemmas.List.{append-nil}
 use Rattle.std.proofs.lemmas.Iterator.{YieldsList-from_chars}
 use Rattle.std.proofs.lemmas.Iterator.Consumers.{YieldsList-end}
@@ -15,3 +16,6 @@ returns c =
     ∙ ap (λ cs. encode_utf8_all (space_walk cs false)) (append-nil c.loop-c.yielded ∙ sym (map-id c.loop-c.yielded) ∙ done.0)
     ∙ space_walk-bytes (chars value)
     ∙ ap spaces (encodes-chars value c.utf8.value)
+
+pub loop-c-preserved : goal.loop-c-preserved
+loop-c-preserved c = grind (arith, common_steps)

@@ -1,4 +1,4 @@
-use Rattle.std.proofs.Common.{arith, refl, subst, sym, ℕ, ◌+◌, ◌-◌, ◌∙◌}
+use Rattle.std.proofs.Common.{arith, refl, rules, subst, sym, ℕ, ◌+◌, ◌-◌, ◌∙◌}
 use Rattle.event_writer.specs.Stages.{inlines}
 use Rattle.markdown_text.proofs.Steps.{on_ok}
 use Rattle.markdown_text.proofs.Waiting.{part_same, trimmed}
@@ -65,3 +65,6 @@ returns-clause-at g c = λ h outer at.
 
 pub returns-clause-attention : goal.returns-clause-attention
 returns-clause-attention g c = on_ok c.write_break.result (λ last. last ∙ c.in_ok-fill_to-2.ensures.attention refl ∙ c.in_ok-write_text.ensures.attention ∙ c.in_ok-fill_to.ensures.attention refl) c.write_break.ensures.attention
+
+pub write_break-requires-clause-on : goal.write_break-requires-clause-on
+write_break-requires-clause-on g c = search rules

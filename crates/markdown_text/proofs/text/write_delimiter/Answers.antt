@@ -1,4 +1,4 @@
-use Rattle.std.proofs.Common.{ap, arith, false, get_or, length, subst, sym, take, true, ℕ, ◌+◌, ◌-◌, ◌<◌, ◌∙◌, ◌≡◌, ◌≤◌}
+use Rattle.std.proofs.Common.{ap, arith, false, get_or, length, rules, subst, sym, take, true, ℕ, ◌+◌, ◌-◌, ◌<◌, ◌∙◌, ◌≡◌, ◌≤◌}
 use Rattle.markdown_attention.specs.Emphasis.{kind_size}
 use Rattle.markdown_attention.specs.declared.delimiter.Delimiter.TheVariants.{Data}
 use Rattle.markdown_text.proofs.AttentionWalk.{closes_innermost, walked_data, written_closing, written_opening}
@@ -66,3 +66,6 @@ returns-in_default-4-clause-walks g c walk apart long is fits walked =
   where
     one : (a k : ℕ) → a ≤ k → k < a + 1 → k ≡ a
     one a k least less = omega (arith, least, less)
+
+pub returns-in_default-clause-walks : goal.returns-in_default-clause-walks
+returns-in_default-clause-walks g c = search rules

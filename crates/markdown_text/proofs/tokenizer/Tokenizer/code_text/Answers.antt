@@ -14,3 +14,6 @@ returns-in-None-clause-later g c =
     let cursor = c.args.cursor in
     let run = c.run_length-sequence in
     run_later cursor.content.now cursor.at run.result (byte_at cursor) c.data-in-None.result run.ensures.run (search rules) c.data-in-None.ensures.size
+
+pub returns-in-Some-clause-on : goal.returns-in-Some-clause-on
+returns-in-Some-clause-on g c = search rules
