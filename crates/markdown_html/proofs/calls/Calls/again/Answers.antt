@@ -1,4 +1,4 @@
-use Rattle.std.proofs.Common.{◌≡◌, ℕ, ◌<◌, List, Some, length, map, set, refl, arith, sym, ap, ◌∙◌, slice_get, slice_index_or, slice_set}
+use Rattle.std.proofs.Common.{rules, ◌≡◌, ℕ, ◌<◌, List, Some, length, map, set, refl, arith, sym, ap, ◌∙◌, slice_get, slice_index_or, slice_set}
 use Rattle.std.specs.Prelude.{option_map}
 use Rattle.std.proofs.lemmas.List.{length-map, map-set}
 use Rattle.std.proofs.lemmas.Option.{slice_get-map, slice_get_read}
@@ -38,3 +38,6 @@ invariant_of-self c =
     c.self.invariant identifier
     ∙ ap (λ (l : List Call). index_of identifier l) c.self.view_is
     ∙ sym (ap (λ (l : List Call). index_of identifier l) again_is ∙ index-again identifier c.args.self.now c.args.index)
+
+pub returns-clause-number : goal.returns-clause-number
+returns-clause-number c = search rules
