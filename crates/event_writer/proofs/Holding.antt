@@ -1,4 +1,4 @@
--- What a transcript keeps, and what a writer knows of it.
+-- What a writer keeps.
 use Rattle.std.proofs.Common.{Bool, List, [], ap, append_assoc, false, length, refl, subst, sym, true, ◌++◌, ◌<◌, ◌^◌, ◌∙◌, ◌∷◌, ◌≡◌, ℕ}
 use Rattle.markdown_events.specs.Forest.{enter, exit}
 use Rattle.markdown_events.specs.declared.event.Event.{Event}
@@ -11,11 +11,10 @@ use Rattle.markdown_acceptance.specs.Calls.{AfterToken, Closed, Opened, exit_of,
 use Rattle.markdown_acceptance.specs.Shown.{AreAccepted, Leads, Tracks}
 use Rattle.markdown_acceptance.specs.Stacks.{Stack}
 use Rattle.event_writer.proofs.Tilings.{follows-enter, follows-exit, follows-on, follows-token}
-use Rattle.event_writer.proofs.Walks.{place-origin}
 use Rattle.event_writer.specs.Finished.{IsFinished}
 use Rattle.event_writer.specs.Places.{ArePlaces, IsPlace}
 use Rattle.event_writer.specs.Tilings.{Follows, IsBefore, origin}
-use Rattle.event_writer.specs.Transcripts.{AreTiles, Transcribed}
+use Rattle.event_writer.specs.Tiles.{AreTiles}
 
 -- ---- The tokens tile the document up to the cursor
 
@@ -23,44 +22,27 @@ places-on : (bytes : List ℕ) (es more : List Event) → ArePlaces bytes es →
 places-on bytes [] more h k = k
 places-on bytes (e ∷ es) more h k = (h.0, places-on bytes es more h.1 k)
 
-tiles-on : (bytes : List ℕ) (es more : List Event) (a z : Point) → AreTiles bytes es a → ((b : Bool) → Follows a b more z) → ArePlaces bytes more → IsPlace bytes z → AreTiles bytes (es ++ more) z
-tiles-on bytes es more a z h f p q = record {
+tiles-on : (bytes : List ℕ) (es added more : List Event) (a z : Point) → AreTiles bytes es a → ((b : Bool) → Follows a b more z) → ArePlaces bytes more → added ≡ es ++ more → AreTiles bytes added z
+tiles-on bytes es added more a z h f p is = subst (λ (xs : List Event). AreTiles bytes xs z) (sym is) (record {
   tiles = follows-on origin false es more a z h.tiles f;
   places = places-on bytes es more h.places p;
-  cursor_place = q;
-  short = h.short;
-}
+})
 
-pub tiles-none : (bytes : List ℕ) (events : List Event) → events ≡ [] → length bytes < 2 ^ 61 → AreTiles bytes events origin
-tiles-none bytes events none short =
-    subst (λ (es : List Event). AreTiles bytes es origin) (sym none) (record { tiles = refl; places = tt; cursor_place = place-origin bytes; short = short })
+pub tiles-none : (bytes : List ℕ) (events : List Event) → events ≡ [] → AreTiles bytes events origin
+tiles-none bytes events none = subst (λ (es : List Event). AreTiles bytes es origin) (sym none) (record { tiles = refl; places = tt })
 
-pub tiles-enter : (bytes : List ℕ) (es pushed : List Event) (n : Name) (a : Point) → AreTiles bytes es a → pushed ≡ es ++ enter n a ∷ [] → AreTiles bytes pushed a
-tiles-enter bytes es pushed n a h is =
-    subst (λ (xs : List Event). AreTiles bytes xs a) (sym is) (tiles-on bytes es (enter n a ∷ []) a a h (follows-enter n a) (h.cursor_place, tt) h.cursor_place)
+pub tiles-enter : (bytes : List ℕ) (es added : List Event) (n : Name) (a : Point) → AreTiles bytes es a → IsPlace bytes a → added ≡ es ++ enter n a ∷ [] → AreTiles bytes added a
+tiles-enter bytes es added n a h here is = tiles-on bytes es added (enter n a ∷ []) a a h (follows-enter n a) (here, tt) is
 
-pub tiles-exit : (bytes : List ℕ) (es pushed : List Event) (n : Name) (a : Point) → AreTiles bytes es a → pushed ≡ es ++ exit n a ∷ [] → AreTiles bytes pushed a
-tiles-exit bytes es pushed n a h is =
-    subst (λ (xs : List Event). AreTiles bytes xs a) (sym is) (tiles-on bytes es (exit n a ∷ []) a a h (follows-exit n a) (h.cursor_place, tt) h.cursor_place)
+pub tiles-exit : (bytes : List ℕ) (es added : List Event) (n : Name) (a : Point) → AreTiles bytes es a → IsPlace bytes a → added ≡ es ++ exit n a ∷ [] → AreTiles bytes added a
+tiles-exit bytes es added n a h here is = tiles-on bytes es added (exit n a ∷ []) a a h (follows-exit n a) (here, tt) is
+
+pub tiles-token : (bytes : List ℕ) (es added : List Event) (n : Name) (a z : Point) → AreTiles bytes es a → IsPlace bytes a → IsBefore a z → IsPlace bytes z → added ≡ es ++ enter n a ∷ exit n z ∷ [] → AreTiles bytes added z
+tiles-token bytes es added n a z h here before place is = tiles-on bytes es added (enter n a ∷ exit n z ∷ []) a z h (follows-token n a z before) (here, (place, tt)) is
 
 -- a token is pushed as an enter and an exit
 pub both-pushed : (es entered pushed : List Event) (n : Name) (a z : Point) → entered ≡ es ++ enter n a ∷ [] → pushed ≡ entered ++ exit n z ∷ [] → pushed ≡ es ++ enter n a ∷ exit n z ∷ []
 both-pushed es entered pushed n a z first second = second ∙ ap (λ (xs : List Event). xs ++ exit n z ∷ []) first ∙ append_assoc es (enter n a ∷ []) (exit n z ∷ [])
-
-pub tiles-token : (bytes : List ℕ) (es pushed : List Event) (n : Name) (a z : Point) → AreTiles bytes es a → IsBefore a z → IsPlace bytes z → pushed ≡ es ++ enter n a ∷ exit n z ∷ [] → AreTiles bytes pushed z
-tiles-token bytes es pushed n a z h before place is =
-    subst (λ (xs : List Event). AreTiles bytes xs z) (sym is) (tiles-on bytes es (enter n a ∷ exit n z ∷ []) a z h (follows-token n a z before) (h.cursor_place, (place, tt)) place)
-
--- ---- The events that a call adds
-
-pub entered-is : (old reserved new : Transcribed) (n : Name) → reserved.events ≡ old.events → reserved.cursor ≡ old.cursor → new.events ≡ reserved.events ++ enter n reserved.cursor ∷ [] → new.events ≡ old.events ++ enter n old.cursor ∷ []
-entered-is old reserved new n same at added = added ∙ (λ i. same i ++ enter n (at i) ∷ [])
-
-pub exited-is : (old reserved new : Transcribed) (n : Name) → reserved.events ≡ old.events → reserved.cursor ≡ old.cursor → new.events ≡ reserved.events ++ exit n reserved.cursor ∷ [] → new.events ≡ old.events ++ exit n old.cursor ∷ []
-exited-is old reserved new n same at added = added ∙ (λ i. same i ++ exit n (at i) ∷ [])
-
-pub written-is : (old reserved new : Transcribed) (n : Name) (end : Point) → reserved.events ≡ old.events → reserved.cursor ≡ old.cursor → new.events ≡ reserved.events ++ enter n reserved.cursor ∷ exit n end ∷ [] → new.events ≡ old.events ++ enter n old.cursor ∷ exit n end ∷ []
-written-is old reserved new n end same at added = added ∙ (λ i. same i ++ enter n (at i) ∷ exit n end ∷ [])
 
 -- ---- The open spans track the events
 

@@ -1,6 +1,7 @@
 -- What a recorder keeps.
 use Rattle.std.proofs.Common.{List, Option, Some, [], ap, refl, reverse, subst, sym, true, ℕ, ◌++◌, ◌∙◌, ◌∷◌, ◌≡◌}
 use Rattle.std.specs.Option.{option_to_list}
+use Rattle.std.specs.Prelude.{slice_get}
 use Rattle.std.proofs.lemmas.List.{reverse-append}
 use Rattle.markdown_events.specs.Forest.{enter, exit}
 use Rattle.markdown_events.specs.declared.event.Event.{Event}
@@ -13,36 +14,38 @@ use Rattle.markdown_acceptance.specs.Calls.{AfterToken, AtRoot, Closed, Opened, 
 use Rattle.markdown_acceptance.specs.Following.{open_after}
 use Rattle.markdown_acceptance.specs.Shown.{Tracks}
 use Rattle.markdown_acceptance.specs.declared.open_spans.Frame.{Frame}
-use Rattle.event_writer.proofs.Holding.{tracks-enter, tracks-exit, tracks-token}
+use Rattle.event_writer.proofs.Holding.{tiles-enter, tiles-exit, tiles-none, tiles-token, tracks-enter, tracks-exit, tracks-token}
 use Rattle.event_writer.specs.Invariants.{AreNamesOf, IsRecorded}
-use Rattle.event_writer.specs.Transcripts.{Transcribed}
+use Rattle.event_writer.specs.Places.{IsPlace}
+use Rattle.event_writer.specs.Tilings.{IsBefore, origin}
 
 -- ---- Before the first event
 
 pub root : (events : List Event) → events ≡ [] → AtRoot (open_after events)
 root events none = subst (λ (es : List Event). AtRoot (open_after es)) (sym none) none-root
 
-pub recorded-none : (decode : List ℕ → ℕ → Option (List ℕ)) (t : Transcribed) (names : List Name) → t.events ≡ [] → names ≡ [] → IsRecorded decode t names
-recorded-none decode t names none unnamed = (
-  subst (λ (es : List Event). Tracks (source t.bytes decode) es (open_after es)) (sym none) (tracks-none (source t.bytes decode) (open_after []) none-shows),
-  subst (λ (ns : List Name). AreNamesOf (open_after t.events).frames (reverse ns)) (sym unnamed)
-      (subst (λ (fs : List Frame). AreNamesOf fs []) (sym (root t.events none).frames) tt),
-)
+pub recorded-none : (decode : List ℕ → ℕ → Option (List ℕ)) (bytes : List ℕ) (events : List Event) (names : List Name) → events ≡ [] → names ≡ [] → IsRecorded decode bytes events origin names
+recorded-none decode bytes events names none unnamed = record {
+  tracks = subst (λ (es : List Event). Tracks (source bytes decode) es (open_after es)) (sym none) (tracks-none (source bytes decode) (open_after []) none-shows);
+  tiles = tiles-none bytes events none;
+  named = subst (λ (ns : List Name). AreNamesOf (open_after events).frames (reverse ns)) (sym unnamed)
+      (subst (λ (fs : List Frame). AreNamesOf fs []) (sym (root events none).frames) tt);
+}
 
 -- ---- The open spans after a call
 
-pub opened-after : (old new : Transcribed) (n : Name) → new.events ≡ old.events ++ enter n old.cursor ∷ [] → Opened n old.cursor (open_after old.events) (open_after new.events)
-opened-after old new n is = subst (λ (es : List Event). Opened n old.cursor (open_after old.events) (open_after es)) (sym is) (after-enter old.events n old.cursor)
+pub opened-after : (es added : List Event) (n : Name) (at : Point) → added ≡ es ++ enter n at ∷ [] → Opened n at (open_after es) (open_after added)
+opened-after es added n at is = subst (λ (xs : List Event). Opened n at (open_after es) (open_after xs)) (sym is) (after-enter es n at)
 
-pub closed-after : (s : Source) (old new : Transcribed) (n : Name) → may_close s (open_after old.events) old.cursor ≡ true → new.events ≡ old.events ++ exit n old.cursor ∷ [] → Closed (open_after old.events) (open_after new.events)
-closed-after s old new n may is = subst (λ (es : List Event). Closed (open_after old.events) (open_after es)) (sym is) (after-exit s old.events n old.cursor may)
+pub closed-after : (s : Source) (es added : List Event) (n : Name) (at : Point) → may_close s (open_after es) at ≡ true → added ≡ es ++ exit n at ∷ [] → Closed (open_after es) (open_after added)
+closed-after s es added n at may is = subst (λ (xs : List Event). Closed (open_after es) (open_after xs)) (sym is) (after-exit s es n at may)
 
-pub written-after : (old new : Transcribed) (n : Name) (end : Point) → new.events ≡ old.events ++ enter n old.cursor ∷ exit n end ∷ [] → AfterToken n (open_after old.events) (open_after new.events)
-written-after old new n end is = subst (λ (es : List Event). AfterToken n (open_after old.events) (open_after es)) (sym is) (after-token old.events n old.cursor end)
+pub written-after : (es added : List Event) (n : Name) (at end : Point) → added ≡ es ++ enter n at ∷ exit n end ∷ [] → AfterToken n (open_after es) (open_after added)
+written-after es added n at end is = subst (λ (xs : List Event). AfterToken n (open_after es) (open_after xs)) (sym is) (after-token es n at end)
 
 -- ---- The names of the open spans
 
--- the last of the names is taken off
+-- the last of the names is looked at, and then taken off
 pub last-off : (names rest : List Name) (taken : Option Name) (n : Name) → names ≡ rest ++ option_to_list taken → taken ≡ Some n → reverse names ≡ n ∷ reverse rest
 last-off names rest taken n is some = ap reverse (is ∙ ap (λ (o : Option Name). rest ++ option_to_list o) some) ∙ reverse-append rest (n ∷ [])
 
@@ -51,38 +54,41 @@ exit-by [] names n end h = absurd h
 exit-by (f ∷ fs) names n end h = ap (λ (name : Name). exit name end ∷ []) (sym h.0)
 
 -- it is that of the innermost span
-pub exit-named : (t : Transcribed) (names rest : List Name) (n : Name) → AreNamesOf (open_after t.events).frames (reverse names) → reverse names ≡ n ∷ reverse rest → exit_of (open_after t.events) t.cursor ≡ exit n t.cursor ∷ []
-exit-named t names rest n h is = exit-by (open_after t.events).frames (reverse rest) n t.cursor (subst (AreNamesOf (open_after t.events).frames) is h)
+pub exit-named : (es : List Event) (at : Point) (names rest : List Name) (n : Name) → AreNamesOf (open_after es).frames (reverse names) → reverse names ≡ n ∷ reverse rest → exit_of (open_after es) at ≡ exit n at ∷ []
+exit-named es at names rest n h is = exit-by (open_after es).frames (reverse rest) n at (subst (AreNamesOf (open_after es).frames) is h)
 
 -- ---- After a call
 
-same-source : (decode : List ℕ → ℕ → Option (List ℕ)) (old new : Transcribed) → new.bytes ≡ old.bytes → Tracks (source old.bytes decode) new.events (open_after new.events) → Tracks (source new.bytes decode) new.events (open_after new.events)
-same-source decode old new same h = subst (λ (bytes : List ℕ). Tracks (source bytes decode) new.events (open_after new.events)) (sym same) h
+pub recorded-enter : (decode : List ℕ → ℕ → Option (List ℕ)) (bytes : List ℕ) (es added : List Event) (at : Point) (names pushed : List Name) (n : Name) → IsRecorded decode bytes es at names → may_open bytes (open_after es) n at ≡ true → IsPlace bytes at
+    → added ≡ es ++ enter n at ∷ [] → pushed ≡ names ++ n ∷ [] → IsRecorded decode bytes added at pushed
+recorded-enter decode bytes es added at names pushed n h may here is more =
+    let opened = opened-after es added n at is in
+    let turned : reverse pushed ≡ n ∷ reverse names = ap reverse more ∙ reverse-append names (n ∷ []) in
+    record {
+      tracks = tracks-enter (source bytes decode) es added n (open_after es) (open_after added) at h.tracks may opened is;
+      tiles = tiles-enter bytes es added n at h.tiles here is;
+      named = subst (AreNamesOf (open_after added).frames) (sym turned) (subst (λ (fs : List Frame). AreNamesOf fs (n ∷ reverse names)) (sym opened.frames) (refl, h.named));
+    }
 
-pub recorded-enter : (decode : List ℕ → ℕ → Option (List ℕ)) (old new : Transcribed) (names pushed : List Name) (n : Name) → IsRecorded decode old names → may_open old.bytes (open_after old.events) n old.cursor ≡ true
-    → new.bytes ≡ old.bytes → new.events ≡ old.events ++ enter n old.cursor ∷ [] → pushed ≡ names ++ n ∷ [] → IsRecorded decode new pushed
-recorded-enter decode old new names pushed n h may same is added =
-    let opened = opened-after old new n is in
-    let turned : reverse pushed ≡ n ∷ reverse names = ap reverse added ∙ reverse-append names (n ∷ []) in (
-      same-source decode old new same (tracks-enter (source old.bytes decode) old.events new.events n (open_after old.events) (open_after new.events) old.cursor h.0 may opened is),
-      subst (AreNamesOf (open_after new.events).frames) (sym turned) (subst (λ (fs : List Frame). AreNamesOf fs (n ∷ reverse names)) (sym opened.frames) (refl, h.1)),
-    )
+pub recorded-exit : (decode : List ℕ → ℕ → Option (List ℕ)) (bytes : List ℕ) (es added : List Event) (at : Point) (names rest : List Name) (n : Name) → IsRecorded decode bytes es at names → may_close (source bytes decode) (open_after es) at ≡ true → IsPlace bytes at
+    → added ≡ es ++ exit n at ∷ [] → reverse names ≡ n ∷ reverse rest → IsRecorded decode bytes added at rest
+recorded-exit decode bytes es added at names rest n h may here is turned =
+    let s : Source = source bytes decode in
+    let closed = closed-after s es added n at may is in
+    let named : AreNamesOf (closed.frame ∷ (open_after added).frames) (n ∷ reverse rest) =
+    subst (λ (fs : List Frame). AreNamesOf fs (n ∷ reverse rest)) closed.frames (subst (AreNamesOf (open_after es).frames) turned h.named) in
+    record {
+      tracks = tracks-exit s es added n (open_after es) (open_after added) at h.tracks may closed (exit-named es at names rest n h.named turned) is;
+      tiles = tiles-exit bytes es added n at h.tiles here is;
+      named = named.1;
+    }
 
-pub recorded-exit : (decode : List ℕ → ℕ → Option (List ℕ)) (old new : Transcribed) (names rest : List Name) (n : Name) → IsRecorded decode old names → may_close (source old.bytes decode) (open_after old.events) old.cursor ≡ true
-    → new.bytes ≡ old.bytes → new.events ≡ old.events ++ exit n old.cursor ∷ [] → reverse names ≡ n ∷ reverse rest → IsRecorded decode new rest
-recorded-exit decode old new names rest n h may same is turned =
-    let s : Source = source old.bytes decode in
-    let closed = closed-after s old new n may is in
-    let named : AreNamesOf (closed.frame ∷ (open_after new.events).frames) (n ∷ reverse rest) =
-    subst (λ (fs : List Frame). AreNamesOf fs (n ∷ reverse rest)) closed.frames (subst (AreNamesOf (open_after old.events).frames) turned h.1) in (
-      same-source decode old new same (tracks-exit s old.events new.events n (open_after old.events) (open_after new.events) old.cursor h.0 may closed (exit-named old names rest n h.1 turned) is),
-      named.1,
-    )
-
-pub recorded-token : (decode : List ℕ → ℕ → Option (List ℕ)) (old new : Transcribed) (names : List Name) (n : Name) (end : Point) → IsRecorded decode old names → may_write (source old.bytes decode) (open_after old.events) n old.cursor end ≡ true
-    → new.bytes ≡ old.bytes → new.events ≡ old.events ++ enter n old.cursor ∷ exit n end ∷ [] → IsRecorded decode new names
-recorded-token decode old new names n end h may same is =
-    let after = written-after old new n end is in (
-      same-source decode old new same (tracks-token (source old.bytes decode) old.events new.events n (open_after old.events) (open_after new.events) old.cursor end h.0 may after is),
-      subst (λ (fs : List Frame). AreNamesOf fs (reverse names)) (sym after.frames) h.1,
-    )
+pub recorded-token : (decode : List ℕ → ℕ → Option (List ℕ)) (bytes : List ℕ) (es added : List Event) (at end : Point) (names : List Name) (n : Name) → IsRecorded decode bytes es at names → may_write (source bytes decode) (open_after es) n at end ≡ true → IsPlace bytes at → IsBefore at end → IsPlace bytes end
+    → added ≡ es ++ enter n at ∷ exit n end ∷ [] → IsRecorded decode bytes added end names
+recorded-token decode bytes es added at end names n h may here before place is =
+    let after = written-after es added n at end is in
+    record {
+      tracks = tracks-token (source bytes decode) es added n (open_after es) (open_after added) at end h.tracks may after is;
+      tiles = tiles-token bytes es added n at end h.tiles here before place is;
+      named = subst (λ (fs : List Frame). AreNamesOf fs (reverse names)) (sym after.frames) h.named;
+    }

@@ -1,7 +1,7 @@
 pub mod Places
 pub mod Tilings
 pub mod Finished
-pub mod Transcripts
+pub mod Tiles
 pub mod Written
 pub mod Invariants
 pub mod Calls

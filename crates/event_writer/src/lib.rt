@@ -6,8 +6,9 @@
 
 mod cursor;
 pub mod laws;
+mod places;
 pub mod recorder;
-mod transcript;
+pub mod sink;
 pub mod writer;
 
 pub use markdown_acceptance::error;

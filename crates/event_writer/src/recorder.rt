@@ -19,37 +19,41 @@ ghost use Rattle.markdown_events.specs.Forest.{enter, exit};
 ghost use Rattle.markdown_events.specs.declared.event.Point.{Point};
 ghost use Rattle.markdown_grammar.specs.Document.{source};
 
-use crate::transcript::Transcript;
+use crate::cursor::Cursor;
+use crate::sink::Sink;
 use character_references::references::References;
-use markdown_events::event::{Event, Name, Point};
+use markdown_events::event::{Name, Point};
 use std::alloc::{AllocError, Global};
 use std::marker::Model;
 
 /// A writer of the events of a document (ours), for a caller that is proved to write only what the
 /// grammar accepts. It does what a [`Writer`](crate::writer::Writer) does, and tests nothing. Each
 /// call requires what the writer would test, so the only error is that memory ran out. A call that
-/// returns an error leaves the recorder unchanged.
+/// returns an error leaves the recorder unchanged. The events go to a [`Sink`]: a list of them, or
+/// what is built of them.
 ///
 /// These calls write the events of `Hi`, a paragraph with one data span:
 ///
 /// ```text
-/// let mut recorder = Recorder::new(alloc, b"Hi", &NoReferences)?;
+/// let mut recorder = Recorder::new(alloc, b"Hi", &NoReferences, Vec::new(alloc))?;
 /// recorder.enter(Name::Paragraph)?;
 /// recorder.token(Name::Data, 2, 0)?;
 /// recorder.exit()?;
 /// let events = recorder.finish();
 /// ```
 #[derive(Drop)]
-pub struct Recorder<'d, R: References> {
+pub struct Recorder<'d, R: References, S: Sink> {
     /// What the character references of the document stand for.
     references: &'d R,
-    /// The events so far.
-    transcript: Transcript<'d>,
+    /// Where the next event is written.
+    cursor: Cursor<'d>,
+    /// What takes the events.
+    sink: S,
     /// The names of the open spans, the innermost last.
     names: Vec<Name>,
 }
 
-impl<'d, R: References> Model for Recorder<'d, R> {
+impl<'d, R: References, S: Sink> Model for Recorder<'d, R, S> {
     ghost use Rattle.event_writer.specs.Invariants.{IsRecorded};
     ghost use Rattle.event_writer.specs.Written.{Written};
     ghost use Rattle.markdown_acceptance.specs.Following.{open_after};
@@ -57,17 +61,17 @@ impl<'d, R: References> Model for Recorder<'d, R> {
     ghost Value = { Written R };
 
     ghost view = { λ r. record {
-      given = record { bytes = r.transcript.bytes; references = r.references.now };
-      events = r.transcript.events;
-      cursor = r.transcript.cursor;
-      spans = open_after r.transcript.events;
+      given = record { bytes = r.cursor.bytes; references = r.references.now; sink = S.document r.sink };
+      events = S.taken r.sink;
+      cursor = r.cursor.at;
+      spans = open_after (S.taken r.sink);
     } };
 
-    ghost invariant = { λ r. IsRecorded (R.text r.references.now) r.transcript r.names.items };
+    ghost invariant = { λ r. IsRecorded (R.text r.references.now) r.cursor.bytes (S.taken r.sink) r.cursor.at r.names.items };
 }
 
-impl<'d, R: References> Recorder<'d, R> {
-    /// Returns a recorder at the start of a document, with no event.
+impl<'d, R: References, S: Sink> Recorder<'d, R, S> {
+    /// Returns a recorder at the start of a document, for a sink that has taken no event.
     ///
     /// It allocates no memory. A document of 2^61 bytes or more is refused as one for which memory
     /// ran out: its columns might not fit 64 bits.
@@ -75,17 +79,20 @@ impl<'d, R: References> Recorder<'d, R> {
         alloc: Global,
         document: &'d [u8],
         references: &'d R,
-    ) -> Result<Recorder<'d, R>, AllocError>
+        sink: S,
+    ) -> Result<Recorder<'d, R, S>, AllocError>
+        requires { S.taken sink ≡ [] }
         ensures made { length document.now < 2 ^ 61 → IsOk result }
-        ensures given { IfOk result (λ r. r.given ≡ record { bytes = document.now; references = references.now }) }
+        ensures given { IfOk result (λ r. r.given ≡ record { bytes = document.now; references = references.now; sink = S.document sink }) }
         ensures events { IfOk result (λ r. r.events ≡ []) }
         ensures cursor { IfOk result (λ r. r.cursor ≡ origin) }
         ensures root { IfOk result (λ r. AtRoot r.spans) }
     {
-        let transcript = Transcript::new(alloc, document)?;
+        let cursor = Cursor::new(document)?;
         Ok(Recorder {
             references,
-            transcript,
+            cursor,
+            sink,
             names: Vec::new(alloc),
         })
     }
@@ -98,7 +105,7 @@ impl<'d, R: References> Recorder<'d, R> {
         ensures here { result ≡ self.now.cursor }
         ensures place { IsPlace self.now.given.bytes result }
     {
-        self.transcript.cursor()
+        self.cursor.at()
     }
 
     /// Opens a span at the cursor.
@@ -112,9 +119,9 @@ impl<'d, R: References> Recorder<'d, R> {
         ensures opened { OnOk result (Opened name self.old.cursor self.old.spans self.new.spans) }
         ensures same { OnErr result (self.new ≡ self.old) }
     {
-        self.transcript.reserve(1)?;
-        self.names.push(name)?;
-        self.transcript.enter(name);
+        self.names.reserve(1)?;
+        self.sink.enter(name, self.cursor.at())?;
+        self.names.push_reserved(name);
         Ok(())
     }
 
@@ -129,11 +136,11 @@ impl<'d, R: References> Recorder<'d, R> {
         ensures closed { OnOk result (Closed self.old.spans self.new.spans) }
         ensures same { OnErr result (self.new ≡ self.old) }
     {
-        self.transcript.reserve(1)?;
-        match self.names.pop() {
-            Some(name) => self.transcript.exit(name),
-            None => unreachable!(),
-        }
+        let Some(name) = self.names.last().copied() else {
+            unreachable!()
+        };
+        self.sink.exit(name, self.cursor.at())?;
+        self.names.pop();
         Ok(())
     }
 
@@ -153,7 +160,7 @@ impl<'d, R: References> Recorder<'d, R> {
         ensures written { OnOk result (AfterToken name self.old.spans self.new.spans) }
         ensures same { OnErr result (self.new ≡ self.old) }
     {
-        match self.transcript.point_at(to, virtual_spaces) {
+        match self.cursor.point_at(to, virtual_spaces) {
             Some(end) => self.write(name, end),
             None => unreachable!(),
         }
@@ -174,7 +181,7 @@ impl<'d, R: References> Recorder<'d, R> {
         ensures written { OnOk result (AfterToken name self.old.spans self.new.spans) }
         ensures same { OnErr result (self.new ≡ self.old) }
     {
-        match self.transcript.next_line() {
+        match self.cursor.next_line() {
             Some(end) => self.write(name, end),
             None => unreachable!(),
         }
@@ -191,22 +198,24 @@ impl<'d, R: References> Recorder<'d, R> {
         ensures written { OnOk result (AfterToken name self.old.spans self.new.spans) }
         ensures same { OnErr result (self.new ≡ self.old) }
     {
-        self.transcript.reserve(2)?;
-        self.transcript.token(name, end);
+        let start = self.cursor.at();
+        self.sink.token(name, start, end)?;
+        self.cursor.move_to(end);
         Ok(())
     }
 
-    /// Returns the events, once the document is written to its end, no span is open, and no break
-    /// waits for its line ending.
+    /// Returns the sink, once the document is written to its end, no span is open, and no break waits
+    /// for its line ending.
     ///
-    /// For the empty document this is the empty list.
-    pub fn finish(self) -> Vec<Event>
+    /// For the empty document it has taken no event.
+    pub fn finish(self) -> S
         requires frames { self.spans.frames ≡ [] }
         requires breaks { self.spans.site.after_break ≡ false }
         requires whole { self.cursor.index ≡ length self.given.bytes }
-        ensures events { result.items ≡ self.entry.events }
-        ensures finished { IsFinished (source self.entry.given.bytes (R.text self.entry.given.references)) result.items }
+        ensures events { S.taken result ≡ self.entry.events }
+        ensures document { S.document result ≡ self.entry.given.sink }
+        ensures finished { IsFinished (source self.entry.given.bytes (R.text self.entry.given.references)) (S.taken result) }
     {
-        self.transcript.into_events()
+        self.sink
     }
 }

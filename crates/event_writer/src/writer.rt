@@ -1,6 +1,6 @@
 //! The writer of events.
 
-ghost use Rattle.std.specs.Prelude.{◌≡◌, ◌≢◌, ◌<◌, ◌^◌, ◌∷◌, ◌++◌, [], IfNone, IfOk, IfSome, IsOk, OnErr, OnOk, false, length};
+ghost use Rattle.std.specs.Prelude.{◌≡◌, ◌≢◌, ◌<◌, ◌^◌, ◌∷◌, ◌++◌, [], IfNone, IfOk, IfSome, IsOk, None, OnErr, OnOk, false, length};
 ghost use Rattle.event_writer.specs.Calls.{CanReach, EndsLine, IsLineStart};
 ghost use Rattle.event_writer.specs.Finished.{IsFinished};
 ghost use Rattle.event_writer.specs.Places.{IsPlace};
@@ -22,7 +22,8 @@ ghost use Rattle.markdown_events.specs.declared.event.Name.{Name};
 ghost use Rattle.markdown_events.specs.declared.event.Point.{Point};
 ghost use Rattle.markdown_grammar.specs.Document.{source};
 
-use crate::transcript::Transcript;
+use crate::cursor::Cursor;
+use crate::sink::{enter_event, exit_event};
 use character_references::references::References;
 use markdown_acceptance::error::WriteError;
 use markdown_acceptance::open_spans::OpenSpans;
@@ -57,29 +58,33 @@ pub struct Writer<'d, R: References> {
     document: Document<'d>,
     /// What its character references stand for.
     references: &'d R,
+    /// Where the next event is written.
+    cursor: Cursor<'d>,
     /// The events so far.
-    transcript: Transcript<'d>,
+    events: Vec<Event>,
     /// The spans that are open after them.
     spans: OpenSpans,
 }
 
 impl<'d, R: References> Model for Writer<'d, R> {
+    ghost use Rattle.event_writer.specs.Tiles.{AreTiles};
     ghost use Rattle.event_writer.specs.Written.{Written};
     ghost use Rattle.markdown_acceptance.specs.Shown.{Tracks};
     ghost use Rattle.markdown_grammar.specs.Document.{source};
-    ghost use Rattle.std.specs.Prelude.{◌≡◌};
+    ghost use Rattle.std.specs.Prelude.{None, ◌≡◌};
 
     ghost Value = { Written R };
 
     ghost view = { λ w. record {
-      given = record { bytes = w.document.bytes; references = w.references.now };
-      events = w.transcript.events;
-      cursor = w.transcript.cursor;
+      given = record { bytes = w.document.bytes; references = w.references.now; sink = None };
+      events = w.events.items;
+      cursor = w.cursor.at;
       spans = w.spans;
     } };
 
-    ghost invariant = { λ w. Tracks (source w.document.bytes (R.text w.references.now)) w.transcript.events w.spans
-        × (w.transcript.bytes ≡ w.document.bytes) };
+    ghost invariant = { λ w. Tracks (source w.document.bytes (R.text w.references.now)) w.events.items w.spans
+        × AreTiles w.document.bytes w.events.items w.cursor.at
+        × (w.cursor.bytes ≡ w.document.bytes) };
 }
 
 impl<'d, R: References> Writer<'d, R> {
@@ -93,17 +98,18 @@ impl<'d, R: References> Writer<'d, R> {
         references: &'d R,
     ) -> Result<Writer<'d, R>, AllocError>
         ensures made { length document.now < 2 ^ 61 → IsOk result }
-        ensures given { IfOk result (λ w. w.given ≡ record { bytes = document.now; references = references.now }) }
+        ensures given { IfOk result (λ w. w.given ≡ record { bytes = document.now; references = references.now; sink = None }) }
         ensures events { IfOk result (λ w. w.events ≡ []) }
         ensures cursor { IfOk result (λ w. w.cursor ≡ origin) }
         ensures root { IfOk result (λ w. AtRoot w.spans) }
     {
-        let transcript = Transcript::new(alloc, document)?;
+        let cursor = Cursor::new(document)?;
         Ok(Writer {
             alloc,
             document: Document::new(document, Values::AsInDocument),
             references,
-            transcript,
+            cursor,
+            events: Vec::new(alloc),
             spans: OpenSpans::new(alloc),
         })
     }
@@ -115,7 +121,7 @@ impl<'d, R: References> Writer<'d, R> {
     pub fn cursor(&self) -> Point
         ensures { result ≡ self.now.cursor }
     {
-        self.transcript.cursor()
+        self.cursor.at()
     }
 
     /// Opens a span at the cursor.
@@ -132,10 +138,10 @@ impl<'d, R: References> Writer<'d, R> {
         ensures refused { IfMisfit result (may_open self.old.given.bytes self.old.spans name self.old.cursor ≡ false) }
         ensures hopeless { IfMisfit result (IsHopeless (source self.old.given.bytes (R.text self.old.given.references)) (self.old.events ++ enter name self.old.cursor ∷ [])) }
     {
-        let point = self.transcript.cursor();
-        self.transcript.reserve(1)?;
+        let point = self.cursor.at();
+        self.events.reserve(1)?;
         self.spans.enter(&self.document, name, point)?;
-        self.transcript.enter(name);
+        self.events.push_reserved(enter_event(name, point));
         Ok(())
     }
 
@@ -154,12 +160,12 @@ impl<'d, R: References> Writer<'d, R> {
         ensures refused { IfMisfit result (may_close (source self.old.given.bytes (R.text self.old.given.references)) self.old.spans self.old.cursor ≡ false) }
         ensures hopeless { (name : Name) → IfMisfit result (IsHopeless (source self.old.given.bytes (R.text self.old.given.references)) (self.old.events ++ exit name self.old.cursor ∷ [])) }
     {
-        let point = self.transcript.cursor();
-        self.transcript.reserve(1)?;
+        let point = self.cursor.at();
+        self.events.reserve(1)?;
         let name = self
             .spans
             .exit(self.alloc, &self.document, self.references, point)?;
-        self.transcript.exit(name);
+        self.events.push_reserved(exit_event(name, point));
         Ok(())
     }
 
@@ -185,7 +191,7 @@ impl<'d, R: References> Writer<'d, R> {
             → (end : Point) × IsPlace self.old.given.bytes end × (end.index ≡ to) × (end.vs ≡ virtual_spaces)
             × IsHopeless (source self.old.given.bytes (R.text self.old.given.references)) (self.old.events ++ enter name self.old.cursor ∷ exit name end ∷ [])) }
     {
-        match self.transcript.point_at(to, virtual_spaces) {
+        match self.cursor.point_at(to, virtual_spaces) {
             Some(end) => self.write(name, end),
             None => Err(WriteError::Misfit),
         }
@@ -211,7 +217,7 @@ impl<'d, R: References> Writer<'d, R> {
             → (end : Point) × IsPlace self.old.given.bytes end × IsLineStart self.old.given.bytes self.old.cursor end
             × IsHopeless (source self.old.given.bytes (R.text self.old.given.references)) (self.old.events ++ enter name self.old.cursor ∷ exit name end ∷ [])) }
     {
-        match self.transcript.next_line() {
+        match self.cursor.next_line() {
             Some(end) => self.write(name, end),
             None => Err(WriteError::Misfit),
         }
@@ -229,8 +235,8 @@ impl<'d, R: References> Writer<'d, R> {
         ensures refused { IfMisfit result (may_write (source self.old.given.bytes (R.text self.old.given.references)) self.old.spans name self.old.cursor end ≡ false) }
         ensures hopeless { IfMisfit result (IsHopeless (source self.old.given.bytes (R.text self.old.given.references)) (self.old.events ++ enter name self.old.cursor ∷ exit name end ∷ [])) }
     {
-        let start = self.transcript.cursor();
-        self.transcript.reserve(2)?;
+        let start = self.cursor.at();
+        self.events.reserve(2)?;
         self.spans.token(
             self.alloc,
             &self.document,
@@ -239,7 +245,9 @@ impl<'d, R: References> Writer<'d, R> {
             start,
             end,
         )?;
-        self.transcript.token(name, end);
+        self.events.push_reserved(enter_event(name, start));
+        self.events.push_reserved(exit_event(name, end));
+        self.cursor.move_to(end);
         Ok(())
     }
 
@@ -253,9 +261,9 @@ impl<'d, R: References> Writer<'d, R> {
         ensures left { IfNone result (self.entry.spans.frames ≡ [] → self.entry.spans.site.after_break ≡ false
             → self.entry.cursor.index ≢ length self.entry.given.bytes) }
     {
-        if !self.spans.is_done() || !self.transcript.is_at_end() {
+        if !self.spans.is_done() || !self.cursor.is_at_end() {
             return None;
         }
-        Some(self.transcript.into_events())
+        Some(self.events)
     }
 }

@@ -1,5 +1,5 @@
-pub mod HiddenBytes
 pub mod Readings
 pub mod Ends
 pub mod Roots
 pub mod Plain
+pub mod HiddenSoFar

@@ -1,3 +1,6 @@
 pub mod Hidden
 pub mod Roots
 pub mod Plain
+pub mod Hiding
+pub mod Blocks
+pub mod TreeSinks

@@ -8,11 +8,13 @@ ghost use Rattle.event_writer.specs.Stages.{flow};
 ghost use Rattle.markdown_grammar.specs.Document.{source};
 ghost use Rattle.markdown_options.specs.Spans.{AreOn};
 ghost use Rattle.markdown_text.specs.Standings.{IsAt};
+ghost use Rattle.markdown.specs.Blocks.{AreBlocks};
 
 use character_references::html::HtmlReferences;
 use event_writer::recorder::Recorder;
+use event_writer::sink::Sink;
 use markdown_events::event::Event;
-use markdown_flow::document::read;
+use markdown_flow::document::{Blocks, read};
 use markdown_options::ParseOptions;
 use markdown_text::document::{Reading, write};
 use std::alloc::{AllocError, Global};
@@ -37,23 +39,49 @@ pub fn to_events(
     // A construct that is off has no span.
     ensures on { IfOk result (λ events. AreOn options.now.constructs events.items) }
 {
-    let writer = written(alloc, value.as_bytes(), options)?;
+    let document = value.as_bytes();
+    let blocks = read(alloc, document, options)?;
+    recorded(alloc, document, options, &blocks, Vec::new(alloc))
+}
+
+/// Returns a sink that has taken the events of a document, from its blocks and a sink that has taken
+/// none.
+pub(crate) fn recorded<S: Sink>(
+    alloc: Global,
+    document: &[u8],
+    options: &ParseOptions,
+    blocks: &Blocks,
+    sink: S,
+) -> Result<S, AllocError>
+    requires text { IsUtf8 document.now }
+    requires blocks { AreBlocks document.now options.now.constructs blocks.now }
+    requires none { S.taken sink ≡ [] }
+    ensures finished { IfOk result (λ taken. IsFinished (source document.now html) (S.taken taken)) }
+    ensures on { IfOk result (λ taken. AreOn options.now.constructs (S.taken taken)) }
+    ensures document { IfOk result (λ taken. S.document taken ≡ S.document sink) }
+{
+    let writer = written(alloc, document, options, blocks, sink)?;
     Ok(writer.finish())
 }
 
-/// Returns a writer that has written a document to its end.
-fn written<'d>(
+/// Returns a recorder that has written a document to its end, from its blocks and a sink that has
+/// taken no event.
+fn written<'d, S: Sink>(
     alloc: Global,
     document: &'d [u8],
     options: &ParseOptions,
-) -> Result<Recorder<'d, HtmlReferences>, AllocError>
-    requires { IsUtf8 document.now }
+    blocks: &Blocks,
+    sink: S,
+) -> Result<Recorder<'d, HtmlReferences, S>, AllocError>
+    requires text { IsUtf8 document.now }
+    requires blocks { AreBlocks document.now options.now.constructs blocks.now }
+    requires none { S.taken sink ≡ [] }
     ensures given { IfOk result (λ writer. writer.given.bytes ≡ document.now) }
+    ensures sink { IfOk result (λ writer. writer.given.sink ≡ S.document sink) }
     ensures end { IfOk result (λ writer. writer.cursor.index ≡ length document.now) }
     ensures root { IfOk result (λ writer. IsAt writer (flow false) []) }
     ensures on { IfOk result (λ writer. AreOn options.now.constructs writer.events) }
 {
-    let blocks = read(alloc, document, options)?;
     let reading = Reading {
         alloc,
         document,
@@ -61,6 +89,6 @@ fn written<'d>(
         identifiers: &blocks.identifiers,
         references: &HtmlReferences,
     };
-    let writer = Recorder::new(alloc, document, &HtmlReferences)?;
+    let writer = Recorder::new(alloc, document, &HtmlReferences, sink)?;
     write(&reading, blocks.pieces.as_slice(), writer)
 }

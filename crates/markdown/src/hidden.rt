@@ -72,7 +72,7 @@ fn labels_after(labels: usize, event: &Event) -> usize
 }
 
 /// Whether definitions and references are matched by the bytes of a span with this name.
-fn is_label(name: Name) -> bool
+pub(crate) fn is_label(name: Name) -> bool
     ensures { result ≡ is_label name }
 {
     matches!(
@@ -95,7 +95,7 @@ fn cell_after(cell: usize, event: &Event) -> usize
 }
 
 /// Returns the bytes from one offset to another, or those of them that exist.
-fn part(bytes: &[u8], start: usize, end: usize) -> &[u8]
+pub(crate) fn part(bytes: &[u8], start: usize, end: usize) -> &[u8]
     ensures { result.now ≡ take (end - start) (drop start bytes.now) }
 {
     let rest = bytes.get(start..).unwrap_or(&[]);

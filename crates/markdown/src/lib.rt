@@ -10,8 +10,10 @@
 
 mod events;
 mod hidden;
+mod hiding;
 pub mod laws;
 mod tree;
+mod tree_sink;
 
 pub use events::to_events;
 pub use hidden::hidden_bytes;

@@ -1,6 +1,6 @@
 //! The tree of a document.
 
-ghost use Rattle.std.specs.Prelude.{IfErr, IfOk, List, Some, ◌≡◌, ◌≢◌};
+ghost use Rattle.std.specs.Prelude.{IfErr, IfOk, List, Some, [], ◌≡◌, ◌≢◌};
 ghost use Rattle.character_references.specs.Html.{html};
 ghost use Rattle.event_writer.specs.Finished.{IsFinished};
 ghost use Rattle.markdown_events.specs.declared.event.Event.{Event};
@@ -15,11 +15,13 @@ ghost use Rattle.markdown_nodes.specs.View.{view};
 ghost use Rattle.markdown_events.specs.declared.message.Fault.TheVariants as faults;
 ghost use Rattle.markdown_events.specs.declared.message.Message.{Message};
 
-use crate::events::to_events;
+use crate::events::recorded;
 use crate::hidden::hidden_bytes;
+use crate::tree_sink::TreeSink;
 use character_references::html::HtmlReferences;
 use event_writer::laws::{no_message_comes, offsets_never_go_back};
 use markdown_events::event::Event;
+use markdown_flow::document::read;
 use markdown_nodes::mdast::Node;
 use markdown_nodes::message::Fault;
 use markdown_options::ParseOptions;
@@ -28,7 +30,7 @@ use std::alloc::{AllocError, Global};
 
 /// Returns the mdast syntax tree of a document.
 ///
-/// It is the meaning of the events of [`to_events`], with whole values: a tab that a list marker
+/// It is the meaning of the events of [`to_events`](crate::to_events), with whole values: a tab that a list marker
 /// shares becomes spaces in code, and NUL becomes U+FFFD (CommonMark). Hidden bytes are left out:
 /// the marker of a block quote from a label over lines (CommonMark), and the backslash before a
 /// pipe in a table (GFM). In positions `line` and `column` count from 1, and `offset` counts bytes
@@ -49,11 +51,45 @@ pub fn to_mdast(alloc: Global, value: &str, options: &ParseOptions) -> Result<No
     // items.
     ensures ordered { IfOk result (λ tree. IsOrdered (only (view tree))) }
 {
-    // For the proof: the tree is therefore ordered, and there is no message.
+    let bytes = value.as_bytes();
+    let blocks = read(alloc, bytes, options)?;
+    let sink = TreeSink::new(alloc, bytes)?;
+    let sink = recorded(alloc, bytes, options, &blocks, sink)?;
+    if sink.hides() {
+        let events = recorded(alloc, bytes, options, &blocks, Vec::new(alloc))?;
+        return tree_of(alloc, value, &events);
+    }
+    shown_tree(sink)
+}
+
+/// Returns the tree that a sink has built, if its events hide no byte.
+fn shown_tree(sink: TreeSink<'_>) -> Result<Node, AllocError>
+    requires finished { IsFinished (source sink.document html) sink.events }
+    requires none { hidden sink.document sink.events ≡ [] }
+    ensures tree { IfOk result (λ tree. IsMeaning tree sink.entry.events (source_hiding (hidden sink.entry.document sink.entry.events) sink.entry.document html)) }
+    ensures root { IfOk result (λ tree. (view tree).position ≡ Some (whole_document sink.entry.document)) }
+    ensures ordered { IfOk result (λ tree. IsOrdered (only (view tree))) }
+{
+    // For the proof: the tree is ordered, and there is no message.
     offsets_never_go_back();
     no_message_comes();
-    let events = to_events(alloc, value, options)?;
-    match compile_events(alloc, value, &events) {
+    match sink.finish() {
+        Ok(tree) => Ok(tree),
+        Err(fault) => Err(memory_error(fault)),
+    }
+}
+
+/// Returns the tree of a document and its events.
+fn tree_of(alloc: Global, value: &str, events: &[Event]) -> Result<Node, AllocError>
+    requires { IsFinished (source value.now html) events.now }
+    ensures tree { IfOk result (λ tree. IsMeaning tree events.now (source_hiding (hidden value.now events.now) value.now html)) }
+    ensures root { IfOk result (λ tree. (view tree).position ≡ Some (whole_document value.now)) }
+    ensures ordered { IfOk result (λ tree. IsOrdered (only (view tree))) }
+{
+    // For the proof: the tree is ordered, and there is no message.
+    offsets_never_go_back();
+    no_message_comes();
+    match compile_events(alloc, value, events) {
         Ok(tree) => Ok(tree),
         Err(fault) => Err(memory_error(fault)),
     }

@@ -1,5 +1,5 @@
 mod SetParts
-mod Popping
+pub mod Popping
 mod Tests
 mod Showing
 mod Stepping

@@ -42,8 +42,8 @@ is_walk options document text stop tokens delimiters before p found =
     }
 
 -- At the start nothing is written, and nothing is open.
-pub begins_walk : {R : Type 0} (options : ParseOptions) (document : List ℕ) (text : Text) (stop : Spot) (tokens : List Token) (delimiters : List Delimiter) (before : List Event) (p : ArePairsOf options text.bytes tokens delimiters) → AreTokens text 0 tokens
-    → (output : Output R) → document_of output ≡ document → bytes_of output ≡ text.bytes → content_end output ≡ stop → attention_of output ≡ before → output.«data» ≡ 0 → WalksOn (walk_of (place_of document text stop) p.pairs before) output [] tokens
+pub begins_walk : {R S : Type 0} (options : ParseOptions) (document : List ℕ) (text : Text) (stop : Spot) (tokens : List Token) (delimiters : List Delimiter) (before : List Event) (p : ArePairsOf options text.bytes tokens delimiters) → AreTokens text 0 tokens
+    → (output : Output R S) → document_of output ≡ document → bytes_of output ≡ text.bytes → content_end output ≡ stop → attention_of output ≡ before → output.«data» ≡ 0 → WalksOn (walk_of (place_of document text stop) p.pairs before) output [] tokens
 begins_walk {R} options document text stop tokens delimiters before p found output same_document same_bytes same_stop none start =
     let order : InOrder 0 (length text.bytes) p.runs = in_order text 0 tokens p.runs found p.are in
     let walk : Walk = walk_of (place_of document text stop) p.pairs before in
@@ -65,8 +65,8 @@ begins_walk {R} options document text stop tokens delimiters before p found outp
     }
 
 -- At the end nothing is open, and the spans are written.
-pub ends_walk : {R : Type 0} (options : ParseOptions) (document : List ℕ) (text : Text) (stop : Spot) (tokens : List Token) (delimiters : List Delimiter) (before : List Event) (p : ArePairsOf options text.bytes tokens delimiters) → AreTokens text 0 tokens
-    → (output : Output R) (constructs : List Open) → WalksOn (walk_of (place_of document text stop) p.pairs before) output constructs [] → output.«data» ≤ length text.bytes
+pub ends_walk : {R S : Type 0} (options : ParseOptions) (document : List ℕ) (text : Text) (stop : Spot) (tokens : List Token) (delimiters : List Delimiter) (before : List Event) (p : ArePairsOf options text.bytes tokens delimiters) → AreTokens text 0 tokens
+    → (output : Output R S) (constructs : List Open) → WalksOn (walk_of (place_of document text stop) p.pairs before) output constructs [] → output.«data» ≤ length text.bytes
     → (constructs ≡ []) × ((es : List Event) × (attention_of output ≡ before ++ es) × AreSpansOf options (place_of document text stop) text es)
 ends_walk {R} options document text stop tokens delimiters before p found output constructs walks most =
     let walk : Walk = walk_of (place_of document text stop) p.pairs before in
@@ -75,8 +75,8 @@ ends_walk {R} options document text stop tokens delimiters before p found output
     (end.0, (end.1.0, end.1.1, record { tokens = tokens; found = found; runs = p.runs; are_runs = p.are; are_all = p.all; pairs = p.pairs; resolves = p.resolves; are_events = end.1.2 }))
 
 -- From the start to the end: the mark of a task, and the tokens after it.
-pub whole_walk : {R : Type 0} (options : ParseOptions) (document : List ℕ) (text : Text) (stop : Spot) (tokens given rest : List Token) (delimiters known : List Delimiter) (before : List Event) → ArePairsOf options text.bytes tokens delimiters → AreTokens text 0 tokens → given ≡ tokens → known ≡ delimiters
-    → (first second third : Output R) (none last : List Open) → none ≡ [] → document_of first ≡ document → bytes_of first ≡ text.bytes → content_end first ≡ stop → attention_of first ≡ before → first.«data» ≡ 0
+pub whole_walk : {R S : Type 0} (options : ParseOptions) (document : List ℕ) (text : Text) (stop : Spot) (tokens given rest : List Token) (delimiters known : List Delimiter) (before : List Event) → ArePairsOf options text.bytes tokens delimiters → AreTokens text 0 tokens → given ≡ tokens → known ≡ delimiters
+    → (first second third : Output R S) (none last : List Open) → none ≡ [] → document_of first ≡ document → bytes_of first ≡ text.bytes → content_end first ≡ stop → attention_of first ≡ before → first.«data» ≡ 0
     → ((walk : Walk) (constructs : List Open) → length walk.delimiters ≡ length walk.place.content → WalksOn walk first constructs given → WalksOn walk second constructs rest)
     → ((walk : Walk) → IsWalkOf walk known → WalksOn walk second none rest → WalksOn walk third last [])
     → third.«data» ≤ length text.bytes → (last ≡ []) × ((es : List Event) × (attention_of third ≡ before ++ es) × AreSpansOf options (place_of document text stop) text es)

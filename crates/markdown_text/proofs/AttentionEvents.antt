@@ -115,7 +115,7 @@ token_other name is = absurd (cc is)
 -- ---- Spots
 
 -- the next event of a content stands where what is left of it begins
-pub at_spot : {R : Type 0} (old new : Output R) (offset : ℕ) → WritesTo old new offset → IsSpotOf (document_of old) (bytes_of old) (content_end old) offset (spot new.writer.cursor)
+pub at_spot : {R S : Type 0} (old new : Output R S) (offset : ℕ) → WritesTo old new offset → IsSpotOf (document_of old) (bytes_of old) (content_end old) offset (spot new.writer.cursor)
 at_spot old new offset w =
     let s = w.goes_on.stands in
     let end = new.lines.end in

@@ -78,7 +78,7 @@ balanced_data kinds ds at less is h = by kinds (subst (AreBalanced kinds) (drop_
 events_data : (place : Place) (ds : List Delimiter) (at : ℕ) (es : List Event) → at < length ds → get_or ds at Data ≡ Data → AreEventsOf place 0 (take at ds) es → AreEventsOf place 0 (take (at + 1) ds) es
 events_data place ds at es less is h = subst (AreEventsOf place 0 (take (at + 1) ds)) (append-nil es) (events_one place ds at es [] less h (subst (λ d. AreEventsOf place at (d ∷ []) []) (sym is) tt))
 
-walk_data : {R : Type 0} (walk : Walk) (output : Output R) (constructs : List Open) (size from : ℕ) → from + size ≤ length walk.delimiters → IsDataFrom walk.delimiters from (from + size) → HasWalked walk output constructs from → HasWalked walk output constructs (from + size)
+walk_data : {R S : Type 0} (walk : Walk) (output : Output R S) (constructs : List Open) (size from : ℕ) → from + size ≤ length walk.delimiters → IsDataFrom walk.delimiters from (from + size) → HasWalked walk output constructs from → HasWalked walk output constructs (from + size)
 walk_data walk output constructs zero from most none walked = subst (HasWalked walk output constructs) (omega arith) walked
 walk_data {R} walk output constructs (suc size) from most none walked =
     let ds = walk.delimiters in
@@ -96,13 +96,13 @@ walk_data {R} walk output constructs (suc size) from most none walked =
     } in
     subst (HasWalked walk output constructs) (omega arith) (walk_data walk output constructs size (from + 1) (omega (arith, most)) (λ at least less. none at (omega (arith, least)) (omega (arith, less))) next)
 
-pub walked_data : {R : Type 0} (walk : Walk) (output : Output R) (constructs : List Open) (from to : ℕ) → from ≤ to → to ≤ length walk.delimiters → IsDataFrom walk.delimiters from to → HasWalked walk output constructs from → HasWalked walk output constructs to
+pub walked_data : {R S : Type 0} (walk : Walk) (output : Output R S) (constructs : List Open) (from to : ℕ) → from ≤ to → to ≤ length walk.delimiters → IsDataFrom walk.delimiters from to → HasWalked walk output constructs from → HasWalked walk output constructs to
 walked_data walk output constructs from to order most none walked =
     let sum : from + (to - from) ≡ to = omega (arith, order) in
     subst (HasWalked walk output constructs) sum (walk_data walk output constructs (to - from) from (omega (arith, order, most)) (subst (IsDataFrom walk.delimiters from) (sym sum) none) walked)
 
 -- The same content is written on, and no span of attention begins or ends.
-pub walked_on : {R : Type 0} (walk : Walk) (old new : Output R) (constructs : List Open) (at : ℕ) → GoesOn old new → attention_of new ≡ attention_of old → HasWalked walk old constructs at → HasWalked walk new constructs at
+pub walked_on : {R S : Type 0} (walk : Walk) (old new : Output R S) (constructs : List Open) (at : ℕ) → GoesOn old new → attention_of new ≡ attention_of old → HasWalked walk old constructs at → HasWalked walk new constructs at
 walked_on walk old new constructs at goes same walked = record {
   document = goes.document ∙ walked.document;
   content = goes.bytes ∙ walked.content;
@@ -128,7 +128,7 @@ spot_as : (document document' content content' : List ℕ) (stop stop' : _) (at 
 spot_as document document' content content' stop stop' at p d c s h =
     subst (λ x. IsSpotOf x content' stop' at (spot p)) d (subst (λ x. IsSpotOf document x stop' at (spot p)) c (subst (λ x. IsSpotOf document content x at (spot p)) s h))
 
-pub walked_opening : {R : Type 0} (walk : Walk) (old new : Output R) (constructs after : List Open) (at : ℕ) (kind : AttentionKind) → HasWalked walk old constructs at → at < length walk.delimiters → get_or walk.delimiters at Data ≡ Opening kind
+pub walked_opening : {R S : Type 0} (walk : Walk) (old new : Output R S) (constructs after : List Open) (at : ℕ) (kind : AttentionKind) → HasWalked walk old constructs at → at < length walk.delimiters → get_or walk.delimiters at Data ≡ Opening kind
     → GoesOn old new → WritesAttention old new at (enter (group_name kind)) → after ≡ constructs ++ Attention kind ∷ [] → HasWalked walk new after (at + 1)
 walked_opening walk old new constructs after at kind walked less is goes writes opens =
     let p = writes.point in
@@ -162,7 +162,7 @@ balanced_closing kinds kind ds at less is h = by kinds (subst (AreBalanced kinds
     by (other ∷ kinds) k = record { outer = kinds; is = ap (λ x. x ∷ kinds) k.0; balanced = k.1 }
 
 -- the construct that a closing sequence closes is the innermost
-pub closes_innermost : {R : Type 0} (walk : Walk) (output : Output R) (constructs : List Open) (at : ℕ) (kind : AttentionKind) → HasWalked walk output constructs at → at < length walk.delimiters → get_or walk.delimiters at Data ≡ Closing kind → (os : List Open) × (constructs ≡ os ++ Attention kind ∷ [])
+pub closes_innermost : {R S : Type 0} (walk : Walk) (output : Output R S) (constructs : List Open) (at : ℕ) (kind : AttentionKind) → HasWalked walk output constructs at → at < length walk.delimiters → get_or walk.delimiters at Data ≡ Closing kind → (os : List Open) × (constructs ≡ os ++ Attention kind ∷ [])
 closes_innermost walk output constructs at kind walked less is =
     let i = balanced_closing walked.kinds kind walk.delimiters at less is walked.balanced in
     (open_of i.outer, walked.are_open ∙ ap open_of i.is)
@@ -190,7 +190,7 @@ last_same (u ∷ xs) (v ∷ ys) x y e =
     let rest : xs ++ x ∷ [] ≡ ys ++ y ∷ [] = cc e in
     ap (λ z. z ∷ xs) first ∙ ap (λ zs. v ∷ zs) (last_same xs ys x y rest)
 
-pub walked_closing : {R : Type 0} (walk : Walk) (old new : Output R) (constructs after : List Open) (at : ℕ) (kind : AttentionKind) → HasWalked walk old constructs at → at < length walk.delimiters → get_or walk.delimiters at Data ≡ Closing kind
+pub walked_closing : {R S : Type 0} (walk : Walk) (old new : Output R S) (constructs after : List Open) (at : ℕ) (kind : AttentionKind) → HasWalked walk old constructs at → at < length walk.delimiters → get_or walk.delimiters at Data ≡ Closing kind
     → GoesOn old new → WritesAttention old new (at + kind_size kind) (exit (group_name kind)) → constructs ≡ after ++ Attention kind ∷ [] → HasWalked walk new after (at + 1)
 walked_closing walk old new constructs after at kind walked less is goes writes opens =
     let p = writes.point in
@@ -212,7 +212,7 @@ walked_closing walk old new constructs after at kind walked less is goes writes 
 -- ---- The end
 
 -- nothing is open at the end
-pub none_open : {R : Type 0} (walk : Walk) (output : Output R) (constructs : List Open) → HasWalked walk output constructs (length walk.delimiters) → (constructs ≡ []) × ((es : List Event) × (attention_of output ≡ walk.before ++ es) × AreEventsOf walk.place 0 walk.delimiters es)
+pub none_open : {R S : Type 0} (walk : Walk) (output : Output R S) (constructs : List Open) → HasWalked walk output constructs (length walk.delimiters) → (constructs ≡ []) × ((es : List Event) × (attention_of output ≡ walk.before ++ es) × AreEventsOf walk.place 0 walk.delimiters es)
 none_open walk output constructs walked =
     let rest : drop (length walk.delimiters) walk.delimiters ≡ [] = all_dropped walk.delimiters in
     let all : take (length walk.delimiters) walk.delimiters ≡ walk.delimiters = all_taken walk.delimiters in
@@ -235,13 +235,13 @@ none_open walk output constructs walked =
 
 -- ---- A sequence as a whole
 
-pub written_opening : {R : Type 0} (walk : Walk) (old new : Output R) (constructs after : List Open) (at : ℕ) (kind : AttentionKind) → AreApart walk.delimiters → at + kind_size kind ≤ length walk.delimiters → get_or walk.delimiters at Data ≡ Opening kind → HasWalked walk old constructs at
+pub written_opening : {R S : Type 0} (walk : Walk) (old new : Output R S) (constructs after : List Open) (at : ℕ) (kind : AttentionKind) → AreApart walk.delimiters → at + kind_size kind ≤ length walk.delimiters → get_or walk.delimiters at Data ≡ Opening kind → HasWalked walk old constructs at
     → GoesOn old new → WritesAttention old new at (enter (group_name kind)) → after ≡ constructs ++ Attention kind ∷ [] → HasWalked walk new after (at + kind_size kind)
 written_opening walk old new constructs after at kind apart room is walked goes writes opens =
     let some = some_markers kind in
     walked_data walk new after (at + 1) (at + kind_size kind) (omega (arith, some)) room (apart at kind (inl is)) (walked_opening walk old new constructs after at kind walked (omega (arith, room, some)) is goes writes opens)
 
-pub written_closing : {R : Type 0} (walk : Walk) (old new : Output R) (constructs after : List Open) (at : ℕ) (kind : AttentionKind) → AreApart walk.delimiters → at + kind_size kind ≤ length walk.delimiters → get_or walk.delimiters at Data ≡ Closing kind → HasWalked walk old constructs at
+pub written_closing : {R S : Type 0} (walk : Walk) (old new : Output R S) (constructs after : List Open) (at : ℕ) (kind : AttentionKind) → AreApart walk.delimiters → at + kind_size kind ≤ length walk.delimiters → get_or walk.delimiters at Data ≡ Closing kind → HasWalked walk old constructs at
     → GoesOn old new → WritesAttention old new (at + kind_size kind) (exit (group_name kind)) → constructs ≡ after ++ Attention kind ∷ [] → HasWalked walk new after (at + kind_size kind)
 written_closing walk old new constructs after at kind apart room is walked goes writes closes =
     let some = some_markers kind in
@@ -249,7 +249,7 @@ written_closing walk old new constructs after at kind apart room is walked goes 
 
 -- ---- A token that is no run of delimiters
 
-pub plain_token : {R X E : Type 0} (walk : Walk) (old new : Output R) (r : Result X E) (constructs : List Open) (text : Text) (t : Token) (delimiters : List Delimiter) → IsWalkOf walk delimiters → Holds walk.delimiters t → is_delimiters t.kind ≡ false
+pub plain_token : {R S X E : Type 0} (walk : Walk) (old new : Output R S) (r : Result X E) (constructs : List Open) (text : Text) (t : Token) (delimiters : List Delimiter) → IsWalkOf walk delimiters → Holds walk.delimiters t → is_delimiters t.kind ≡ false
     → text.bytes ≡ bytes_of old → old.«data» ≡ t.start → IsToken text t.kind old.«data» t.end → HasWalked walk old constructs old.«data» → OnOk r (GoesOn old new) → OnOk r (attention_of new ≡ attention_of old) → OnOk r (HasWalked walk new constructs t.end)
 plain_token walk old new r constructs text t delimiters is holds plain same start token walked goes none =
     let range = token_range text t.kind old.«data» t.end token in
@@ -270,7 +270,7 @@ no_label None h = refl
 no_label (Some labelled) h = absurd h
 
 -- the mark of a task, and the tokens after it
-pub walked_task : {R : Type 0} (walk : Walk) (old new : Output R) (constructs : List Open) (ts later : List Token) (t : Token) (is_checked : Bool) (text : Text) → old.«data» ≡ 0 → ts ≡ t ∷ later → t.kind ≡ TaskListItemCheck is_checked → AreTokens text 0 ts
+pub walked_task : {R S : Type 0} (walk : Walk) (old new : Output R S) (constructs : List Open) (ts later : List Token) (t : Token) (is_checked : Bool) (text : Text) → old.«data» ≡ 0 → ts ≡ t ∷ later → t.kind ≡ TaskListItemCheck is_checked → AreTokens text 0 ts
     → text.bytes ≡ bytes_of old → length walk.delimiters ≡ length walk.place.content → WritesTo old new 3 → attention_of new ≡ attention_of old → WalksOn walk old constructs ts → WalksOn walk new constructs later
 walked_task {R} walk old new constructs ts later t is_checked text start is kind tokens same size writes none walks =
     let first = subst (WalksOn walk old constructs) is walks in

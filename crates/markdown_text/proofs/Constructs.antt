@@ -20,11 +20,11 @@ use Rattle.markdown_text.specs.declared.token.Labelled.TheVariants.{FootnoteCall
 -- ---- One call after the other
 
 -- what two calls write
-pub writes_then : {R : Type 0} {a b c : Output R} {x y : ℕ} → WritesTo a b x → WritesTo b c y → WritesTo a c y
+pub writes_then : {R S : Type 0} {a b c : Output R S} {x y : ℕ} → WritesTo a b x → WritesTo b c y → WritesTo a c y
 writes_then {R} {a} {b} {c} {x} {y} first second = record { goes_on = goes_on_then a b c first.goes_on second.goes_on; at = second.at; data_end = second.data_end }
 
 -- up to the same offset by other words
-pub writes_as : {R : Type 0} (a b : Output R) (x y : ℕ) → x ≡ y → WritesTo a b x → WritesTo a b y
+pub writes_as : {R S : Type 0} (a b : Output R S) (x y : ℕ) → x ≡ y → WritesTo a b x → WritesTo a b y
 writes_as a b x y same writes = subst (λ (n : ℕ). WritesTo a b n) same writes
 
 -- a part of a text, by other words for the text and for the offsets
@@ -57,7 +57,7 @@ ending_in_inlines false h = refl
 -- ---- Character references
 
 -- the decoder knows a value where it is written
-pub known_at : {R : Type 0} (decode : R → List ℕ → ℕ → Option (List ℕ)) (old o : Output R) (size mark end : ℕ) → references_of o ≡ references_of old → bytes_of o ≡ bytes_of old → o.at ≡ old.«data» + size
+pub known_at : {R S : Type 0} (decode : R → List ℕ → ℕ → Option (List ℕ)) (old o : Output R S) (size mark end : ℕ) → references_of o ≡ references_of old → bytes_of o ≡ bytes_of old → o.at ≡ old.«data» + size
     → is_some (decode (references_of old) (slice_range (bytes_of old) (old.«data» + size) end) mark) ≡ true → is_some (decode (references_of o) (slice_range (bytes_of o) o.at end) mark) ≡ true
 known_at {R} decode old o size mark end references bytes at known =
     subst (λ (r : R). is_some (decode r (slice_range (bytes_of o) o.at end) mark) ≡ true) (sym references)

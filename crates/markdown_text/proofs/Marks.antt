@@ -58,7 +58,7 @@ tokens_after_mark bytes decode may all ts t b is mark h =
     tokens_later bytes decode may 3 ts (omega arith) (subst (λ (n : ℕ). AreTokens (text_of bytes decode may) n ts) end these.2)
 
 -- the tokens that are left of a content that is written on
-pub tokens_as : {R : Type 0} (decode : R → List ℕ → ℕ → Option (List ℕ)) (old new : Output R) (at : ℕ) (ts : List Token) → GoesOn old new → new.«data» ≡ at → AreTokens (as_text old (decode (references_of old)) false) at ts → AreTokens (as_text new (decode (references_of new)) false) new.«data» ts
+pub tokens_as : {R S : Type 0} (decode : R → List ℕ → ℕ → Option (List ℕ)) (old new : Output R S) (at : ℕ) (ts : List Token) → GoesOn old new → new.«data» ≡ at → AreTokens (as_text old (decode (references_of old)) false) at ts → AreTokens (as_text new (decode (references_of new)) false) new.«data» ts
 tokens_as {R} decode old new at ts goes same h =
     subst (λ (n : ℕ). AreTokens (as_text new (decode (references_of new)) false) n ts) (sym same)
     (subst (λ (bs : List ℕ). AreTokens (text_of bs (decode (references_of new)) false) at ts) (sym goes.bytes)

@@ -27,7 +27,7 @@ attention_events [] = []
 attention_events (e ∷ es) = if is_attention e.name then e ∷ attention_events es else attention_events es
 
 -- these events among those that are written for a content
-abbrev pub attention_of : {R : Type 0} → Output R → List Event
+abbrev pub attention_of : {R S : Type 0} → Output R S → List Event
 attention_of output = attention_events output.writer.events
 
 -- the kinds of the pieces between the texts of a content: line endings, and after them white space and block quote prefixes
@@ -48,7 +48,7 @@ pub record IsSpotOf (document bytes : List ℕ) (stop : Spot) (offset : ℕ) (fr
   pub stops : end_from (whole end) later ≡ stop
 
 -- one such event is written, at an offset of the content
-pub record WritesAttention {R : Type 0} (old new : Output R) (offset : ℕ) (event : Point → Event) : Type 0 where
+pub record WritesAttention {R S : Type 0} (old new : Output R S) (offset : ℕ) (event : Point → Event) : Type 0 where
   pub point : Point
   pub place : IsSpotOf (document_of old) (bytes_of old) (content_end old) offset (spot point)
   pub events : attention_of new ≡ attention_of old ++ event point ∷ []

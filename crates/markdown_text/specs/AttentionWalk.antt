@@ -56,7 +56,7 @@ open_of [] = []
 open_of (kind ∷ kinds) = open_of kinds ++ (Attention kind ∷ [])
 
 -- The spans up to an offset are written, and these constructs are open.
-pub record HasWalked {R : Type 0} (walk : Walk) (output : Output R) (constructs : List Open) (at : ℕ) : Type 0 where
+pub record HasWalked {R S : Type 0} (walk : Walk) (output : Output R S) (constructs : List Open) (at : ℕ) : Type 0 where
   pub document : document_of output ≡ walk.place.document
   pub content : bytes_of output ≡ walk.place.content
   pub stop : content_end output ≡ walk.place.stop
@@ -68,7 +68,7 @@ pub record HasWalked {R : Type 0} (walk : Walk) (output : Output R) (constructs 
   pub are_events : AreEventsOf walk.place 0 (take at walk.delimiters) events
 
 -- The remaining tokens come after the pending data.
-pub record WalksOn {R : Type 0} (walk : Walk) (output : Output R) (constructs : List Open) (tokens : List Token) : Type 0 where
+pub record WalksOn {R S : Type 0} (walk : Walk) (output : Output R S) (constructs : List Open) (tokens : List Token) : Type 0 where
   pub walked : HasWalked walk output constructs output.«data»
   pub no_labels : All (λ t. IsNoLabel t.kind) tokens
   pub stand : StandInTokens walk.delimiters output.«data» tokens

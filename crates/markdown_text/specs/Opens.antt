@@ -73,27 +73,27 @@ flag_of [] h = h
 flag_of (o ∷ os) h = false
 
 -- a content is being written with these constructs open, inside inlines with this flag and these spans
-abbrev pub HasOpen : {R : Type 0} → Output R → List Open → Bool → List Enclosing → Type 0
+abbrev pub HasOpen : {R S : Type 0} → Output R S → List Open → Bool → List Enclosing → Type 0
 HasOpen output os h outer = IsAt output.writer (inlines (flag_of os h)) (outer_of os h outer)
 
 -- a content is being written with these constructs open
-pub record AtOpen {R : Type 0} (output : Output R) (os : List Open) : Type 0 where
+pub record AtOpen {R S : Type 0} (output : Output R S) (os : List Open) : Type 0 where
   pub in_heading : Bool
   pub outer : List Enclosing
   pub at : HasOpen output os in_heading outer
 
 -- a call leads from these open constructs to those, unless it fails
-abbrev pub KeepsOpen : {R V E : Type 0} → Result V E → Output R → Output R → List Open → List Open → Type 0
+abbrev pub KeepsOpen : {R S V E : Type 0} → Result V E → Output R S → Output R S → List Open → List Open → Type 0
 KeepsOpen result old new before after = (h : Bool) → (outer : List Enclosing) → HasOpen old before h outer → OnOk result (HasOpen new after h outer)
 
 -- this construct is the innermost open one
-pub record AtOpened {R : Type 0} (output : Output R) (o : Open) : Type 0 where
+pub record AtOpened {R S : Type 0} (output : Output R S) (o : Open) : Type 0 where
   pub in_heading : Bool
   pub outer : List Enclosing
   pub at : IsAt output.writer (inlines false) (opened o in_heading outer)
 
 -- a call among inlines begins a label, unless it fails
-abbrev pub BeginsLabel : {R V E : Type 0} → Result V E → Labelled → Output R → Output R → Type 0
+abbrev pub BeginsLabel : {R S V E : Type 0} → Result V E → Labelled → Output R S → Output R S → Type 0
 BeginsLabel result labelled old new = (h : Bool) → (outer : List Enclosing) → IsAt old.writer (inlines h) outer → OnOk result (IsAt new.writer (label_stage labelled) (in_label labelled h outer))
 
 -- the stage after the text of a label
@@ -103,18 +103,18 @@ label_end_stage Image = media_target
 label_end_stage FootnoteCall = nothing
 
 -- the text of a label has ended
-abbrev pub IsAtLabelEnd : {R : Type 0} → Output R → Labelled → Bool → List Enclosing → Type 0
+abbrev pub IsAtLabelEnd : {R S : Type 0} → Output R S → Labelled → Bool → List Enclosing → Type 0
 IsAtLabelEnd output labelled h outer = IsAt output.writer (label_end_stage labelled) (in_label labelled h outer)
 
 -- the text of a label has ended, inside inlines with some flag and some spans
-pub record AtLabelEnd {R : Type 0} (output : Output R) (labelled : Labelled) : Type 0 where
+pub record AtLabelEnd {R S : Type 0} (output : Output R S) (labelled : Labelled) : Type 0 where
   pub in_heading : Bool
   pub outer : List Enclosing
   pub at : IsAtLabelEnd output labelled in_heading outer
 
 -- a call ends the label, and in the second definition also what the label belongs to, unless it fails
-abbrev pub LeavesLabel : {R V E : Type 0} → Result V E → Labelled → Output R → Output R → Type 0
+abbrev pub LeavesLabel : {R S V E : Type 0} → Result V E → Labelled → Output R S → Output R S → Type 0
 LeavesLabel result labelled old new = (h : Bool) → (outer : List Enclosing) → IsAtLabelEnd old labelled h outer → OnOk result (IsAt new.writer (label_end_stage labelled) (inside (labelled_name labelled) (inlines h) outer))
 
-abbrev pub EndsLabel : {R V E : Type 0} → Result V E → Labelled → Output R → Output R → Type 0
+abbrev pub EndsLabel : {R S V E : Type 0} → Result V E → Labelled → Output R S → Output R S → Type 0
 EndsLabel result labelled old new = (h : Bool) → (outer : List Enclosing) → IsAtLabelEnd old labelled h outer → OnOk result (IsAt new.writer (inlines h) outer)

@@ -21,31 +21,31 @@ use Rattle.markdown_text.specs.declared.output.Next.TheVariants as next
 use Rattle.markdown_text.specs.declared.output.Output.{Output}
 
 -- the document of a content
-abbrev pub document_of : {R : Type 0} → Output R → List ℕ
+abbrev pub document_of : {R S : Type 0} → Output R S → List ℕ
 document_of output = output.source.now.reading.now.document.now
 
 -- the bytes of the content
-abbrev pub bytes_of : {R : Type 0} → Output R → List ℕ
+abbrev pub bytes_of : {R S : Type 0} → Output R S → List ℕ
 bytes_of output = output.source.now.bytes.now
 
 -- the references that the document is read with
-abbrev pub references_of : {R : Type 0} → Output R → R
+abbrev pub references_of : {R S : Type 0} → Output R S → R
 references_of output = output.source.now.reading.now.references.now
 
 -- the constructs that the document is read with
-abbrev pub constructs_of : {R : Type 0} → Output R → Constructs
+abbrev pub constructs_of : {R S : Type 0} → Output R S → Constructs
 constructs_of output = output.source.now.reading.now.options.constructs
 
 -- the content as a text that is read with a decoder; the flag says whether it may begin with a task mark
-abbrev pub as_text : {R : Type 0} → Output R → (List ℕ → ℕ → Option (List ℕ)) → Bool → Text
+abbrev pub as_text : {R S : Type 0} → Output R S → (List ℕ → ℕ → Option (List ℕ)) → Bool → Text
 as_text output decode may_be_task = text_of (bytes_of output) decode may_be_task
 
 -- the end of the content in the document
-abbrev pub content_end : {R : Type 0} → Output R → Spot
+abbrev pub content_end : {R S : Type 0} → Output R S → Spot
 content_end output = end_from (whole output.lines.end) output.lines.later.now
 
 -- the unwritten bytes are those of the remaining pieces, the pending data is within a line, and the constructs of the output are on
-pub record Stands {R : Type 0} (output : Output R) : Type 0 where
+pub record Stands {R S : Type 0} (output : Output R S) : Type 0 where
   pub document : output.writer.given.bytes ≡ document_of output
   pub references : output.writer.given.references ≡ references_of output
   pub rest : IsLeft (document_of output) (spot output.writer.cursor) output.lines.end output.lines.later.now
@@ -54,7 +54,7 @@ pub record Stands {R : Type 0} (output : Output R) : Type 0 where
   pub within : IsWithin (constructs_of output) output.writer
 
 -- the same content is still being written
-pub record GoesOn {R : Type 0} (old new : Output R) : Type 0 where
+pub record GoesOn {R S : Type 0} (old new : Output R S) : Type 0 where
   pub stands : Stands new
   pub document : document_of new ≡ document_of old
   pub references : references_of new ≡ references_of old
@@ -63,7 +63,7 @@ pub record GoesOn {R : Type 0} (old new : Output R) : Type 0 where
   pub end : content_end new ≡ content_end old
 
 -- the content is written up to an offset
-pub record WritesTo {R : Type 0} (old new : Output R) (to : ℕ) : Type 0 where
+pub record WritesTo {R S : Type 0} (old new : Output R S) (to : ℕ) : Type 0 where
   pub goes_on : GoesOn old new
   pub at : new.at ≡ to
   pub data_end : new.data ≡ to
@@ -71,7 +71,7 @@ pub record WritesTo {R : Type 0} (old new : Output R) (to : ℕ) : Type 0 where
 -- ---- Inlines
 
 -- inlines may come, and no break is pending
-pub record AtInlines {R : Type 0} (output : Output R) : Type 0 where
+pub record AtInlines {R S : Type 0} (output : Output R S) : Type 0 where
   pub in_heading : Bool
   pub outer : List Enclosing
   pub at : IsAt output.writer (inlines in_heading) outer
@@ -88,22 +88,22 @@ pub record BeginsText {R : Type 0} (is_task : Bool) (w : Written R) : Type 0 whe
   pub at : IsAtText is_task w in_heading outer
 
 -- a call among inlines keeps their stage, unless it fails
-abbrev pub KeepsInlines : {R V E : Type 0} → Result V E → Output R → Output R → Type 0
+abbrev pub KeepsInlines : {R S V E : Type 0} → Result V E → Output R S → Output R S → Type 0
 KeepsInlines result old new = (h : Bool) → (outer : List Enclosing) → IsAt old.writer (inlines h) outer → OnOk result (IsAt new.writer (inlines h) outer)
 
 -- pending data is written before what comes next; before a line ending, a break may then be pending
-abbrev pub IsFlushed : {R : Type 0} → Next → Output R → Stage → List Enclosing → Type 0
+abbrev pub IsFlushed : {R S : Type 0} → Next → Output R S → Stage → List Enclosing → Type 0
 IsFlushed next.LineEnding output a outer = (waits : Bool) × StandsIn waits output.writer a outer
 IsFlushed next.Span output a outer = IsAt output.writer a outer
 IsFlushed next.End output a outer = IsAt output.writer a outer
 
 -- a content is being written at this stage
-pub record AtStage {R : Type 0} (output : Output R) (a : Stage) : Type 0 where
+pub record AtStage {R S : Type 0} (output : Output R S) (a : Stage) : Type 0 where
   pub outer : List Enclosing
   pub at : IsAt output.writer a outer
 
 -- a call leads from one stage to another, unless it fails
-abbrev pub Leads : {R V E : Type 0} → Result V E → Stage → Stage → Output R → Output R → Type 0
+abbrev pub Leads : {R S V E : Type 0} → Result V E → Stage → Stage → Output R S → Output R S → Type 0
 Leads result a b old new = (outer : List Enclosing) → IsAt old.writer a outer → OnOk result (IsAt new.writer b outer)
 
 -- ---- Tokens and strings
@@ -121,21 +121,21 @@ abbrev pub after_plain : Stage → Name → Option Stage
 after_plain a name = if is_plain (role_of name) then written a (role_of name) else None
 
 -- such a token may be written
-pub record MayPut {R : Type 0} (output : Output R) (name : Name) : Type 0 where
+pub record MayPut {R S : Type 0} (output : Output R S) (name : Name) : Type 0 where
   pub stage : Stage
   pub outer : List Enclosing
   pub at : IsAt output.writer stage outer
   pub may : is_some (after_plain stage name) ≡ true
 
 -- such tokens may be written one after another
-pub record MayFill {R : Type 0} (output : Output R) (name : Name) : Type 0 where
+pub record MayFill {R S : Type 0} (output : Output R S) (name : Name) : Type 0 where
   pub stage : Stage
   pub outer : List Enclosing
   pub at : IsAt output.writer stage outer
   pub keeps : after_plain stage name ≡ Some stage
 
 -- such tokens may be written one after another, with line endings between them
-pub record MayFillLines {R : Type 0} (output : Output R) (name : Name) : Type 0 where
+pub record MayFillLines {R S : Type 0} (output : Output R S) (name : Name) : Type 0 where
   pub stage : Stage
   pub outer : List Enclosing
   pub at : IsAt output.writer stage outer
@@ -143,7 +143,7 @@ pub record MayFillLines {R : Type 0} (output : Output R) (name : Name) : Type 0 
   pub ends : takes_line_endings stage ≡ true
 
 -- the value of a character reference may be written, and the decoder knows it
-pub record MayDecode {R : Type 0} (decode : List ℕ → ℕ → Option (List ℕ)) (output : Output R) (end : ℕ) : Type 0 where
+pub record MayDecode {R S : Type 0} (decode : List ℕ → ℕ → Option (List ℕ)) (output : Output R S) (end : ℕ) : Type 0 where
   pub marker : ℕ
   pub outer : List Enclosing
   pub at : IsAt output.writer (character_reference_value marker) outer
@@ -166,7 +166,7 @@ abbrev pub after_string : Stage → Name → Option Stage
 after_string a name = after_string_in a (role_of name)
 
 -- such a part may be written
-pub record MayWriteString {R : Type 0} (output : Output R) (name : Name) : Type 0 where
+pub record MayWriteString {R S : Type 0} (output : Output R S) (name : Name) : Type 0 where
   pub stage : Stage
   pub outer : List Enclosing
   pub at : IsAt output.writer stage outer

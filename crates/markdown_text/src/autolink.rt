@@ -14,6 +14,7 @@ use crate::output::{Next, Output};
 use crate::token::{Found, TokenKind};
 use character_references::references::References;
 use commonmark_syntax::{email_autolink, uri_autolink};
+use event_writer::sink::Sink;
 use markdown_events::event::Name;
 use std::alloc::AllocError;
 
@@ -32,8 +33,8 @@ pub fn scan(text: &[u8]) -> Option<Found>
 }
 
 /// Writes an autolink that ends at an offset, with the name of the address in it.
-pub fn write<R: References>(
-    output: &mut Output<'_, '_, R>,
+pub fn write<R: References, S: Sink>(
+    output: &mut Output<'_, '_, R, S>,
     address: Name,
     end: usize,
 ) -> Result<(), AllocError>

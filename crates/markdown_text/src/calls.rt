@@ -18,11 +18,15 @@ ghost use Rattle.markdown_text.specs.Standings.{BreaksAt, IsAt, MayBreak, MayEnd
 
 use character_references::references::References;
 use event_writer::recorder::Recorder;
+use event_writer::sink::Sink;
 use markdown_events::event::Name;
 use std::alloc::AllocError;
 
 /// Opens a span at the cursor. The only error is that memory ran out.
-pub fn enter<R: References>(writer: &mut Recorder<'_, R>, name: Name) -> Result<(), AllocError>
+pub fn enter<R: References, S: Sink>(
+    writer: &mut Recorder<'_, R, S>,
+    name: Name,
+) -> Result<(), AllocError>
     requires { MayEnter writer.old name }
     ensures given { writer.new.given ≡ writer.old.given }
     ensures cursor { writer.new.cursor ≡ writer.old.cursor }
@@ -36,7 +40,7 @@ pub fn enter<R: References>(writer: &mut Recorder<'_, R>, name: Name) -> Result<
 }
 
 /// Closes the innermost span at the cursor. The only error is that memory ran out.
-pub fn exit<R: References>(writer: &mut Recorder<'_, R>) -> Result<(), AllocError>
+pub fn exit<R: References, S: Sink>(writer: &mut Recorder<'_, R, S>) -> Result<(), AllocError>
     requires { MayExit writer.old }
     ensures given { writer.new.given ≡ writer.old.given }
     ensures cursor { writer.new.cursor ≡ writer.old.cursor }
@@ -51,8 +55,8 @@ pub fn exit<R: References>(writer: &mut Recorder<'_, R>) -> Result<(), AllocErro
 
 /// Writes a token up to an offset of the line, and a number of columns into the tab there. The only
 /// error is that memory ran out.
-pub fn token<R: References>(
-    writer: &mut Recorder<'_, R>,
+pub fn token<R: References, S: Sink>(
+    writer: &mut Recorder<'_, R, S>,
     name: Name,
     to: usize,
     virtual_spaces: usize,
@@ -72,8 +76,8 @@ pub fn token<R: References>(
 
 /// Writes a hard break up to an offset of the line. It then waits for its line ending. The only
 /// error is that memory ran out.
-pub fn hard_break<R: References>(
-    writer: &mut Recorder<'_, R>,
+pub fn hard_break<R: References, S: Sink>(
+    writer: &mut Recorder<'_, R, S>,
     name: Name,
     to: usize,
 ) -> Result<(), AllocError>
@@ -91,8 +95,8 @@ pub fn hard_break<R: References>(
 }
 
 /// Writes the line ending at the cursor as a token of this name. The only error is that memory ran out.
-pub fn line_ending<R: References>(
-    writer: &mut Recorder<'_, R>,
+pub fn line_ending<R: References, S: Sink>(
+    writer: &mut Recorder<'_, R, S>,
     name: Name,
 ) -> Result<(), AllocError>
     requires ends { EndsLine writer.old.given.bytes writer.old.cursor.index }

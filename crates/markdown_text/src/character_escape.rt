@@ -10,6 +10,7 @@ ghost use Rattle.markdown_text.specs.Outputs.{Stands, WritesTo, bytes_of, AtInli
 use crate::output::{Next, Output};
 use character_references::references::References;
 use commonmark_syntax::backslash_escape;
+use event_writer::sink::Sink;
 use markdown_events::event::Name;
 use std::alloc::AllocError;
 
@@ -24,7 +25,7 @@ pub fn scan(text: &[u8]) -> Option<usize>
 }
 
 /// Writes a character escape.
-pub fn write<R: References>(output: &mut Output<'_, '_, R>) -> Result<(), AllocError>
+pub fn write<R: References, S: Sink>(output: &mut Output<'_, '_, R, S>) -> Result<(), AllocError>
     requires stands { Stands output.old }
     requires ascii { IsAsciiPart (bytes_of output.old) output.old.data (output.old.data + 2) }
     requires inlines { AtInlines output.old }

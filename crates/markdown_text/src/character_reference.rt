@@ -17,6 +17,7 @@ use crate::output::{Next, Output};
 use crate::token::{Found, TokenKind};
 use character_references::references::References;
 use commonmark_syntax::{decimal_reference, entity_reference, hexadecimal_reference};
+use event_writer::sink::Sink;
 use markdown_events::event::Name;
 use std::alloc::{AllocError, Global};
 use std::str;
@@ -127,8 +128,8 @@ pub fn scan<R: References>(
 }
 
 /// Writes a character reference that ends at an offset.
-pub fn write<R: References>(
-    output: &mut Output<'_, '_, R>,
+pub fn write<R: References, S: Sink>(
+    output: &mut Output<'_, '_, R, S>,
     kind: ReferenceKind,
     end: usize,
 ) -> Result<(), AllocError>
@@ -150,8 +151,8 @@ pub fn write<R: References>(
 }
 
 /// Writes the markers before the value of a character reference.
-fn write_markers<R: References>(
-    output: &mut Output<'_, '_, R>,
+fn write_markers<R: References, S: Sink>(
+    output: &mut Output<'_, '_, R, S>,
     kind: ReferenceKind,
 ) -> Result<(), AllocError>
     requires stands { Stands output.old }

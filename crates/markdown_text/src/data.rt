@@ -12,13 +12,14 @@ ghost use Rattle.markdown_text.specs.declared.output.Next.TheVariants.{LineEndin
 use crate::output::{Next, Output};
 use crate::{gfm_autolink_literal_email, whitespace};
 use character_references::references::References;
+use event_writer::sink::Sink;
 use markdown_events::event::Name;
 use std::alloc::AllocError;
 
 /// Writes data of one line up to an offset. White space that begins or ends a line, or the text, is
 /// written separately.
-pub fn write<R: References>(
-    output: &mut Output<'_, '_, R>,
+pub fn write<R: References, S: Sink>(
+    output: &mut Output<'_, '_, R, S>,
     end: usize,
     next: Next,
 ) -> Result<(), AllocError>
@@ -45,8 +46,8 @@ pub fn write<R: References>(
 }
 
 /// Writes a hard break up to an offset, if it has any bytes. It has some only before a line ending.
-fn write_break<R: References>(
-    output: &mut Output<'_, '_, R>,
+fn write_break<R: References, S: Sink>(
+    output: &mut Output<'_, '_, R, S>,
     end: usize,
     next: Next,
 ) -> Result<(), AllocError>
@@ -68,7 +69,10 @@ fn write_break<R: References>(
 }
 
 /// Writes data up to an offset, with the email addresses in it if they are links.
-fn write_text<R: References>(output: &mut Output<'_, '_, R>, end: usize) -> Result<(), AllocError>
+fn write_text<R: References, S: Sink>(
+    output: &mut Output<'_, '_, R, S>,
+    end: usize,
+) -> Result<(), AllocError>
     requires stands { Stands output.old }
     requires part { IsPart (bytes_of output.old) output.old.at end }
     requires inlines { AtInlines output.old }

@@ -7,11 +7,15 @@ ghost use Rattle.markdown_text.specs.Tokens.{IsDestination, IsEnclosed};
 
 use crate::output::Output;
 use character_references::references::References;
+use event_writer::sink::Sink;
 use markdown_events::event::Name;
 use std::alloc::AllocError;
 
 /// Writes a destination of this length.
-pub fn write<R: References>(output: &mut Output<'_, '_, R>, size: usize) -> Result<(), AllocError>
+pub fn write<R: References, S: Sink>(
+    output: &mut Output<'_, '_, R, S>,
+    size: usize,
+) -> Result<(), AllocError>
     requires stands { Stands output.old }
     requires none_waits { output.old.data ≡ output.old.at }
     requires filled { 0 < size }
@@ -28,7 +32,10 @@ pub fn write<R: References>(output: &mut Output<'_, '_, R>, size: usize) -> Resu
 }
 
 /// Writes the content of the span of a destination, up to an offset.
-fn write_inside<R: References>(output: &mut Output<'_, '_, R>, end: usize) -> Result<(), AllocError>
+fn write_inside<R: References, S: Sink>(
+    output: &mut Output<'_, '_, R, S>,
+    end: usize,
+) -> Result<(), AllocError>
     requires stands { Stands output.old }
     requires none_waits { output.old.data ≡ output.old.at }
     requires filled { output.old.at < end }
@@ -47,8 +54,8 @@ fn write_inside<R: References>(output: &mut Output<'_, '_, R>, end: usize) -> Re
 }
 
 /// Writes a destination in angle brackets that ends at an offset.
-fn write_enclosed<R: References>(
-    output: &mut Output<'_, '_, R>,
+fn write_enclosed<R: References, S: Sink>(
+    output: &mut Output<'_, '_, R, S>,
     end: usize,
 ) -> Result<(), AllocError>
     requires stands { Stands output.old }

@@ -20,6 +20,7 @@ use crate::source::Source;
 use crate::{string, text};
 use character_references::references::References;
 use event_writer::recorder::Recorder;
+use event_writer::sink::Sink;
 use markdown_events::event::Name;
 use markdown_options::ParseOptions;
 use markdown_pieces::identifiers::Identifiers;
@@ -52,11 +53,11 @@ pub struct Reading<'r, R> {
 ///
 /// The pieces of `a` are `Enter(Paragraph)`, `Text` up to 1, and `Exit(Paragraph)`. The writer gets
 /// the enter of a `Name::Paragraph`, a `Name::Data` up to offset 1, and the exit.
-pub fn write<'c, 'd, R: References>(
+pub fn write<'c, 'd, R: References, S: Sink>(
     reading: &'c Reading<'c, R>,
     pieces: &'c [Piece],
-    writer: Recorder<'d, R>,
-) -> Result<Recorder<'d, R>, AllocError>
+    writer: Recorder<'d, R, S>,
+) -> Result<Recorder<'d, R, S>, AllocError>
     requires document { writer.given.bytes ≡ reading.now.document.now }
     requires references { writer.given.references ≡ reading.now.references.now }
     requires tiles { Tiles reading.now.document.now (spot writer.cursor) pieces.now (end_from (spot writer.cursor) pieces.now) }
@@ -145,13 +146,13 @@ fn content_kind(name: Option<Name>) -> ContentKind {
 }
 
 /// Writes a content in a span of this name, with the spans in it.
-fn inlines<'c, 'd, R: References>(
+fn inlines<'c, 'd, R: References, S: Sink>(
     reading: &'c Reading<'c, R>,
-    writer: Recorder<'d, R>,
+    writer: Recorder<'d, R, S>,
     pieces: &'c [Piece],
     name: Option<Name>,
     place: TaskPlace,
-) -> Result<Recorder<'d, R>, AllocError>
+) -> Result<Recorder<'d, R, S>, AllocError>
     requires document { writer.given.bytes ≡ reading.now.document.now }
     requires references { writer.given.references ≡ reading.now.references.now }
     requires content { IsContent pieces.now }
@@ -178,14 +179,14 @@ fn inlines<'c, 'd, R: References>(
 }
 
 /// Writes a content with these bytes.
-fn inlines_of<'c, 'd, R: References>(
+fn inlines_of<'c, 'd, R: References, S: Sink>(
     reading: &'c Reading<'c, R>,
-    writer: Recorder<'d, R>,
+    writer: Recorder<'d, R, S>,
     bytes: &'c [u8],
     pieces: &'c [Piece],
     name: Option<Name>,
     place: TaskPlace,
-) -> Result<Recorder<'d, R>, AllocError>
+) -> Result<Recorder<'d, R, S>, AllocError>
     requires document { writer.given.bytes ≡ reading.now.document.now }
     requires references { writer.given.references ≡ reading.now.references.now }
     requires content { IsContent pieces.now }

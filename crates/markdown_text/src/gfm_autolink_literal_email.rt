@@ -10,6 +10,7 @@ ghost use Rattle.markdown_text.specs.Outputs.{AtInlines, GoesOn, KeepsInlines, S
 use crate::output::Output;
 use character_references::references::References;
 use commonmark_syntax::email_literal::{self, Kind};
+use event_writer::sink::Sink;
 use markdown_events::event::Name;
 use std::alloc::AllocError;
 
@@ -25,7 +26,10 @@ struct Address {
 }
 
 /// Writes data up to an offset, with the addresses in it.
-pub fn write<R: References>(output: &mut Output<'_, '_, R>, end: usize) -> Result<(), AllocError>
+pub fn write<R: References, S: Sink>(
+    output: &mut Output<'_, '_, R, S>,
+    end: usize,
+) -> Result<(), AllocError>
     requires stands { Stands output.old }
     requires part { IsPart (bytes_of output.old) output.old.at end }
     requires inlines { AtInlines output.old }
@@ -45,8 +49,8 @@ pub fn write<R: References>(output: &mut Output<'_, '_, R>, end: usize) -> Resul
 }
 
 /// Writes the data before an address, and the address, which are parts of the data.
-fn write_address<R: References>(
-    output: &mut Output<'_, '_, R>,
+fn write_address<R: References, S: Sink>(
+    output: &mut Output<'_, '_, R, S>,
     address: &Address,
 ) -> Result<(), AllocError>
     requires stands { Stands output.old }

@@ -18,6 +18,7 @@ use crate::output::Output;
 use crate::token::{Found, TokenKind};
 use character_references::references::References;
 use commonmark_syntax::task_mark;
+use event_writer::sink::Sink;
 use markdown_events::event::Name;
 use std::alloc::AllocError;
 
@@ -35,8 +36,8 @@ pub fn scan(text: &[u8]) -> Option<Found>
 }
 
 /// Writes the mark of a task, which may be checked.
-pub fn write<R: References>(
-    output: &mut Output<'_, '_, R>,
+pub fn write<R: References, S: Sink>(
+    output: &mut Output<'_, '_, R, S>,
     is_checked: bool,
 ) -> Result<(), AllocError>
     requires stands { Stands output.old }
@@ -69,7 +70,10 @@ fn value_name(is_checked: bool) -> Name
 }
 
 /// Writes the value of a mark: a byte, or a line ending.
-fn write_value<R: References>(output: &mut Output<'_, '_, R>, value: Name) -> Result<(), AllocError>
+fn write_value<R: References, S: Sink>(
+    output: &mut Output<'_, '_, R, S>,
+    value: Name,
+) -> Result<(), AllocError>
     requires stands { Stands output.old }
     requires none_waits { output.old.data ≡ output.old.at }
     requires range { IsRange (bytes_of output.old) output.old.at (output.old.at + 1) }

@@ -13,6 +13,7 @@ use crate::cursor::Cursor;
 use crate::output::{Next, Output};
 use character_references::references::References;
 use commonmark_syntax::html_tag::{self, MissingEnds};
+use event_writer::sink::Sink;
 use markdown_events::event::Name;
 use std::alloc::AllocError;
 
@@ -28,7 +29,10 @@ pub fn scan(cursor: Cursor<'_>, missing: &mut MissingEnds) -> Option<usize>
 }
 
 /// Writes HTML that ends at an offset.
-pub fn write<R: References>(output: &mut Output<'_, '_, R>, end: usize) -> Result<(), AllocError>
+pub fn write<R: References, S: Sink>(
+    output: &mut Output<'_, '_, R, S>,
+    end: usize,
+) -> Result<(), AllocError>
     requires stands { Stands output.old }
     requires range { IsRange (bytes_of output.old) output.old.data end }
     requires inlines { AtInlines output.old }

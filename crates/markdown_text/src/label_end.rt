@@ -26,6 +26,7 @@ use crate::{reference, resource};
 use character_references::references::References;
 use commonmark_syntax::bytes::after;
 use commonmark_syntax::{footnote_call, label};
+use event_writer::sink::Sink;
 use markdown_events::event::Name;
 use markdown_options::Constructs;
 use std::alloc::AllocError;
@@ -163,8 +164,8 @@ fn with_own_label(labelled: Labelled, rest: &[u8]) -> Match
 }
 
 /// Writes the end of a label, and what comes after it up to an offset.
-pub fn write<R: References>(
-    output: &mut Output<'_, '_, R>,
+pub fn write<R: References, S: Sink>(
+    output: &mut Output<'_, '_, R, S>,
     labelled: Labelled,
     target: &Target,
     end: usize,
@@ -187,7 +188,7 @@ pub fn write<R: References>(
 }
 
 /// Writes the bracket that ends a label.
-fn write_mark<R: References>(output: &mut Output<'_, '_, R>) -> Result<(), AllocError>
+fn write_mark<R: References, S: Sink>(output: &mut Output<'_, '_, R, S>) -> Result<(), AllocError>
     requires stands { Stands output.old }
     requires none_waits { output.old.data ≡ output.old.at }
     requires part { IsPart (bytes_of output.old) output.old.at (output.old.at + 1) }
@@ -203,8 +204,8 @@ fn write_mark<R: References>(output: &mut Output<'_, '_, R>) -> Result<(), Alloc
 }
 
 /// Writes what comes after the label of a link or an image, up to an offset.
-fn write_target<R: References>(
-    output: &mut Output<'_, '_, R>,
+fn write_target<R: References, S: Sink>(
+    output: &mut Output<'_, '_, R, S>,
     target: &Target,
     end: usize,
 ) -> Result<(), AllocError>

@@ -12,12 +12,13 @@ ghost use Rattle.markdown_text.specs.Tokens.{label_start};
 use crate::output::{Next, Output};
 use crate::token::Labelled;
 use character_references::references::References;
+use event_writer::sink::Sink;
 use markdown_events::event::Name;
 use std::alloc::AllocError;
 
 /// Writes the start of a label, according to what the label belongs to.
-pub fn write<R: References>(
-    output: &mut Output<'_, '_, R>,
+pub fn write<R: References, S: Sink>(
+    output: &mut Output<'_, '_, R, S>,
     labelled: Labelled,
 ) -> Result<(), AllocError>
     requires stands { Stands output.old }
@@ -34,8 +35,8 @@ pub fn write<R: References>(
 }
 
 /// Opens the spans around the signs that begin a label.
-fn enter_start<R: References>(
-    output: &mut Output<'_, '_, R>,
+fn enter_start<R: References, S: Sink>(
+    output: &mut Output<'_, '_, R, S>,
     labelled: Labelled,
 ) -> Result<(), AllocError>
     requires stands { Stands output.old }
@@ -52,8 +53,8 @@ fn enter_start<R: References>(
 }
 
 /// Writes the signs that begin a label. An image has a sign before the bracket, and a call of a footnote one after it.
-fn write_signs<R: References>(
-    output: &mut Output<'_, '_, R>,
+fn write_signs<R: References, S: Sink>(
+    output: &mut Output<'_, '_, R, S>,
     labelled: Labelled,
 ) -> Result<(), AllocError>
     requires stands { Stands output.old }

@@ -22,6 +22,7 @@ use crate::{calls, data, string};
 use character_references::references::References;
 use commonmark_syntax::bytes::{after, count_while, is_space_or_tab};
 use event_writer::recorder::Recorder;
+use event_writer::sink::Sink;
 use markdown_events::event::Name;
 use markdown_pieces::piece::Piece;
 use std::alloc::AllocError;
@@ -50,11 +51,11 @@ pub enum Next {
 /// A content whose spans are being written. Between its lines are the pieces of the block
 /// structure.
 #[derive(Drop)]
-pub struct Output<'c, 'd, R: References> {
+pub struct Output<'c, 'd, R: References, S: Sink> {
     /// The content.
     source: &'c Source<'c, R>,
     /// The writer of the spans.
-    writer: Recorder<'d, R>,
+    writer: Recorder<'d, R, S>,
     /// The remaining pieces of the block structure.
     lines: Lines<'c>,
     /// The offset up to which everything is written.
@@ -69,7 +70,7 @@ pub struct Output<'c, 'd, R: References> {
     links: usize,
 }
 
-impl<'c, 'd, R: References> Output<'c, 'd, R> {
+impl<'c, 'd, R: References, S: Sink> Output<'c, 'd, R, S> {
     ghost use Rattle.markdown_pieces.specs.Tilings.{Tiles, end_from};
     ghost use Rattle.markdown_text.specs.Contents.{IsContent, joined, spot};
     ghost use Rattle.markdown_text.specs.Outputs.{GoesOn, Stands, WritesTo, bytes_of, constructs_of, content_end, document_of};
@@ -78,7 +79,7 @@ impl<'c, 'd, R: References> Output<'c, 'd, R> {
     /// the block structure.
     pub fn new(
         source: &'c Source<'c, R>,
-        writer: Recorder<'d, R>,
+        writer: Recorder<'d, R, S>,
         pieces: &'c [Piece],
         kind: ContentKind,
     ) -> Result<Self, AllocError>
@@ -500,7 +501,7 @@ impl<'c, 'd, R: References> Output<'c, 'd, R> {
     }
 
     /// Writes the waiting data at the end of the content, and returns the writer.
-    pub fn finish(mut self) -> Result<Recorder<'d, R>, AllocError>
+    pub fn finish(mut self) -> Result<Recorder<'d, R, S>, AllocError>
         requires stands { Stands self }
         requires ended { self.data ≡ length (bytes_of self) }
         requires inlines { AtInlines self }

@@ -18,6 +18,7 @@ ghost use Rattle.markdown_text.specs.Standings.{IsAt, IsSomewhere, MayStep};
 use crate::calls;
 use character_references::references::References;
 use event_writer::recorder::Recorder;
+use event_writer::sink::Sink;
 use markdown_events::event::Name;
 use markdown_pieces::piece::{Piece, PieceKind};
 use std::alloc::AllocError;
@@ -41,8 +42,8 @@ pub fn is_text(kind: PieceKind) -> bool
 
 /// Writes what comes before the next text of a content, and returns the rest of the content from
 /// there on.
-pub fn write_to_text<'c, R: References>(
-    writer: &mut Recorder<'_, R>,
+pub fn write_to_text<'c, R: References, S: Sink>(
+    writer: &mut Recorder<'_, R, S>,
     pieces: &'c [Piece],
 ) -> Result<Lines<'c>, AllocError>
     requires content { IsContent pieces.now }
@@ -72,8 +73,8 @@ pub fn write_to_text<'c, R: References>(
 }
 
 /// Writes a piece that is not a text.
-pub fn write_piece<R: References>(
-    writer: &mut Recorder<'_, R>,
+pub fn write_piece<R: References, S: Sink>(
+    writer: &mut Recorder<'_, R, S>,
     piece: &Piece,
 ) -> Result<(), AllocError>
     requires goes { Goes writer.old.given.bytes piece.now.kind (spot writer.old.cursor) (end_of piece.now) }
@@ -102,8 +103,8 @@ pub fn write_piece<R: References>(
 
 /// Writes the prefix of a block quote up to a place: its marker, and the white space after that, if
 /// there is any.
-fn write_block_quote_prefix<R: References>(
-    writer: &mut Recorder<'_, R>,
+fn write_block_quote_prefix<R: References, S: Sink>(
+    writer: &mut Recorder<'_, R, S>,
     end: usize,
     virtual_spaces: usize,
 ) -> Result<(), AllocError>
@@ -125,8 +126,8 @@ fn write_block_quote_prefix<R: References>(
 
 /// Writes white space up to an offset, and a number of columns into the tab there, unless it is
 /// empty.
-fn write_space<R: References>(
-    writer: &mut Recorder<'_, R>,
+fn write_space<R: References, S: Sink>(
+    writer: &mut Recorder<'_, R, S>,
     to: usize,
     virtual_spaces: usize,
 ) -> Result<(), AllocError>

@@ -15,6 +15,7 @@ use crate::cursor::Cursor;
 use crate::output::{Next, Output};
 use character_references::references::References;
 use commonmark_syntax::code_span::{self, LastStrings};
+use event_writer::sink::Sink;
 use markdown_events::event::Name;
 use std::alloc::{AllocError, Global};
 
@@ -92,8 +93,8 @@ pub fn scan(
 }
 
 /// Writes a raw text that ends at an offset, between sequences of this length.
-pub fn write<R: References>(
-    output: &mut Output<'_, '_, R>,
+pub fn write<R: References, S: Sink>(
+    output: &mut Output<'_, '_, R, S>,
     kind: RawText,
     sequence: usize,
     end: usize,
@@ -115,8 +116,8 @@ pub fn write<R: References>(
 }
 
 /// Writes the two sequences of a raw text, and the lines between them.
-fn write_enclosed<R: References>(
-    output: &mut Output<'_, '_, R>,
+fn write_enclosed<R: References, S: Sink>(
+    output: &mut Output<'_, '_, R, S>,
     kind: RawText,
     sequence: usize,
     end: usize,

@@ -7,11 +7,15 @@ ghost use Rattle.markdown_text.specs.Tokens.{IsEnclosed};
 
 use crate::output::Output;
 use character_references::references::References;
+use event_writer::sink::Sink;
 use markdown_events::event::Name;
 use std::alloc::AllocError;
 
 /// Writes a reference that ends at an offset.
-pub fn write<R: References>(output: &mut Output<'_, '_, R>, end: usize) -> Result<(), AllocError>
+pub fn write<R: References, S: Sink>(
+    output: &mut Output<'_, '_, R, S>,
+    end: usize,
+) -> Result<(), AllocError>
     requires stands { Stands output.old }
     requires none_waits { output.old.data ≡ output.old.at }
     requires enclosed { IsEnclosed (bytes_of output.old) 1 output.old.at end }

@@ -17,6 +17,7 @@ use character_references::references::References;
 use commonmark_syntax::bytes::{after, white_space_length};
 use commonmark_syntax::reading::past_byte;
 use commonmark_syntax::{destination, title};
+use event_writer::sink::Sink;
 use markdown_events::event::Name;
 use std::alloc::AllocError;
 
@@ -108,8 +109,8 @@ fn space_length(text: &[u8], title: usize) -> usize
 }
 
 /// Writes a resource.
-pub fn write<R: References>(
-    output: &mut Output<'_, '_, R>,
+pub fn write<R: References, S: Sink>(
+    output: &mut Output<'_, '_, R, S>,
     resource: &Resource,
 ) -> Result<(), AllocError>
     requires stands { Stands output.old }
@@ -132,8 +133,8 @@ pub fn write<R: References>(
 }
 
 /// Writes a destination of this length, if there is one.
-fn write_destination<R: References>(
-    output: &mut Output<'_, '_, R>,
+fn write_destination<R: References, S: Sink>(
+    output: &mut Output<'_, '_, R, S>,
     size: usize,
 ) -> Result<(), AllocError>
     requires stands { Stands output.old }
@@ -151,7 +152,10 @@ fn write_destination<R: References>(
 }
 
 /// Writes a title of this length, if there is one.
-fn write_title<R: References>(output: &mut Output<'_, '_, R>, size: usize) -> Result<(), AllocError>
+fn write_title<R: References, S: Sink>(
+    output: &mut Output<'_, '_, R, S>,
+    size: usize,
+) -> Result<(), AllocError>
     requires stands { Stands output.old }
     requires none_waits { output.old.data ≡ output.old.at }
     requires enclosed { 0 < size → IsEnclosed (bytes_of output.old) 1 output.old.at (output.old.at + size) }

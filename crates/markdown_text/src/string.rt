@@ -19,16 +19,17 @@ use crate::{character_escape, character_reference};
 use character_references::references::References;
 use commonmark_syntax::bytes::{after, count_while};
 use event_writer::recorder::Recorder;
+use event_writer::sink::Sink;
 use markdown_events::event::Name;
 use markdown_pieces::piece::Piece;
 use std::alloc::AllocError;
 
 /// Writes the spans of a string. `pieces` are those of the block structure.
-pub fn inlines<'c, 'd, R: References>(
+pub fn inlines<'c, 'd, R: References, S: Sink>(
     source: &'c Source<'c, R>,
-    writer: Recorder<'d, R>,
+    writer: Recorder<'d, R, S>,
     pieces: &'c [Piece],
-) -> Result<Recorder<'d, R>, AllocError>
+) -> Result<Recorder<'d, R, S>, AllocError>
     requires document { writer.given.bytes ≡ source.now.reading.now.document.now }
     requires content { IsContent pieces.now }
     requires tiles { Tiles writer.given.bytes (spot writer.cursor) pieces.now (end_from (spot writer.cursor) pieces.now) }
@@ -47,7 +48,10 @@ pub fn inlines<'c, 'd, R: References>(
 }
 
 /// Writes a string up to an offset.
-pub fn write<R: References>(output: &mut Output<'_, '_, R>, end: usize) -> Result<(), AllocError>
+pub fn write<R: References, S: Sink>(
+    output: &mut Output<'_, '_, R, S>,
+    end: usize,
+) -> Result<(), AllocError>
     requires stands { Stands output.old }
     requires none_waits { output.old.data ≡ output.old.at }
     requires range { IsRange (bytes_of output.old) output.old.at end }
@@ -128,8 +132,8 @@ fn is_plain(byte: u8) -> bool
 }
 
 /// Writes what was found in a string, up to an offset.
-fn write_found<R: References>(
-    output: &mut Output<'_, '_, R>,
+fn write_found<R: References, S: Sink>(
+    output: &mut Output<'_, '_, R, S>,
     found: Found,
     end: usize,
 ) -> Result<(), AllocError>

@@ -40,6 +40,7 @@ use crate::{
 };
 use character_references::references::References;
 use event_writer::recorder::Recorder;
+use event_writer::sink::Sink;
 use markdown_attention::delimiter::{AttentionKind, Delimiter};
 use markdown_events::event::Name;
 use markdown_pieces::piece::Piece;
@@ -55,12 +56,12 @@ enum Open {
 }
 
 /// Writes the spans of a text. `pieces` are those of the block structure. With `is_task` it may begin with the mark of a task.
-pub fn inlines<'c, 'd, R: References>(
+pub fn inlines<'c, 'd, R: References, S: Sink>(
     source: &'c Source<'c, R>,
-    writer: Recorder<'d, R>,
+    writer: Recorder<'d, R, S>,
     pieces: &'c [Piece],
     is_task: bool,
-) -> Result<Recorder<'d, R>, AllocError>
+) -> Result<Recorder<'d, R, S>, AllocError>
     requires document { writer.given.bytes ≡ source.now.reading.now.document.now }
     requires references { writer.given.references ≡ source.now.reading.now.references.now }
     requires content { IsContent pieces.now }
@@ -88,8 +89,8 @@ pub fn inlines<'c, 'd, R: References>(
 }
 
 /// Writes the mark of a task, if the first token is one, and returns the remaining tokens.
-fn write_task<'t, R: References>(
-    output: &mut Output<'_, '_, R>,
+fn write_task<'t, R: References, S: Sink>(
+    output: &mut Output<'_, '_, R, S>,
     tokens: &'t [Token],
     is_task: bool,
 ) -> Result<&'t [Token], AllocError>
@@ -120,8 +121,8 @@ fn write_task<'t, R: References>(
 }
 
 /// Writes the tokens of a text.
-fn write_tokens<R: References>(
-    output: &mut Output<'_, '_, R>,
+fn write_tokens<R: References, S: Sink>(
+    output: &mut Output<'_, '_, R, S>,
     tokens: &[Token],
     delimiters: &[Delimiter],
     open: &mut Vec<Open>,
@@ -146,8 +147,8 @@ fn write_tokens<R: References>(
 
 /// Writes the data before a token, and the token. Returns the remaining tokens of those after it:
 /// an empty label is written to its end.
-fn write_next<'t, R: References>(
-    output: &mut Output<'_, '_, R>,
+fn write_next<'t, R: References, S: Sink>(
+    output: &mut Output<'_, '_, R, S>,
     token: &'t Token,
     later: &'t [Token],
     delimiters: &[Delimiter],
@@ -208,8 +209,8 @@ fn empty_label(start: &Token, end: &Token) -> Option<EmptyLabel>
 }
 
 /// Writes an empty label, and what comes after it up to an offset.
-fn write_empty_label<R: References>(
-    output: &mut Output<'_, '_, R>,
+fn write_empty_label<R: References, S: Sink>(
+    output: &mut Output<'_, '_, R, S>,
     label: &EmptyLabel,
     end: usize,
 ) -> Result<(), AllocError>
@@ -228,8 +229,8 @@ fn write_empty_label<R: References>(
 }
 
 /// Writes a token.
-fn write_token<R: References>(
-    output: &mut Output<'_, '_, R>,
+fn write_token<R: References, S: Sink>(
+    output: &mut Output<'_, '_, R, S>,
     token: &Token,
     delimiters: &[Delimiter],
     open: &mut Vec<Open>,
@@ -267,8 +268,8 @@ fn write_token<R: References>(
 }
 
 /// Writes an autolink literal up to an offset, if links may occur here.
-fn write_autolink_literal<R: References>(
-    output: &mut Output<'_, '_, R>,
+fn write_autolink_literal<R: References, S: Sink>(
+    output: &mut Output<'_, '_, R, S>,
     name: Name,
     end: usize,
 ) -> Result<(), AllocError>
@@ -293,8 +294,8 @@ fn write_autolink_literal<R: References>(
 }
 
 /// Writes a run of delimiters.
-fn write_run<R: References>(
-    output: &mut Output<'_, '_, R>,
+fn write_run<R: References, S: Sink>(
+    output: &mut Output<'_, '_, R, S>,
     token: &Token,
     delimiters: &[Delimiter],
     open: &mut Vec<Open>,
@@ -322,8 +323,8 @@ fn write_run<R: References>(
 
 /// Writes the sequence that begins at a marker, and returns its length, which is at most `most`. If
 /// none begins there, it writes nothing and returns 1.
-fn write_delimiter<R: References>(
-    output: &mut Output<'_, '_, R>,
+fn write_delimiter<R: References, S: Sink>(
+    output: &mut Output<'_, '_, R, S>,
     delimiter: Delimiter,
     most: usize,
     open: &mut Vec<Open>,
@@ -361,8 +362,8 @@ fn is_in_attention(constructs: &[Open], kind: AttentionKind) -> bool
 }
 
 /// Writes a sequence that opens a span.
-fn open_attention<R: References>(
-    output: &mut Output<'_, '_, R>,
+fn open_attention<R: References, S: Sink>(
+    output: &mut Output<'_, '_, R, S>,
     kind: AttentionKind,
     open: &mut Vec<Open>,
 ) -> Result<usize, AllocError>
@@ -387,8 +388,8 @@ fn open_attention<R: References>(
 }
 
 /// Writes a sequence that closes the innermost span.
-fn close_attention<R: References>(
-    output: &mut Output<'_, '_, R>,
+fn close_attention<R: References, S: Sink>(
+    output: &mut Output<'_, '_, R, S>,
     kind: AttentionKind,
     open: &mut Vec<Open>,
 ) -> Result<usize, AllocError>
@@ -413,8 +414,8 @@ fn close_attention<R: References>(
 }
 
 /// Writes the start of a label, and the data after its marks up to an offset.
-fn write_label_start<R: References>(
-    output: &mut Output<'_, '_, R>,
+fn write_label_start<R: References, S: Sink>(
+    output: &mut Output<'_, '_, R, S>,
     labelled: Option<Labelled>,
     end: usize,
     open: &mut Vec<Open>,
@@ -442,7 +443,7 @@ fn write_label_start<R: References>(
 }
 
 /// Records that a link begins, if the label belongs to one.
-fn enter_labelled<R: References>(output: &mut Output<'_, '_, R>, labelled: Labelled)
+fn enter_labelled<R: References, S: Sink>(output: &mut Output<'_, '_, R, S>, labelled: Labelled)
     requires { Stands output.old }
     ensures writer { output.new.writer ≡ output.old.writer }
     ensures goes_on { GoesOn output.old output.new }
@@ -454,8 +455,8 @@ fn enter_labelled<R: References>(output: &mut Output<'_, '_, R>, labelled: Label
 }
 
 /// Writes the end of a label, and what comes after it up to an offset.
-fn write_label_end<R: References>(
-    output: &mut Output<'_, '_, R>,
+fn write_label_end<R: References, S: Sink>(
+    output: &mut Output<'_, '_, R, S>,
     labelled: Labelled,
     target: &Target,
     end: usize,
@@ -481,8 +482,8 @@ fn write_label_end<R: References>(
 
 /// Writes the end of a label, which is the innermost open construct, and what comes after it up to
 /// an offset.
-fn end_label<R: References>(
-    output: &mut Output<'_, '_, R>,
+fn end_label<R: References, S: Sink>(
+    output: &mut Output<'_, '_, R, S>,
     labelled: Labelled,
     target: &Target,
     end: usize,
@@ -500,7 +501,7 @@ fn end_label<R: References>(
 }
 
 /// Records that a link ends, if the label belongs to one.
-fn exit_labelled<R: References>(output: &mut Output<'_, '_, R>, labelled: Labelled)
+fn exit_labelled<R: References, S: Sink>(output: &mut Output<'_, '_, R, S>, labelled: Labelled)
     requires { Stands output.old }
     ensures writer { output.new.writer ≡ output.old.writer }
     ensures goes_on { GoesOn output.old output.new }
@@ -522,7 +523,10 @@ fn is_in_label(constructs: &[Open], labelled: Labelled) -> bool
 }
 
 /// Closes a construct that nothing in the text closes.
-fn close<R: References>(output: &mut Output<'_, '_, R>, last: Open) -> Result<(), AllocError>
+fn close<R: References, S: Sink>(
+    output: &mut Output<'_, '_, R, S>,
+    last: Open,
+) -> Result<(), AllocError>
     requires stands { Stands output.old }
     requires at { AtOpened output.old last }
     ensures given { output.new.writer.given ≡ output.old.writer.given }
@@ -538,7 +542,7 @@ fn close<R: References>(output: &mut Output<'_, '_, R>, last: Open) -> Result<()
 }
 
 /// Closes the spans of attention.
-fn close_text<R: References>(output: &mut Output<'_, '_, R>) -> Result<(), AllocError>
+fn close_text<R: References, S: Sink>(output: &mut Output<'_, '_, R, S>) -> Result<(), AllocError>
     requires stands { Stands output.old }
     requires none_waits { output.old.data ≡ output.old.at }
     requires at { (kind : AttentionKind) × AtOpened output.old (Attention kind) }
@@ -551,7 +555,7 @@ fn close_text<R: References>(output: &mut Output<'_, '_, R>) -> Result<(), Alloc
 }
 
 /// Closes the spans of a label.
-fn close_label<R: References>(output: &mut Output<'_, '_, R>) -> Result<(), AllocError>
+fn close_label<R: References, S: Sink>(output: &mut Output<'_, '_, R, S>) -> Result<(), AllocError>
     requires stands { Stands output.old }
     requires none_waits { output.old.data ≡ output.old.at }
     requires at { (labelled : Labelled) × AtOpened output.old (Label labelled) }

@@ -4,3 +4,5 @@ pub mod Endings
 pub mod Unfinished
 pub mod Loop
 pub mod Answered
+mod GhostWalks
+mod Building

@@ -1,2 +1,3 @@
 pub mod States
 pub use Rattle.markdown_containers.specs.ContainerStates
+pub mod Building

@@ -220,6 +220,7 @@ impl<'a> Context<'a> {
     }
 
     /// Takes one event.
+    #[inline(always)]
     pub fn step<R: References>(
         &mut self,
         alloc: Global,

@@ -1,10 +1,12 @@
 //! Builds an mdast syntax tree from the events of a tokenizer: [`compile`](to_mdast::compile).
 //!
 //! `context` has the open spans and what each event does to them, and `to_mdast` the loop over the
-//! events.
+//! events. `builder` builds a tree event by event, without a list.
 #![tactic(auto)]
 
+pub mod builder;
 mod context;
+mod history;
 pub mod to_mdast;
 
 pub use markdown_steps::laws;

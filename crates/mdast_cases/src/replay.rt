@@ -9,6 +9,7 @@ use markdown_json::to_json;
 use markdown_nodes::event::{Event, Kind, Point};
 use markdown_nodes::mdast::Node;
 use markdown_nodes::message::{Fault, Message, Place};
+use markdown_tree::builder::TreeBuilder;
 use markdown_tree::to_mdast::{
     Document, Steps, Values, compile, compile_counted, compile_document, compile_with,
 };
@@ -22,6 +23,8 @@ pub enum List {
     Whole,
     /// That of the case, through a reader that counts.
     Counted,
+    /// That of the case, event by event.
+    Built,
     /// Its first events, this many.
     First(usize),
     /// Its events, with this one, counted from 1, and the next swapped.
@@ -34,6 +37,7 @@ impl List {
         match self {
             List::Whole => Ok(String::new(alloc)),
             List::Counted => String::from_str(alloc, ", counted,"),
+            List::Built => String::from_str(alloc, ", event by event,"),
             List::First(count) => format!(in alloc; ", cut after event {count},"),
             List::Swapped(number) => format!(in alloc; ", swapped at event {number},"),
         }
@@ -85,6 +89,7 @@ fn replay(alloc: Global, case: &Case<'_>, counts: &mut Counts) -> Result<(), Rep
     let outcome = outcome(alloc, case, case.events.as_slice());
     expect(List::Whole, answer(alloc, &outcome), case.answer)?;
     expect(List::Counted, counted(alloc, case), case.answer)?;
+    expect(List::Built, built(alloc, case), case.answer)?;
     match &outcome {
         Ok(tree) => replay_tree(alloc, case, tree, counts),
         Err(_) => Ok(()),
@@ -356,6 +361,15 @@ fn counted(alloc: Global, case: &Case<'_>) -> Result<String, AllocError> {
         _ => compile_document(alloc, &mut steps, &document_of(case), &case.decoder),
     };
     answer(alloc, &outcome)
+}
+
+/// Returns the answer of a case from a builder that takes its events.
+fn built(alloc: Global, case: &Case<'_>) -> Result<String, AllocError> {
+    let mut builder = TreeBuilder::new(alloc, document_of(case), &case.decoder);
+    for event in &case.events {
+        builder.take(event);
+    }
+    answer(alloc, &builder.finish())
 }
 
 /// Returns the answer of a case with this result.

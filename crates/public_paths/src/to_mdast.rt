@@ -3,7 +3,9 @@
 use crate::expect::holds;
 use markdown_nodes::event::{Event, Kind, Name, Point};
 use markdown_nodes::mdast::Node;
-use markdown_tree::to_mdast::{References, Steps, compile, compile_counted};
+use markdown_nodes::message::Fault;
+use markdown_tree::builder::TreeBuilder;
+use markdown_tree::to_mdast::{Document, References, Steps, Values, compile, compile_counted};
 use std::alloc::{AllocError, Global};
 
 /// A user's decoder, which knows nothing.
@@ -51,4 +53,14 @@ fn steps_read_events(rt: HostRuntime) {
     steps.descents.tick();
     holds(&rt, steps.read(0) == Some(ENTER));
     holds(&rt, steps.read(1).is_none());
+}
+
+#[test]
+fn a_builder_takes_events(rt: HostRuntime) {
+    let document = Document::new(b"", Values::Whole);
+    let mut builder = TreeBuilder::new(rt.alloc(), document, &Nothing);
+    builder.take(&ENTER);
+    // The span is left open.
+    let outcome = builder.finish();
+    holds(&rt, matches!(&outcome, Err(Fault::Message(_))));
 }

@@ -10,22 +10,22 @@ use Rattle.markdown.proofs.Ends.{begins, ends_last, tiles_from}
 use Rattle.markdown.proofs.events.written.Goals as goal
 
 pub write-requires-clause-tiles : goal.write-requires-clause-tiles
-write-requires-clause-tiles c =
+write-requires-clause-tiles g c =
     let bytes = c.args.document.now in
-    let tiles = subst (λ (ps : List Piece). Tiles bytes origin ps (whole (length bytes))) (sym c.as_slice.ensures.value) c.in_ok-blocks.ensures.tiles in
+    let tiles = subst (λ (ps : List Piece). Tiles bytes origin ps (whole (length bytes))) (sym c.as_slice.ensures.value) c.requires.blocks.tiles in
     tiles_from bytes c.in_ok-writer.writer.cursor c.as_slice.result.now (whole (length bytes)) c.in_ok-writer.ensures.cursor tiles
 
 pub write-requires-clause-root : goal.write-requires-clause-root
-write-requires-clause-root c =
+write-requires-clause-root g c =
     let new = c.in_ok-writer.ensures in
-    begins c.in_ok-writer.writer (subst IsUtf8 (sym (ap (λ (given : Given HtmlReferences). given.bytes) new.given)) c.requires) new.cursor new.root
+    begins c.in_ok-writer.writer (subst IsUtf8 (sym (ap (λ (given : Given HtmlReferences). given.bytes) new.given)) c.requires.text) new.cursor new.root
 
 pub returns-clause-end : goal.returns-clause-end
-returns-clause-end c =
+returns-clause-end g c =
     let bytes = c.args.document.now in
     let from = c.in_ok-writer.writer.cursor in
     let ps = c.as_slice.result.now in
-    let tiles = subst (λ (ps : List Piece). Tiles bytes origin ps (whole (length bytes))) (sym c.as_slice.ensures.value) c.in_ok-blocks.ensures.tiles in
+    let tiles = subst (λ (ps : List Piece). Tiles bytes origin ps (whole (length bytes))) (sym c.as_slice.ensures.value) c.requires.blocks.tiles in
     IfOk-weaker c.write.result
     (λ (w : Written HtmlReferences). spot w.cursor ≡ end_from (spot from) ps)
     (λ (w : Written HtmlReferences). w.cursor.index ≡ length bytes)

@@ -1,9 +1,8 @@
 use Rattle.std.proofs.Common.{subst, sym, true, ◌≡◌}
-use Rattle.markdown_events.specs.declared.event.Point.{Point}
 use Rattle.markdown_grammar.specs.Document.{source}
 use Rattle.markdown_acceptance.specs.Calls.{may_write}
 use Rattle.markdown_acceptance.specs.Following.{open_after}
-use Rattle.event_writer.specs.Transcripts.{Transcribed}
+use Rattle.event_writer.specs.Tiles.{Placed}
 use Rattle.event_writer.specs.Written.{Written}
 use Rattle.event_writer.proofs.recorder.Recorder.token.Goals as goal
 
@@ -13,4 +12,4 @@ write-requires-clause-may g c =
     let end = c.in-Some.end in
     let may = subst (λ (w : Written _). may_write (source w.given.bytes (g.R.References.text w.given.references)) w.spans c.args.name w.cursor end ≡ true) (sym c.self.view_is)
     (c.requires.may end c.in-Some.ensures.index c.in-Some.ensures.virtual_spaces) in
-    subst (λ (t : Transcribed). may_write (source t.bytes decode) (open_after t.events) c.args.name t.cursor end ≡ true) (sym c.point_at.ensures.same) may
+    subst (λ (p : Placed). may_write (source p.bytes decode) (open_after (g.S.Sink.taken c.self.inside.sink)) c.args.name p.at end ≡ true) (sym c.point_at.ensures.same) may

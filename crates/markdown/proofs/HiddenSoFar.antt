@@ -1,0 +1,78 @@
+-- Events that hide no byte.
+use Rattle.std.proofs.Common.{Bool, List, Option, Some, [], ap, false, length, refl, subst, sym, true, ℕ, ◌++◌, ◌∙◌, ◌∷◌, ◌≡◌}
+use Rattle.std.specs.Prelude.{unwrap_or, ◌||◌}
+use Rattle.std.proofs.lemmas.List.{append_assoc}
+use Rattle.markdown_events.specs.declared.event.Event.{Event}
+use Rattle.character_references.specs.declared.html.HtmlReferences.{HtmlReferences}
+use Rattle.markdown_grammar.specs.Document.{Given}
+use Rattle.markdown_tree.specs.Building.{Building}
+use Rattle.markdown.specs.TreeSinks.{IsTreeOf, shown_document}
+use Rattle.markdown.specs.Hidden.{cell_after, flags_at, hidden, hidden_by, hidden_from, labels_after}
+use Rattle.markdown.specs.Hiding.{Passes, Tells, cell_in, labels_in}
+use Rattle.markdown.specs.declared.hiding.Hiding.{Hiding}
+
+-- neither of two flags is set
+pub or-left : (a b : Bool) → (a || b) ≡ false → a ≡ false
+or-left true b h = absurd (cc h)
+or-left false b h = refl
+
+pub or-right : (a b : Bool) → (a || b) ≡ false → b ≡ false
+or-right true b h = absurd (cc h)
+or-right false b h = h
+
+-- what the events before the last one hide, and then the last one
+hidden-more : (bytes : List ℕ) (labels cell : ℕ) (es : List Event) (e : Event) → hidden_from bytes labels cell (es ++ e ∷ []) ≡ hidden_from bytes labels cell es ++ (hidden_by bytes (labels_in labels es) (cell_in cell es) e.kind e.name e.point.index ++ [])
+hidden-more bytes labels cell [] e = refl
+hidden-more bytes labels cell (x ∷ es) e =
+    let first = hidden_by bytes labels cell x.kind x.name x.point.index in
+    let after = labels_after labels x.kind x.name in
+    let begun = cell_after cell x.kind x.name x.point.index in
+    ap (λ (xs : List ℕ). first ++ xs) (hidden-more bytes after begun es e)
+    ∙ sym (append_assoc first (hidden_from bytes after begun es) (hidden_by bytes (labels_in after es) (cell_in begun es) e.kind e.name e.point.index ++ []))
+
+labels-more : (labels : ℕ) (es : List Event) (e : Event) → labels_in labels (es ++ e ∷ []) ≡ labels_after (labels_in labels es) e.kind e.name
+labels-more labels [] e = refl
+labels-more labels (x ∷ es) e = labels-more (labels_after labels x.kind x.name) es e
+
+cell-more : (cell : ℕ) (es : List Event) (e : Event) → cell_in cell (es ++ e ∷ []) ≡ cell_after (cell_in cell es) e.kind e.name e.point.index
+cell-more cell [] e = refl
+cell-more cell (x ∷ es) e = cell-more (cell_after cell x.kind x.name x.point.index) es e
+
+-- before the first event
+pub tells-none : (bytes : List ℕ) (es : List Event) (hiding : Hiding) → es ≡ [] → hiding.labels ≡ 0 → hiding.cell ≡ 0 → Tells bytes es hiding
+tells-none bytes es hiding none labels cell = subst (λ (xs : List Event). Tells bytes xs hiding) (sym none) (record { cell = cell; labels = λ _. labels; none = λ _. refl })
+
+-- and after one more
+pub tells-more : (bytes : List ℕ) (es added : List Event) (e : Event) (old new : Hiding) → added ≡ es ++ e ∷ [] → Tells bytes es old → Passes bytes e.kind e.name e.point.index old new → Tells bytes added new
+tells-more bytes es added e old new is tells passes = subst (λ (xs : List Event). Tells bytes xs new) (sym is) (record {
+  cell = passes.cell ∙ ap (λ (c : ℕ). cell_after c e.kind e.name e.point.index) tells.cell ∙ sym (cell-more 0 es e);
+  labels = λ shown. passes.labels shown ∙ ap (λ (n : ℕ). labels_after n e.kind e.name) (tells.labels (passes.before shown)) ∙ sym (labels-more 0 es e);
+  none = λ shown.
+      let last : hidden_by bytes (labels_in 0 es) (cell_in 0 es) e.kind e.name e.point.index ≡ [] =
+      (λ i. hidden_by bytes (sym (tells.labels (passes.before shown)) i) (sym tells.cell i) e.kind e.name e.point.index) ∙ passes.none shown in
+      hidden-more bytes 0 0 es e ∙ (λ i. tells.none (passes.before shown) i ++ (last i ++ []));
+})
+
+-- if no byte is hidden, there are no flags
+pub tells-flags : (bytes : List ℕ) (es : List Event) (hiding : Hiding) → Tells bytes es hiding → hiding.hides ≡ false → hidden bytes es ≡ []
+tells-flags bytes es hiding tells shown = ap (flags_at (length bytes)) (tells.none shown)
+
+-- ---- A tree that is built of events
+
+pub sink-new : (bytes : List ℕ) (boxed made : Building HtmlReferences) (given : Given) (references : HtmlReferences) (hiding : Hiding) → boxed ≡ made → made ≡ record { document = given; references = references; events = [] } → given ≡ shown_document bytes
+    → hiding.labels ≡ 0 → hiding.cell ≡ 0 → IsTreeOf bytes boxed hiding
+sink-new bytes boxed made given references hiding same is shown labels cell = record {
+  document = ap (λ (b : Building HtmlReferences). b.document) (same ∙ is) ∙ shown;
+  tells = tells-none bytes boxed.events hiding (ap (λ (b : Building HtmlReferences). b.events) (same ∙ is)) labels cell;
+}
+
+pub sink-more : (bytes : List ℕ) (old new : Building HtmlReferences) (e : Event) (before after : Hiding) → new.document ≡ old.document → new.events ≡ old.events ++ e ∷ [] → Passes bytes e.kind e.name e.point.index before after
+    → IsTreeOf bytes old before → IsTreeOf bytes new after
+sink-more bytes old new e before after same is passes h = record {
+  document = same ∙ h.document;
+  tells = tells-more bytes old.events new.events e before after is h.tells passes;
+}
+
+-- the document of a sink is still that with which it began
+pub same-document : (at began bytes : List ℕ) → Some at ≡ Some began → began ≡ bytes → at ≡ bytes
+same-document at began bytes same is = ap (λ (o : Option (List ℕ)). unwrap_or o []) same ∙ is

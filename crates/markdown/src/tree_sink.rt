@@ -1,0 +1,123 @@
+//! A sink of events that builds their tree.
+
+ghost use Rattle.std.specs.Prelude.{◌≡◌, ◌++◌, ◌∷◌, [], IfErr, IfOk, Some, false};
+ghost use Rattle.markdown_events.specs.Forest.{enter, exit};
+ghost use Rattle.character_references.specs.Html.{html};
+ghost use Rattle.markdown_grammar.specs.Correct.{FailsRightly, IsMeaning};
+ghost use Rattle.markdown_grammar.specs.Document.{source_hiding};
+ghost use Rattle.markdown_grammar.specs.Ordered.{IsOrdered, NeverGoesBack};
+ghost use Rattle.markdown_nodes.specs.Tree.{only};
+ghost use Rattle.markdown_nodes.specs.View.{view};
+ghost use Rattle.markdown.specs.Hidden.{hidden};
+
+use crate::hiding::Hiding;
+use character_references::html::HtmlReferences;
+use event_writer::sink::{Sink, enter_event, exit_event};
+use markdown_events::event::{Name, Point};
+use markdown_nodes::mdast::Node;
+use markdown_nodes::message::Fault;
+use markdown_tree::builder::TreeBuilder;
+use markdown_tree::to_mdast::Document;
+use std::alloc::{AllocError, Global};
+use std::marker::Model;
+
+/// A sink that builds the tree of the events that it takes, with whole values.
+///
+/// The tree is built while no byte is known to be hidden. So it is the tree of the document only if
+/// its events hide no byte.
+#[derive(Drop)]
+pub struct TreeSink<'d> {
+    /// The document.
+    bytes: &'d [u8],
+    /// The tree so far. It stays in place while the sink is handed on.
+    builder: Box<TreeBuilder<'d, HtmlReferences>>,
+    /// Whether the events so far hide a byte.
+    hiding: Hiding,
+}
+
+impl<'d> Model for TreeSink<'d> {
+    ghost use Rattle.markdown.specs.TreeSinks.{IsTreeOf, TreeOf};
+
+    ghost Value = { TreeOf };
+
+    ghost view = { λ t. record { document = t.bytes.now; events = t.builder.value.events; hides = t.hiding.hides } };
+
+    ghost invariant = { λ t. IsTreeOf t.bytes.now t.builder.value t.hiding };
+}
+
+impl<'d> TreeSink<'d> {
+    /// Returns a sink that has taken no event.
+    pub fn new(alloc: Global, bytes: &'d [u8]) -> Result<TreeSink<'d>, AllocError>
+        ensures document { IfOk result (λ sink. sink.document ≡ bytes.now) }
+        ensures events { IfOk result (λ sink. sink.events ≡ []) }
+    {
+        let builder = TreeBuilder::new(alloc, Document::hiding(bytes, &[]), &HtmlReferences);
+        Ok(TreeSink {
+            bytes,
+            builder: Box::new(alloc, builder)?,
+            hiding: Hiding::new(),
+        })
+    }
+
+    /// Whether the events hide a byte, so that the tree is not that of the document.
+    pub fn hides(&self) -> bool
+        ensures none { result ≡ false → hidden self.now.document self.now.events ≡ [] }
+    {
+        self.hiding.hides()
+    }
+
+    /// Takes the enter of a span.
+    #[inline(always)]
+    fn take_enter(&mut self, name: Name, at: Point)
+        ensures events { self.new.events ≡ self.old.events ++ enter name at ∷ [] }
+        ensures document { self.new.document ≡ self.old.document }
+    {
+        self.hiding.enter(name, &at);
+        self.builder.take(&enter_event(name, at));
+    }
+
+    /// Takes the exit of a span.
+    #[inline(always)]
+    fn take_exit(&mut self, name: Name, at: Point)
+        ensures events { self.new.events ≡ self.old.events ++ exit name at ∷ [] }
+        ensures document { self.new.document ≡ self.old.document }
+    {
+        self.hiding.exit(self.bytes, name, &at);
+        self.builder.take(&exit_event(name, at));
+    }
+
+    /// Returns the tree of the events, as if no byte were hidden.
+    pub fn finish(self) -> Result<Node, Fault>
+        ensures found { IfOk result (λ tree. IsMeaning tree self.entry.events (source_hiding [] self.entry.document html)) }
+        ensures refused { IfErr result (λ fault. FailsRightly fault self.entry.events (source_hiding [] self.entry.document html)) }
+        ensures ordered { IfOk result (λ tree. NeverGoesBack self.entry.events → IsOrdered (only (view tree))) }
+    {
+        let TreeSink { builder, .. } = self;
+        Box::into_inner(builder).finish()
+    }
+}
+
+impl<'d> Sink for TreeSink<'d> {
+    ghost taken = { λ sink. sink.events };
+
+    ghost document = { λ sink. Some sink.document };
+
+    #[inline(always)]
+    fn enter(&mut self, name: Name, at: Point) -> Result<(), AllocError> {
+        self.take_enter(name, at);
+        Ok(())
+    }
+
+    #[inline(always)]
+    fn exit(&mut self, name: Name, at: Point) -> Result<(), AllocError> {
+        self.take_exit(name, at);
+        Ok(())
+    }
+
+    #[inline(always)]
+    fn token(&mut self, name: Name, start: Point, end: Point) -> Result<(), AllocError> {
+        self.take_enter(name, start);
+        self.take_exit(name, end);
+        Ok(())
+    }
+}

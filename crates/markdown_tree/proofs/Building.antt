@@ -1,0 +1,107 @@
+-- What a builder keeps.
+use Rattle.std.proofs.Common.{Bool, List, None, Option, Result, Some, Ok, Err, [], ap, arith, false, is_some, length, option_map, refl, subst, sym, true, ℕ, ◌++◌, ◌+◌, ◌-◌, ◌∙◌, ◌∷◌, ◌≡◌}
+use Rattle.std.specs.Prelude.{slice_get, unwrap_or}
+use Rattle.std.specs.Option.{option_or}
+use Rattle.std.proofs.Math.Seq.{get_or-append_seam}
+use Rattle.std.proofs.lemmas.List.{length-append}
+use Rattle.std.proofs.lemmas.Option.{slice_get-get_or}
+use Rattle.markdown_events.specs.declared.event.Event.{Event}
+use Rattle.markdown_events.specs.declared.event.Point.{Point}
+use Rattle.markdown_events.specs.declared.message.Fault.{Fault}
+use Rattle.markdown_events.specs.declared.message.Fault.TheVariants as faults
+use Rattle.markdown_events.specs.declared.unist.Position.{Position}
+use Rattle.markdown_grammar.specs.Document.{Source}
+use Rattle.markdown_grammar.specs.Refusals.{ErrorAt, IsFaultOf}
+use Rattle.markdown_grammar.specs.declared.error_kind.Stop.{Stop}
+use Rattle.markdown_grammar.specs.declared.error_kind.Stop.TheVariants as stops
+use Rattle.markdown_steps.proofs.Refused.{run-append}
+use Rattle.markdown_steps.specs.Checks.{◌>>=◌}
+use Rattle.markdown_steps.specs.Compiler.{State, opening, point_of, run, step}
+use Rattle.markdown_steps.specs.Extents.{extent_between, extent_of, last_event}
+use Rattle.markdown_events.specs.Slices.{between}
+use Rattle.markdown_grammar.specs.Meaning.{nowhere}
+use Rattle.markdown_tree.specs.Building.{ArePointsOf, HasState, IsBuilt, point_in}
+use Rattle.markdown_tree.specs.ContainerStates.{Stops}
+use Rattle.markdown_tree.specs.States.{Fails, state_of}
+use Rattle.markdown_tree.specs.declared.context.Context.{Context}
+
+-- ---- Runs with one more event
+
+run-one : (s : Source) (e : Event) (st : State) → run s (e ∷ []) st ≡ step s e st
+unfolding run
+run-one s e st = done (step s e st)
+  where
+    done : (r : Result State ErrorAt) → (r >>= run s []) ≡ r
+    done (Ok x) = refl
+    done (Err e) = refl
+
+run-more : (s : Source) (es : List Event) (e : Event) (st : State) → run s es opening ≡ Ok st → run s (es ++ e ∷ []) opening ≡ step s e st
+run-more s es e st h = run-append s es (e ∷ []) opening ∙ ap (λ (r : Result State ErrorAt). r >>= run s (e ∷ [])) h ∙ run-one s e st
+
+-- one more event, after events that no step refused
+pub built-on : (s : Source) (es added : List Event) (e : Event) (old new : Context) (fault : Option Fault) → added ≡ es ++ e ∷ [] → run s es opening ≡ Ok (state_of old) → HasState new fault (step s e (state_of old)) → IsBuilt s added new fault
+built-on s es added e old new fault is h stepped = subst (HasState new fault) (sym (ap (λ (xs : List Event). run s xs opening) is ∙ run-more s es e (state_of old) h)) stepped
+
+fails-still : (s : Source) (es added : List Event) (e : Event) (fault : Fault) → added ≡ es ++ e ∷ [] → Fails fault (run s es opening) → Fails fault (run s added opening)
+fails-still s es added e (faults.Memory error) is h = tt
+fails-still s es added e (faults.Message m) is h =
+    (h.0, ap (λ (xs : List Event). run s xs opening) is ∙ run-append s es (e ∷ []) opening ∙ ap (λ (r : Result State ErrorAt). r >>= run s (e ∷ [])) h.1, h.2)
+
+-- and after events one of which was refused
+pub built-still : (s : Source) (es added : List Event) (e : Event) (context : Context) (fault : Option Fault) → added ≡ es ++ e ∷ [] → is_some fault ≡ true → IsBuilt s es context fault → IsBuilt s added context fault
+built-still s es added e context None is some h = absurd (cc some)
+built-still s es added e context (Some fault) is some h = fails-still s es added e fault is h
+
+-- where there is no fault, no step refused an event
+pub built-state : (s : Source) (es : List Event) (context : Context) (fault : Option Fault) → is_some fault ≡ false → IsBuilt s es context fault → run s es opening ≡ Ok (state_of context)
+built-state s es context None none h = h
+built-state s es context (Some fault) none h = absurd (cc none)
+
+-- a stop that is told
+pub told : (context : Context) (stop : Stop) (fault : Fault) (point : Point) (expected : Result State ErrorAt) → Stops stop point expected → IsFaultOf stop point fault → Fails fault expected
+told context (stops.Memory error) fault point expected stopped says = subst (λ (f : Fault). Fails f expected) (sym says) tt
+told context (stops.Refused why) (faults.Message m) point expected stopped says = (record { error_kind = why; point = point }, stopped, says)
+told context (stops.Refused why) (faults.Memory error) point expected stopped says = absurd says
+
+-- ---- The first event and the last
+
+first-more : (es : List Event) (e : Event) → point_in (slice_get (es ++ e ∷ []) 0) ≡ option_or (point_in (slice_get es 0)) (Some e.point)
+first-more [] e = refl
+first-more (x ∷ es) e = refl
+
+last-is : (es : List Event) (e : Event) → last_event (es ++ e ∷ []) ≡ Some e
+last-is es e =
+    let size : length (es ++ e ∷ []) ≡ length es + 1 = length-append es (e ∷ []) in
+    let before : length (es ++ e ∷ []) - 1 ≡ length es = omega (arith, size) in
+    ap (slice_get (es ++ e ∷ [])) before ∙ slice_get-get_or (es ++ e ∷ []) (length es) e (omega (arith, size)) ∙ ap Some (get_or-append_seam es e [] e)
+
+pub points-after : (es added : List Event) (e : Event) (first last now : Option Point) → ArePointsOf es first last → added ≡ es ++ e ∷ [] → now ≡ option_or first (Some e.point) → ArePointsOf added now (Some e.point)
+points-after es added e first last now points is k = record {
+  first_is = k ∙ ap (λ (o : Option Point). option_or o (Some e.point)) points.first_is ∙ sym (first-more es e) ∙ ap (λ (xs : List Event). point_in (slice_get xs 0)) (sym is);
+  last_is = ap point_in (sym (last-is es e)) ∙ ap (λ (xs : List Event). point_in (last_event xs)) (sym is);
+}
+
+pub no-points : (es : List Event) → es ≡ [] → ArePointsOf es None None
+no-points es none = subst (λ (xs : List Event). ArePointsOf xs None None) (sym none) (record { first_is = refl; last_is = refl })
+
+-- ---- Before the first event, and after the last
+
+pub built-none : (s : Source) (events : List Event) (context : Context) → events ≡ [] → state_of context ≡ opening → IsBuilt s events context None
+unfolding run
+built-none s events context none new = subst (λ (es : List Event). IsBuilt s es context None) (sym none) (ap Ok (sym new))
+
+-- the extent, by the points of the events
+by-points : (a b : Option Event) (first last : Option Point) → first ≡ point_in a → last ≡ point_in b → (at : Position) → ((p q : Point) → first ≡ Some p → last ≡ Some q → at ≡ between p q) → (first ≡ None → at ≡ nowhere) → (last ≡ None → at ≡ nowhere) → at ≡ extent_between a b
+by-points None b first last h k at both no_first no_last = no_first h
+by-points (Some a) None first last h k at both no_first no_last = no_last k
+by-points (Some a) (Some b) first last h k at both no_first no_last = both a.point b.point h k
+
+pub extent-is : (es : List Event) (first last : Option Point) → ArePointsOf es first last → (at : Position) → ((p q : Point) → first ≡ Some p → last ≡ Some q → at ≡ between p q) → (first ≡ None → at ≡ nowhere) → (last ≡ None → at ≡ nowhere) → at ≡ extent_of es
+extent-is es first last points at both no_first no_last = by-points (slice_get es 0) (last_event es) first last points.first_is points.last_is at both no_first no_last
+
+end-by : (b : Option Event) → unwrap_or (point_in b) (record { line = 1; column = 1; index = 0; vs = 0 }) ≡ point_of b
+end-by None = refl
+end-by (Some b) = refl
+
+pub end-is : (es : List Event) (first last : Option Point) → ArePointsOf es first last → unwrap_or last (record { line = 1; column = 1; index = 0; vs = 0 }) ≡ point_of (last_event es)
+end-is es first last points = ap (λ (o : Option Point). unwrap_or o (record { line = 1; column = 1; index = 0; vs = 0 })) points.last_is ∙ end-by (last_event es)

@@ -1,0 +1,164 @@
+//! A tree that is built event by event.
+
+ghost use Rattle.std.specs.Prelude.{◌≡◌, ◌<◌, ◌^◌, ◌++◌, ◌∷◌, [], IfErr, IfOk, false, is_some};
+ghost use Rattle.markdown_grammar.specs.Correct.{FailsRightly, IsMeaning};
+ghost use Rattle.markdown_grammar.specs.Document.{source_of};
+ghost use Rattle.markdown_grammar.specs.Ordered.{IsOrdered, NeverGoesBack};
+ghost use Rattle.markdown_nodes.specs.Tree.{only};
+ghost use Rattle.markdown_nodes.specs.View.{view};
+ghost use Rattle.markdown_steps.specs.Compiler;
+ghost use Rattle.markdown_steps.specs.Compiler.{compiled};
+ghost use Rattle.markdown_steps.specs.Extents.{extent_of};
+ghost use Rattle.markdown_steps.specs.Well.{Well};
+ghost use Rattle.markdown_tree.specs.Building.{HasState};
+ghost use Rattle.markdown_tree.specs.States.{Completes, state_of};
+
+use crate::context::Context;
+use crate::history::Passed;
+use character_references::references::References;
+use markdown_grammar::error_kind::Stop;
+use markdown_nodes::count::Count;
+use markdown_nodes::event::Event;
+use markdown_nodes::mdast::{Node, Root};
+use markdown_nodes::message::Fault;
+use markdown_nodes::steps::Steps;
+use markdown_parts::slice::Document;
+use std::alloc::Global;
+use std::marker::Model;
+
+/// A tree that is built event by event (ours). It does what
+/// [`compile_document`](crate::to_mdast::compile_document) does, without a list of the events.
+///
+/// ```text
+/// let mut builder = TreeBuilder::new(alloc, Document::new(b"Hi", Values::Whole), &NoReferences);
+/// for event in &events {
+///     builder.take(event);
+/// }
+/// let tree = builder.finish()?;
+/// ```
+#[derive(Drop)]
+pub struct TreeBuilder<'a, R: References> {
+    /// The document.
+    document: Document<'a>,
+    /// What its character references stand for.
+    references: &'a R,
+    /// What the events so far have made.
+    context: Context<'a>,
+    /// Why an event was refused, or that memory ran out.
+    fault: Option<Fault>,
+    /// The events so far.
+    passed: Passed,
+    /// The steps, which nobody reads.
+    steps: Steps<'a>,
+    /// The allocator.
+    alloc: Global,
+}
+
+impl<'a, R: References> Model for TreeBuilder<'a, R> {
+    ghost use Rattle.markdown_grammar.specs.Document.{source_of};
+    ghost use Rattle.markdown_tree.specs.Building.{Building, IsBuilt};
+
+    ghost Value = { Building R };
+
+    ghost view = { λ b. record { document = b.document; references = b.references.now; events = b.passed } };
+
+    ghost invariant = { λ b. IsBuilt (source_of b.document (R.text b.references.now)) b.passed b.context b.fault };
+}
+
+impl<'a, R: References> TreeBuilder<'a, R> {
+    /// Returns a builder that has taken no event. It allocates no memory.
+    pub fn new(alloc: Global, document: Document<'a>, references: &'a R) -> TreeBuilder<'a, R>
+        ensures { result ≡ record { document = document.entry; references = references.now; events = [] } }
+    {
+        TreeBuilder {
+            document,
+            references,
+            context: Context::new(alloc),
+            fault: None,
+            passed: Passed::none(),
+            steps: Steps::new(&[]),
+            alloc,
+        }
+    }
+
+    /// Takes the next event. After one that the grammar refuses, and once memory has run out, events
+    /// change nothing any more.
+    #[inline(always)]
+    pub fn take(&mut self, event: &Event)
+        ensures document { self.new.document ≡ self.old.document }
+        ensures references { self.new.references ≡ self.old.references }
+        ensures events { self.new.events ≡ self.old.events ++ event.now ∷ [] }
+    {
+        if self.fault.is_some() {
+            self.passed.add(event);
+            return;
+        }
+        advance(
+            self.alloc,
+            &mut self.context,
+            &mut self.fault,
+            &mut self.steps.descents,
+            &self.document,
+            self.references,
+            event,
+        );
+        self.passed.add(event);
+    }
+
+    /// Returns the tree of the events, or why they have none: one was refused, or at the end a span
+    /// is open or a break waits for its line ending.
+    pub fn finish(self) -> Result<Node, Fault>
+        ensures found { IfOk result (λ tree. IsMeaning tree self.entry.events (source_of self.entry.document (R.text self.entry.references))) }
+        ensures refused { IfErr result (λ fault. FailsRightly fault self.entry.events (source_of self.entry.document (R.text self.entry.references))) }
+        ensures ordered { IfOk result (λ tree. NeverGoesBack self.entry.events → IsOrdered (only (view tree))) }
+    {
+        self.compiled()
+    }
+
+    /// Does what `finish` does. Specified by the compilation on values, `compiled`.
+    fn compiled(self) -> Result<Node, Fault>
+        ensures gives { Completes view result (compiled (source_of self.entry.document (R.text self.entry.references)) self.entry.events) }
+        ensures fits { IfOk result (λ tree. (extent_of self.entry.events).end.offset < 2 ^ 64) }
+    {
+        let TreeBuilder {
+            context,
+            fault,
+            passed,
+            ..
+        } = self;
+        if let Some(fault) = fault {
+            return Err(fault);
+        }
+        let violated = context.unfinished();
+        let children = context.into_nodes();
+        if let Some(error_kind) = violated {
+            return Err(Stop::Refused(error_kind).at(passed.end()));
+        }
+        Ok(Node::Root(Root {
+            children,
+            position: Some(passed.extent()),
+        }))
+    }
+}
+
+/// Does what an event does to a context that no event has been refused for. A fault says that it is
+/// refused, or that memory ran out.
+#[inline(always)]
+fn advance<'a, R: References>(
+    alloc: Global,
+    context: &mut Context<'a>,
+    fault: &mut Option<Fault>,
+    steps: &mut Count,
+    document: &Document<'a>,
+    references: &R,
+    event: &Event,
+)
+    requires well { Well (source_of document.now (R.text references.now)) (state_of context.old) }
+    requires none { is_some fault.old ≡ false }
+    ensures { HasState context.new fault.new
+        (Compiler.step (source_of document.now (R.text references.now)) event.now (state_of context.old)) }
+{
+    if let Err(stop) = context.step(alloc, steps, document, references, event) {
+        *fault = Some(stop.at(event.point));
+    }
+}
