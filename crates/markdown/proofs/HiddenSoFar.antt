@@ -73,6 +73,13 @@ sink-more bytes old new e before after same is passes h = record {
   tells = tells-more bytes old.events new.events e before after is h.tells passes;
 }
 
+pub sink-token : (bytes : List ℕ) (old new : Building HtmlReferences) (first second : Event) (before between after : Hiding) → new.document ≡ old.document → new.events ≡ old.events ++ first ∷ second ∷ []
+    → Passes bytes first.kind first.name first.point.index before between → Passes bytes second.kind second.name second.point.index between after → IsTreeOf bytes old before → IsTreeOf bytes new after
+sink-token bytes old new first second before between after same is passes then h =
+    let one = tells-more bytes old.events (old.events ++ first ∷ []) first before between refl h.tells passes in
+    let two : new.events ≡ (old.events ++ first ∷ []) ++ second ∷ [] = is ∙ sym (append_assoc old.events (first ∷ []) (second ∷ [])) in
+    record { document = same ∙ h.document; tells = tells-more bytes (old.events ++ first ∷ []) new.events second between after two one then }
+
 -- the document of a sink is still that with which it began
 pub same-document : (at began bytes : List ℕ) → Some at ≡ Some began → began ≡ bytes → at ≡ bytes
 same-document at began bytes same is = ap (λ (o : Option (List ℕ)). unwrap_or o []) same ∙ is

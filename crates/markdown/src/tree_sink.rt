@@ -86,6 +86,17 @@ impl<'d> TreeSink<'d> {
         self.builder.take(&exit_event(name, at));
     }
 
+    /// Takes the enter and the exit of a token.
+    #[inline(always)]
+    fn take_token(&mut self, name: Name, start: Point, end: Point)
+        ensures events { self.new.events ≡ self.old.events ++ enter name start ∷ exit name end ∷ [] }
+        ensures document { self.new.document ≡ self.old.document }
+    {
+        self.hiding.enter(name, &start);
+        self.hiding.exit(self.bytes, name, &end);
+        self.builder.token(name, start, end);
+    }
+
     /// Returns the tree of the events, as if no byte were hidden.
     pub fn finish(self) -> Result<Node, Fault>
         ensures found { IfOk result (λ tree. IsMeaning tree self.entry.events (source_hiding [] self.entry.document html)) }
@@ -116,8 +127,7 @@ impl<'d> Sink for TreeSink<'d> {
 
     #[inline(always)]
     fn token(&mut self, name: Name, start: Point, end: Point) -> Result<(), AllocError> {
-        self.take_enter(name, start);
-        self.take_exit(name, end);
+        self.take_token(name, start, end);
         Ok(())
     }
 }

@@ -34,7 +34,7 @@ use Rattle.markdown_grammar.specs.Document.{Source}
 use Rattle.markdown_parts.specs.Nest.{around_innermost, innermost}
 use Rattle.markdown_parts.proofs.Nesting.{turned}
 use Rattle.markdown_containers.specs.ContainerStates.{Stops, container_state_of, with_break}
-use Rattle.markdown_tree.specs.States.{Begun, Opened, OpenedContainer, OpenedLeaf, containers_left, kept_top, leaf_left, leaf_place, opens, outer_of, state_of, top_of}
+use Rattle.markdown_tree.specs.States.{Begun, Opened, OpenedContainer, OpenedLeaf, containers_left, frame_of, kept_top, leaf_left, leaf_place, opens, outer_of, state_in, state_of, state_with, top_of}
 use Rattle.markdown_blocks.specs.Columns.{columns_of}
 use Rattle.markdown_parts.specs.Marks.{marks_of}
 
@@ -146,27 +146,28 @@ container_frames what f fs fs' h hs hs' is_significant is held =
 
 -- a leaf begins
 pub leaf_entered : (s : Source) (name : Name) (what : ItemKind) (start : Point) (old mid new : Context) (in_table : Bool) → role_of name ≡ significant what → OpenedLeaf s what start old mid
-    → Begun name (significant what) start true in_table mid new → in_table ≡ (mid.in_table || is_table what) → enter_as s (significant what) name start (state_of old) ≡ Ok (state_of new)
+    → Begun (significant what) true in_table mid new → in_table ≡ (mid.in_table || is_table what) → enter_as s (significant what) name start (state_of old) ≡ Ok (state_in (old.frames.items ++ frame_of name start old ∷ []) new)
 leaf_entered s name what start old mid new in_table is_significant o b is =
-    let begun : Begun name (significant what) start true in_table old new = subst (λ (m : Context). Begun name (significant what) start true in_table m new) o.same b in
+    let begun : Begun (significant what) true in_table old new = subst (λ (m : Context). Begun (significant what) true in_table m new) o.same b in
     let flag : old.is_leaf ≡ false = no_leaf s what start (leaf_place old.in_table) (kept_top old) old.is_leaf o.taken in
     let inside : in_table ≡ (old.in_table || is_table what) = is ∙ ap (λ (m : Context). m.in_table || is_table what) o.same in
     let same : in_table ≡ old.in_table = inside ∙ or_false old.in_table (is_table what) (leaf_no_table (current_model_of (innermost old.containers).container) what o.leaf_row) in
-    let f : Frame = record { start = start; outside = old.interior; name = name; in_table = old.in_table } in
+    let f : Frame = frame_of name start old in
+    let fs : List Frame = old.frames.items ++ f ∷ [] in
     let kept : ContainerState = container_state_of in_table old.pending (innermost old.containers) in
     let now_top : top_of old ≡ kept = (λ t. cond (flag t) (fresh leaf (leaf_place old.in_table)) (kept_top old)) ∙ sym (λ t. container_state_of (same t) old.pending (innermost old.containers)) in
     let spans : List OpenSpan = opens (reverse old.frames.items) None (around_innermost old.containers) in
-    significant_opened s name what start old (state_of new) o.taken
+    significant_opened s name what start old (state_in fs new) o.taken
     ((λ t. record {
       frames = ((λ u. record { name = name; start = start; around = old.interior.around; before = marks_of old.interior.marks; outer = Some (what, now_top u) }
           ∷ opens (reverse old.frames.items) (cond (flag u) (Some (kept_top old)) None) (around_innermost old.containers))
-          ∙ sym (leaf_frames what f old.frames.items new.frames.items (around_innermost old.containers) kept is_significant begun.frames)) t;
+          ∙ sym (leaf_frames what f old.frames.items fs (around_innermost old.containers) kept is_significant refl)) t;
       around = under old.interior.around (is_significant t);
       marks = sym begun.marks t;
       columns = ((λ u. columns_entered (cond (flag u) (fresh leaf (leaf_place old.in_table)) (kept_top old)).place.in_table (is_significant u) (columns_of old.columns)) ∙ sym begun.columns) t;
       top = ((λ u. entered (cond (flag u) (fresh leaf (leaf_place old.in_table)) (kept_top old)) what)
           ∙ (λ u. fresh (o.leaf_row u) (record { line_endings = leaf_speaks (current_model_of (innermost old.containers).container) what o.leaf_row u; in_table = sym inside u; marker = None }))) t;
-    }) ∙ sym (ap state_of begun.others))
+    }) ∙ sym (ap (state_in fs) begun.others))
 
 -- no container of the program is a leaf
 pub no_leaf_row : (h : Container) → initial_model_of h ≡ leaf → ⊥
@@ -208,10 +209,10 @@ nothing_waits (Some p) ending h e = let wrong : true ≡ false = sym h ∙ e in 
 
 -- a container begins
 pub container_entered : (s : Source) (name : Name) (what : ItemKind) (start : Point) (old mid new : Context) (in_table : Bool) → role_of name ≡ significant what → OpenedContainer s what start old mid
-    → Begun name (significant what) start false in_table mid new → in_table ≡ (mid.in_table || is_table what) → enter_as s (significant what) name start (state_of old) ≡ Ok (state_of new)
+    → Begun (significant what) false in_table mid new → in_table ≡ (mid.in_table || is_table what) → enter_as s (significant what) name start (state_of old) ≡ Ok (state_in (old.frames.items ++ frame_of name start old ∷ []) new)
 container_entered s name what start old mid new in_table is_significant o b is =
     let between : Context = record old { containers = mid.containers } in
-    let begun : Begun name (significant what) start false in_table between new = subst (λ (m : Context). Begun name (significant what) start false in_table m new) o.others b in
+    let begun : Begun (significant what) false in_table between new = subst (λ (m : Context). Begun (significant what) false in_table m new) o.others b in
     let flag : old.is_leaf ≡ false = no_leaf s what start (leaf_place old.in_table) (kept_top old) old.is_leaf o.taken in
     let inside : in_table ≡ (old.in_table || is_table what) = is ∙ ap (λ (m : Context). m.in_table || is_table what) o.others in
     let made : IsFresh (innermost mid.containers).container (model_of (current_model_of (innermost old.containers).container) what) = o.fresh_container in
@@ -219,14 +220,15 @@ container_entered s name what start old mid new in_table is_significant o b is =
     (λ t. first_failing (enter_checks s (cond (sym flag t) (fresh leaf (leaf_place old.in_table)) (kept_top old)) what start)) ∙ o.taken in
     let no_break : old.pending ≡ None = nothing_waits old.pending (is_line_ending what) (first_passes (not (is_some old.pending) || is_line_ending what) _ UnfinishedBreak kept_taken)
     (container_no_ending (innermost mid.containers).container (current_model_of (innermost old.containers).container) what made.initial_model) in
-    let f : Frame = record { start = start; outside = old.interior; name = name; in_table = old.in_table } in
+    let f : Frame = frame_of name start old in
+    let fs : List Frame = old.frames.items ++ f ∷ [] in
     let now_top : top_of old ≡ container_state_of old.in_table None (innermost old.containers) =
     (λ t. cond (flag t) (fresh leaf (leaf_place old.in_table)) (kept_top old)) ∙ (λ t. container_state_of old.in_table (no_break t) (innermost old.containers)) in
-    significant_opened s name what start old (state_of new) o.taken
+    significant_opened s name what start old (state_in fs new) o.taken
     ((λ t. record {
       frames = ((λ u. record { name = name; start = start; around = old.interior.around; before = marks_of old.interior.marks; outer = Some (what, now_top u) }
           ∷ opens (reverse old.frames.items) (cond (flag u) (Some (kept_top old)) None) (around_innermost old.containers))
-          ∙ sym (container_frames what f old.frames.items new.frames.items (innermost old.containers) (around_innermost old.containers) (around_innermost mid.containers) is_significant begun.frames o.outer)) t;
+          ∙ sym (container_frames what f old.frames.items fs (innermost old.containers) (around_innermost old.containers) (around_innermost mid.containers) is_significant refl o.outer)) t;
       around = under old.interior.around (is_significant t);
       marks = sym begun.marks t;
       columns = ((λ u. columns_entered (cond (flag u) (fresh leaf (leaf_place old.in_table)) (kept_top old)).place.in_table (is_significant u) (columns_of old.columns)) ∙ sym begun.columns) t;
@@ -244,13 +246,29 @@ container_entered s name what start old mid new in_table is_significant o b is =
               value = sym made.value u;
             };
           })) t;
-    }) ∙ sym (ap state_of begun.others))
+    }) ∙ sym (ap (state_in fs) begun.others))
+
+-- what a span that begins leaves as it was
+same_outside : (s : Source) (what : ItemKind) (start : Point) (is_leaf : Bool) (old mid : Context) → Opened s what start old mid (Ok is_leaf) → mid ≡ record old { containers = mid.containers }
+same_outside s what start true old mid o = o.same ∙ (λ t. record old { containers = (ap (λ (c : Context). c.containers) (sym o.same)) t })
+same_outside s what start false old mid o = o.others
 
 -- a leaf or a container begins
-pub significant_entered : (s : Source) (name : Name) (what : ItemKind) (start : Point) (is_leaf : Bool) (old mid new : Context) (in_table : Bool) → role_of name ≡ significant what → Opened s what start old mid (Ok is_leaf)
-    → Begun name (significant what) start is_leaf in_table mid new → in_table ≡ (mid.in_table || is_table what) → enter_as s (significant what) name start (state_of old) ≡ Ok (state_of new)
-significant_entered s name what start true old mid new in_table is_significant o b is = leaf_entered s name what start old mid new in_table is_significant o b is
-significant_entered s name what start false old mid new in_table is_significant o b is = container_entered s name what start old mid new in_table is_significant o b is
+pub significant_entered : (s : Source) (name : Name) (what : ItemKind) (start : Point) (is_leaf : Bool) (old mid new : Context) (frame : Frame) (in_table : Bool) → role_of name ≡ significant what → Opened s what start old mid (Ok is_leaf)
+    → Begun (significant what) is_leaf in_table mid new → frame ≡ frame_of name start mid → in_table ≡ (mid.in_table || is_table what) → enter_as s (significant what) name start (state_of old) ≡ Ok (state_with frame new)
+significant_entered s name what start is_leaf old mid new frame in_table is_significant o b made is =
+    let outside = same_outside s what start is_leaf old mid o in
+    let same : old.frames.items ++ frame_of name start old ∷ [] ≡ new.frames.items ++ frame ∷ [] =
+    sym ((λ t. (b.others t).frames.items ++ made t ∷ []) ∙ (λ t. (outside t).frames.items ++ frame_of name start (outside t) ∷ [])) in
+    entered is_leaf o b ∙ ap (λ (fs : List Frame). Ok (state_in fs new)) same
+  where
+    entered : (is_leaf : Bool) → Opened s what start old mid (Ok is_leaf) → Begun (significant what) is_leaf in_table mid new → enter_as s (significant what) name start (state_of old) ≡ Ok (state_in (old.frames.items ++ frame_of name start old ∷ []) new)
+    entered true o b = leaf_entered s name what start old mid new in_table is_significant o b is
+    entered false o b = container_entered s name what start old mid new in_table is_significant o b is
+
+-- the open spans are the same
+pub same_frames : (s : Source) (what : ItemKind) (start : Point) (is_leaf : Bool) (role : Role) (in_table : Bool) (old mid new : Context) → Opened s what start old mid (Ok is_leaf) → Begun role is_leaf in_table mid new → new.frames ≡ old.frames
+same_frames s what start is_leaf role in_table old mid new o b = (λ t. (b.others t).frames) ∙ (λ t. (same_outside s what start is_leaf old mid o t).frames)
 
 -- or it stops there
 pub significant_stops : (s : Source) (name : Name) (what : ItemKind) (point : Point) (stop : Stop) (old mid : Context) → Opened s what point old mid (Err stop) → Stops stop point (enter_as s (significant what) name point (state_of old))

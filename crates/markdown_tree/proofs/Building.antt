@@ -1,5 +1,5 @@
 -- What a builder keeps.
-use Rattle.std.proofs.Common.{Bool, List, None, Option, Result, Some, Ok, Err, [], ap, arith, false, is_some, length, option_map, refl, subst, sym, true, ℕ, ◌++◌, ◌+◌, ◌-◌, ◌∙◌, ◌∷◌, ◌≡◌}
+use Rattle.std.proofs.Common.{List, None, Option, Result, Some, Ok, Err, [], ap, arith, false, is_some, length, refl, subst, sym, true, ◌++◌, ◌+◌, ◌-◌, ◌∙◌, ◌∷◌, ◌≡◌}
 use Rattle.std.specs.Prelude.{slice_get, unwrap_or}
 use Rattle.std.specs.Option.{option_or}
 use Rattle.std.proofs.Math.Seq.{get_or-append_seam}
@@ -35,22 +35,39 @@ run-one s e st = done (step s e st)
     done (Ok x) = refl
     done (Err e) = refl
 
-run-more : (s : Source) (es : List Event) (e : Event) (st : State) → run s es opening ≡ Ok st → run s (es ++ e ∷ []) opening ≡ step s e st
-run-more s es e st h = run-append s es (e ∷ []) opening ∙ ap (λ (r : Result State ErrorAt). r >>= run s (e ∷ [])) h ∙ run-one s e st
+-- two events of which the first is taken
+pub run-two : (s : Source) (first second : Event) (st mid : State) → step s first st ≡ Ok mid → run s (first ∷ second ∷ []) st ≡ step s second mid
+unfolding run
+run-two s first second st mid h = ap (λ (r : Result State ErrorAt). r >>= run s (second ∷ [])) h ∙ run-one s second mid
+
+-- and of which one is refused
+pub first-stops : (s : Source) (first second : Event) (st : State) (stop : Stop) (point : Point) → Stops stop point (step s first st) → Stops stop point (run s (first ∷ second ∷ []) st)
+unfolding run
+first-stops s first second st (stops.Memory error) point h = tt
+first-stops s first second st (stops.Refused why) point h = ap (λ (r : Result State ErrorAt). r >>= run s (second ∷ [])) h
+
+pub second-stops : (s : Source) (first second : Event) (st mid : State) (stop : Stop) (point : Point) → step s first st ≡ Ok mid → Stops stop point (step s second mid) → Stops stop point (run s (first ∷ second ∷ []) st)
+second-stops s first second st mid stop point taken h = subst (λ (r : Result State ErrorAt). Stops stop point r) (sym (run-two s first second st mid taken)) h
+
+-- more events, after events that no step refused
+pub built-with : (s : Source) (es more added : List Event) (old new : Context) (fault : Option Fault) → added ≡ es ++ more → run s es opening ≡ Ok (state_of old) → HasState new fault (run s more (state_of old)) → IsBuilt s added new fault
+built-with s es more added old new fault is h ran =
+    let all : run s (es ++ more) opening ≡ run s more (state_of old) = run-append s es more opening ∙ ap (λ (r : Result State ErrorAt). r >>= run s more) h in
+    subst (HasState new fault) (sym (ap (λ (xs : List Event). run s xs opening) is ∙ all)) ran
 
 -- one more event, after events that no step refused
 pub built-on : (s : Source) (es added : List Event) (e : Event) (old new : Context) (fault : Option Fault) → added ≡ es ++ e ∷ [] → run s es opening ≡ Ok (state_of old) → HasState new fault (step s e (state_of old)) → IsBuilt s added new fault
-built-on s es added e old new fault is h stepped = subst (HasState new fault) (sym (ap (λ (xs : List Event). run s xs opening) is ∙ run-more s es e (state_of old) h)) stepped
+built-on s es added e old new fault is h stepped = built-with s es (e ∷ []) added old new fault is h (subst (HasState new fault) (sym (run-one s e (state_of old))) stepped)
 
-fails-still : (s : Source) (es added : List Event) (e : Event) (fault : Fault) → added ≡ es ++ e ∷ [] → Fails fault (run s es opening) → Fails fault (run s added opening)
-fails-still s es added e (faults.Memory error) is h = tt
-fails-still s es added e (faults.Message m) is h =
-    (h.0, ap (λ (xs : List Event). run s xs opening) is ∙ run-append s es (e ∷ []) opening ∙ ap (λ (r : Result State ErrorAt). r >>= run s (e ∷ [])) h.1, h.2)
+fails-still : (s : Source) (es more added : List Event) (fault : Fault) → added ≡ es ++ more → Fails fault (run s es opening) → Fails fault (run s added opening)
+fails-still s es more added (faults.Memory error) is h = tt
+fails-still s es more added (faults.Message m) is h =
+    (h.0, ap (λ (xs : List Event). run s xs opening) is ∙ run-append s es more opening ∙ ap (λ (r : Result State ErrorAt). r >>= run s more) h.1, h.2)
 
 -- and after events one of which was refused
-pub built-still : (s : Source) (es added : List Event) (e : Event) (context : Context) (fault : Option Fault) → added ≡ es ++ e ∷ [] → is_some fault ≡ true → IsBuilt s es context fault → IsBuilt s added context fault
-built-still s es added e context None is some h = absurd (cc some)
-built-still s es added e context (Some fault) is some h = fails-still s es added e fault is h
+pub built-still : (s : Source) (es more added : List Event) (context : Context) (fault : Option Fault) → added ≡ es ++ more → is_some fault ≡ true → IsBuilt s es context fault → IsBuilt s added context fault
+built-still s es more added context None is some h = absurd (cc some)
+built-still s es more added context (Some fault) is some h = fails-still s es more added fault is h
 
 -- where there is no fault, no step refused an event
 pub built-state : (s : Source) (es : List Event) (context : Context) (fault : Option Fault) → is_some fault ≡ false → IsBuilt s es context fault → run s es opening ≡ Ok (state_of context)

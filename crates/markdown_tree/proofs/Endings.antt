@@ -45,7 +45,7 @@ use Rattle.markdown_containers.specs.declared.container.Container.TheVariants as
 use Rattle.markdown_blocks.specs.Parents.{is_parent}
 use Rattle.markdown_steps.specs.Columns.{no_columns}
 use Rattle.markdown_containers.specs.ContainerStates.{Gives, Stops, container_state_of, summary_of_container}
-use Rattle.markdown_tree.specs.States.{Closed, Ends, EndsAs, ContainerEnds, containers_left, kept_top, leaf_container, leaf_left, leaf_place, left_to, left_visits, opens, outer_of, state_of, top_of}
+use Rattle.markdown_tree.specs.States.{Closed, Ends, EndsAs, ContainerEnds, containers_left, kept_top, leaf_container, leaf_left, leaf_place, left_to, left_visits, opens, outer_of, state_in, state_of, state_with, top_of}
 use Rattle.markdown_blocks.specs.Columns.{columns_of}
 use Rattle.markdown_parts.specs.Marks.{marks_of}
 use Rattle.markdown_steps.specs.Visits.{exit_visits, visits_at_end, visits_by_owner}
@@ -102,16 +102,18 @@ abbrev around_it : Frame → List Frame → Context → List OpenSpan
 around_it f fs c = opens (reverse fs) (leaf_left (role_of f.name) (leaf_container c)) (containers_left (role_of f.name) (leaf_container c) (around_innermost c.containers))
 
 -- the innermost of the open spans, and those around it
+last_in : (c : Context) (f : Frame) (fs : List Frame) → (state_in (fs ++ f ∷ []) c).frames ≡ open_of f c ∷ around_it f fs c
+last_in c f fs = ap (λ (x : List Frame). opens x (leaf_container c) (around_innermost c.containers)) (turned fs f)
+
 last_open : (c : Context) (f : Frame) (fs : List Frame) → c.frames.items ≡ fs ++ f ∷ [] → (state_of c).frames ≡ open_of f c ∷ around_it f fs c
-last_open c f fs at =
-    ap (λ (x : List Frame). opens (reverse x) (leaf_container c) (around_innermost c.containers)) at ∙ ap (λ (x : List Frame). opens x (leaf_container c) (around_innermost c.containers)) (turned fs f)
+last_open c f fs at = ap (λ (x : List Frame). (state_in x c).frames) at ∙ last_in c f fs
 
 -- where all open spans stand, the innermost may end
-pub ends : (s : Source) (old : Context) (frames : Vec Frame Global) (f : Frame) (role : Role) → Well s (state_of old) → old.frames.items ≡ frames.items ++ f ∷ [] → role ≡ role_of f.name → Ends role (record old { frames = frames })
-ends s old frames f role well at is =
-    let stands : AllStand s (open_of f old ∷ around_it f frames.items old) (top_of old) = subst (λ (fs : List OpenSpan). AllStand s fs (top_of old)) (last_open old f frames.items at) well in
-    subst (λ (r : Role). Ends r (record old { frames = frames })) (sym is)
-    (stands_ends s (open_of f old) (role_of f.name) f.in_table old.is_leaf (record old { frames = frames }) (around_innermost old.containers) (AllStand s (around_it f frames.items old)) refl refl stands)
+pub ends : (s : Source) (c : Context) (f : Frame) (role : Role) → Well s (state_with f c) → role ≡ role_of f.name → Ends role c
+ends s c f role well is =
+    let stands : AllStand s (open_of f c ∷ around_it f c.frames.items c) (top_of c) = subst (λ (fs : List OpenSpan). AllStand s fs (top_of c)) (last_in c f c.frames.items) well in
+    subst (λ (r : Role). Ends r c) (sym is)
+    (stands_ends s (open_of f c) (role_of f.name) f.in_table c.is_leaf c (around_innermost c.containers) (AllStand s (around_it f c.frames.items c)) refl refl stands)
 
 -- ---- The step of an exit
 
@@ -126,39 +128,39 @@ unfolding exit_step
 exit_none s name point c none = ap (λ (x : List Frame). exit_from s name point (opens (reverse x) (leaf_container c) (around_innermost c.containers)) (state_of c)) none
 
 -- the step by whether the names are the same
-exit_by : (s : Source) (name : Name) (point : Point) (c : Context) (f : Frame) (fs : List Frame) (same : Bool) → c.frames.items ≡ fs ++ f ∷ [] → is_same_name f.name name ≡ same
-    → exit_step s name point (state_of c)
+exit_by : (s : Source) (name : Name) (point : Point) (c : Context) (f : Frame) (fs : List Frame) (same : Bool) → is_same_name f.name name ≡ same
+    → exit_step s name point (state_in (fs ++ f ∷ []) c)
     ≡ cond same (left_to s (role_of f.name) f point c >>= λ top. Ok (pop (open_of f c) (around_it f fs c) (state_of c) top)) (refused Unbalanced point)
 unfolding exit_step
-exit_by s name point c f fs same at is =
-    ap (λ (x : List OpenSpan). exit_from s name point x (state_of c)) (last_open c f fs at)
+exit_by s name point c f fs same is =
+    ap (λ (x : List OpenSpan). exit_from s name point x (state_in (fs ++ f ∷ []) c)) (last_in c f fs)
     ∙ ap (λ (b : Bool). cond b (left_to s (role_of f.name) f point c >>= λ top. Ok (pop (open_of f c) (around_it f fs c) (state_of c) top)) (refused Unbalanced point)) is
 
 -- where another span is open
 pub exit_other : (s : Source) (name : Name) (point : Point) (c : Context) (f : Frame) (fs : List Frame) → c.frames.items ≡ fs ++ f ∷ [] → is_same_name f.name name ≡ false → exit_step s name point (state_of c) ≡ refused Unbalanced point
-exit_other s name point c f fs at is = exit_by s name point c f fs false at is
+exit_other s name point c f fs at is = ap (λ (x : List Frame). exit_step s name point (state_in x c)) at ∙ exit_by s name point c f fs false is
 
 -- where its container does not take it
-pub exit_stops : (s : Source) (name : Name) (point : Point) (old : Context) (frames : Vec Frame Global) (f : Frame) (role : Role) (stop : Stop) → old.frames.items ≡ frames.items ++ f ∷ [] → role ≡ role_of f.name
-    → is_same_name f.name name ≡ true → Stops stop point (left_to s role f point (record old { frames = frames })) → Stops stop point (exit_step s name point (state_of old))
-exit_stops s name point old frames f role (stops.Memory error) at is same left = tt
-exit_stops s name point old frames f role (stops.Refused why) at is same left =
-    exit_by s name point old f frames.items true at same
-    ∙ (λ t. left_to s (sym is t) f point old >>= λ top. Ok (pop (open_of f old) (around_it f frames.items old) (state_of old) top))
-    ∙ ap (λ (r : Result ContainerState ErrorAt). r >>= λ top. Ok (pop (open_of f old) (around_it f frames.items old) (state_of old) top)) left
+pub exit_stops : (s : Source) (name : Name) (point : Point) (old : Context) (f : Frame) (role : Role) (stop : Stop) → role ≡ role_of f.name
+    → is_same_name f.name name ≡ true → Stops stop point (left_to s role f point old) → Stops stop point (exit_step s name point (state_with f old))
+exit_stops s name point old f role (stops.Memory error) is same left = tt
+exit_stops s name point old f role (stops.Refused why) is same left =
+    exit_by s name point old f old.frames.items true same
+    ∙ (λ t. left_to s (sym is t) f point old >>= λ top. Ok (pop (open_of f old) (around_it f old.frames.items old) (state_of old) top))
+    ∙ ap (λ (r : Result ContainerState ErrorAt). r >>= λ top. Ok (pop (open_of f old) (around_it f old.frames.items old) (state_of old) top)) left
 
 -- where it takes it
-pub exit_done : (s : Source) (name : Name) (point : Point) (old mid : Context) (frames : Vec Frame Global) (f : Frame) (role : Role) (marks : OpenMarks) → old.frames.items ≡ frames.items ++ f ∷ [] → role ≡ role_of f.name
-    → is_same_name f.name name ≡ true → left_to s role f point (record old { frames = frames }) ≡ Ok (top_of mid) → Closed role (record old { frames = frames }) mid
+pub exit_done : (s : Source) (name : Name) (point : Point) (old mid : Context) (f : Frame) (role : Role) (marks : OpenMarks) → role ≡ role_of f.name
+    → is_same_name f.name name ≡ true → left_to s role f point old ≡ Ok (top_of mid) → Closed role old mid
     → marks_of marks ≡ marks_with (marks_of f.outside.marks) role (marks_of mid.interior.marks)
-    → exit_step s name point (state_of old) ≡ Ok (state_of (record mid { interior = record { around = f.outside.around; marks = marks } }))
-exit_done s name point old mid frames f role marks at is same left pops with =
-    let on : ContainerState → Result State ErrorAt = λ top. Ok (pop (open_of f old) (around_it f frames.items old) (state_of old) top) in
-    exit_by s name point old f frames.items true at same
+    → exit_step s name point (state_with f old) ≡ Ok (state_of (record mid { interior = record { around = f.outside.around; marks = marks } }))
+exit_done s name point old mid f role marks is same left pops with =
+    let on : ContainerState → Result State ErrorAt = λ top. Ok (pop (open_of f old) (around_it f old.frames.items old) (state_of old) top) in
+    exit_by s name point old f old.frames.items true same
     ∙ (λ t. left_to s (sym is t) f point old >>= on)
     ∙ ap (λ (r : Result ContainerState ErrorAt). r >>= on) left
     ∙ (λ t. Ok (record {
-      frames = ((λ u. opens (reverse frames.items) (leaf_left (sym is u) (leaf_container old)) (containers_left (sym is u) (leaf_container old) (around_innermost old.containers)))
+      frames = ((λ u. opens (reverse old.frames.items) (leaf_left (sym is u) (leaf_container old)) (containers_left (sym is u) (leaf_container old) (around_innermost old.containers)))
           ∙ (λ u. opens (reverse (sym pops.frames u).items) (sym pops.leaf u) (sym pops.containers u))) t;
       around = f.outside.around;
       marks = ((λ u. marks_with (marks_of f.outside.marks) (sym is u) (marks_of (sym pops.marks u))) ∙ sym with) t;

@@ -91,19 +91,31 @@ top_of c = cond c.is_leaf (fresh leaf (leaf_place c.in_table)) (kept_top c)
 abbrev pub leaf_container : Context → Option ContainerState
 leaf_container c = cond c.is_leaf (Some (kept_top c)) None
 
--- a context, as the state of a compilation
-abbrev pub state_of : Context → State
-state_of c = record {
-  frames = opens (reverse c.frames.items) (leaf_container c) (around_innermost c.containers);
+-- a context with these open spans in place of its own, as the state of a compilation
+abbrev pub state_in : List Frame → Context → State
+state_in frames c = record {
+  frames = opens (reverse frames) (leaf_container c) (around_innermost c.containers);
   around = c.interior.around;
   marks = marks_of c.interior.marks;
   columns = columns_of c.columns;
   top = top_of c;
 }
 
+-- a context, as the state of a compilation
+abbrev pub state_of : Context → State
+state_of c = state_in c.frames.items c
+
+-- a context with one more open span, as the state of a compilation
+abbrev pub state_with : Frame → Context → State
+state_with frame c = state_in (c.frames.items ++ frame ∷ []) c
+
 -- the context after a function is the expected state, unless memory ran out
 abbrev pub Reaches : {X : Type 0} → Context → Point → Result X Stop → Result State ErrorAt → Type 0
 Reaches new point result expected = Gives (λ _. state_of new) point result expected
+
+-- the context after a function, with the frame that it returned, is the expected state, unless memory ran out
+abbrev pub Begins : Context → Point → Result Frame Stop → Result State ErrorAt → Type 0
+Begins new point result expected = Gives (λ frame. state_with frame new) point result expected
 
 -- the innermost container after a function is the expected one, unless memory ran out
 abbrev pub ReachesTop : {X : Type 0} → Context → Point → Result X Stop → Result ContainerState ErrorAt → Type 0
@@ -139,12 +151,15 @@ Opened s what point old new (Ok false) = OpenedContainer s what point old new
 Opened s what point old new (Err (stops.Refused why)) = first_failing (enter_checks s (top_of old) what point) ≡ Some why
 Opened s what point old new (Err (stops.Memory error)) = Unit {0}
 
--- a span is on the stack: its surroundings are kept there, and its interior begins
-pub record Begun (name : Name) (role : Role) (start : Point) (is_leaf in_table : Bool) (old new : Context) : Type 0 where
-  pub frames : new.frames.items ≡ old.frames.items ++ record { start = start; outside = old.interior; name = name; in_table = old.in_table } ∷ []
+-- the frame of a span that begins, with its surroundings
+abbrev pub frame_of : Name → Point → Context → Frame
+frame_of name start c = record { start = start; outside = c.interior; name = name; in_table = c.in_table }
+
+-- the interior of a span begins; its frame is not on the stack yet
+pub record Begun (role : Role) (is_leaf in_table : Bool) (old new : Context) : Type 0 where
   pub marks : marks_of new.interior.marks ≡ no_marks
   pub columns : columns_of new.columns ≡ columns_entered old.in_table role (columns_of old.columns)
-  pub others : new ≡ record old { frames = new.frames; columns = new.columns; interior = record { around = under old.interior.around role; marks = new.interior.marks }; is_leaf = is_leaf; in_table = in_table }
+  pub others : new ≡ record old { columns = new.columns; interior = record { around = under old.interior.around role; marks = new.interior.marks }; is_leaf = is_leaf; in_table = in_table }
 
 -- ---- The end of a span
 

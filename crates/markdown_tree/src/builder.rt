@@ -1,13 +1,14 @@
 //! A tree that is built event by event.
 
 ghost use Rattle.std.specs.Prelude.{◌≡◌, ◌<◌, ◌^◌, ◌++◌, ◌∷◌, [], IfErr, IfOk, false, is_some};
+ghost use Rattle.markdown_events.specs.Forest.{enter, exit};
 ghost use Rattle.markdown_grammar.specs.Correct.{FailsRightly, IsMeaning};
 ghost use Rattle.markdown_grammar.specs.Document.{source_of};
 ghost use Rattle.markdown_grammar.specs.Ordered.{IsOrdered, NeverGoesBack};
 ghost use Rattle.markdown_nodes.specs.Tree.{only};
 ghost use Rattle.markdown_nodes.specs.View.{view};
 ghost use Rattle.markdown_steps.specs.Compiler;
-ghost use Rattle.markdown_steps.specs.Compiler.{compiled};
+ghost use Rattle.markdown_steps.specs.Compiler.{compiled, run};
 ghost use Rattle.markdown_steps.specs.Extents.{extent_of};
 ghost use Rattle.markdown_steps.specs.Well.{Well};
 ghost use Rattle.markdown_tree.specs.Building.{HasState};
@@ -18,7 +19,7 @@ use crate::history::Passed;
 use character_references::references::References;
 use markdown_grammar::error_kind::Stop;
 use markdown_nodes::count::Count;
-use markdown_nodes::event::Event;
+use markdown_nodes::event::{Event, Name, Point};
 use markdown_nodes::mdast::{Node, Root};
 use markdown_nodes::message::Fault;
 use markdown_nodes::steps::Steps;
@@ -105,6 +106,32 @@ impl<'a, R: References> TreeBuilder<'a, R> {
         self.passed.add(event);
     }
 
+    /// Takes the enter and the exit of a token, a span that contains no span. It does what two calls of
+    /// [`take`](TreeBuilder::take) do, in fewer instructions.
+    #[inline(always)]
+    pub fn token(&mut self, name: Name, start: Point, end: Point)
+        ensures document { self.new.document ≡ self.old.document }
+        ensures references { self.new.references ≡ self.old.references }
+        ensures events { self.new.events ≡ self.old.events ++ enter name start ∷ exit name end ∷ [] }
+    {
+        if self.fault.is_some() {
+            self.passed.add_token(name, start, end);
+            return;
+        }
+        advance_token(
+            self.alloc,
+            &mut self.context,
+            &mut self.fault,
+            &mut self.steps.descents,
+            &self.document,
+            self.references,
+            name,
+            &start,
+            &end,
+        );
+        self.passed.add_token(name, start, end);
+    }
+
     /// Returns the tree of the events, or why they have none: one was refused, or at the end a span
     /// is open or a break waits for its line ending.
     pub fn finish(self) -> Result<Node, Fault>
@@ -160,5 +187,29 @@ fn advance<'a, R: References>(
 {
     if let Err(stop) = context.step(alloc, steps, document, references, event) {
         *fault = Some(stop.at(event.point));
+    }
+}
+
+/// Does what a token does to a context that no event has been refused for. A fault says that one of
+/// its two events is refused, or that memory ran out.
+#[inline(always)]
+fn advance_token<'a, R: References>(
+    alloc: Global,
+    context: &mut Context<'a>,
+    fault: &mut Option<Fault>,
+    steps: &mut Count,
+    document: &Document<'a>,
+    references: &R,
+    name: Name,
+    start: &Point,
+    end: &Point,
+)
+    requires well { Well (source_of document.now (R.text references.now)) (state_of context.old) }
+    requires none { is_some fault.old ≡ false }
+    ensures { HasState context.new fault.new
+        (run (source_of document.now (R.text references.now)) (enter name start.now ∷ exit name end.now ∷ []) (state_of context.old)) }
+{
+    if let Err(found) = context.token(alloc, steps, document, references, name, start, end) {
+        *fault = Some(found);
     }
 }

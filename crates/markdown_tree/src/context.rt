@@ -1,11 +1,12 @@
 //! The open spans of a list of events, and what each event does to them.
 
-ghost use Rattle.std.specs.Prelude.{◌≡◌, ◌≢◌, ◌≤◌, ◌+◌, ◌&&◌, ◌||◌, None, Ok, OnOk, [], false, is_some, not, true};
-ghost use Rattle.markdown_events.specs.Names.{role_of};
+ghost use Rattle.std.specs.Prelude.{◌≡◌, ◌≢◌, ◌≤◌, ◌+◌, ◌&&◌, ◌||◌, ◌++◌, ◌∷◌, IfOk, None, Ok, OnOk, [], false, is_some, not, true};
+ghost use Rattle.markdown_events.specs.Forest.{enter, exit};
+ghost use Rattle.markdown_events.specs.Names.{is_same_name, role_of};
 ghost use Rattle.markdown_events.specs.declared.role.ItemKind.TheVariants as item_kinds;
 ghost use Rattle.markdown_events.specs.declared.role.Role.TheVariants as roles;
 ghost use Rattle.markdown_steps.specs.Compiler;
-ghost use Rattle.markdown_steps.specs.Compiler.{enter_as, enter_checks, enter_step, exit_step, last_checks, opening};
+ghost use Rattle.markdown_steps.specs.Compiler.{enter_as, enter_checks, enter_step, exit_step, last_checks, opening, run};
 ghost use Rattle.markdown_blocks.specs.Parents.{is_parent};
 ghost use Rattle.markdown_parts.specs.PartsSoFar.{first_failing};
 ghost use Rattle.markdown_containers.specs.declared.container.Container.TheVariants as containers;
@@ -15,8 +16,10 @@ ghost use Rattle.markdown_grammar.specs.Items as Kinds;
 ghost use Rattle.markdown_grammar.specs.Document as Documents;
 ghost use Rattle.markdown_grammar.specs.Document.{Source, given_of, source_of};
 ghost use Rattle.markdown_tree.specs.States.{
+  Begins,
   Begun,
   Closed,
+  Completes,
   ContainerEnds,
   Ends,
   IsNoParent,
@@ -25,10 +28,12 @@ ghost use Rattle.markdown_tree.specs.States.{
   PutIn,
   Reaches,
   ReachesTop,
+  frame_of,
   item_left,
   left_to,
   left_visits,
   state_of,
+  state_with,
   top_of,
 };
 ghost use Rattle.markdown_steps.specs.Visits.{exit_visits, step_visits};
@@ -44,6 +49,7 @@ use markdown_nodes::around::Around;
 use markdown_nodes::count::Count;
 use markdown_nodes::event::{Event, Kind, Name, Point};
 use markdown_nodes::mdast::Node;
+use markdown_nodes::message::Fault;
 use markdown_nodes::role::{Content, ItemKind, Role};
 use markdown_nodes::unist::Position;
 use markdown_parts::items::{has_line_endings, is_frontmatter, is_line_ending, is_table};
@@ -274,61 +280,76 @@ impl<'a> Context<'a> {
         ensures { (s : Source) → given_of s ≡ document.now
             → Reaches self.new point.now result (enter_step s name point.now (state_of self.old)) }
     {
+        let frame = self.begin(alloc, document, name, point)?;
+        self.frames.push(frame)?;
+        Ok(())
+    }
+
+    /// Begins a span. Returns its frame, which is not on the stack.
+    #[inline(always)]
+    fn begin(
+        &mut self,
+        alloc: Global,
+        document: &Document<'_>,
+        name: Name,
+        point: &Point,
+    ) -> Result<Frame, Stop>
+        ensures gives { (s : Source) → given_of s ≡ document.now
+            → Begins self.new point.now result (enter_step s name point.now (state_of self.old)) }
+        ensures name { IfOk result (λ frame. frame.name ≡ name) }
+        ensures frames { OnOk result (self.new.frames ≡ self.old.frames) }
+    {
         let role = name.role();
         if !self.interior.around.allows(role) {
             return Err(Stop::Refused(ErrorKind::Held));
         }
         match role {
-            Role::Transparent(_) => self.enter_transparent(alloc, name, role, point),
-            Role::Significant(what) => self.enter_significant(alloc, document, name, what, point),
+            Role::Transparent(_) => Ok(self.begin_transparent(alloc, name, role, point)),
+            Role::Significant(what) => self.begin_significant(alloc, document, name, what, point),
         }
     }
 
-    /// Opens a transparent span, which changes no container.
-    fn enter_transparent(
-        &mut self,
-        alloc: Global,
-        name: Name,
-        role: Role,
-        point: &Point,
-    ) -> Result<(), Stop>
+    /// Begins a transparent span, which changes no container.
+    fn begin_transparent(&mut self, alloc: Global, name: Name, role: Role, point: &Point) -> Frame
         requires role { role ≡ role_of name }
         requires transparent { is_transparent role ≡ true }
-        ensures { Reaches self.new point.now result (Ok (Compiler.push name point.now (state_of self.old) None (state_of self.old).top)) }
+        ensures gives { Compiler.push name point.now (state_of self.old) None (state_of self.old).top ≡ state_with result self.new }
+        ensures name { result.name ≡ name }
+        ensures frames { self.new.frames ≡ self.old.frames }
     {
-        self.begin(alloc, name, role, point, self.is_leaf, self.in_table)?;
-        Ok(())
+        self.go_inside(alloc, name, role, point, self.is_leaf, self.in_table)
     }
 
-    /// Opens a significant span, if the innermost container accepts it.
-    fn enter_significant(
+    /// Begins a significant span, if the innermost container accepts it.
+    fn begin_significant(
         &mut self,
         alloc: Global,
         document: &Document<'_>,
         name: Name,
         what: ItemKind,
         point: &Point,
-    ) -> Result<(), Stop>
+    ) -> Result<Frame, Stop>
         requires { role_of name ≡ roles.Significant what }
-        ensures { (s : Source) → given_of s ≡ document.now → Reaches self.new point.now result
+        ensures gives { (s : Source) → given_of s ≡ document.now → Begins self.new point.now result
             (enter_as s (roles.Significant what) name point.now (state_of self.old)) }
+        ensures name { IfOk result (λ frame. frame.name ≡ name) }
+        ensures frames { OnOk result (self.new.frames ≡ self.old.frames) }
     {
         let is_leaf = self.open(alloc, document, what, point)?;
         let in_table = self.is_in_table(what);
-        self.begin(
+        Ok(self.go_inside(
             alloc,
             name,
             Role::Significant(what),
             point,
             is_leaf,
             in_table,
-        )?;
-        Ok(())
+        ))
     }
 
-    /// Pushes a span onto the stack, with the state around it, and begins the state inside it.
+    /// Begins the state inside a span. Returns the frame of the span, with the state around it.
     #[inline(always)]
-    fn begin(
+    fn go_inside(
         &mut self,
         alloc: Global,
         name: Name,
@@ -336,15 +357,16 @@ impl<'a> Context<'a> {
         point: &Point,
         is_leaf: bool,
         in_table: bool,
-    ) -> Result<(), AllocError>
-        ensures { OnOk result (Begun name role point.now is_leaf in_table self.old self.new) }
+    ) -> Frame
+        ensures frame { result ≡ frame_of name point.now self.old }
+        ensures begun { Begun role is_leaf in_table self.old self.new }
     {
-        self.frames.push(Frame {
+        let frame = Frame {
             start: *point,
             outside: self.interior,
             name,
             in_table: self.in_table,
-        })?;
+        };
         self.columns.enter(alloc, self.in_table, role);
         self.interior = Interior {
             around: self.interior.around.inside(role),
@@ -352,7 +374,7 @@ impl<'a> Context<'a> {
         };
         self.is_leaf = is_leaf;
         self.in_table = in_table;
-        Ok(())
+        frame
     }
 
     /// Closes the innermost span, if the name is its name.
@@ -376,12 +398,57 @@ impl<'a> Context<'a> {
         if !frame.name.is(name) {
             return Err(Stop::Refused(ErrorKind::Unbalanced));
         }
+        self.end(alloc, steps, document, references, frame, point)
+    }
+
+    /// Ends the innermost span. Its frame is not on the stack.
+    #[inline(always)]
+    fn end<R: References>(
+        &mut self,
+        alloc: Global,
+        steps: &mut Count,
+        document: &Document<'a>,
+        references: &R,
+        frame: Frame,
+        point: &Point,
+    ) -> Result<(), Stop>
+        requires { Well (source_of document.now (R.text references.now)) (state_with frame self.old) }
+        ensures gives { (name : Name) → is_same_name frame.name name ≡ true → Reaches self.new point.now result
+            (exit_step (source_of document.now (R.text references.now)) name point.now (state_with frame self.old)) }
+        ensures bound { steps.new.number ≤ steps.old.number + left_visits (role_of frame.name) frame self.old + 1 }
+    {
         let role = frame.name.role();
         self.leave(alloc, steps, document, references, role, frame, point)?;
         let inner = self.interior.marks;
         self.interior = frame.outside;
         self.interior.marks.add(role, inner);
         Ok(())
+    }
+
+    /// Opens and closes a span that contains no span.
+    #[inline(always)]
+    pub fn token<R: References>(
+        &mut self,
+        alloc: Global,
+        steps: &mut Count,
+        document: &Document<'a>,
+        references: &R,
+        name: Name,
+        start: &Point,
+        end: &Point,
+    ) -> Result<(), Fault>
+        requires { Well (source_of document.now (R.text references.now)) (state_of self.old) }
+        ensures { Completes (λ _. state_of self.new) result
+            (run (source_of document.now (R.text references.now)) (enter name start.now ∷ exit name end.now ∷ []) (state_of self.old)) }
+    {
+        let frame = match self.begin(alloc, document, name, start) {
+            Ok(frame) => frame,
+            Err(stop) => return Err(stop.at(*start)),
+        };
+        match self.end(alloc, steps, document, references, frame, end) {
+            Ok(()) => Ok(()),
+            Err(stop) => Err(stop.at(*end)),
+        }
     }
 
     /// Passes what the closing span produced to its owner: that of a transparent span to the

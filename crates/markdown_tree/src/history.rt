@@ -3,11 +3,12 @@
 ghost use Rattle.std.specs.Prelude.{◌≡◌, ◌<◌, ◌^◌, List, Some, [], ◌∷◌, ◌++◌};
 ghost use Rattle.std.specs.Option.{option_or};
 ghost use Rattle.std.specs.Borrow.{ftrue};
+ghost use Rattle.markdown_events.specs.Forest.{enter, exit};
 ghost use Rattle.markdown_events.specs.declared.event.Event.{Event};
 ghost use Rattle.markdown_steps.specs.Compiler.{point_of};
 ghost use Rattle.markdown_steps.specs.Extents.{extent_of, last_event};
 
-use markdown_nodes::event::{Event, Point};
+use markdown_nodes::event::{Event, Kind, Name, Point};
 use markdown_nodes::unist::Position;
 use markdown_parts::slice::position_of;
 use std::marker::Model;
@@ -84,6 +85,23 @@ impl Passed {
         self.history = self.history.and(event);
         keep_first(&mut self.first, &event.point);
         self.last = Some(event.point);
+    }
+
+    /// Adds the two events of a token.
+    #[inline(always)]
+    pub fn add_token(&mut self, name: Name, start: Point, end: Point)
+        ensures { self.new ≡ self.old ++ enter name start ∷ exit name end ∷ [] }
+    {
+        self.add(&Event {
+            kind: Kind::Enter,
+            name,
+            point: start,
+        });
+        self.add(&Event {
+            kind: Kind::Exit,
+            name,
+            point: end,
+        });
     }
 
     /// Returns the point of the last event, or the start of a document if there is none.

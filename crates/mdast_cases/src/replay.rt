@@ -11,7 +11,7 @@ use markdown_nodes::mdast::Node;
 use markdown_nodes::message::{Fault, Message, Place};
 use markdown_tree::builder::TreeBuilder;
 use markdown_tree::to_mdast::{
-    Document, Steps, Values, compile, compile_counted, compile_document, compile_with,
+    Document, References, Steps, Values, compile, compile_counted, compile_document, compile_with,
 };
 use mdast_check::report::report_of;
 use std::alloc::{AllocError, AllocFailed, Global};
@@ -363,13 +363,40 @@ fn counted(alloc: Global, case: &Case<'_>) -> Result<String, AllocError> {
     answer(alloc, &outcome)
 }
 
-/// Returns the answer of a case from a builder that takes its events.
+/// Returns the answer of a case from a builder that takes its events, and tokens at once.
 fn built(alloc: Global, case: &Case<'_>) -> Result<String, AllocError> {
     let mut builder = TreeBuilder::new(alloc, document_of(case), &case.decoder);
+    let mut waiting = None;
     for event in &case.events {
-        builder.take(event);
+        waiting = take(&mut builder, waiting, *event);
+    }
+    if let Some(last) = waiting {
+        builder.take(&last);
     }
     answer(alloc, &builder.finish())
+}
+
+/// Hands the event that waits, if one does, to a builder. Returns the event that waits now: the next
+/// one, or none if the two are a token.
+fn take<R: References>(
+    builder: &mut TreeBuilder<'_, R>,
+    waiting: Option<Event>,
+    next: Event,
+) -> Option<Event> {
+    let Some(first) = waiting else {
+        return Some(next);
+    };
+    if are_token(first, next) {
+        builder.token(first.name, first.point, next.point);
+        return None;
+    }
+    builder.take(&first);
+    Some(next)
+}
+
+/// Whether two events are the enter and the exit of a token.
+fn are_token(first: Event, second: Event) -> bool {
+    first.kind == Kind::Enter && second.kind == Kind::Exit && first.name.is(second.name)
 }
 
 /// Returns the answer of a case with this result.

@@ -1,4 +1,4 @@
-use Rattle.std.proofs.Common.{rules, arith}
+use Rattle.std.proofs.Common.{rules}
 use Rattle.markdown_tree.proofs.to_mdast.compile.Goals as goal
 
 pub returns-clause-found : goal.returns-clause-found

@@ -1,4 +1,4 @@
-use Rattle.std.proofs.Common.{rules, arith}
+use Rattle.std.proofs.Common.{rules}
 use Rattle.markdown_grammar.specs.Document.{source_of}
 use Rattle.markdown_tree.proofs.Answered.{found, ordered_so, other_bound, refused_so, tree_bound}
 use Rattle.markdown_tree.proofs.to_mdast.compile_document.Goals as goal

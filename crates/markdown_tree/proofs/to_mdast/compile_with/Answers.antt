@@ -1,4 +1,4 @@
-use Rattle.std.proofs.Common.{List, arith, subst}
+use Rattle.std.proofs.Common.{List, subst}
 use Rattle.std.specs.Prelude.{IfErr, IfOk}
 use Rattle.markdown_grammar.specs.Correct.{FailsRightly, IsMeaning}
 use Rattle.markdown_events.specs.declared.event.Event.{Event}

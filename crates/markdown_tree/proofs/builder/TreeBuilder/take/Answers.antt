@@ -1,4 +1,4 @@
-use Rattle.std.proofs.Common.{subst, sym, ◌∙◌}
+use Rattle.std.proofs.Common.{[], subst, sym, ◌∙◌, ◌∷◌}
 use Rattle.markdown_grammar.specs.Document.{source_of}
 use Rattle.markdown_steps.proofs.WellKept.{well-opening, well-run}
 use Rattle.markdown_steps.specs.Compiler.{opening}
@@ -15,7 +15,7 @@ invariant_of-self g c =
     let fault = c.self-inside.inside.0.1.1.1.0 in
     let passed = c.self-inside.inside.0.1.1.1.1.0 in
     let built = subst (λ (i : Inside _). IsBuilt (source_of i.document (g.R.References.text i.references.now)) i.passed i.context i.fault) (sym c.self-inside.view_is) c.self.invariant in
-    built-still s passed c.add.new.self c.args.event.now context fault c.add.ensures (sym c.is_some.ensures ∙ c.if-is_some.true) built
+    built-still s passed (c.args.event.now ∷ []) c.add.new.self context fault c.add.ensures (sym c.is_some.ensures ∙ c.if-is_some.true) built
 
 pub advance-requires-clause-well : goal.advance-requires-clause-well
 advance-requires-clause-well g c =

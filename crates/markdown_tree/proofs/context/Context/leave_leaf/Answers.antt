@@ -1,4 +1,4 @@
-use Rattle.std.proofs.Common.{Ok, false, refl, arith}
+use Rattle.std.proofs.Common.{Ok, false, refl}
 use Rattle.markdown_grammar.specs.Document.{source_of}
 use Rattle.markdown_steps.specs.Columns.{child_facts}
 use Rattle.markdown_blocks.specs.Columns.{columns_of}

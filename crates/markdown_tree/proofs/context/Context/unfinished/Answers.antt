@@ -1,4 +1,4 @@
-use Rattle.std.proofs.Common.{false, refl, sym, ◌∙◌, arith}
+use Rattle.std.proofs.Common.{false, refl, sym, ◌∙◌}
 use Rattle.markdown_parts.specs.Nest.{around_innermost}
 use Rattle.markdown_tree.specs.States.{leaf_container, top_of}
 use Rattle.markdown_tree.proofs.Unfinished.{is_open_so, left_by}
