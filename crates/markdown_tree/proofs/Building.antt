@@ -1,11 +1,22 @@
 -- What a builder keeps.
-use Rattle.std.proofs.Common.{List, None, Option, Result, Some, Ok, Err, [], ap, arith, false, is_some, length, refl, subst, sym, true, ◌++◌, ◌+◌, ◌-◌, ◌∙◌, ◌∷◌, ◌≡◌}
+use Rattle.std.proofs.Common.{Bool, List, None, Option, Result, Some, Ok, Err, [], ap, arith, cond, false, is_some, length, refl, subst, sym, true, ◌++◌, ◌+◌, ◌-◌, ◌∙◌, ◌∷◌, ◌≡◌}
 use Rattle.std.specs.Prelude.{slice_get, unwrap_or}
 use Rattle.std.specs.Option.{option_or}
 use Rattle.std.proofs.Math.Seq.{get_or-append_seam}
 use Rattle.std.proofs.lemmas.List.{length-append}
 use Rattle.std.proofs.lemmas.Option.{slice_get-get_or}
+use Rattle.markdown_events.specs.Forest.{enter, exit}
+use Rattle.markdown_events.specs.Names.{role_of}
 use Rattle.markdown_events.specs.declared.event.Event.{Event}
+use Rattle.markdown_events.specs.declared.event.Name.{Name}
+use Rattle.markdown_events.specs.declared.role.Role.{Role}
+use Rattle.markdown_blocks.specs.Columns.{columns_of}
+use Rattle.markdown_parts.specs.Marks.{marks_of}
+use Rattle.markdown_grammar.specs.Grammar.{leaf}
+use Rattle.markdown_grammar.specs.declared.error_kind.ErrorKind.TheVariants.{Unbalanced}
+use Rattle.markdown_steps.specs.Columns.{columns_entered, columns_left}
+use Rattle.markdown_steps.specs.Siblings.{marks_with, no_marks}
+use Rattle.markdown_steps.proofs.Outcomes.{same_name_refl}
 use Rattle.markdown_events.specs.declared.event.Point.{Point}
 use Rattle.markdown_events.specs.declared.message.Fault.{Fault}
 use Rattle.markdown_events.specs.declared.message.Fault.TheVariants as faults
@@ -15,14 +26,14 @@ use Rattle.markdown_grammar.specs.Refusals.{ErrorAt, IsFaultOf}
 use Rattle.markdown_grammar.specs.declared.error_kind.Stop.{Stop}
 use Rattle.markdown_grammar.specs.declared.error_kind.Stop.TheVariants as stops
 use Rattle.markdown_steps.proofs.Refused.{run-append}
-use Rattle.markdown_steps.specs.Checks.{◌>>=◌}
-use Rattle.markdown_steps.specs.Compiler.{State, opening, point_of, run, step}
+use Rattle.markdown_steps.specs.Checks.{refused, ◌>>=◌}
+use Rattle.markdown_steps.specs.Compiler.{State, enter_step, exit_step, fresh, opening, point_of, push, run, step}
 use Rattle.markdown_steps.specs.Extents.{extent_between, extent_of, last_event}
 use Rattle.markdown_events.specs.Slices.{between}
 use Rattle.markdown_grammar.specs.Meaning.{nowhere}
 use Rattle.markdown_tree.specs.Building.{ArePointsOf, HasState, IsBuilt, point_in}
 use Rattle.markdown_tree.specs.ContainerStates.{Stops}
-use Rattle.markdown_tree.specs.States.{Fails, state_of}
+use Rattle.markdown_tree.specs.States.{Fails, Passed, kept_top, leaf_place, state_of, top_of}
 use Rattle.markdown_tree.specs.declared.context.Context.{Context}
 
 -- ---- Runs with one more event
@@ -122,3 +133,32 @@ end-by (Some b) = refl
 
 pub end-is : (es : List Event) (first last : Option Point) → ArePointsOf es first last → unwrap_or last (record { line = 1; column = 1; index = 0; vs = 0 }) ≡ point_of (last_event es)
 end-is es first last points = ap (λ (o : Option Point). unwrap_or o (record { line = 1; column = 1; index = 0; vs = 0 })) points.last_is ∙ end-by (last_event es)
+
+-- ---- A transparent token
+
+-- the span that was pushed last ends, and gives nothing
+exit-pushed : (s : Source) (name : Name) (start end : Point) (st : State) → exit_step s name end (push name start st None st.top)
+    ≡ Ok (record { frames = st.frames; around = st.around; marks = marks_with st.marks (role_of name) no_marks; columns = columns_left (role_of name) no_marks (columns_entered st.top.place.in_table (role_of name) st.columns); top = st.top })
+unfolding exit_step
+exit-pushed s name start end st =
+    ap (λ (b : Bool). cond b (Ok (record { frames = st.frames; around = st.around; marks = marks_with st.marks (role_of name) no_marks; columns = columns_left (role_of name) no_marks (columns_entered st.top.place.in_table (role_of name) st.columns); top = st.top })) (refused Unbalanced end))
+    (same_name_refl name)
+
+-- a container is in a table if the context is
+in-table : (c : Context) (leaves : Bool) → (cond leaves (fresh leaf (leaf_place c.in_table)) (kept_top c)).place.in_table ≡ c.in_table
+in-table c true = refl
+in-table c false = refl
+
+pub token-passed : (s : Source) (name : Name) (role : Role) (start end : Point) (old new : Context) → role_of name ≡ role → enter_step s name start (state_of old) ≡ Ok (push name start (state_of old) None (top_of old)) → Passed role old new
+    → run s (enter name start ∷ exit name end ∷ []) (state_of old) ≡ Ok (state_of new)
+token-passed s name role start end old new is entered p =
+    run-two s (enter name start) (exit name end) (state_of old) (push name start (state_of old) None (top_of old)) entered
+    ∙ exit-pushed s name start end (state_of old)
+    ∙ (λ t. Ok (record {
+      frames = (state_of old).frames;
+      around = old.interior.around;
+      marks = ((λ u. marks_with (marks_of old.interior.marks) (is u) no_marks) ∙ sym p.marks) t;
+      columns = ((λ u. columns_left (is u) no_marks (columns_entered (in-table old old.is_leaf u) (is u) (columns_of old.columns))) ∙ sym p.columns) t;
+      top = top_of old;
+    }))
+    ∙ sym (ap (λ (c : Context). Ok (state_of c)) p.others)

@@ -33,7 +33,7 @@ use Rattle.markdown_blocks.specs.Columns.{columns_of}
 use Rattle.markdown_blocks.specs.Parents.{is_parent}
 use Rattle.markdown_steps.specs.Columns.{columns_entered, columns_left, child_facts}
 use Rattle.markdown_grammar.specs.Items.{is_line_ending}
-use Rattle.markdown_steps.specs.Siblings.{no_marks}
+use Rattle.markdown_steps.specs.Siblings.{marks_with, no_marks}
 
 -- a fault agrees with the expected result: it names the refusal and its point
 abbrev pub Fails : {Y : Type 0} → Fault → Result Y ErrorAt → Type 0
@@ -160,6 +160,12 @@ pub record Begun (role : Role) (is_leaf in_table : Bool) (old new : Context) : T
   pub marks : marks_of new.interior.marks ≡ no_marks
   pub columns : columns_of new.columns ≡ columns_entered old.in_table role (columns_of old.columns)
   pub others : new ≡ record old { columns = new.columns; interior = record { around = under old.interior.around role; marks = new.interior.marks }; is_leaf = is_leaf; in_table = in_table }
+
+-- a span that contains no span and gives nothing is one more sibling
+pub record Passed (role : Role) (old new : Context) : Type 0 where
+  pub marks : marks_of new.interior.marks ≡ marks_with (marks_of old.interior.marks) role no_marks
+  pub columns : columns_of new.columns ≡ columns_left role no_marks (columns_entered old.in_table role (columns_of old.columns))
+  pub others : new ≡ record old { columns = new.columns; interior = record { around = old.interior.around; marks = new.interior.marks } }
 
 -- ---- The end of a span
 

@@ -25,6 +25,7 @@ ghost use Rattle.markdown_tree.specs.States.{
   IsNoParent,
   LeafEnds,
   Opened,
+  Passed,
   PutIn,
   Reaches,
   ReachesTop,
@@ -50,7 +51,7 @@ use markdown_nodes::count::Count;
 use markdown_nodes::event::{Event, Kind, Name, Point};
 use markdown_nodes::mdast::Node;
 use markdown_nodes::message::Fault;
-use markdown_nodes::role::{Content, ItemKind, Role};
+use markdown_nodes::role::{Content, ItemKind, Role, TransparentKind};
 use markdown_nodes::unist::Position;
 use markdown_parts::items::{has_line_endings, is_frontmatter, is_line_ending, is_table};
 use markdown_parts::marks::Marks;
@@ -441,6 +442,9 @@ impl<'a> Context<'a> {
         ensures { Completes (λ _. state_of self.new) result
             (run (source_of document.now (R.text references.now)) (enter name start.now ∷ exit name end.now ∷ []) (state_of self.old)) }
     {
+        if let Role::Transparent(kind) = name.role() {
+            return self.transparent_token(alloc, name, kind, start, end);
+        }
         let frame = match self.begin(alloc, document, name, start) {
             Ok(frame) => frame,
             Err(stop) => return Err(stop.at(*start)),
@@ -449,6 +453,40 @@ impl<'a> Context<'a> {
             Ok(()) => Ok(()),
             Err(stop) => Err(stop.at(*end)),
         }
+    }
+
+    /// Opens and closes a transparent span that contains no span.
+    #[inline(always)]
+    fn transparent_token(
+        &mut self,
+        alloc: Global,
+        name: Name,
+        kind: TransparentKind,
+        start: &Point,
+        end: &Point,
+    ) -> Result<(), Fault>
+        requires { role_of name ≡ roles.Transparent kind }
+        ensures { (s : Source) → Completes (λ _. state_of self.new) result (run s (enter name start.now ∷ exit name end.now ∷ []) (state_of self.old)) }
+    {
+        if !self.interior.around.allows(Role::Transparent(kind)) {
+            return Err(Stop::Refused(ErrorKind::Held).at(*start));
+        }
+        match self.pass(alloc, kind) {
+            Ok(()) => Ok(()),
+            Err(error) => Err(Stop::Memory(error).at(*end)),
+        }
+    }
+
+    /// Adds a transparent span that contains no span to its siblings and to the columns.
+    #[inline(always)]
+    fn pass(&mut self, alloc: Global, kind: TransparentKind) -> Result<(), AllocError>
+        ensures { OnOk result (Passed (roles.Transparent kind) self.old self.new) }
+    {
+        let role = Role::Transparent(kind);
+        self.columns.enter(alloc, self.in_table, role);
+        self.columns.exit(kind, Marks::new())?;
+        self.interior.marks.add(role, Marks::new());
+        Ok(())
     }
 
     /// Passes what the closing span produced to its owner: that of a transparent span to the
