@@ -25,7 +25,9 @@ use Rattle.markdown_grammar.specs.Grammar.{ContentModel, code_fenced, model_of, 
 use Rattle.markdown_containers.specs.Containers.{IsFresh, current_model_of, initial_model_of}
 use Rattle.markdown_parts.specs.PartsSoFar.{first_failing}
 use Rattle.markdown_events.specs.Around.{may_begin, under}
-use Rattle.markdown_steps.specs.Columns.{columns_entered}
+use Rattle.markdown_steps.specs.Columns.{columns_entered, no_columns}
+use Rattle.markdown_steps.specs.Siblings.{no_marks}
+use Rattle.markdown_parts.specs.declared.marks.Marks.{Marks as OpenMarks}
 use Rattle.markdown_grammar.specs.Items.{is_line_ending, is_table}
 use Rattle.markdown_grammar.specs.Attributes.{Place, line_ending_is_text}
 use Rattle.markdown_grammar.specs.Refusals.{ErrorAt}
@@ -59,7 +61,7 @@ checked_fails (test ∷ tests) p r why h = by-test test.0 (checked_fails tests p
     by-test false after h = ap (λ (x : ErrorKind). refused x p) (some_same test.1 why h)
 
 -- where an item is taken, no leaf is open
-no_leaf : (s : Source) (what : ItemKind) (point : Point) (p : Place) (kept : ContainerState) (b : Bool) → first_failing (enter_checks s (cond b (fresh leaf p) kept) what point) ≡ None → b ≡ false
+pub no_leaf : (s : Source) (what : ItemKind) (point : Point) (p : Place) (kept : ContainerState) (b : Bool) → first_failing (enter_checks s (cond b (fresh leaf p) kept) what point) ≡ None → b ≡ false
 no_leaf s what point p kept true h = let z : ⊥ = cc in absurd z
 no_leaf s what point p kept false h = refl
 
@@ -169,6 +171,36 @@ leaf_entered s name what start old mid new in_table is_significant o b is =
           ∙ (λ u. fresh (o.leaf_row u) (record { line_endings = leaf_speaks (current_model_of (innermost old.containers).container) what o.leaf_row u; in_table = sym inside u; marker = None }))) t;
     }) ∙ sym (ap (state_in fs) begun.others))
 
+-- ---- Any span
+
+-- a span that may not begin, and one that may
+pub enter_held : (s : Source) (name : Name) (role : Role) (point : Point) (allowed : Bool) (c : Context) → role ≡ role_of name → allowed ≡ may_begin c.interior.around role → allowed ≡ false
+    → enter_step s name point (state_of c) ≡ refused Held point
+unfolding enter_step
+enter_held s name role point allowed c is is_allowed held = λ t. cond ((ap (may_begin c.interior.around) (sym is) ∙ sym is_allowed ∙ held) t) (enter_as s (role_of name) name point (state_of c)) (refused Held point)
+
+pub enter_free : (s : Source) (name : Name) (role : Role) (point : Point) (allowed : Bool) (c : Context) → role ≡ role_of name → allowed ≡ may_begin c.interior.around role → allowed ≡ true
+    → enter_step s name point (state_of c) ≡ enter_as s role name point (state_of c)
+unfolding enter_step
+enter_free s name role point allowed c is is_allowed free = λ t. cond ((ap (may_begin c.interior.around) (sym is) ∙ sym is_allowed ∙ free) t) (enter_as s (sym is t) name point (state_of c)) (refused Held point)
+
+-- ---- Leaves
+
+-- the context in a leaf that begins
+abbrev pub in_leaf : ItemKind → Bool → OpenMarks → Context → Context
+in_leaf what in_table inside c = record c { interior = record { around = under c.interior.around (significant what); marks = inside }; is_leaf = true; in_table = in_table }
+
+-- a leaf begins, whose frame is kept outside the stack
+pub leaf_begins : (s : Source) (name : Name) (what : ItemKind) (start : Point) (old : Context) (inside : OpenMarks) (in_table : Bool) → role_of name ≡ significant what → may_begin old.interior.around (significant what) ≡ true → OpenedLeaf s what start old old
+    → marks_of inside ≡ no_marks → in_table ≡ (old.in_table || is_table what) → enter_step s name start (state_of old) ≡ Ok (state_with (frame_of name start old) (in_leaf what in_table inside old))
+leaf_begins s name what start old inside in_table is begins o none table =
+    let begun : Begun (significant what) true in_table old (in_leaf what in_table inside old) = record {
+      marks = none;
+      columns = sym (ap (λ (b : Bool). cond b no_columns (columns_of old.columns)) (leaf_no_table (current_model_of (innermost old.containers).container) what o.leaf_row));
+      others = refl;
+    } in
+    enter_free s name (significant what) start true old (sym is) (sym begins) refl ∙ leaf_entered s name what start old old (in_leaf what in_table inside old) in_table is o begun table
+
 -- no container of the program is a leaf
 pub no_leaf_row : (h : Container) → initial_model_of h ≡ leaf → ⊥
 no_leaf_row containers.AnyContent e = cc
@@ -274,16 +306,3 @@ same_frames s what start is_leaf role in_table old mid new o b = (λ t. (b.other
 pub significant_stops : (s : Source) (name : Name) (what : ItemKind) (point : Point) (stop : Stop) (old mid : Context) → Opened s what point old mid (Err stop) → Stops stop point (enter_as s (significant what) name point (state_of old))
 significant_stops s name what point (stops.Refused why) old mid o = significant_refused s name what point old why o
 significant_stops s name what point (stops.Memory error) old mid o = tt
-
--- ---- Any span
-
--- a span that may not begin, and one that may
-pub enter_held : (s : Source) (name : Name) (role : Role) (point : Point) (allowed : Bool) (c : Context) → role ≡ role_of name → allowed ≡ may_begin c.interior.around role → allowed ≡ false
-    → enter_step s name point (state_of c) ≡ refused Held point
-unfolding enter_step
-enter_held s name role point allowed c is is_allowed held = λ t. cond ((ap (may_begin c.interior.around) (sym is) ∙ sym is_allowed ∙ held) t) (enter_as s (role_of name) name point (state_of c)) (refused Held point)
-
-pub enter_free : (s : Source) (name : Name) (role : Role) (point : Point) (allowed : Bool) (c : Context) → role ≡ role_of name → allowed ≡ may_begin c.interior.around role → allowed ≡ true
-    → enter_step s name point (state_of c) ≡ enter_as s role name point (state_of c)
-unfolding enter_step
-enter_free s name role point allowed c is is_allowed free = λ t. cond ((ap (may_begin c.interior.around) (sym is) ∙ sym is_allowed ∙ free) t) (enter_as s (sym is t) name point (state_of c)) (refused Held point)

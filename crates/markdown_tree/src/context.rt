@@ -2,6 +2,7 @@
 
 ghost use Rattle.std.specs.Prelude.{◌≡◌, ◌≢◌, ◌≤◌, ◌+◌, ◌&&◌, ◌||◌, ◌++◌, ◌∷◌, IfOk, None, Ok, OnOk, [], false, is_some, not, true};
 ghost use Rattle.markdown_events.specs.Forest.{enter, exit};
+ghost use Rattle.markdown_events.specs.Around.{may_begin};
 ghost use Rattle.markdown_events.specs.Names.{is_same_name, role_of};
 ghost use Rattle.markdown_events.specs.declared.role.ItemKind.TheVariants as item_kinds;
 ghost use Rattle.markdown_events.specs.declared.role.Role.TheVariants as roles;
@@ -25,6 +26,7 @@ ghost use Rattle.markdown_tree.specs.States.{
   IsNoParent,
   LeafEnds,
   Opened,
+  OpenedLeaf,
   Passed,
   PutIn,
   Reaches,
@@ -442,17 +444,91 @@ impl<'a> Context<'a> {
         ensures { Completes (λ _. state_of self.new) result
             (run (source_of document.now (R.text references.now)) (enter name start.now ∷ exit name end.now ∷ []) (state_of self.old)) }
     {
-        if let Role::Transparent(kind) = name.role() {
-            return self.transparent_token(alloc, name, kind, start, end);
+        match name.role() {
+            Role::Transparent(kind) => self.transparent_token(alloc, name, kind, start, end),
+            Role::Significant(what) => self.significant_token(
+                alloc, steps, document, references, name, what, start, end,
+            ),
         }
-        let frame = match self.begin(alloc, document, name, start) {
-            Ok(frame) => frame,
-            Err(stop) => return Err(stop.at(*start)),
+    }
+
+    /// Opens and closes a significant span that contains no span.
+    #[inline(always)]
+    fn significant_token<R: References>(
+        &mut self,
+        alloc: Global,
+        steps: &mut Count,
+        document: &Document<'a>,
+        references: &R,
+        name: Name,
+        what: ItemKind,
+        start: &Point,
+        end: &Point,
+    ) -> Result<(), Fault>
+        requires role { role_of name ≡ roles.Significant what }
+        requires well { Well (source_of document.now (R.text references.now)) (state_of self.old) }
+        ensures { Completes (λ _. state_of self.new) result
+            (run (source_of document.now (R.text references.now)) (enter name start.now ∷ exit name end.now ∷ []) (state_of self.old)) }
+    {
+        if !self.interior.around.allows(Role::Significant(what)) {
+            return Err(Stop::Refused(ErrorKind::Held).at(*start));
+        }
+        match self.open(alloc, document, what, start) {
+            Ok(true) => self.leaf_token(alloc, document, references, name, what, start, end),
+            Ok(false) => {
+                let in_table = self.is_in_table(what);
+                let role = Role::Significant(what);
+                let frame = self.go_inside(alloc, name, role, start, false, in_table);
+                match self.end(alloc, steps, document, references, frame, end) {
+                    Ok(()) => Ok(()),
+                    Err(stop) => Err(stop.at(*end)),
+                }
+            }
+            Err(stop) => Err(stop.at(*start)),
+        }
+    }
+
+    /// Closes a leaf that contains no span, which the innermost container has accepted.
+    #[inline(always)]
+    fn leaf_token<R: References>(
+        &mut self,
+        alloc: Global,
+        document: &Document<'a>,
+        references: &R,
+        name: Name,
+        what: ItemKind,
+        start: &Point,
+        end: &Point,
+    ) -> Result<(), Fault>
+        requires role { role_of name ≡ roles.Significant what }
+        requires begins { may_begin self.old.interior.around (roles.Significant what) ≡ true }
+        requires opened { OpenedLeaf (source_of document.now (R.text references.now)) what start.now self.old self.old }
+        requires well { Well (source_of document.now (R.text references.now)) (state_of self.old) }
+        ensures { Completes (λ _. state_of self.new) result
+            (run (source_of document.now (R.text references.now)) (enter name start.now ∷ exit name end.now ∷ []) (state_of self.old)) }
+    {
+        let in_table = self.is_in_table(what);
+        let inside = Marks::new();
+        let ending = Ending {
+            start: *start,
+            end: *end,
+            in_table,
+            marks: inside,
         };
-        match self.end(alloc, steps, document, references, frame, end) {
-            Ok(()) => Ok(()),
-            Err(stop) => Err(stop.at(*end)),
+        let taken = self.containers.innermost_mut().take_leaf(
+            &mut self.pending,
+            alloc,
+            document,
+            references,
+            what,
+            ending,
+        );
+        if let Err(stop) = taken {
+            return Err(stop.at(*end));
         }
+        self.in_table = in_table;
+        self.interior.marks.add(Role::Significant(what), inside);
+        Ok(())
     }
 
     /// Opens and closes a transparent span that contains no span.
