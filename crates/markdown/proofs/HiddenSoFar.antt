@@ -1,13 +1,12 @@
 -- Events that hide no byte.
-use Rattle.std.proofs.Common.{Bool, List, Option, Some, [], ap, false, length, refl, subst, sym, true, ℕ, ◌++◌, ◌∙◌, ◌∷◌, ◌≡◌}
-use Rattle.std.specs.Prelude.{unwrap_or, ◌||◌}
+use Rattle.std.proofs.Common.{Bool, List, [], ap, false, refl, subst, sym, true, ℕ, ◌++◌, ◌∙◌, ◌∷◌, ◌≡◌}
+use Rattle.std.specs.Prelude.{◌||◌}
 use Rattle.std.proofs.lemmas.List.{append_assoc}
 use Rattle.markdown_events.specs.declared.event.Event.{Event}
 use Rattle.character_references.specs.declared.html.HtmlReferences.{HtmlReferences}
-use Rattle.markdown_grammar.specs.Document.{Given}
 use Rattle.markdown_tree.specs.Building.{Building}
-use Rattle.markdown.specs.TreeSinks.{IsTreeOf, shown_document}
-use Rattle.markdown.specs.Hidden.{cell_after, flags_at, hidden, hidden_by, hidden_from, labels_after}
+use Rattle.markdown.specs.TreeSinks.{IsTreeOf}
+use Rattle.markdown.specs.Hidden.{cell_after, hidden_by, hidden_from, labels_after}
 use Rattle.markdown.specs.Hiding.{Passes, Tells, cell_in, labels_in}
 use Rattle.markdown.specs.declared.hiding.Hiding.{Hiding}
 
@@ -38,11 +37,7 @@ cell-more : (cell : ℕ) (es : List Event) (e : Event) → cell_in cell (es ++ e
 cell-more cell [] e = refl
 cell-more cell (x ∷ es) e = cell-more (cell_after cell x.kind x.name x.point.index) es e
 
--- before the first event
-pub tells-none : (bytes : List ℕ) (es : List Event) (hiding : Hiding) → es ≡ [] → hiding.labels ≡ 0 → hiding.cell ≡ 0 → Tells bytes es hiding
-tells-none bytes es hiding none labels cell = subst (λ (xs : List Event). Tells bytes xs hiding) (sym none) (record { cell = cell; labels = λ _. labels; none = λ _. refl })
-
--- and after one more
+-- after one more event
 pub tells-more : (bytes : List ℕ) (es added : List Event) (e : Event) (old new : Hiding) → added ≡ es ++ e ∷ [] → Tells bytes es old → Passes bytes e.kind e.name e.point.index old new → Tells bytes added new
 tells-more bytes es added e old new is tells passes = subst (λ (xs : List Event). Tells bytes xs new) (sym is) (record {
   cell = passes.cell ∙ ap (λ (c : ℕ). cell_after c e.kind e.name e.point.index) tells.cell ∙ sym (cell-more 0 es e);
@@ -53,18 +48,7 @@ tells-more bytes es added e old new is tells passes = subst (λ (xs : List Event
       hidden-more bytes 0 0 es e ∙ (λ i. tells.none (passes.before shown) i ++ (last i ++ []));
 })
 
--- if no byte is hidden, there are no flags
-pub tells-flags : (bytes : List ℕ) (es : List Event) (hiding : Hiding) → Tells bytes es hiding → hiding.hides ≡ false → hidden bytes es ≡ []
-tells-flags bytes es hiding tells shown = ap (flags_at (length bytes)) (tells.none shown)
-
 -- ---- A tree that is built of events
-
-pub sink-new : (bytes : List ℕ) (boxed made : Building HtmlReferences) (given : Given) (references : HtmlReferences) (hiding : Hiding) → boxed ≡ made → made ≡ record { document = given; references = references; events = [] } → given ≡ shown_document bytes
-    → hiding.labels ≡ 0 → hiding.cell ≡ 0 → IsTreeOf bytes boxed hiding
-sink-new bytes boxed made given references hiding same is shown labels cell = record {
-  document = ap (λ (b : Building HtmlReferences). b.document) (same ∙ is) ∙ shown;
-  tells = tells-none bytes boxed.events hiding (ap (λ (b : Building HtmlReferences). b.events) (same ∙ is)) labels cell;
-}
 
 pub sink-more : (bytes : List ℕ) (old new : Building HtmlReferences) (e : Event) (before after : Hiding) → new.document ≡ old.document → new.events ≡ old.events ++ e ∷ [] → Passes bytes e.kind e.name e.point.index before after
     → IsTreeOf bytes old before → IsTreeOf bytes new after
@@ -79,7 +63,3 @@ sink-token bytes old new first second before between after same is passes then h
     let one = tells-more bytes old.events (old.events ++ first ∷ []) first before between refl h.tells passes in
     let two : new.events ≡ (old.events ++ first ∷ []) ++ second ∷ [] = is ∙ sym (append_assoc old.events (first ∷ []) (second ∷ [])) in
     record { document = same ∙ h.document; tells = tells-more bytes (old.events ++ first ∷ []) new.events second between after two one then }
-
--- the document of a sink is still that with which it began
-pub same-document : (at began bytes : List ℕ) → Some at ≡ Some began → began ≡ bytes → at ≡ bytes
-same-document at began bytes same is = ap (λ (o : Option (List ℕ)). unwrap_or o []) same ∙ is
