@@ -1,6 +1,7 @@
 -- What a loop over characters writes that collapses blanks.
-use Rattle.std.proofs.Common.{◌≡◌, ℕ, ◌==◌, Bool, true, false, cond, ◌&&◌, ◌||◌, List, [], ◌∷◌, ◌++◌, refl, sym, ap, ◌∙◌, append_assoc, encode_utf8_all, chars}
-use Rattle.std.proofs.lemmas.Str.{encodes-append, chars-encodes, scalars-chars}
+use Rattle.std.proofs.Common.{IsAscii, ap₂, suc, ◌≡◌, ℕ, ◌==◌, Bool, true, false, cond, ◌&&◌, ◌||◌, List, [], ◌∷◌, ◌++◌, refl, sym, ap, ◌∙◌, append_assoc, encode_utf8_all, chars}
+use Rattle.std.proofs.lemmas.Str.{encodes-append, chars-encodes, scalars-chars, chars-IsAscii, encode_ascii}
+use Rattle.std.specs.List.{list_any}
 use Rattle.std.specs.Str.{IsUtf8}
 use lib.Utf8.{scalar, scalars}
 use Rattle.markdown_events.specs.declared.text.Blanks.{Blanks}
@@ -88,6 +89,27 @@ first_at c cs ih false e =
 pub collapses : (cs : List ℕ) → collapse_walk cs before_all ≡ collapsed cs
 collapses [] = refl
 collapses (c ∷ cs) = first_at c cs (collapses cs) (is_blank c) refl
+
+-- ---- A text without blanks is collapsed as it is
+
+or_left : (a b : Bool) → (a || b) ≡ false → a ≡ false
+or_left true b e = e
+or_left false b e = refl
+
+unblanked : (cs : List ℕ) → list_any is_blank cs ≡ false → without_trailing_blanks cs ≡ cs
+unblanked [] e = refl
+unblanked (c ∷ cs) e = trail_other c cs (or_left (is_blank c) (list_any is_blank cs) e) ∙ ap (λ x. c ∷ x) (unblanked cs (or_right (is_blank c) (list_any is_blank cs) e))
+
+whole : (cs : List ℕ) → list_any is_blank cs ≡ false → collapsed cs ≡ cs
+whole [] e = refl
+whole (c ∷ cs) e = ap without_first_space (unblanked (c ∷ cs) e) ∙ kept c cs (or_left (is_blank c) (list_any is_blank cs) e)
+
+own_bytes : (bs : List ℕ) → IsAscii bs → encode_utf8_all bs ≡ bs
+own_bytes [] ascii = refl
+own_bytes (b ∷ bs) ascii = ap₂ (λ (s t : List ℕ). s ++ t) (encode_ascii b (ascii 0)) (own_bytes bs (λ i. ascii (suc i)))
+
+pub collapsed_word : (bs : List ℕ) → IsAscii bs → list_any is_blank bs ≡ false → encode_utf8_all (collapsed (chars bs)) ≡ bs
+collapsed_word bs ascii none = ap (λ cs. encode_utf8_all (collapsed cs)) (chars-IsAscii bs ascii) ∙ ap encode_utf8_all (whole bs none) ∙ own_bytes bs ascii
 
 -- ---- What is collapsed is of characters
 

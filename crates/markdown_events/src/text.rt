@@ -2,7 +2,7 @@
 
 ghost use Rattle.std.specs.Prelude.{◌≡◌, ◌<◌, ◌++◌, IfOk, string_bytes, unwrap_or, chars, encode_utf8_all};
 ghost use Rattle.std.specs.Option.{option_copied};
-ghost use Rattle.std.specs.List.{list_all};
+ghost use Rattle.std.specs.List.{list_all, list_any};
 ghost use Rattle.caseless.specs.Caseless.{default_case_fold};
 ghost use Rattle.markdown_events.specs.Texts.{
   trim,
@@ -216,11 +216,24 @@ struct Blanks {
     pending: bool,
 }
 
+/// Whether a text has a tab, a line ending or a space.
+fn has_blank(value: &str) -> bool
+    ensures { result ≡ list_any is_blank value.now }
+{
+    value
+        .as_bytes()
+        .iter()
+        .any(|byte| matches!(*byte, b'\t' | b'\n' | b'\r' | b' '))
+}
+
 /// Returns the value with each run of blanks as one space, and none at either end.
 fn collapsed(alloc: Global, value: &str) -> Result<String, AllocError>
     ensures { IfOk result (λ text. string_bytes text ≡ encode_utf8_all (collapsed (chars value.now))) }
 {
-    let mut text = String::new(alloc);
+    if value.is_ascii() && !has_blank(value) {
+        return String::from_str(alloc, value);
+    }
+    let mut text = String::with_capacity(alloc, value.len())?;
     let mut blanks = Blanks {
         started: false,
         pending: false,
