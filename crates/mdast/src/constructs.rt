@@ -4,7 +4,7 @@ use markdown::Constructs;
 use std::alloc::{AllocError, Global};
 
 /// The names of the constructs.
-pub const NAMES: [&str; 29] = [
+pub static NAMES: [&str; 29] = [
     "attention",
     "autolink",
     "block_quote",
@@ -44,12 +44,18 @@ pub fn help(alloc: Global) -> Result<String, AllocError> {
 once. CONSTRUCT is one of:
 ",
     )?;
-    for name in NAMES {
+    add_names(&mut text, &NAMES)?;
+    Ok(text)
+}
+
+/// Appends names to a text, each on a line of its own.
+fn add_names(text: &mut String, names: &[&str]) -> Result<(), AllocError> {
+    for name in names {
         text.push_str("  ")?;
         text.push_str(name)?;
         text.push_str("\n")?;
     }
-    Ok(text)
+    Ok(())
 }
 
 /// The names of the constructs that are turned on, and of those that are turned off.

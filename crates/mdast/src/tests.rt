@@ -171,8 +171,13 @@ fn turns_constructs(rt: HostRuntime) {
 /// Each name turns a construct off, and on again.
 #[test]
 fn names_turn_constructs(rt: HostRuntime) {
-    for name in NAMES {
-        let only = [name];
+    expect_turned(&rt, &NAMES);
+}
+
+/// Expects that each of these names turns a construct off, and on again.
+fn expect_turned(rt: &impl Abort, names: &[&'static str]) {
+    for name in names {
+        let only = [*name];
         let without = Switches {
             on: &[],
             off: &only,
