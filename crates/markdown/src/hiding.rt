@@ -1,7 +1,8 @@
 //! Whether events hide bytes, told while they are written.
 
-ghost use Rattle.std.specs.Prelude.{◌≡◌, ◌<◌, ◌^◌, [], List, SomeIff, ℕ, false};
-ghost use Rattle.markdown.specs.Hidden.{cell_after, escapes, hidden_by, labels_after};
+ghost use Rattle.std.specs.Prelude.{◌≡◌, ◌<◌, ◌^◌, [], List, SomeIff, ℕ, false, true};
+ghost use Rattle.markdown.specs.Hidden.{cell_after, escapes, hidden_by, is_label, labels_after};
+ghost use Rattle.markdown.specs.declared.hiding.Hiding.{Hiding};
 ghost use Rattle.markdown.specs.Hiding.{Passes};
 ghost use Rattle.markdown_events.specs.declared.event.Kind.TheVariants.{Enter, Exit};
 
@@ -63,6 +64,32 @@ impl Hiding {
     {
         self.hides = self.hides | ends_escaped(bytes, self.cell, name, at.index);
         self.labels = labels_left(self.labels, name);
+    }
+
+    /// Takes the enter and the exit of a token. Of most, nothing is to be known.
+    #[inline(always)]
+    pub fn token(&mut self, bytes: &[u8], name: Name, start: &Point, end: &Point)
+        ensures { (inside : Hiding) × Passes bytes.now Enter name start.now.index self.old inside × Passes bytes.now Exit name end.now.index inside self.new }
+    {
+        if !is_plain(name) {
+            self.enter(name, start);
+            self.exit(bytes, name, end);
+        }
+    }
+}
+
+/// Whether a span says nothing of hidden bytes: it is no label, no cell and no marker of a block quote.
+#[inline(always)]
+fn is_plain(name: Name) -> bool
+    ensures label { result ≡ true → is_label name ≡ false }
+    ensures cell { result ≡ true → (cell index : ℕ) → cell_after cell Enter name index ≡ cell }
+    ensures enter { result ≡ true → (bytes : List ℕ) → (labels cell index : ℕ) → hidden_by bytes labels cell Enter name index ≡ [] }
+    ensures exit { result ≡ true → (bytes : List ℕ) → (labels cell index : ℕ) → hidden_by bytes labels cell Exit name index ≡ [] }
+{
+    match name {
+        Name::BlockQuoteMarker => false,
+        Name::GfmTableCell => false,
+        _ => !is_label(name),
     }
 }
 

@@ -92,8 +92,7 @@ impl<'d> TreeSink<'d> {
         ensures events { self.new.events ≡ self.old.events ++ enter name start ∷ exit name end ∷ [] }
         ensures document { self.new.document ≡ self.old.document }
     {
-        self.hiding.enter(name, &start);
-        self.hiding.exit(self.bytes, name, &end);
+        self.hiding.token(self.bytes, name, &start, &end);
         self.builder.token(name, start, end);
     }
 

@@ -86,10 +86,10 @@ built-state s es context None none h = h
 built-state s es context (Some fault) none h = absurd (cc none)
 
 -- a stop that is told
-pub told : (context : Context) (stop : Stop) (fault : Fault) (point : Point) (expected : Result State ErrorAt) → Stops stop point expected → IsFaultOf stop point fault → Fails fault expected
-told context (stops.Memory error) fault point expected stopped says = subst (λ (f : Fault). Fails f expected) (sym says) tt
-told context (stops.Refused why) (faults.Message m) point expected stopped says = (record { error_kind = why; point = point }, stopped, says)
-told context (stops.Refused why) (faults.Memory error) point expected stopped says = absurd says
+pub told : (stop : Stop) (fault : Fault) (point : Point) (expected : Result State ErrorAt) → Stops stop point expected → IsFaultOf stop point fault → Fails fault expected
+told (stops.Memory error) fault point expected stopped says = subst (λ (f : Fault). Fails f expected) (sym says) tt
+told (stops.Refused why) (faults.Message m) point expected stopped says = (record { error_kind = why; point = point }, stopped, says)
+told (stops.Refused why) (faults.Memory error) point expected stopped says = absurd says
 
 -- ---- The first event and the last
 

@@ -13,6 +13,8 @@ use Rattle.markdown_steps.specs.Visits.{visits_by_owner}
 use Rattle.markdown_containers.specs.declared.container.Container.{Container}
 use Rattle.markdown_tree.specs.declared.context.Context.{Context}
 use Rattle.markdown_tree.specs.declared.context.Frame.{Frame}
+use Rattle.markdown_tree.specs.declared.context.TokenStop.{TokenStop}
+use Rattle.markdown_tree.specs.declared.context.TokenStop.TheVariants.{AtEnd, AtStart}
 use Rattle.markdown_containers.specs.declared.open_container.OpenContainer.{OpenContainer}
 use Rattle.markdown_parts.specs.Nest.{around_innermost, innermost}
 use Rattle.markdown_grammar.specs.declared.error_kind.Stop.{Stop}
@@ -20,7 +22,7 @@ use Rattle.markdown_grammar.specs.declared.error_kind.Stop.TheVariants as stops
 use Rattle.markdown_events.specs.declared.event.Point.{Point}
 use Rattle.markdown_steps.specs.Compiler.{ContainerState, OpenSpan, State, enter_checks, fresh, leave_to}
 use Rattle.markdown_grammar.specs.Grammar.{model_of, leaf}
-use Rattle.markdown_containers.specs.ContainerStates.{Gives, container_state_of}
+use Rattle.markdown_containers.specs.ContainerStates.{Gives, Stops, container_state_of}
 use Rattle.markdown_containers.specs.Containers.{IsFresh, misfit_of, current_model_of, initial_model_of}
 use Rattle.markdown_parts.specs.Marks.{marks_of}
 use Rattle.markdown_parts.specs.PartsSoFar.{first_failing, place_with}
@@ -108,6 +110,13 @@ state_of c = state_in c.frames.items c
 -- a context with one more open span, as the state of a compilation
 abbrev pub state_with : Frame → Context → State
 state_with frame c = state_in (c.frames.items ++ frame ∷ []) c
+
+-- a context took a token from one point to another: it has the expected state, or the stop at one of them agrees with what was
+-- expected
+abbrev pub TakesToken : Context → Point → Point → Result (Unit {0}) TokenStop → Result State ErrorAt → Type 0
+TakesToken context start end (Ok _) expected = expected ≡ Ok (state_of context)
+TakesToken context start end (Err (AtStart stop)) expected = Stops stop start expected
+TakesToken context start end (Err (AtEnd stop)) expected = Stops stop end expected
 
 -- the context after a function is the expected state, unless memory ran out
 abbrev pub Reaches : {X : Type 0} → Context → Point → Result X Stop → Result State ErrorAt → Type 0

@@ -1,20 +1,23 @@
 //! A tree that is built event by event.
 
-ghost use Rattle.std.specs.Prelude.{◌≡◌, ◌<◌, ◌^◌, ◌++◌, ◌∷◌, [], IfErr, IfOk, false, is_some};
+ghost use Rattle.std.specs.Prelude.{◌≡◌, ◌<◌, ◌^◌, ◌++◌, ◌∷◌, [], IfErr, IfOk, Result, false, is_some};
 ghost use Rattle.markdown_events.specs.Forest.{enter, exit};
 ghost use Rattle.markdown_grammar.specs.Correct.{FailsRightly, IsMeaning};
+ghost use Rattle.markdown_containers.specs.ContainerStates.{Stops};
 ghost use Rattle.markdown_grammar.specs.Document.{source_of};
 ghost use Rattle.markdown_grammar.specs.Ordered.{IsOrdered, NeverGoesBack};
+ghost use Rattle.markdown_grammar.specs.Refusals.{ErrorAt};
 ghost use Rattle.markdown_nodes.specs.Tree.{only};
 ghost use Rattle.markdown_nodes.specs.View.{view};
 ghost use Rattle.markdown_steps.specs.Compiler;
-ghost use Rattle.markdown_steps.specs.Compiler.{compiled, run};
+ghost use Rattle.markdown_steps.specs.Compiler.{State, compiled, run};
 ghost use Rattle.markdown_steps.specs.Extents.{extent_of};
 ghost use Rattle.markdown_steps.specs.Well.{Well};
 ghost use Rattle.markdown_tree.specs.Building.{HasState};
 ghost use Rattle.markdown_tree.specs.States.{Completes, state_of};
+ghost use Rattle.markdown_tree.specs.declared.context.Context.{Context};
 
-use crate::context::Context;
+use crate::context::{Context, TokenStop};
 use crate::history::Passed;
 use character_references::references::References;
 use markdown_grammar::error_kind::Stop;
@@ -186,8 +189,18 @@ fn advance<'a, R: References>(
         (Compiler.step (source_of document.now (R.text references.now)) event.now (state_of context.old)) }
 {
     if let Err(stop) = context.step(alloc, steps, document, references, event) {
-        *fault = Some(stop.at(event.point));
+        refuse(fault, stop, &event.point);
     }
+}
+
+/// Keeps why an event is refused, or that memory ran out.
+///
+/// Not inlined: a fault is large, and its space would be cleared at each event.
+#[inline(never)]
+fn refuse(fault: &mut Option<Fault>, stop: Stop, point: &Point)
+    ensures { (context : Context) → (expected : Result State ErrorAt) → Stops stop point.now expected → HasState context fault.new expected }
+{
+    *fault = Some(stop.at(*point));
 }
 
 /// Does what a token does to a context that no event has been refused for. A fault says that one of
@@ -209,7 +222,9 @@ fn advance_token<'a, R: References>(
     ensures { HasState context.new fault.new
         (run (source_of document.now (R.text references.now)) (enter name start.now ∷ exit name end.now ∷ []) (state_of context.old)) }
 {
-    if let Err(found) = context.token(alloc, steps, document, references, name, start, end) {
-        *fault = Some(found);
+    match context.token(alloc, steps, document, references, name, start, end) {
+        Ok(()) => (),
+        Err(TokenStop::AtStart(stop)) => refuse(fault, stop, start),
+        Err(TokenStop::AtEnd(stop)) => refuse(fault, stop, end),
     }
 }

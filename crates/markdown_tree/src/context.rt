@@ -11,7 +11,9 @@ ghost use Rattle.markdown_steps.specs.Compiler.{enter_as, enter_checks, enter_st
 ghost use Rattle.markdown_blocks.specs.Parents.{is_parent};
 ghost use Rattle.markdown_parts.specs.PartsSoFar.{first_failing};
 ghost use Rattle.markdown_containers.specs.declared.container.Container.TheVariants as containers;
-ghost use Rattle.markdown_containers.specs.Containers.{misfit_of};
+ghost use Rattle.markdown_containers.specs.Containers.{current_model_of, misfit_of};
+ghost use Rattle.markdown_events.specs.declared.event.Point.{Point};
+ghost use Rattle.markdown_grammar.specs.Grammar.{leaf, model_of};
 ghost use Rattle.markdown_parts.specs.Nest.{innermost};
 ghost use Rattle.markdown_grammar.specs.Items as Kinds;
 ghost use Rattle.markdown_grammar.specs.Document as Documents;
@@ -20,17 +22,18 @@ ghost use Rattle.markdown_tree.specs.States.{
   Begins,
   Begun,
   Closed,
-  Completes,
   ContainerEnds,
   Ends,
   IsNoParent,
   LeafEnds,
   Opened,
+  OpenedContainer,
   OpenedLeaf,
   Passed,
   PutIn,
   Reaches,
   ReachesTop,
+  TakesToken,
   frame_of,
   item_left,
   left_to,
@@ -52,7 +55,6 @@ use markdown_nodes::around::Around;
 use markdown_nodes::count::Count;
 use markdown_nodes::event::{Event, Kind, Name, Point};
 use markdown_nodes::mdast::Node;
-use markdown_nodes::message::Fault;
 use markdown_nodes::role::{Content, ItemKind, Role, TransparentKind};
 use markdown_nodes::unist::Position;
 use markdown_parts::items::{has_line_endings, is_frontmatter, is_line_ending, is_table};
@@ -60,6 +62,14 @@ use markdown_parts::marks::Marks;
 use markdown_parts::nest::Nest;
 use markdown_parts::slice::{Document, byte_at};
 use std::alloc::{AllocError, Global};
+
+/// Why a token is not taken: a stop at its start or at its end. A `Fault` is made of it only where one
+/// is kept, since that is far larger.
+#[derive(Drop)]
+pub enum TokenStop {
+    AtStart(Stop),
+    AtEnd(Stop),
+}
 
 /// The state that the next span in the innermost open one starts in: the context around it, and
 /// what is known of the spans before it.
@@ -198,16 +208,27 @@ impl<'a> Context<'a> {
         if let Some(error_kind) = self.misfit(document, what, point) {
             return Err(Stop::Refused(error_kind));
         }
-        let around = &self.containers.innermost().container;
-        if around.takes_as_leaf(what) {
+        if self.containers.innermost().container.takes_as_leaf(what) {
             return Ok(true);
         }
-        // Most containers keep no parts. If that is known, no space for parts is moved.
-        match around.opened(what) {
-            Container::AnyContent => self.put(alloc, what, Container::AnyContent)?,
-            container => self.put(alloc, what, container)?,
-        }
+        self.open_container(alloc, what)?;
         Ok(false)
+    }
+
+    /// Opens a container in the innermost one, for a significant span that is not a leaf.
+    ///
+    /// Not inlined: a container is large, and its space would be cleared for each leaf.
+    #[inline(never)]
+    fn open_container(&mut self, alloc: Global, what: ItemKind) -> Result<(), AllocError>
+        requires { model_of (current_model_of (innermost self.old.containers).container) what ≢ leaf }
+        ensures { OnOk result ((s : Source) → (point : Point) → first_failing (enter_checks s (top_of self.old) what point) ≡ None
+            → OpenedContainer s what point self.old self.new) }
+    {
+        // Most containers keep no parts. If that is known, no space for parts is moved.
+        match self.containers.innermost().container.opened(what) {
+            Container::AnyContent => self.put(alloc, what, Container::AnyContent),
+            container => self.put(alloc, what, container),
+        }
     }
 
     /// Opens a container in the innermost one, with no nodes in it.
@@ -439,9 +460,9 @@ impl<'a> Context<'a> {
         name: Name,
         start: &Point,
         end: &Point,
-    ) -> Result<(), Fault>
+    ) -> Result<(), TokenStop>
         requires { Well (source_of document.now (R.text references.now)) (state_of self.old) }
-        ensures { Completes (λ _. state_of self.new) result
+        ensures { TakesToken self.new start.now end.now result
             (run (source_of document.now (R.text references.now)) (enter name start.now ∷ exit name end.now ∷ []) (state_of self.old)) }
     {
         match name.role() {
@@ -464,14 +485,14 @@ impl<'a> Context<'a> {
         what: ItemKind,
         start: &Point,
         end: &Point,
-    ) -> Result<(), Fault>
+    ) -> Result<(), TokenStop>
         requires role { role_of name ≡ roles.Significant what }
         requires well { Well (source_of document.now (R.text references.now)) (state_of self.old) }
-        ensures { Completes (λ _. state_of self.new) result
+        ensures { TakesToken self.new start.now end.now result
             (run (source_of document.now (R.text references.now)) (enter name start.now ∷ exit name end.now ∷ []) (state_of self.old)) }
     {
         if !self.interior.around.allows(Role::Significant(what)) {
-            return Err(Stop::Refused(ErrorKind::Held).at(*start));
+            return Err(TokenStop::AtStart(Stop::Refused(ErrorKind::Held)));
         }
         match self.open(alloc, document, what, start) {
             Ok(true) => self.leaf_token(alloc, document, references, name, what, start, end),
@@ -481,10 +502,10 @@ impl<'a> Context<'a> {
                 let frame = self.go_inside(alloc, name, role, start, false, in_table);
                 match self.end(alloc, steps, document, references, frame, end) {
                     Ok(()) => Ok(()),
-                    Err(stop) => Err(stop.at(*end)),
+                    Err(stop) => Err(TokenStop::AtEnd(stop)),
                 }
             }
-            Err(stop) => Err(stop.at(*start)),
+            Err(stop) => Err(TokenStop::AtStart(stop)),
         }
     }
 
@@ -499,12 +520,12 @@ impl<'a> Context<'a> {
         what: ItemKind,
         start: &Point,
         end: &Point,
-    ) -> Result<(), Fault>
+    ) -> Result<(), TokenStop>
         requires role { role_of name ≡ roles.Significant what }
         requires begins { may_begin self.old.interior.around (roles.Significant what) ≡ true }
         requires opened { OpenedLeaf (source_of document.now (R.text references.now)) what start.now self.old self.old }
         requires well { Well (source_of document.now (R.text references.now)) (state_of self.old) }
-        ensures { Completes (λ _. state_of self.new) result
+        ensures { TakesToken self.new start.now end.now result
             (run (source_of document.now (R.text references.now)) (enter name start.now ∷ exit name end.now ∷ []) (state_of self.old)) }
     {
         let in_table = self.is_in_table(what);
@@ -524,7 +545,7 @@ impl<'a> Context<'a> {
             ending,
         );
         if let Err(stop) = taken {
-            return Err(stop.at(*end));
+            return Err(TokenStop::AtEnd(stop));
         }
         self.in_table = in_table;
         self.interior.marks.add(Role::Significant(what), inside);
@@ -540,16 +561,16 @@ impl<'a> Context<'a> {
         kind: TransparentKind,
         start: &Point,
         end: &Point,
-    ) -> Result<(), Fault>
+    ) -> Result<(), TokenStop>
         requires { role_of name ≡ roles.Transparent kind }
-        ensures { (s : Source) → Completes (λ _. state_of self.new) result (run s (enter name start.now ∷ exit name end.now ∷ []) (state_of self.old)) }
+        ensures { (s : Source) → TakesToken self.new start.now end.now result (run s (enter name start.now ∷ exit name end.now ∷ []) (state_of self.old)) }
     {
         if !self.interior.around.allows(Role::Transparent(kind)) {
-            return Err(Stop::Refused(ErrorKind::Held).at(*start));
+            return Err(TokenStop::AtStart(Stop::Refused(ErrorKind::Held)));
         }
         match self.pass(alloc, kind) {
             Ok(()) => Ok(()),
-            Err(error) => Err(Stop::Memory(error).at(*end)),
+            Err(error) => Err(TokenStop::AtEnd(Stop::Memory(error))),
         }
     }
 

@@ -11,4 +11,5 @@ invariant_of-self c =
     let bytes = c.self.inside.bytes.now in
     let old = c.deref_mut.result.now in
     let before = subst (λ (b : Building HtmlReferences). IsTreeOf bytes b c.self.inside.hiding) (sym c.deref_mut.ensures.value) c.self.invariant in
-    sink-token bytes old c.token.new.self (enter c.args.name c.args.start) (exit c.args.name c.args.end) c.self.inside.hiding c.enter.new.self c.exit.new.self c.token.ensures.document c.token.ensures.events (c.enter.ensures bytes) c.exit.ensures before
+    let inside = c.token.ensures.0 in
+    sink-token bytes old c.token-2.new.self (enter c.args.name c.args.start) (exit c.args.name c.args.end) c.self.inside.hiding inside c.token.new.self c.token-2.ensures.document c.token-2.ensures.events c.token.ensures.1 c.token.ensures.2 before

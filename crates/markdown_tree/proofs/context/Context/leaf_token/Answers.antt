@@ -14,7 +14,7 @@ use Rattle.markdown_parts.specs.Marks.{marks_of}
 use Rattle.markdown_parts.specs.Nest.{with_innermost}
 use Rattle.markdown_tree.specs.States.{frame_of, kept_top, leaf_place, state_of, state_with}
 use Rattle.markdown_tree.proofs.Beginnings.{in_leaf, leaf_begins, leaf_no_table, no_leaf}
-use Rattle.markdown_tree.proofs.Building.{run-two, second-stops, told}
+use Rattle.markdown_tree.proofs.Building.{run-two, second-stops}
 use Rattle.markdown_tree.proofs.Endings.{columns_kept, ends, exit_done, exit_stops, leaf_closed, leaf_gives}
 use Rattle.markdown_tree.proofs.context.Context.leaf_token.Goals as goal
 
@@ -58,9 +58,8 @@ returns-in-Err g c =
     let left = leaf_gives s c.args.what f c.args.end.now inside (record inside { containers = with_innermost old.containers c.take_leaf-taken.new.self; is_leaf = false; pending = c.take_leaf-taken.new.pending })
     c.innermost_mut.result.now c.take_leaf-taken.new.self (Err c.in-Err.stop) refl c.innermost_mut.ensures.value refl refl refl
     (c.in-Err.ensures (child_facts (marks_of c.new-inside.result) (columns_of old.columns)) (leaf_place c.is_in_table-in_table.result)) in
-    told old c.in-Err.stop c.at.result c.args.end.now _
-    (second-stops s (enter c.args.name c.args.start.now) (exit c.args.name c.args.end.now) (state_of old) (state_with f inside) c.in-Err.stop c.args.end.now begun
-    (exit_stops s c.args.name c.args.end.now inside f (significant c.args.what) c.in-Err.stop (sym c.requires.role) (same_name_refl c.args.name) left)) c.at.ensures
+    second-stops s (enter c.args.name c.args.start.now) (exit c.args.name c.args.end.now) (state_of old) (state_with f inside) c.in-Err.stop c.args.end.now begun
+    (exit_stops s c.args.name c.args.end.now inside f (significant c.args.what) c.in-Err.stop (sym c.requires.role) (same_name_refl c.args.name) left)
 
 pub returns : goal.returns
 returns g c =

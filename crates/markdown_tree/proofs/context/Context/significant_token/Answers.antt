@@ -13,11 +13,11 @@ use Rattle.markdown_steps.proofs.WellKept.{well-step}
 use Rattle.markdown_steps.specs.Compiler.{State, run}
 use Rattle.markdown_steps.specs.Well.{Well}
 use Rattle.std.specs.Prelude.{Result}
-use Rattle.markdown_tree.specs.States.{Completes, Opened, OpenedContainer, OpenedLeaf, state_of, state_with}
+use Rattle.markdown_tree.specs.States.{Opened, OpenedContainer, OpenedLeaf, TakesToken, state_of, state_with}
 use Rattle.markdown_tree.specs.declared.context.Context.{Context}
 use Rattle.markdown_tree.specs.declared.context.Frame.{Frame}
 use Rattle.markdown_tree.proofs.Beginnings.{enter_free, enter_held, significant_entered, significant_stops}
-use Rattle.markdown_tree.proofs.Building.{first-stops, run-two, second-stops, told}
+use Rattle.markdown_tree.proofs.Building.{first-stops, run-two, second-stops}
 use Rattle.markdown_tree.proofs.context.Context.significant_token.Goals as goal
 
 pub returns-then-not-allows : goal.returns-then-not-allows
@@ -25,9 +25,8 @@ returns-then-not-allows g c =
     let s = source_of c.args.document.now (g.R.References.text c.args.references.now) in
     let first = enter c.args.name c.args.start.now in
     let second = exit c.args.name c.args.end.now in
-    told c.args.self.now (stops.Refused Held) c.at.result c.args.start.now _
-    (first-stops s first second (state_of c.args.self.now) (stops.Refused Held) c.args.start.now
-    (enter_held s c.args.name (significant c.args.what) c.args.start.now c.allows.result c.args.self.now (sym c.requires.role) c.allows.ensures c.if-not-allows.true)) c.at.ensures
+    first-stops s first second (state_of c.args.self.now) (stops.Refused Held) c.args.start.now
+    (enter_held s c.args.name (significant c.args.what) c.args.start.now c.allows.result c.args.self.now (sym c.requires.role) c.allows.ensures c.if-not-allows.true)
 
 pub leaf_token-requires-clause-begins : goal.leaf_token-requires-clause-begins
 leaf_token-requires-clause-begins g c =
@@ -57,7 +56,7 @@ returns-in-Ok-true g c =
     let opened : OpenedLeaf s c.args.what c.args.start.now c.args.self.now mid = subst (λ (b : Bool). Opened s c.args.what c.args.start.now c.args.self.now mid (Ok b)) c.in-Ok-true.field-0-test (c.in-Ok-true.ensures s refl) in
     let first = enter c.args.name c.args.start.now in
     let second = exit c.args.name c.args.end.now in
-    subst (λ (m : Context). Completes {X = Unit {0}} {Y = State} (λ _. state_of c.leaf_token.new.self) c.leaf_token.result (run s (first ∷ second ∷ []) (state_of m))) opened.same c.leaf_token.ensures
+    subst (λ (m : Context). TakesToken c.leaf_token.new.self c.args.start.now c.args.end.now c.leaf_token.result (run s (first ∷ second ∷ []) (state_of m))) opened.same c.leaf_token.ensures
 
 pub end-requires : goal.end-requires
 end-requires g c =
@@ -96,8 +95,7 @@ returns-in-Err-end g c =
     let begun = enter_free s c.args.name (significant c.args.what) c.args.start.now c.allows.result c.args.self.now (sym c.requires.role) c.allows.ensures c.if-not-allows.false
     ∙ significant_entered s c.args.name c.args.what c.args.start.now false c.args.self.now mid new frame c.is_in_table-in_table.result c.requires.role opened c.go_inside-frame.ensures.begun c.go_inside-frame.ensures.frame c.is_in_table-in_table.ensures in
     let same : is_same_name frame.name c.args.name ≡ true = ap (λ (f : Frame). is_same_name f.name c.args.name) c.go_inside-frame.ensures.frame ∙ same_name_refl c.args.name in
-    told new c.in-Err-end.stop c.at-in-Err-end.result c.args.end.now _
-    (second-stops s first second (state_of c.args.self.now) (state_with frame new) c.in-Err-end.stop c.args.end.now begun (c.in-Err-end.ensures.gives c.args.name same)) c.at-in-Err-end.ensures
+    second-stops s first second (state_of c.args.self.now) (state_with frame new) c.in-Err-end.stop c.args.end.now begun (c.in-Err-end.ensures.gives c.args.name same)
 
 pub returns-in-Err : goal.returns-in-Err
 returns-in-Err g c =
@@ -106,5 +104,4 @@ returns-in-Err g c =
     let second = exit c.args.name c.args.end.now in
     let stopped = subst (λ (r : Result State ErrorAt). Stops c.in-Err.stop c.args.start.now r) (sym (enter_free s c.args.name (significant c.args.what) c.args.start.now c.allows.result c.args.self.now (sym c.requires.role) c.allows.ensures c.if-not-allows.false))
     (significant_stops s c.args.name c.args.what c.args.start.now c.in-Err.stop c.args.self.now c.«open».new.self (c.in-Err.ensures s refl)) in
-    told c.«open».new.self c.in-Err.stop c.at-in-Err.result c.args.start.now _
-    (first-stops s first second (state_of c.args.self.now) c.in-Err.stop c.args.start.now stopped) c.at-in-Err.ensures
+    first-stops s first second (state_of c.args.self.now) c.in-Err.stop c.args.start.now stopped
