@@ -31,7 +31,7 @@ newer_file() {
     while read -r line; do
         folders+=("$here/crates/${line%%[ :]*}")
     done <<< "$lines"
-    find "${folders[@]}" \( -name out -o -name must-fail \) -prune -o \
+    find "${folders[@]}" -name out -prune -o \
         \( -name '*.rt' -o -name '*.antt' \) -newer "$1" -print -quit
 }
 
