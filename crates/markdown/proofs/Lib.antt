@@ -3,3 +3,4 @@ pub mod Ends
 pub mod Roots
 pub mod Plain
 pub mod HiddenSoFar
+pub mod Plainly

@@ -72,6 +72,7 @@ fn labels_after(labels: usize, event: &Event) -> usize
 }
 
 /// Whether definitions and references are matched by the bytes of a span with this name.
+#[inline(always)]
 pub(crate) fn is_label(name: Name) -> bool
     ensures { result ≡ is_label name }
 {

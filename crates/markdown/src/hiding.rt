@@ -41,9 +41,28 @@ impl Hiding {
         self.hides
     }
 
-    /// Takes the enter of a span.
+    /// Takes the enter of a span. Of most, nothing is to be known.
     #[inline(always)]
     pub fn enter(&mut self, name: Name, at: &Point)
+        ensures { (bytes : List ℕ) → Passes bytes Enter name at.now.index self.old self.new }
+    {
+        if !is_plain(name) {
+            self.pass_enter(name, at);
+        }
+    }
+
+    /// Takes the exit of a span in a document. Of most, nothing is to be known.
+    #[inline(always)]
+    pub fn exit(&mut self, bytes: &[u8], name: Name, at: &Point)
+        ensures { Passes bytes.now Exit name at.now.index self.old self.new }
+    {
+        if !is_plain(name) {
+            self.pass_exit(bytes, name, at);
+        }
+    }
+
+    /// Takes the enter of any span.
+    fn pass_enter(&mut self, name: Name, at: &Point)
         ensures { (bytes : List ℕ) → Passes bytes Enter name at.now.index self.old self.new }
     {
         let hides = self.hides | marks_quote(self.labels, name);
@@ -57,9 +76,8 @@ impl Hiding {
         }
     }
 
-    /// Takes the exit of a span in a document.
-    #[inline(always)]
-    pub fn exit(&mut self, bytes: &[u8], name: Name, at: &Point)
+    /// Takes the exit of any span in a document.
+    fn pass_exit(&mut self, bytes: &[u8], name: Name, at: &Point)
         ensures { Passes bytes.now Exit name at.now.index self.old self.new }
     {
         self.hides = self.hides | ends_escaped(bytes, self.cell, name, at.index);
@@ -72,8 +90,8 @@ impl Hiding {
         ensures { (inside : Hiding) × Passes bytes.now Enter name start.now.index self.old inside × Passes bytes.now Exit name end.now.index inside self.new }
     {
         if !is_plain(name) {
-            self.enter(name, start);
-            self.exit(bytes, name, end);
+            self.pass_enter(name, start);
+            self.pass_exit(bytes, name, end);
         }
     }
 }

@@ -183,6 +183,25 @@ impl<'a> Container<'a> {
         }
     }
 
+    /// Whether a span in this container accepts any content and keeps no parts. It may also say no of
+    /// one that does.
+    pub fn opens_any_content(&self, what: ItemKind) -> bool
+        ensures { result ≡ true → IsFresh containers.AnyContent (models.model_of (current_model_of self.now) what) }
+    {
+        match what {
+            ItemKind::Content(Content::Paragraph) => !self.is_item(),
+            ItemKind::Content(content) => accepts_any_content(content),
+            ItemKind::Part(part) => is_text(part),
+        }
+    }
+
+    /// Whether it is an item of a list.
+    fn is_item(&self) -> bool
+        ensures { result ≡ false → models.content_model (current_model_of self.now) contents.Paragraph ≡ models.any_content }
+    {
+        matches!(self, Container::ListItem(_) | Container::NumberedItem(_))
+    }
+
     /// Returns what a span of content that is not a leaf is to the items in it.
     fn opened_by_content(&self, content: Content) -> Container<'a>
         requires { models.content_model (current_model_of self.now) content ≢ models.leaf }
@@ -502,6 +521,48 @@ impl<'a> Container<'a> {
             _ => unreachable!(),
         }
     }
+}
+
+/// Whether content accepts any content, wherever it is.
+fn accepts_any_content(content: Content) -> bool
+    ensures { result ≡ true → (h : ContentModel) → models.content_model h content ≡ models.any_content }
+{
+    matches!(
+        content,
+        Content::BlockQuote
+            | Content::CodeIndented
+            | Content::CodeText
+            | Content::Emphasis
+            | Content::Frontmatter
+            | Content::Strikethrough
+            | Content::Table
+            | Content::TableRow
+            | Content::TableCell
+            | Content::Html
+            | Content::ListUnordered
+            | Content::MathText
+            | Content::Strong
+    )
+}
+
+/// Whether a part is the text of the nodes in it.
+fn is_text(part: Part) -> bool
+    ensures { result ≡ true → (h : ContentModel) → models.part_model h part ≡ models.any_content }
+{
+    matches!(
+        part,
+        Part::CodeFencedFenceInfo
+            | Part::CodeFencedFenceMeta
+            | Part::DefinitionDestinationString
+            | Part::DefinitionLabelString
+            | Part::DefinitionTitleString
+            | Part::FootnoteDefinitionLabelString
+            | Part::LabelText
+            | Part::MathFlowFenceMeta
+            | Part::ReferenceString
+            | Part::ResourceDestinationString
+            | Part::ResourceTitleString
+    )
 }
 
 /// Whether content is a leaf, which does not depend on the container.

@@ -1,6 +1,10 @@
 pub mod Contents
 pub mod Found
 pub mod Labels
+pub mod Lanes
+pub mod PlainBytes
+pub mod PlainData
+pub mod PlainLiterals
 pub mod Outputs
 pub mod Parts
 pub mod Ranges

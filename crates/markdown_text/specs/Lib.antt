@@ -7,6 +7,7 @@ pub mod Texts
 pub mod Tokens
 pub mod Standings
 pub mod Opens
+pub mod Plain
 pub mod Tasks
 pub mod Addresses
 pub mod Spans

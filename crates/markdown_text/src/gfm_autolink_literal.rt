@@ -59,7 +59,7 @@ fn may_follow(before: &[u8]) -> bool
 }
 
 /// Whether a byte may come before a literal.
-fn may_come_before(byte: u8) -> bool
+pub fn may_come_before(byte: u8) -> bool
     ensures { result ≡ may_come_before byte }
 {
     is_white_space(byte) || matches!(byte, b'*' | b'_' | b'~' | b'(')

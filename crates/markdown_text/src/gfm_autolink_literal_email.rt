@@ -74,6 +74,9 @@ fn find(text: &[u8]) -> Option<Address>
     ensures address { IfSome result (λ address. IsAddress text.now address) }
     ensures exact { MatchOption result (HasNoLiteral text.now) (λ address. IsFirstAddress text.now address) }
 {
+    if !text.contains(&b'@') {
+        return None;
+    }
     let literal = email_literal::find(text)?;
     Some(Address {
         name: name_of(literal.kind),

@@ -31,6 +31,7 @@ mod label_start_image;
 mod label_start_link;
 mod output;
 mod pieces;
+mod plain;
 mod raw_text;
 mod reference;
 mod resource;

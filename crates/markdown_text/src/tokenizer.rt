@@ -1,6 +1,6 @@
 //! The first pass over a text: the constructs in it, in order.
 
-ghost use Rattle.std.specs.Prelude.{List, None, Some, [], false, true, ◌≡◌, ◌≢◌, ◌<◌, ◌≤◌, ◌+◌, ◌-◌, ◌⊎◌, length, IfOk, IfSome, IsFalse, IsTrue, MatchOption, OnOk};
+ghost use Rattle.std.specs.Prelude.{Bool, List, None, Some, [], false, true, ◌≡◌, ◌≢◌, ◌<◌, ◌≤◌, ◌+◌, ◌-◌, ◌⊎◌, length, IfOk, IfSome, MatchOption, OnOk, ℕ};
 ghost use Rattle.std.proofs.Props.{props};
 ghost use Rattle.commonmark_syntax.specs.HtmlTags.{AreMissing};
 ghost use Rattle.commonmark_syntax.specs.Strings.{AreLast};
@@ -22,6 +22,7 @@ use crate::brackets::{Bracket, Brackets, LabelForm};
 use crate::cursor::Cursor;
 use crate::delimiter_run::{is_delimiter_run, run_at};
 use crate::label_end::{self, Match};
+use crate::plain::plain_length;
 use crate::source::Source;
 use crate::token::{Found, Labelled, Token, TokenKind};
 use crate::{
@@ -30,7 +31,6 @@ use crate::{
     label_start_image, label_start_link, raw_text,
 };
 use character_references::references::References;
-use commonmark_syntax::bytes::{after, count_while};
 use commonmark_syntax::code_span::LastStrings;
 use commonmark_syntax::html_tag::MissingEnds;
 use markdown_attention::delimiter::Delimiter;
@@ -232,7 +232,7 @@ impl<'c, R: References> Tokenizer<'c, R> {
             b'$' => self.math_text(cursor),
             b'<' => Ok(self.angle_bracket(cursor)),
             b'f' | b'F' | b'h' | b'H' | b'w' | b'W' => Ok(self.autolink_literal(cursor)),
-            _ => Ok(data(cursor)),
+            _ => Ok(data(cursor, self.constructs().gfm_autolink_literal)),
         }
     }
 
@@ -489,12 +489,12 @@ impl<'c, R: References> Tokenizer<'c, R> {
         ensures later { HasNoLaterMarker cursor.entry.content.now cursor.entry.at result }
     {
         if !self.constructs().gfm_autolink_literal {
-            return data(cursor);
+            return data(cursor, false);
         }
         let in_bracket = self.brackets.are_open();
         match gfm_autolink_literal::scan(cursor, in_bracket, &mut self.refused) {
             Some(found) => found,
-            None => data(cursor),
+            None => data(cursor, true),
         }
     }
 }
@@ -510,41 +510,14 @@ fn set_label(tokens: &mut Vec<Token>, bracket: &Bracket, labelled: Labelled)
     tokens[bracket.token].kind = TokenKind::LabelStart(Some(labelled));
 }
 
-/// Returns the data at the cursor, up to a byte that may begin something.
-fn data(cursor: Cursor<'_>) -> Found
+/// Returns the data at the cursor, up to a byte that may begin something. With `literals`, an
+/// extended autolink is something.
+fn data(cursor: Cursor<'_>, literals: bool) -> Found
     requires { byte_at cursor ≢ 10 }
     ensures kind { result.kind ≡ None }
     ensures found { IsFound (bare cursor.entry.content.now) result.kind cursor.entry.at (cursor.entry.at + result.size) }
     ensures later { HasNoLaterMarker cursor.entry.content.now cursor.entry.at result }
+    ensures literals { literals ≡ true → (in_bracket : Bool) → (k : ℕ) → cursor.entry.at < k → k < cursor.entry.at + result.size → HasNoExtendedAutolink in_bracket cursor.entry.content.now k }
 {
-    Found::data(1 + count_while(after(cursor.content, cursor.at + 1), is_plain))
-}
-
-/// Whether a byte begins nothing.
-fn is_plain(byte: u8) -> bool
-    ensures line { IsTrue result → byte ≢ 10 }
-    ensures ascii { IsFalse result → byte < 128 }
-    ensures marker { IsTrue result → IsMarker byte → ⊥ }
-{
-    !matches!(
-        byte,
-        b'\n'
-            | b'\\'
-            | b'&'
-            | b'`'
-            | b'$'
-            | b'*'
-            | b'_'
-            | b'~'
-            | b'<'
-            | b'!'
-            | b'['
-            | b']'
-            | b'f'
-            | b'F'
-            | b'h'
-            | b'H'
-            | b'w'
-            | b'W'
-    )
+    Found::data(1 + plain_length(cursor.rest(), literals))
 }

@@ -224,11 +224,26 @@ impl<'a> Context<'a> {
         ensures { OnOk result ((s : Source) → (point : Point) → first_failing (enter_checks s (top_of self.old) what point) ≡ None
             → OpenedContainer s what point self.old self.new) }
     {
-        // Most containers keep no parts. If that is known, no space for parts is moved.
-        match self.containers.innermost().container.opened(what) {
-            Container::AnyContent => self.put(alloc, what, Container::AnyContent),
-            container => self.put(alloc, what, container),
+        if self
+            .containers
+            .innermost()
+            .container
+            .opens_any_content(what)
+        {
+            return self.put(alloc, what, Container::AnyContent);
         }
+        self.open_with_parts(alloc, what)
+    }
+
+    /// Does the same for a container that may keep parts. Also not inlined.
+    #[inline(never)]
+    fn open_with_parts(&mut self, alloc: Global, what: ItemKind) -> Result<(), AllocError>
+        requires { model_of (current_model_of (innermost self.old.containers).container) what ≢ leaf }
+        ensures { OnOk result ((s : Source) → (point : Point) → first_failing (enter_checks s (top_of self.old) what point) ≡ None
+            → OpenedContainer s what point self.old self.new) }
+    {
+        let container = self.containers.innermost().container.opened(what);
+        self.put(alloc, what, container)
     }
 
     /// Opens a container in the innermost one, with no nodes in it.

@@ -10,7 +10,7 @@ use std::alloc::{AllocError, Global};
 use std::io::IsTerminal;
 
 /// The version of the program, and the kit that proves it.
-const VERSION: &str = "0.1.0 (rattle-kit-13b logic dac8208d650f15bf)";
+const VERSION: &str = "0.1.0 (rattle-kit-13f logic dac8208d650f15bf)";
 
 /// The width of a terminal that does not report one.
 const TERMINAL_WIDTH: usize = 80;

@@ -1,9 +1,8 @@
-use Rattle.std.proofs.Common.{None, ap, arith, refl, rules, slice_index, subst, sym, ◌+◌, ℕ}
-use Rattle.commonmark_syntax.specs.Cuts.{IsInLine}
+use Rattle.std.proofs.Common.{None, ap, arith, ◌+◌, ℕ}
 use Rattle.markdown_text.proofs.AttentionRuns.{later_of}
 use Rattle.markdown_text.proofs.Found.{found_as}
-use Rattle.markdown_text.proofs.Parts.{line_first, part_after_two}
-use Rattle.markdown_text.specs.Constructs.{IsMarker}
+use Rattle.markdown_text.proofs.PlainData.{no_markers, plain_part}
+use Rattle.markdown_text.proofs.PlainLiterals.{no_literals}
 use Rattle.markdown_text.specs.Texts.{bare}
 use Rattle.markdown_text.proofs.tokenizer.data.Goals as goal
 
@@ -11,17 +10,18 @@ pub returns-clause-found : goal.returns-clause-found
 returns-clause-found c =
     let cursor = c.args.cursor in
     let bytes = cursor.content.now in
-    let count = c.count_while.result in
-    let within = cursor.within in
-    let most = c.count_while.ensures.most in
-    let rest = c.after.ensures.length in
-    let later = subst (λ xs. IsInLine xs count) c.after.ensures.rest (c.count_while.ensures.in_line (search rules)) in
-    let part = part_after_two bytes cursor.at 1 count (omega (arith, most, rest, within)) cursor.cut (line_first bytes cursor.at c.requires) later (search rules) in
+    let plain = c.plain_length.ensures in
+    let count = c.plain_length.result in
+    let part = plain_part bytes c.rest.result.now c.args.literals cursor.at count c.rest.ensures.rest plain.plain cursor.cut c.requires plain.within plain.ascii in
     found_as (bare bytes) c.data.result.kind None cursor.at (cursor.at + c.data.result.size) (cursor.at + (1 + count)) c.data.ensures.kind (ap (λ (n : ℕ). cursor.at + n) c.data.ensures.size) part
 
 pub returns-clause-later : goal.returns-clause-later
 returns-clause-later c =
     let cursor = c.args.cursor in
-    let bytes = cursor.content.now in
-    let rest = c.after.ensures.rest in
-    later_of bytes cursor.at c.count_while.result c.data.result (λ i less marker. (let plain = c.count_while.ensures.counted i less in plain.1.1 refl (subst (λ xs. IsMarker (slice_index xs i)) (sym rest) marker))) c.data.ensures.size
+    later_of cursor.content.now cursor.at c.plain_length.result c.data.result (no_markers cursor.content.now c.rest.result.now c.args.literals cursor.at c.plain_length.result c.rest.ensures.rest c.plain_length.ensures.plain) c.data.ensures.size
+
+pub returns-clause-literals : goal.returns-clause-literals
+returns-clause-literals c = λ on in_bracket k more less.
+    let cursor = c.args.cursor in
+    let plain = c.plain_length.ensures in
+    no_literals cursor.content.now c.rest.result.now c.args.literals cursor.at c.plain_length.result c.rest.ensures.rest plain.within on plain.plain in_bracket k more (omega (arith, less, c.data.ensures.size))

@@ -1,10 +1,10 @@
-use Rattle.markdown.proofs.HiddenSoFar.{or-left, or-right}
+use Rattle.std.proofs.Common.{refl}
+use Rattle.markdown.proofs.Plainly.{enters}
 use Rattle.markdown.proofs.hiding.Hiding.enter.Goals as goal
 
-pub returns-in-Some : goal.returns-in-Some
-returns-in-Some c bytes = record {
-  cell = c.cell_entered-self.ensures;
-  before = λ shown. or-left c.args.self.now.hides c.marks_quote.result shown;
-  labels = λ shown. c.in-Some.ensures.1;
-  none = λ shown. c.marks_quote.ensures (or-right c.args.self.now.hides c.marks_quote.result shown) bytes c.args.self.now.cell c.args.at.now.index;
-}
+pub returns-else-not-is_plain : goal.returns-else-not-is_plain
+returns-else-not-is_plain c bytes =
+    let old = c.args.self.now in
+    let plain = c.if-not-is_plain.ensures in
+    let index = c.args.at.now.index in
+    enters bytes c.args.name index old (plain.label refl) (plain.cell refl old.cell index) (plain.enter refl bytes old.labels old.cell index)

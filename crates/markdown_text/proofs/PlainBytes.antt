@@ -1,0 +1,65 @@
+-- Plain bytes of a text, from those of its parts.
+use Rattle.std.proofs.Common.{◌≡◌, ℕ, ◌+◌, ◌-◌, ◌<◌, Bool, cond, false, true, ◌&&◌, ◌||◌, List, drop, length, slice_index, subst, take, inl, inr, ap, ◌∙◌, arith, refl, max, min}
+use Rattle.std.proofs.lemmas.Bool.{cases_lt}
+use Rattle.std.proofs.lemmas.List.{get_or-drop, length-drop}
+use Rattle.std.proofs.Math.Seq.{take-length}
+
+-- the bytes from a place on
+pub rest_at : (bytes : List ℕ) (at k : ℕ) → slice_index (take (length bytes - at) (drop at bytes)) k ≡ slice_index bytes (at + k)
+rest_at bytes at k =
+    let whole = ap (λ n. take n (drop at bytes)) (omega (arith, length-drop at bytes)) ∙ take-length (drop at bytes) in
+    ap (λ rest. slice_index rest k) whole ∙ get_or-drop at bytes k 0
+
+pub byte_of : (bytes rest : List ℕ) (at k : ℕ) → rest ≡ drop at bytes → slice_index rest k ≡ slice_index bytes (at + k)
+byte_of bytes rest at k is = ap (λ (x : List ℕ). slice_index x k) is ∙ get_or-drop at bytes k 0
+
+-- what is true of neighbours up to a place, and of those after it
+pub joined : (P : ℕ → ℕ → Type 0) (bytes : List ℕ) (at size : ℕ) → ((k : ℕ) → k < at → P (slice_index bytes k) (slice_index bytes (k + 1)))
+    → ((k : ℕ) → k < size → P (slice_index (take (length bytes - at) (drop at bytes)) k) (slice_index (take (length bytes - at) (drop at bytes)) (k + 1)))
+    → (k : ℕ) → k < at + size → P (slice_index bytes k) (slice_index bytes (k + 1))
+joined P bytes at size before after k below =
+    elim (cases_lt k at) [
+      | inl less ↦ before k less
+      | inr more ↦
+          let back : at + (k - at) ≡ k = omega arith in
+          let after_back : at + (k - at + 1) ≡ k + 1 = omega (arith, more) in
+          let here = rest_at bytes at (k - at) ∙ ap (slice_index bytes) back in
+          let next = rest_at bytes at (k - at + 1) ∙ ap (slice_index bytes) after_back in
+          subst (λ x. P x (slice_index bytes (k + 1))) here (subst (P (slice_index (take (length bytes - at) (drop at bytes)) (k - at))) next (after (k - at) (omega arith)))
+    ]
+
+-- the bytes after the first
+pub after_first : (bytes : List ℕ) (k : ℕ) → slice_index (take (length bytes - 1) (drop 1 bytes)) k ≡ slice_index bytes (k + 1)
+after_first bytes k = rest_at bytes 1 k ∙ ap (slice_index bytes) (omega arith)
+
+-- the bit of a byte where a construct may begin
+pub with_literals : (a b d : Bool) → max (cond a 1 0) (min (cond b 1 0) (cond d 1 0)) ≡ cond (a || (true && (b && d))) 1 0
+with_literals true true true = refl
+with_literals true true false = refl
+with_literals true false true = refl
+with_literals true false false = refl
+with_literals false true true = refl
+with_literals false true false = refl
+with_literals false false true = refl
+with_literals false false false = refl
+
+pub without_literals : (a b : Bool) → ◌≡◌ {A = ℕ} (cond a 1 0) (cond (a || (false && b)) 1 0)
+without_literals true b = refl
+without_literals false b = refl
+
+-- what a bit says
+pub set : (a : Bool) → ◌≡◌ {A = ℕ} (cond a 1 0) 1 → a ≡ true
+set true is = refl
+set false is = absurd (omega (arith, is))
+
+pub unset : (a : Bool) → ◌≡◌ {A = ℕ} (cond a 1 0) 0 → a ≡ false
+unset true is = absurd (omega (arith, is))
+unset false is = refl
+
+-- what is true below a place, and at it
+pub one_more : (P : ℕ → Type 0) (n : ℕ) → ((k : ℕ) → k < n → P k) → P n → (k : ℕ) → k < n + 1 → P k
+one_more P n below here k less =
+    elim (cases_lt k n) [
+      | inl earlier ↦ below k earlier
+      | inr later ↦ let same : n ≡ k = omega (arith, less, later) in subst P same here
+    ]
