@@ -169,7 +169,7 @@ fn labels_left(labels: usize, name: Name) -> usize
 }
 
 /// Whether a text has a backslash before a pipe.
-fn has_escape(text: &[u8]) -> bool
+pub(crate) fn has_escape(text: &[u8]) -> bool
     ensures { result ≡ false → (at : ℕ) → escapes at text.now ≡ [] }
 {
     let mut rest = text;

@@ -17,6 +17,7 @@ ghost use Rattle.markdown_events.specs.declared.message.Message.{Message};
 
 use crate::events::recorded;
 use crate::hidden::hidden_bytes;
+use crate::hiding::has_escape;
 use crate::tree_sink::TreeSink;
 use character_references::html::HtmlReferences;
 use event_writer::laws::{no_message_comes, offsets_never_go_back};
@@ -53,13 +54,24 @@ pub fn to_mdast(alloc: Global, value: &str, options: &ParseOptions) -> Result<No
 {
     let bytes = value.as_bytes();
     let blocks = read(alloc, bytes, options)?;
-    let sink = TreeSink::new(alloc, bytes)?;
-    let sink = recorded(alloc, bytes, options, &blocks, sink)?;
-    if sink.hides() {
-        let events = recorded(alloc, bytes, options, &blocks, Vec::new(alloc))?;
-        return tree_of(alloc, value, &events);
+    if !expects_hidden(bytes, options) {
+        let sink = TreeSink::new(alloc, bytes)?;
+        let sink = recorded(alloc, bytes, options, &blocks, sink)?;
+        if !sink.hides() {
+            return shown_tree(sink);
+        }
     }
-    shown_tree(sink)
+    let events = recorded(alloc, bytes, options, &blocks, Vec::new(alloc))?;
+    tree_of(alloc, value, &events)
+}
+
+/// Whether a document has a backslash before a pipe, and tables are on. In a table that backslash is
+/// hidden. A tree that is built as if no byte were hidden would then be built in vain.
+fn expects_hidden(bytes: &[u8], options: &ParseOptions) -> bool {
+    options.constructs.gfm_table
+        && bytes.contains(&b'|')
+        && bytes.contains(&b'\\')
+        && has_escape(bytes)
 }
 
 /// Returns the tree that a sink has built, if its events hide no byte.
