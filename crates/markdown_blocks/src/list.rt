@@ -16,6 +16,7 @@ ghost use Rattle.markdown_grammar.specs.declared.error_kind.ErrorKind.TheVariant
 ghost use Rattle.markdown_nodes.specs.Tree as tree;
 ghost use Rattle.markdown_nodes.specs.View.{view, views};
 
+use crate::parent::settled;
 use crate::task::trim;
 use markdown_grammar::error_kind::{ErrorKind, Stop};
 use markdown_nodes::count::Count;
@@ -222,7 +223,7 @@ fn list(
     ensures { view result ≡ placed (tree.list ordered start spread) (views children.items) position }
 {
     Node::List(List {
-        children,
+        children: settled(children),
         position: Some(position),
         ordered,
         start,

@@ -33,11 +33,21 @@ pub fn is_parent(content: Content) -> bool
     )
 }
 
+/// Returns the children of a node in a list without room for more.
+pub(crate) fn settled(children: Vec<Node>) -> Vec<Node>
+    ensures { result.items ≡ children.items }
+{
+    let mut children = children;
+    children.shrink_to_fit();
+    children
+}
+
 /// Returns the node of a span whose node has children and no other fields.
 pub fn parent(content: Content, children: Vec<Node>, position: Position) -> Node
     requires { is_parent content ≡ true }
     ensures { view result ≡ placed (parent_label content) (views children.items) position }
 {
+    let children = settled(children);
     let position = Some(position);
     match content {
         Content::BlockQuote => Node::Blockquote(Blockquote { children, position }),
