@@ -5,7 +5,7 @@ ghost use Rattle.event_writer.specs.Calls.{CanReach, EndsLine, IsLineStart};
 ghost use Rattle.event_writer.specs.Places.{IsPlace};
 ghost use Rattle.event_writer.specs.Tilings.{IsBefore, origin};
 
-use crate::places::{line_start, plain_to, point_at};
+use crate::places::{line_start, plain_to, point_at, reached};
 use markdown_events::event::Point;
 use std::alloc::AllocError;
 use std::marker::Model;
@@ -90,6 +90,24 @@ impl<'d> Cursor<'d> {
             self.plain_to = plain_to(self.bytes, self.at.index);
         }
         point_at(self.bytes, self.at, to, virtual_spaces, self.plain_to)
+    }
+
+    /// Returns the point that [`point_at`](Cursor::point_at) finds, where there is one.
+    ///
+    /// At the start of `Hi`, for offset 2 it is 1:3.
+    #[inline(always)]
+    pub fn reached(&mut self, to: usize, virtual_spaces: usize) -> Point
+        requires reach { CanReach self.old.bytes self.old.at to virtual_spaces }
+        ensures same { self.new ≡ self.old }
+        ensures place { IsPlace self.old.bytes result }
+        ensures order { IsBefore self.old.at result }
+        ensures index { result.index ≡ to }
+        ensures virtual_spaces { result.vs ≡ virtual_spaces }
+    {
+        if self.plain_to < to {
+            self.plain_to = plain_to(self.bytes, self.at.index);
+        }
+        reached(self.bytes, self.at, to, virtual_spaces, self.plain_to)
     }
 
     /// Returns the start of the next line, if the line ends here.

@@ -160,6 +160,37 @@ pub fn point_at(
     })
 }
 
+/// Returns the point that [`point_at`] finds, where there is one.
+///
+/// In `Hi`, from the first byte to offset 2, it is 1:3.
+#[inline(always)]
+pub fn reached(
+    bytes: &[u8],
+    from: Point,
+    to: usize,
+    virtual_spaces: usize,
+    plain_to: usize,
+) -> Point
+    requires place { IsPlace bytes.now from }
+    requires short { length bytes.now < 2 ^ 61 }
+    requires plain { IsPlain bytes.now from.index plain_to }
+    requires reach { CanReach bytes.now from to virtual_spaces }
+    ensures place { IsPlace bytes.now result }
+    ensures order { IsBefore from result }
+    ensures index { result.index ≡ to }
+    ensures virtual_spaces { result.vs ≡ virtual_spaces }
+{
+    let Some(column) = column_of(bytes, from, to, plain_to) else {
+        unreachable!()
+    };
+    Point {
+        line: from.line,
+        column: column + virtual_spaces,
+        index: to,
+        vs: virtual_spaces,
+    }
+}
+
 /// Returns the length in bytes of the line ending at an offset: two for a carriage return before a
 /// line feed, and zero if no line ends there (CommonMark, line endings).
 ///

@@ -160,10 +160,8 @@ impl<'d, R: References, S: Sink> Recorder<'d, R, S> {
         ensures written { OnOk result (AfterToken name self.old.spans self.new.spans) }
         ensures same { OnErr result (self.new ≡ self.old) }
     {
-        match self.cursor.point_at(to, virtual_spaces) {
-            Some(end) => self.write(name, end),
-            None => unreachable!(),
-        }
+        let end = self.cursor.reached(to, virtual_spaces);
+        self.write(name, end)
     }
 
     /// Writes the line ending at the cursor as a token of this name: a line feed, a carriage
@@ -188,6 +186,7 @@ impl<'d, R: References, S: Sink> Recorder<'d, R, S> {
     }
 
     /// Writes a token from the cursor to a point.
+    #[inline(always)]
     fn write(&mut self, name: Name, end: Point) -> Result<(), AllocError>
         requires place { IsPlace self.old.given.bytes end }
         requires order { IsBefore self.old.cursor end }

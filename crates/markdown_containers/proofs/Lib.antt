@@ -4,3 +4,4 @@ pub mod LeafEnds
 pub mod PartEnds
 pub mod Stopping
 pub mod Kept
+pub mod Removed

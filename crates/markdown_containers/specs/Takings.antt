@@ -38,15 +38,15 @@ use Rattle.markdown_containers.specs.declared.open_container.Ending.{Ending}
 use Rattle.markdown_containers.specs.declared.open_container.OpenContainer.{OpenContainer}
 
 -- a leaf is added or refused; a break may be pending before it and after it
-abbrev pub TakesLeaf : {X : Type 0} → Source → ItemKind → Ending → Option Position → OpenContainer → Option Position → OpenContainer → Result X Stop → Type 0
-TakesLeaf s what ending pending old after_break new result =
-    (children : ChildFacts) (place : Place) → Gives (λ _. container_state_of ending.in_table after_break new) ending.end result
-    (leave s what ending.start ending.end children (fresh leaf place) (container_state_of ending.in_table pending old))
+abbrev pub TakesLeaf : {X : Type 0} → Source → ItemKind → Point → Point → Option Position → OpenContainer → Option Position → OpenContainer → Result X Stop → Type 0
+TakesLeaf s what start end pending old after_break new result =
+    (in_table : Bool) (children : ChildFacts) (place : Place) → Gives (λ _. container_state_of in_table after_break new) end result
+    (leave s what start end children (fresh leaf place) (container_state_of in_table pending old))
 
 -- a leaf is added or refused, whatever the decoder knows
-abbrev pub TakesAnyLeaf : {X : Type 0} → Given → ItemKind → Ending → Option Position → OpenContainer → Option Position → OpenContainer → Result X Stop → Type 0
-TakesAnyLeaf given what ending pending old after_break new result =
-    (text : List ℕ → ℕ → Option (List ℕ)) → TakesLeaf (source_of given text) what ending pending old after_break new result
+abbrev pub TakesAnyLeaf : {X : Type 0} → Given → ItemKind → Point → Point → Option Position → OpenContainer → Option Position → OpenContainer → Result X Stop → Type 0
+TakesAnyLeaf given what start end pending old after_break new result =
+    (text : List ℕ → ℕ → Option (List ℕ)) → TakesLeaf (source_of given text) what start end pending old after_break new result
 
 -- a part that contained content is added or refused, with these nodes
 abbrev pub TakesText : {X : Type 0} → Given → Part → Trees → Ending → OpenContainer → OpenContainer → Result X Stop → Type 0

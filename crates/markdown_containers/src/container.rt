@@ -91,7 +91,19 @@ pub enum Container<'a> {
 
 impl<'a> Container<'a> {
     /// Returns the rule that this item would violate here, if any.
+    #[inline(always)]
     pub fn misfit(&self, what: ItemKind) -> Option<ErrorKind>
+        ensures { result ≡ misfit_of self.now what }
+    {
+        match (self, what) {
+            (Container::AnyContent, ItemKind::Content(_)) => None,
+            _ => self.misfit_of_any(what),
+        }
+    }
+
+    /// Does the same, and is not inlined: most items are content where any content is accepted.
+    #[inline(never)]
+    fn misfit_of_any(&self, what: ItemKind) -> Option<ErrorKind>
         ensures { result ≡ misfit_of self.now what }
     {
         match self {
@@ -125,6 +137,7 @@ impl<'a> Container<'a> {
 impl<'a> Container<'a> {
     /// Whether this container takes a span as a leaf, which contains no items. A fence after the
     /// first is one.
+    #[inline(always)]
     pub fn takes_as_leaf(&self, what: ItemKind) -> bool
         ensures leaf { result ≡ true → models.model_of (current_model_of self.now) what ≡ models.leaf }
         ensures container { result ≡ false → models.model_of (current_model_of self.now) what ≢ models.leaf }

@@ -1,6 +1,6 @@
 //! An open span with the nodes made in it, and what it takes at the exit of each span in it.
 
-ghost use Rattle.std.specs.Prelude.{◌≡◌, ◌≢◌, ◌≤◌, ◌+◌, ◌&&◌, ◌||◌, IfOk, None, Ok, OnOk, Option, Some, false, is_some, not, true};
+ghost use Rattle.std.specs.Prelude.{[], ◌≡◌, ◌≢◌, ◌≤◌, ◌+◌, ◌∷◌, ◌++◌, ◌&&◌, ◌||◌, IfOk, None, Ok, OnOk, Option, Some, false, is_some, not, true};
 ghost use Rattle.markdown_blocks.specs.Parents.{is_parent};
 ghost use Rattle.markdown_containers.specs.Containers.{
   current_model_of,
@@ -28,6 +28,7 @@ ghost use Rattle.markdown_containers.specs.Takings.{
 };
 ghost use Rattle.markdown_blocks.specs.Columns.{columns_of};
 ghost use Rattle.markdown_containers.specs.declared.container.Container.TheVariants as containers;
+ghost use Rattle.markdown_containers.specs.declared.open_container.OpenContainer.{OpenContainer};
 ghost use Rattle.markdown_events.specs.declared.role.Content.TheVariants as contents;
 ghost use Rattle.markdown_events.specs.declared.role.ItemKind.TheVariants as item_kinds;
 ghost use Rattle.markdown_events.specs.declared.role.Part.TheVariants as parts;
@@ -66,6 +67,7 @@ use markdown_parts::marks::Marks;
 use markdown_parts::nest::Nest;
 use markdown_parts::slice::{Document, byte_at, position_of};
 use std::alloc::{AllocError, Global};
+use std::mem;
 
 /// An open significant span that is not a leaf, or the root, with the nodes made in it so far.
 #[derive(Drop)]
@@ -90,6 +92,7 @@ pub struct Ending {
 impl<'a> OpenContainer<'a> {
     /// Takes a leaf that has ended. `pending` is the break that waits for its line ending, if there
     /// is one.
+    #[inline(always)]
     pub fn take_leaf<R: References>(
         &mut self,
         pending: &mut Option<Position>,
@@ -97,129 +100,140 @@ impl<'a> OpenContainer<'a> {
         document: &Document<'a>,
         references: &R,
         what: ItemKind,
-        ending: Ending,
+        start: &Point,
+        end: &Point,
     ) -> Result<(), Stop>
         requires leaf { models.model_of (current_model_of self.old.container) what ≡ models.leaf }
         requires fits { misfit_of self.old.container what ≡ None }
         requires waits { (not (is_some pending.old) || is_line_ending what) ≡ true }
-        ensures { TakesLeaf (source_of document.now (R.text references.now)) what ending pending.old self.old pending.new self.new result }
+        ensures { TakesLeaf (source_of document.now (R.text references.now)) what start.now end.now pending.old self.old pending.new self.new result }
     {
         match what {
             ItemKind::Content(content) => {
-                self.take_leaf_content(pending, alloc, document, content, ending)
+                self.take_leaf_content(pending, alloc, document, content, start, end)
             }
-            ItemKind::Part(part) => self.take_leaf_part(alloc, document, references, part, ending),
+            ItemKind::Part(part) => self.take_leaf_part(
+                alloc, document, references, part, start, end,
+            ),
         }
     }
 
     /// Takes content that is a leaf, and becomes nodes.
+    #[inline(always)]
     fn take_leaf_content(
         &mut self,
         pending: &mut Option<Position>,
         alloc: Global,
         document: &Document<'_>,
         content: Content,
-        ending: Ending,
+        start: &Point,
+        end: &Point,
     ) -> Result<(), Stop>
         requires leaf { models.content_model (current_model_of self.old.container) content ≡ models.leaf }
         requires waits { (not (is_some pending.old) || is_line_ending (item_kinds.Content content)) ≡ true }
-        ensures { TakesAnyLeaf document.now (item_kinds.Content content) ending pending.old self.old pending.new self.new result }
+        ensures { TakesAnyLeaf document.now (item_kinds.Content content) start.now end.now pending.old self.old pending.new self.new result }
     {
         match content {
-            Content::Data => self.take_data(alloc, document, ending),
+            Content::Data => self.take_data(alloc, document, start, end),
             Content::AutolinkLiteralEmail
             | Content::AutolinkLiteralWww
-            | Content::AutolinkLiteralWhole => self.take_literal(alloc, document, content, ending),
-            Content::ThematicBreak => self.take_thematic_break(ending),
+            | Content::AutolinkLiteralWhole => self.take_literal(
+                alloc, document, content, start, end,
+            ),
+            Content::ThematicBreak => self.take_thematic_break(start, end),
             Content::HardBreak => {
-                *pending = Some(position_of(ending.start, ending.end));
+                *pending = Some(position_of(*start, *end));
                 Ok(())
             }
-            Content::LineEnding => self.take_line_ending(pending, alloc, document, ending),
+            Content::LineEnding => self.take_line_ending(pending, alloc, document, start, end),
             _ => unreachable!(),
         }
     }
 
     /// Takes a part that is a leaf. The container keeps what it needs of it.
+    #[inline(never)]
     fn take_leaf_part<R: References>(
         &mut self,
         alloc: Global,
         document: &Document<'a>,
         references: &R,
         part: Part,
-        ending: Ending,
+        start: &Point,
+        end: &Point,
     ) -> Result<(), Stop>
         requires leaf { models.part_model (current_model_of self.old.container) part ≡ models.leaf }
         requires fits { misfit_of self.old.container (item_kinds.Part part) ≡ None }
-        ensures { TakesLeaf (source_of document.now (R.text references.now)) (item_kinds.Part part) ending None self.old None self.new result }
+        ensures { TakesLeaf (source_of document.now (R.text references.now)) (item_kinds.Part part) start.now end.now None self.old None self.new result }
     {
-        let taken = self.container.take_leaf_part(
-            alloc,
-            document,
-            references,
-            part,
-            ending.start,
-            ending.end,
-        );
+        let taken = self
+            .container
+            .take_leaf_part(alloc, document, references, part, *start, *end);
         self.line_endings = has_line_endings_after(part, self.line_endings);
         taken
     }
 
     /// Takes a run of characters, which becomes a text.
+    #[inline(never)]
     fn take_data(
         &mut self,
         alloc: Global,
         document: &Document<'_>,
-        ending: Ending,
+        start: &Point,
+        end: &Point,
     ) -> Result<(), Stop>
-        ensures { TakesAnyLeaf document.now (item_kinds.Content contents.Data) ending None self.old None self.new result }
+        ensures { TakesAnyLeaf document.now (item_kinds.Content contents.Data) start.now end.now None self.old None self.new result }
     {
-        put_slice(alloc, &mut self.nodes, document, ending.start, ending.end)
+        put_slice(alloc, &mut self.nodes, document, *start, *end)
     }
 
     /// Takes an autolink literal, which becomes a link.
+    #[inline(never)]
     fn take_literal(
         &mut self,
         alloc: Global,
         document: &Document<'_>,
         content: Content,
-        ending: Ending,
+        start: &Point,
+        end: &Point,
     ) -> Result<(), Stop>
         requires { is_literal content ≡ true }
-        ensures { TakesAnyLeaf document.now (item_kinds.Content content) ending None self.old None self.new result }
+        ensures { TakesAnyLeaf document.now (item_kinds.Content content) start.now end.now None self.old None self.new result }
     {
-        let node = literal(alloc, document, content, ending.start, ending.end)?;
+        let node = literal(alloc, document, content, *start, *end)?;
         put(&mut self.nodes, node)?;
         Ok(())
     }
 
     /// Takes a thematic break.
-    fn take_thematic_break(&mut self, ending: Ending) -> Result<(), Stop>
-        ensures { (s : Source) → TakesLeaf s (item_kinds.Content contents.ThematicBreak) ending None self.old None self.new result }
+    #[inline(never)]
+    fn take_thematic_break(&mut self, start: &Point, end: &Point) -> Result<(), Stop>
+        ensures { (s : Source) → TakesLeaf s (item_kinds.Content contents.ThematicBreak) start.now end.now None self.old None self.new result }
     {
-        let position = position_of(ending.start, ending.end);
+        let position = position_of(*start, *end);
         put(&mut self.nodes, thematic_break(position))?;
         Ok(())
     }
 
     /// Takes a line ending. If a break waits for it, it ends the break, which is then a node: in
     /// mdast a break includes its line ending. Otherwise it is text, where line endings are text.
+    #[inline(never)]
     fn take_line_ending(
         &mut self,
         pending: &mut Option<Position>,
         alloc: Global,
         document: &Document<'_>,
-        ending: Ending,
+        start: &Point,
+        end: &Point,
     ) -> Result<(), Stop>
-        ensures { TakesAnyLeaf document.now (item_kinds.Content contents.LineEnding) ending
+        ensures { TakesAnyLeaf document.now (item_kinds.Content contents.LineEnding) start.now end.now
             pending.old self.old pending.new self.new result }
     {
         if let Some(position) = pending.take() {
-            put(&mut self.nodes, hard_break(position, ending.end))?;
+            put(&mut self.nodes, hard_break(position, *end))?;
             return Ok(());
         }
         if self.line_endings {
-            return put_line_ending(alloc, &mut self.nodes, document, ending.start, ending.end);
+            return put_line_ending(alloc, &mut self.nodes, document, *start, *end);
         }
         Ok(())
     }
@@ -308,6 +322,18 @@ pub fn innermost_nodes(containers: Nest<OpenContainer<'_>>) -> Vec<Node>
     ensures { result ≡ (innermost containers.entry).nodes }
 {
     containers.into_innermost().into_nodes()
+}
+
+/// Removes the last of containers, and returns the nodes made in it. Nothing else of it is moved.
+#[inline(always)]
+pub fn remove_last(alloc: Global, containers: &mut Vec<OpenContainer<'_>>) -> Vec<Node>
+    requires { containers.old.items ≢ [] }
+    ensures { (own : OpenContainer) × (containers.old.items ≡ containers.new.items ++ own ∷ []) × (result ≡ own.nodes) }
+{
+    let count = containers.len() - 1;
+    let nodes = mem::replace(&mut containers[count].nodes, Vec::new(alloc));
+    containers.truncate(count);
+    nodes
 }
 
 impl<'a> OpenContainer<'a> {

@@ -8,3 +8,4 @@ pub mod WholeTexts
 pub mod SliceReads
 pub mod Numbers
 pub mod HiddenWalk
+pub mod Childless

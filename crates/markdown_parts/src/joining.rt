@@ -25,6 +25,7 @@ const CELLS: usize = 4;
 
 /// Reserves room for the first node if there is none, and for a few more if it is a cell, which is
 /// seldom alone in its row.
+#[inline(always)]
 fn first_place(nodes: &mut Vec<Node>, first: &Node) -> Result<(), AllocError>
     ensures { nodes.new.items ≡ nodes.old.items }
 {
@@ -41,6 +42,7 @@ fn first_place(nodes: &mut Vec<Node>, first: &Node) -> Result<(), AllocError>
 /// Appends a node that is not a text. The only error is that memory ran out, as for the other
 /// functions of this crate.
 #[tactic(auto, using(crate::proofs::Views::views_put))]
+#[inline(always)]
 pub fn put(nodes: &mut Vec<Node>, node: Node) -> Result<(), AllocError>
     requires { is_text (view node).label ≡ false }
     ensures { OnOk result (views nodes.new.items ≡ join (views nodes.old.items) (only (view node))) }
@@ -54,6 +56,7 @@ pub fn put(nodes: &mut Vec<Node>, node: Node) -> Result<(), AllocError>
 /// data, references and line endings of one run of characters are one text in mdast.
 ///
 /// After the text `a`, the part `b` makes it `ab`, which ends where the part does.
+#[inline(always)]
 pub fn put_text(
     alloc: Global,
     nodes: &mut Vec<Node>,
@@ -85,6 +88,7 @@ pub fn new_text(alloc: Global, value: &str, position: Position) -> Result<Node, 
 }
 
 /// Appends a part to a text: the position then ends where the part does.
+#[inline(always)]
 fn extend_text(text: &mut Text, part: &str, position: Position) -> Result<(), AllocError>
     ensures { OnOk result (text_node text.new ≡ join (text_node text.old) (one_text part.now position)) }
 {

@@ -3,6 +3,7 @@
 ghost use Rattle.std.specs.Prelude.{◌≡◌, Some};
 ghost use Rattle.std.specs.Option.{option_or};
 ghost use Rattle.markdown_events.specs.Spread.{is_delimiter_marker};
+ghost use Rattle.markdown_events.specs.declared.role.ItemKind.{ItemKind};
 ghost use Rattle.markdown_events.specs.declared.role.ItemKind.TheVariants as item_kinds;
 ghost use Rattle.markdown_events.specs.declared.role.Content.TheVariants as contents;
 ghost use Rattle.markdown_events.specs.declared.role.TransparentKind.TheVariants as transparents;
@@ -120,6 +121,19 @@ impl Marks {
                 self.last = inner.sibling(role);
                 self.first.take(role);
             }
+        }
+    }
+
+    /// Adds one more child, a significant span without children. It says nothing to its siblings.
+    #[inline(always)]
+    #[tactic(auto, using(crate::proofs::Childless::says_nothing))]
+    pub fn add_childless(&mut self)
+        ensures { (what : ItemKind) → marks_of self.new ≡ marks_with (marks_of self.old) (roles.Significant what) no_marks }
+    {
+        self.last_but_one = self.last;
+        self.last = Sibling::Other;
+        if let First::Absent = self.first {
+            self.first = First::Other;
         }
     }
 

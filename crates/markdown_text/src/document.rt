@@ -146,6 +146,7 @@ fn content_kind(name: Option<Name>) -> ContentKind {
 }
 
 /// Writes a content in a span of this name, with the spans in it.
+#[inline(always)]
 fn inlines<'c, 'd, R: References, S: Sink>(
     reading: &'c Reading<'c, R>,
     writer: Recorder<'d, R, S>,
@@ -179,6 +180,7 @@ fn inlines<'c, 'd, R: References, S: Sink>(
 }
 
 /// Writes a content with these bytes.
+#[inline(always)]
 fn inlines_of<'c, 'd, R: References, S: Sink>(
     reading: &'c Reading<'c, R>,
     writer: Recorder<'d, R, S>,

@@ -73,6 +73,7 @@ pub fn write_to_text<'c, R: References, S: Sink>(
 }
 
 /// Writes a piece that is not a text.
+#[inline(always)]
 pub fn write_piece<R: References, S: Sink>(
     writer: &mut Recorder<'_, R, S>,
     piece: &Piece,

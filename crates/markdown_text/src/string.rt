@@ -25,6 +25,7 @@ use markdown_pieces::piece::Piece;
 use std::alloc::AllocError;
 
 /// Writes the spans of a string. `pieces` are those of the block structure.
+#[inline(always)]
 pub fn inlines<'c, 'd, R: References, S: Sink>(
     source: &'c Source<'c, R>,
     writer: Recorder<'d, R, S>,

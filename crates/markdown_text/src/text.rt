@@ -56,6 +56,7 @@ enum Open {
 }
 
 /// Writes the spans of a text. `pieces` are those of the block structure. With `is_task` it may begin with the mark of a task.
+#[inline(always)]
 pub fn inlines<'c, 'd, R: References, S: Sink>(
     source: &'c Source<'c, R>,
     writer: Recorder<'d, R, S>,

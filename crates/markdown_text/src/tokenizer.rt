@@ -132,6 +132,7 @@ impl<'c, R: References> Tokenizer<'c, R> {
     }
 
     /// Adds what was found at the cursor. Data is not kept. The only error is that memory ran out.
+    #[inline(always)]
     fn push(&mut self, cursor: Cursor<'_>, found: Found) -> Result<(), AllocError>
         requires size { found.size ≤ bytes_from cursor }
         requires on { is_found_on self.old.source.now.reading.now.options.constructs found.kind ≡ true }
@@ -152,6 +153,7 @@ impl<'c, R: References> Tokenizer<'c, R> {
 
     /// Returns what begins at the cursor. With `is_task` the text may begin with the mark of a
     /// task. The only error is that memory ran out.
+    #[inline(always)]
     fn find(&mut self, cursor: Cursor<'_>, is_task: bool) -> Result<Found, AllocError>
         requires content { cursor.content.now ≡ self.old.source.now.bytes.now }
         requires wait { Wait self.old.source.now.reading.now.options cursor.content.now self.old.tokens.items cursor.at self.old.attention }
@@ -193,6 +195,7 @@ impl<'c, R: References> Tokenizer<'c, R> {
 
     /// Returns what begins at the cursor, except the mark of a task. The only error is that memory
     /// ran out.
+    #[inline(always)]
     fn scan(&mut self, cursor: Cursor<'_>) -> Result<Found, AllocError>
         requires content { cursor.content.now ≡ self.old.source.now.bytes.now }
         requires wait { Wait self.old.source.now.reading.now.options cursor.content.now self.old.tokens.items cursor.at self.old.attention }
@@ -214,6 +217,7 @@ impl<'c, R: References> Tokenizer<'c, R> {
 
     /// Returns the construct that begins at the cursor, except labels and attention. The only error
     /// is that memory ran out.
+    #[inline(always)]
     fn construct(&mut self, cursor: Cursor<'_>) -> Result<Found, AllocError>
         requires content { cursor.content.now ≡ self.old.source.now.bytes.now }
         ensures found { IfOk result (λ found. IsFound (text_of cursor.entry.content.now (R.text self.old.source.now.reading.now.references.now) false) found.kind cursor.entry.at (cursor.entry.at + found.size)) }

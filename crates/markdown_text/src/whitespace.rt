@@ -34,6 +34,7 @@ pub fn is_white_space(byte: u8) -> bool
 }
 
 /// Returns the white space at the ends of data, given where the data begins and what comes next.
+#[inline(always)]
 pub fn scan(
     text: &[u8],
     kind: ContentKind,

@@ -27,7 +27,9 @@ use Rattle.markdown_parts.specs.PartsSoFar.{first_failing}
 use Rattle.markdown_events.specs.Around.{may_begin, under}
 use Rattle.markdown_steps.specs.Columns.{columns_entered, no_columns}
 use Rattle.markdown_steps.specs.Siblings.{no_marks}
+use Rattle.markdown_parts.specs.declared.marks.First.TheVariants as firsts
 use Rattle.markdown_parts.specs.declared.marks.Marks.{Marks as OpenMarks}
+use Rattle.markdown_parts.specs.declared.marks.Sibling.TheVariants as siblings
 use Rattle.markdown_grammar.specs.Items.{is_line_ending, is_table}
 use Rattle.markdown_grammar.specs.Attributes.{Place, line_ending_is_text}
 use Rattle.markdown_grammar.specs.Refusals.{ErrorAt}
@@ -97,7 +99,7 @@ leaf_no_table h (content contents.Table) e = let z : ⊥ = cc in absurd z
 leaf_no_table h (content c) e = refl
 leaf_no_table h (part q) e = refl
 
-or_false : (b c : Bool) → c ≡ false → (b || c) ≡ b
+pub or_false : (b c : Bool) → c ≡ false → (b || c) ≡ b
 or_false true c h = refl
 or_false false c h = h
 
@@ -189,6 +191,10 @@ enter_free s name role point allowed c is is_allowed free = λ t. cond ((ap (may
 -- the context in a leaf that begins
 abbrev pub in_leaf : ItemKind → Bool → OpenMarks → Context → Context
 in_leaf what in_table inside c = record c { interior = record { around = under c.interior.around (significant what); marks = inside }; is_leaf = true; in_table = in_table }
+
+-- what is known of no children
+abbrev pub unmarked : OpenMarks
+unmarked = record { last = siblings.Other; last_but_one = siblings.Other; first = firsts.Absent; is_loose_item = false; is_loose_list = false }
 
 -- a leaf begins, whose frame is kept outside the stack
 pub leaf_begins : (s : Source) (name : Name) (what : ItemKind) (start : Point) (old : Context) (inside : OpenMarks) (in_table : Bool) → role_of name ≡ significant what → may_begin old.interior.around (significant what) ≡ true → OpenedLeaf s what start old old

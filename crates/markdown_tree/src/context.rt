@@ -49,7 +49,7 @@ use character_references::references::References;
 use markdown_blocks::parent::is_parent;
 use markdown_blocks::table::Columns;
 use markdown_containers::container::Container;
-use markdown_containers::open_container::{Ending, OpenContainer, innermost_nodes};
+use markdown_containers::open_container::{Ending, OpenContainer, innermost_nodes, remove_last};
 use markdown_grammar::error_kind::{ErrorKind, Stop};
 use markdown_nodes::around::Around;
 use markdown_nodes::count::Count;
@@ -143,6 +143,7 @@ impl<'a> Context<'a> {
     }
 
     /// Whether a break waits for its line ending, and this item is not a line ending.
+    #[inline(always)]
     fn interrupts_break(&self, what: ItemKind) -> bool
         ensures { result ≡ not (not (is_some self.now.pending) || Kinds.is_line_ending what) }
     {
@@ -150,6 +151,7 @@ impl<'a> Context<'a> {
     }
 
     /// Whether the spans in a significant span are inside a table, which may be the span itself.
+    #[inline(always)]
     fn is_in_table(&self, what: ItemKind) -> bool
         ensures { result ≡ (self.now.in_table || Kinds.is_table what) }
     {
@@ -165,6 +167,7 @@ impl<'a> Context<'a> {
     }
 
     /// Returns the rule of the innermost container that a significant span violates, if any.
+    #[inline(always)]
     fn container_misfit(&self, what: ItemKind) -> Option<ErrorKind>
         ensures { result ≡ misfit_of (innermost self.now.containers).container what }
     {
@@ -172,6 +175,7 @@ impl<'a> Context<'a> {
     }
 
     /// Returns the rule that a significant span violates by beginning here, or `None`.
+    #[inline(always)]
     fn misfit(&self, document: &Document<'_>, what: ItemKind, point: &Point) -> Option<ErrorKind>
         ensures { (s : Source) → given_of s ≡ document.now
             → result ≡ first_failing (enter_checks s (state_of self.now).top what point.now) }
@@ -196,6 +200,7 @@ impl<'a> Context<'a> {
 
     /// Opens a significant span, if the innermost container accepts it, and returns whether it is a
     /// leaf.
+    #[inline(always)]
     fn open(
         &mut self,
         alloc: Global,
@@ -309,6 +314,7 @@ impl<'a> Context<'a> {
     }
 
     /// Opens a span.
+    #[inline(always)]
     fn enter(
         &mut self,
         alloc: Global,
@@ -360,6 +366,7 @@ impl<'a> Context<'a> {
     }
 
     /// Begins a significant span, if the innermost container accepts it.
+    #[inline(always)]
     fn begin_significant(
         &mut self,
         alloc: Global,
@@ -417,6 +424,7 @@ impl<'a> Context<'a> {
     }
 
     /// Closes the innermost span, if the name is its name.
+    #[inline(always)]
     fn exit<R: References>(
         &mut self,
         alloc: Global,
@@ -509,18 +517,47 @@ impl<'a> Context<'a> {
         if !self.interior.around.allows(Role::Significant(what)) {
             return Err(TokenStop::AtStart(Stop::Refused(ErrorKind::Held)));
         }
-        match self.open(alloc, document, what, start) {
-            Ok(true) => self.leaf_token(alloc, document, references, name, what, start, end),
-            Ok(false) => {
-                let in_table = self.is_in_table(what);
-                let role = Role::Significant(what);
-                let frame = self.go_inside(alloc, name, role, start, false, in_table);
-                match self.end(alloc, steps, document, references, frame, end) {
-                    Ok(()) => Ok(()),
-                    Err(stop) => Err(TokenStop::AtEnd(stop)),
-                }
-            }
-            Err(stop) => Err(TokenStop::AtStart(stop)),
+        if let Some(error_kind) = self.misfit(document, what, start) {
+            return Err(TokenStop::AtStart(Stop::Refused(error_kind)));
+        }
+        if self.containers.innermost().container.takes_as_leaf(what) {
+            return self.leaf_token(alloc, document, references, name, what, start, end);
+        }
+        self.container_token(alloc, steps, document, references, name, what, start, end)
+    }
+
+    /// Opens and closes a container that contains no span, which the innermost container has accepted.
+    ///
+    /// Not inlined, as `open_container`: it is rare, and its frame is large.
+    #[inline(never)]
+    fn container_token<R: References>(
+        &mut self,
+        alloc: Global,
+        steps: &mut Count,
+        document: &Document<'a>,
+        references: &R,
+        name: Name,
+        what: ItemKind,
+        start: &Point,
+        end: &Point,
+    ) -> Result<(), TokenStop>
+        requires role { role_of name ≡ roles.Significant what }
+        requires begins { may_begin self.old.interior.around (roles.Significant what) ≡ true }
+        requires taken { first_failing (enter_checks (source_of document.now (R.text references.now)) (top_of self.old) what start.now) ≡ None }
+        requires container { model_of (current_model_of (innermost self.old.containers).container) what ≢ leaf }
+        requires well { Well (source_of document.now (R.text references.now)) (state_of self.old) }
+        ensures { TakesToken self.new start.now end.now result
+            (run (source_of document.now (R.text references.now)) (enter name start.now ∷ exit name end.now ∷ []) (state_of self.old)) }
+    {
+        if let Err(error) = self.open_container(alloc, what) {
+            return Err(TokenStop::AtStart(Stop::Memory(error)));
+        }
+        let in_table = self.is_in_table(what);
+        let role = Role::Significant(what);
+        let frame = self.go_inside(alloc, name, role, start, false, in_table);
+        match self.end(alloc, steps, document, references, frame, end) {
+            Ok(()) => Ok(()),
+            Err(stop) => Err(TokenStop::AtEnd(stop)),
         }
     }
 
@@ -543,27 +580,19 @@ impl<'a> Context<'a> {
         ensures { TakesToken self.new start.now end.now result
             (run (source_of document.now (R.text references.now)) (enter name start.now ∷ exit name end.now ∷ []) (state_of self.old)) }
     {
-        let in_table = self.is_in_table(what);
-        let inside = Marks::new();
-        let ending = Ending {
-            start: *start,
-            end: *end,
-            in_table,
-            marks: inside,
-        };
         let taken = self.containers.innermost_mut().take_leaf(
             &mut self.pending,
             alloc,
             document,
             references,
             what,
-            ending,
+            start,
+            end,
         );
         if let Err(stop) = taken {
             return Err(TokenStop::AtEnd(stop));
         }
-        self.in_table = in_table;
-        self.interior.marks.add(Role::Significant(what), inside);
+        self.interior.marks.add_childless();
         Ok(())
     }
 
@@ -603,6 +632,7 @@ impl<'a> Context<'a> {
 
     /// Passes what the closing span produced to its owner: that of a transparent span to the
     /// columns, that of a leaf or a container to the container around it.
+    #[inline(always)]
     fn leave<R: References>(
         &mut self,
         alloc: Global,
@@ -631,6 +661,7 @@ impl<'a> Context<'a> {
     }
 
     /// Closes a leaf, which the innermost container takes.
+    #[inline(never)]
     fn leave_leaf<R: References>(
         &mut self,
         alloc: Global,
@@ -646,25 +677,21 @@ impl<'a> Context<'a> {
             (item_left (source_of document.now (R.text references.now)) what frame end.now self.old) }
         ensures closed { OnOk result (Closed (roles.Significant what) self.old self.new) }
     {
-        let ending = Ending {
-            start: frame.start,
-            end: *end,
-            in_table: self.in_table,
-            marks: self.interior.marks,
-        };
         self.containers.innermost_mut().take_leaf(
             &mut self.pending,
             alloc,
             document,
             references,
             what,
-            ending,
+            &frame.start,
+            end,
         )?;
         self.is_leaf = false;
         Ok(())
     }
 
     /// Closes the innermost container, which the one around it takes.
+    #[inline(always)]
     fn leave_container(
         &mut self,
         alloc: Global,
@@ -687,7 +714,7 @@ impl<'a> Context<'a> {
         match self.containers.innermost().container {
             Container::AnyContent => match what {
                 ItemKind::Content(content) if is_parent(content) => {
-                    Ok(self.leave_parent(content, frame, end)?)
+                    Ok(self.leave_parent(alloc, content, frame, end)?)
                 }
                 _ => self.close_container(alloc, steps, document, what, frame, end),
             },
@@ -699,6 +726,7 @@ impl<'a> Context<'a> {
     /// its open container is moved.
     fn leave_parent(
         &mut self,
+        alloc: Global,
         content: Content,
         frame: Frame,
         end: &Point,
@@ -712,16 +740,7 @@ impl<'a> Context<'a> {
             item_left s (item_kinds.Content content) frame end.now self.old ≡ Ok (top_of self.new)) }
         ensures closed { OnOk result (Closed (roles.Significant (item_kinds.Content content)) self.old self.new) }
     {
-        let Some(
-            OpenContainer {
-                container: Container::AnyContent,
-                line_endings: _,
-                nodes,
-            },
-        ) = self.containers.inner.pop()
-        else {
-            unreachable!()
-        };
+        let nodes = remove_last(alloc, &mut self.containers.inner);
         self.in_table = frame.in_table;
         self.containers
             .innermost_mut()
@@ -757,16 +776,7 @@ impl<'a> Context<'a> {
             in_table: frame.in_table,
             marks: self.interior.marks,
         };
-        let Some(
-            OpenContainer {
-                container: Container::AnyContent,
-                line_endings: _,
-                nodes,
-            },
-        ) = self.containers.inner.pop()
-        else {
-            unreachable!()
-        };
+        let nodes = remove_last(alloc, &mut self.containers.inner);
         self.in_table = frame.in_table;
         let top = self.containers.innermost_mut();
         match what {

@@ -9,7 +9,7 @@ use Rattle.event_writer.proofs.recorder.Recorder.token.Goals as goal
 pub write-requires-clause-may : goal.write-requires-clause-may
 write-requires-clause-may g c =
     let decode = g.R.References.text c.self.inside.references.now in
-    let end = c.in-Some.end in
+    let end = c.reached-end.result in
     let may = subst (λ (w : Written _). may_write (source w.given.bytes (g.R.References.text w.given.references)) w.spans c.args.name w.cursor end ≡ true) (sym c.self.view_is)
-    (c.requires.may end c.in-Some.ensures.index c.in-Some.ensures.virtual_spaces) in
-    subst (λ (p : Placed). may_write (source p.bytes decode) (open_after (g.S.Sink.taken c.self.inside.sink)) c.args.name p.at end ≡ true) (sym c.point_at.ensures.same) may
+    (c.requires.may end c.reached-end.ensures.index c.reached-end.ensures.virtual_spaces) in
+    subst (λ (p : Placed). may_write (source p.bytes decode) (open_after (g.S.Sink.taken c.self.inside.sink)) c.args.name p.at end ≡ true) (sym c.reached-end.ensures.same) may

@@ -11,9 +11,9 @@ use Rattle.markdown_containers.proofs.open_container.OpenContainer.take_data.Goa
 use Rattle.markdown_containers.proofs.Stopping.{made_gives}
 
 pub returns : goal.returns
-returns c text children place =
+returns c text in_table children place =
     let s : Source = (source_of c.args.document.now text) in
     let top : OpenContainer = c.args.self.now in
-    made_gives _ c.args.ending.end c.put_slice.result (is_some (slice c.args.document.now.bytes c.args.ending.start c.args.ending.end)) InvalidSlice _ _ c.put_slice.ensures
-    (λ x read made. content_in s c.args.ending.in_table top (record { container = top.container; line_endings = c.args.self.now.line_endings; nodes = c.put_slice.new.nodes }) contents.Data c.args.ending.start c.args.ending.end children place refl refl refl made refl read)
-    (λ value_error. leaf_unread s c.args.ending.in_table None top (content contents.Data) c.args.ending.start c.args.ending.end children place value_error)
+    made_gives _ c.args.end.now c.put_slice.result (is_some (slice c.args.document.now.bytes c.args.start.now c.args.end.now)) InvalidSlice _ _ c.put_slice.ensures
+    (λ x read made. content_in s in_table top (record { container = top.container; line_endings = c.args.self.now.line_endings; nodes = c.put_slice.new.nodes }) contents.Data c.args.start.now c.args.end.now children place refl refl refl made refl read)
+    (λ value_error. leaf_unread s in_table None top (content contents.Data) c.args.start.now c.args.end.now children place value_error)

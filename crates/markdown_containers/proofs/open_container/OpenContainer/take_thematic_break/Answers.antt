@@ -8,7 +8,7 @@ use Rattle.markdown_containers.proofs.LeafEnds.{content_in}
 use Rattle.markdown_containers.proofs.open_container.OpenContainer.take_thematic_break.Goals as goal
 
 pub returns : goal.returns
-returns c s children place =
-    content_in s c.args.ending.in_table c.args.self.now (record { container = c.args.self.now.container; line_endings = c.args.self.now.line_endings; nodes = c.put.new.nodes }) contents.ThematicBreak c.args.ending.start c.args.ending.end children place refl refl refl
+returns c s in_table children place =
+    content_in s in_table c.args.self.now (record { container = c.args.self.now.container; line_endings = c.args.self.now.line_endings; nodes = c.put.new.nodes }) contents.ThematicBreak c.args.start.now c.args.end.now children place refl refl refl
     (c.in_ok-put.ensures ∙ ap (λ (t : Tree). join (views c.args.self.now.nodes.items) (only t))
     (c.thematic_break.ensures ∙ ap (λ (x : Position). placed thematic_break nothing x) c.position_of-position.ensures)) refl refl

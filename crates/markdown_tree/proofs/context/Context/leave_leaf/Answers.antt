@@ -14,7 +14,7 @@ returns-clause-gives g c =
     leaf_gives (source_of c.args.document.now (g.R.References.text c.args.references.now)) c.args.what c.args.frame c.args.end.now c.args.self.now
     (record c.args.self.now { containers = with_innermost c.args.self.now.containers c.take_leaf.new.self; is_leaf = false; pending = c.take_leaf.new.pending })
     c.innermost_mut.result.now c.take_leaf.new.self (Ok tt) c.requires.«open» c.innermost_mut.ensures.value refl refl refl
-    (c.in_ok-take_leaf.ensures (child_facts (marks_of c.args.self.now.interior.marks) (columns_of c.args.self.now.columns)) (leaf_place c.args.self.now.in_table))
+    (c.in_ok-take_leaf.ensures c.args.self.now.in_table (child_facts (marks_of c.args.self.now.interior.marks) (columns_of c.args.self.now.columns)) (leaf_place c.args.self.now.in_table))
 
 pub returns-clause-closed : goal.returns-clause-closed
 returns-clause-closed g c =
