@@ -5,7 +5,8 @@
 //!
 //! The crate also has what programs need to work with a tree: `mdast` has its nodes, and `unist`
 //! their positions. `Walk` visits the nodes, `node_at` finds the one at a byte, and `definition_of`
-//! finds the definition that a reference means. `to_json` prints a tree for other programs.
+//! finds the definition that a reference means. `to_json` prints a tree for other programs, and
+//! `JsonPieces` does so piece by piece.
 #![tactic(auto)]
 
 mod events;
@@ -17,7 +18,7 @@ mod tree_sink;
 
 pub use events::to_events;
 pub use hidden::hidden_bytes;
-pub use markdown_json::{to_json, to_json_utf16};
+pub use markdown_json::{JsonPieces, to_json, to_json_utf16};
 pub use markdown_nodes::walk::Walk;
 pub use markdown_nodes::{mdast, unist};
 pub use markdown_options::{Constructs, ParseOptions};

@@ -2,4 +2,4 @@ mod Escapes
 mod Fragments
 pub mod Utf16Counts
 mod Positions
-mod JsonWriting
+mod Left

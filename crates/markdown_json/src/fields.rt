@@ -5,6 +5,7 @@ ghost use Rattle.std.specs.Fmt.{decimal};
 ghost use Rattle.std.specs.Prelude.{◌≡◌, ◌≤◌, ◌<◌, ◌+◌, ◌++◌, [], OnOk, codes, drop, if◌then◌else◌, length, option_map, string_bytes};
 ghost use Rattle.std.specs.Str.{IsUtf8};
 ghost use Rattle.markdown_kinds.specs.Fields.{bool_text};
+ghost use Rattle.markdown_json.specs.Counting.{counted_as};
 ghost use Rattle.markdown_json.specs.Fields.{
   align_field,
   alignment,
@@ -42,13 +43,13 @@ const POSITION_SIZE: usize = 207;
 ///
 /// For the first character of a document it is
 /// `,"position":{"start":{"line":1,"column":1,"offset":0},"end":{"line":1,"column":2,"offset":1}}`.
-pub fn push_position_field<P: Points>(
+pub fn push_position_field(
     out: &mut String,
-    points: &P,
+    points: &Points,
     position: Position,
 ) -> Result<(), AllocError>
     ensures { OnOk result (string_bytes out.new
-        ≡ string_bytes out.old ++ field (codes "position") (position_value (P.counted points.now) position)) }
+        ≡ string_bytes out.old ++ field (codes "position") (position_value (counted_as points.now) position)) }
 {
     let start = points.counted(position.start);
     let end = points.counted(position.end);

@@ -1,6 +1,7 @@
 //! The fields of each kind of node, in the terms of mdast.
 
 ghost use Rattle.std.specs.Prelude.{◌≡◌, ◌++◌, OnOk, string_bytes};
+ghost use Rattle.markdown_json.specs.Counting.{counted_as};
 ghost use Rattle.markdown_json.specs.Fields.{position_field};
 ghost use Rattle.markdown_nodes.specs.Access.{label_of, position_of};
 ghost use Rattle.markdown_nodes.specs.Labels.{
@@ -70,9 +71,9 @@ pub fn push_opening(out: &mut String, node: &Node) -> Result<(), AllocError>
 }
 
 /// Appends the text after the children of a node.
-pub fn push_closing<P: Points>(out: &mut String, points: &P, node: &Node) -> Result<(), AllocError>
+pub fn push_closing(out: &mut String, points: &Points, node: &Node) -> Result<(), AllocError>
     ensures { OnOk result (string_bytes out.new
-        ≡ string_bytes out.old ++ closing (P.counted points.now) (label_of node.now) (position_of node.now)) }
+        ≡ string_bytes out.old ++ closing (counted_as points.now) (label_of node.now) (position_of node.now)) }
 {
     push(out, children_end(node))?;
     push_position(out, points, node)?;
@@ -103,8 +104,8 @@ fn children_end(node: &Node) -> &'static str
 }
 
 /// Appends the position of a node, if it has one.
-fn push_position<P: Points>(out: &mut String, points: &P, node: &Node) -> Result<(), AllocError>
-    ensures { OnOk result (string_bytes out.new ≡ string_bytes out.old ++ position_field (P.counted points.now) (position_of node.now)) }
+fn push_position(out: &mut String, points: &Points, node: &Node) -> Result<(), AllocError>
+    ensures { OnOk result (string_bytes out.new ≡ string_bytes out.old ++ position_field (counted_as points.now) (position_of node.now)) }
 {
     match node.position() {
         Some(position) => push_position_field(out, points, *position),

@@ -1,32 +1,30 @@
 //! How the points of a tree are counted when they are written.
 
 ghost use Rattle.std.specs.Prelude.{◌≡◌};
-ghost use Rattle.markdown_events.specs.declared.unist.Point.{Point};
+ghost use Rattle.markdown_json.specs.Counting.{counted_as};
 
+use crate::utf16::Utf16Points;
 use markdown_events::unist::Point;
 
 /// How points are counted: which point is written for each point of a tree (ours).
-///
-/// It is specified by `counted`. Each implementation is proved to return that.
-pub trait Points {
-    /// The point to write for a point of the tree.
-    ghost counted: { Self → Point → Point };
-
-    /// Returns the point to write for a point of the tree.
-    ///
-    /// For [`Bytes`] it is that point itself.
-    fn counted(&self, point: Point) -> Point
-        ensures { result ≡ counted self.now point };
+#[derive(Debug, Drop)]
+pub enum Points {
+    /// Bytes and byte columns, as in the tree.
+    Bytes,
+    /// UTF-16 code units.
+    Utf16(Utf16Points),
 }
 
-/// Bytes and byte columns, as in the tree.
-#[derive(Clone, Copy, PartialEq, Eq, Debug)]
-pub struct Bytes;
-
-impl Points for Bytes {
-    ghost counted = { λ _ point. point };
-
-    fn counted(&self, point: Point) -> Point {
-        point
+impl Points {
+    /// Returns the point to write for a point of the tree.
+    ///
+    /// For `Points::Bytes` it is that point itself.
+    pub fn counted(&self, point: Point) -> Point
+        ensures { result ≡ counted_as self.now point }
+    {
+        match self {
+            Points::Bytes => point,
+            Points::Utf16(points) => points.counted(point),
+        }
     }
 }

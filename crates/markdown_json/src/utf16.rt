@@ -5,7 +5,6 @@ ghost use Rattle.markdown_events.specs.declared.unist.Point.{Point};
 ghost use Rattle.markdown_json.specs.Utf16;
 ghost use Rattle.markdown_json.specs.Utf16.{AreCountsOf, counted_by, counts_at, ends_line, units_at};
 
-use crate::points::Points;
 use markdown_events::unist::Point;
 use std::alloc::{AllocError, Global};
 
@@ -108,12 +107,11 @@ impl Utf16Points {
             None => Counts::START,
         }
     }
-}
 
-impl Points for Utf16Points {
-    ghost counted = { λ points. counted_by points.counts.items };
-
-    fn counted(&self, point: Point) -> Point {
+    /// Returns a point of the document in units.
+    pub fn counted(&self, point: Point) -> Point
+        ensures { result ≡ counted_by self.now.counts.items point }
+    {
         let before = self.counts_at(point.offset);
         let in_line = point.column.saturating_sub(before.line_bytes);
         Point {

@@ -1,4 +1,4 @@
-//! Why a document has no output.
+//! Why a document has no output, or not all of it.
 
 use event_lines::lines::LinesError;
 use markdown_nodes::message::{Fault, Message};
@@ -95,6 +95,33 @@ impl fmt::Display for DocumentError {
 }
 
 impl error::Error for DocumentError {}
+
+/// Why not all of what is requested of a document is printed.
+#[derive(Debug, Drop)]
+pub enum PrintError {
+    /// It has no output, or no more of it.
+    Document(DocumentError),
+    /// The output cannot be written.
+    Unwritten(ErrorKind),
+}
+
+impl From<DocumentError> for PrintError {
+    fn from(error: DocumentError) -> PrintError {
+        PrintError::Document(error)
+    }
+}
+
+impl From<AllocError> for PrintError {
+    fn from(error: AllocError) -> PrintError {
+        PrintError::Document(DocumentError::from(error))
+    }
+}
+
+impl From<io::Error> for PrintError {
+    fn from(error: io::Error) -> PrintError {
+        PrintError::Unwritten(error.kind())
+    }
+}
 
 /// Returns why a file cannot be read, for people.
 fn cause(kind: ErrorKind) -> &'static str {

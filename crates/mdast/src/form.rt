@@ -1,23 +1,25 @@
-//! What is printed of a document.
+//! What is printed of a document, and how.
 
 ghost use Rattle.std.specs.Prelude.{◌≢◌};
 ghost use Rattle.mdast.specs.declared.form.Form.TheVariants.{Events};
 
 use crate::arguments::Request;
-use crate::error::DocumentError;
+use crate::error::{DocumentError, PrintError};
 use crate::inspect::inspect;
+use crate::progress::Progress;
 use crate::source::Source;
 use event_lines::lines::events;
 use event_lines::written::lines_of;
 use markdown::{compile_events, to_events, to_mdast};
 use markdown_events::event::Event;
 use markdown_html::{HtmlOptions, UnsafeHtmlOptions, to_html, to_unsafe_html};
-use markdown_json::{to_json, to_json_utf16};
+use markdown_json::JsonPieces;
 use markdown_nodes::mdast::Node;
 use mdast_check::warnings::warnings;
 use mdast_util::outline::outline;
 use mdast_util::plain_text::plain_text;
 use std::alloc::{AllocError, Global};
+use std::io::{self, Write};
 use std::mem;
 
 /// What is printed of a document.
@@ -45,76 +47,122 @@ pub enum Form {
 
 /// What is printed of a document.
 #[derive(Drop)]
-pub struct Output {
-    /// The text.
-    pub text: String,
-    /// Whether it contains a warning.
-    pub has_warnings: bool,
+enum Output<'a> {
+    /// A text.
+    Text(String),
+    /// The warnings of a linter, one on each line.
+    Warnings(String),
+    /// JSON, and a line feed.
+    Json(JsonPieces<'a>),
 }
 
-impl Output {
-    /// Returns a text without warnings.
-    fn plain(text: String) -> Output {
-        Output {
-            text,
-            has_warnings: false,
-        }
-    }
-
-    /// Returns a line without warnings.
-    fn line(text: String) -> Result<Output, AllocError> {
+impl<'a> Output<'a> {
+    /// Returns a text with a line feed after it.
+    fn line(text: String) -> Result<Output<'a>, AllocError> {
         let mut text = text;
         text.push_str("\n")?;
-        Ok(Output::plain(text))
+        Ok(Output::Text(text))
+    }
+
+    /// Prints it, and returns the status: 1 if there are warnings, and otherwise 0.
+    fn print(self, rt: &HostRuntime) -> Result<u8, PrintError> {
+        match self {
+            Output::Text(text) => {
+                print_text(rt, text.as_str())?;
+                Ok(0)
+            }
+            Output::Warnings(text) => {
+                print_text(rt, text.as_str())?;
+                Ok(u8::from(!text.is_empty()))
+            }
+            Output::Json(pieces) => {
+                print_json(rt, pieces)?;
+                Ok(0)
+            }
+        }
     }
 }
 
-/// Returns what is printed of a document with this text.
+/// Prints what is requested of a document with this text, and returns the status: 1 if there are
+/// warnings, and otherwise 0.
 ///
 /// After the last document the program ends, and its memory with it. So the nodes of that tree are
 /// not freed one by one.
-pub fn render(
+pub fn print_form(
     rt: &HostRuntime,
     request: &Request,
     source: &Source,
     text: &str,
-    is_last: bool,
-) -> Result<Output, DocumentError> {
+    progress: &mut Progress,
+) -> Result<u8, PrintError> {
     match request.form {
         Form::Events => {
             let events = events_of(rt, request, text)?;
-            Ok(Output::plain(lines_of(rt.alloc(), &events)?))
+            let lines = lines_of(rt.alloc(), &events)?;
+            progress.clear(rt);
+            Output::Text(lines).print(rt)
         }
         _ => {
             let tree = tree_of(rt, request, text)?;
-            let output = render_tree(rt.alloc(), request, source, text, &tree);
-            if is_last {
+            let status = print_tree(rt, request, source, text, &tree, progress);
+            if progress.is_last() {
                 mem::forget(tree);
             }
-            Ok(output?)
+            status
         }
     }
 }
 
-/// Returns what is printed of a tree.
-fn render_tree(
-    alloc: Global,
+/// Prints what is requested of a tree, and returns the status.
+fn print_tree(
+    rt: &HostRuntime,
     request: &Request,
     source: &Source,
     text: &str,
     tree: &Node,
-) -> Result<Output, AllocError>
+    progress: &mut Progress,
+) -> Result<u8, PrintError>
+    requires { request.now.form ≢ Events }
+{
+    let output = render_tree(rt.alloc(), request, source, text, tree)?;
+    progress.clear(rt);
+    output.print(rt)
+}
+
+/// Prints a text.
+fn print_text(rt: &HostRuntime, text: &str) -> io::Result<()> {
+    io::writer(rt).write_all(text.as_bytes())
+}
+
+/// Prints JSON piece by piece, and a line feed.
+fn print_json(rt: &HostRuntime, pieces: JsonPieces) -> Result<(), PrintError> {
+    let mut pieces = pieces;
+    let mut piece = String::new(rt.alloc());
+    'pieces: while pieces.next_into(&mut piece)? {
+        print_text(rt, piece.as_str())?;
+    }
+    Ok(print_text(rt, "\n")?)
+}
+
+/// Returns what is printed of a tree.
+fn render_tree<'a>(
+    alloc: Global,
+    request: &Request,
+    source: &Source,
+    text: &str,
+    tree: &'a Node,
+) -> Result<Output<'a>, AllocError>
     requires { request.now.form ≢ Events }
 {
     match request.form {
-        Form::Json => Output::line(to_json(alloc, tree)?),
-        Form::JsonUtf16 => Output::line(to_json_utf16(alloc, text.as_bytes(), tree)?),
-        Form::Tree => Ok(Output::plain(inspect(alloc, tree, request.width)?)),
+        Form::Json => Ok(Output::Json(JsonPieces::new(alloc, tree))),
+        Form::JsonUtf16 => Ok(Output::Json(JsonPieces::utf16(alloc, text.as_bytes(), tree)?)),
+        Form::Tree => Ok(Output::Text(inspect(alloc, tree, request.width)?)),
         Form::Debug => Output::line(tree.to_debug_string(alloc)?),
-        Form::Outline => Ok(Output::plain(outline(alloc, tree)?)),
-        Form::Text => Ok(Output::plain(plain_text(alloc, tree)?)),
-        Form::Html => Ok(Output::plain(page(alloc, request, tree)?)),
-        Form::Check => checked(alloc, source, tree),
+        Form::Outline => Ok(Output::Text(outline(alloc, tree)?)),
+        Form::Text => Ok(Output::Text(plain_text(alloc, tree)?)),
+        Form::Html => Ok(Output::Text(page(alloc, request, tree)?)),
+        Form::Check => Ok(Output::Warnings(checked(alloc, source, tree)?)),
         Form::Events => unreachable!(),
     }
 }
@@ -154,14 +202,10 @@ fn page(alloc: Global, request: &Request, tree: &Node) -> Result<String, AllocEr
 }
 
 /// Returns the warnings of a linter, one on each line, with the name of the document.
-fn checked(alloc: Global, source: &Source, tree: &Node) -> Result<Output, AllocError> {
+fn checked(alloc: Global, source: &Source, tree: &Node) -> Result<String, AllocError> {
     let mut text = String::new(alloc);
-    let warnings = warnings(alloc, tree)?;
-    for warning in &warnings {
+    for warning in &warnings(alloc, tree)? {
         text.push_str(format!(in alloc; "{source}:{warning}\n")?.as_str())?;
     }
-    Ok(Output {
-        text,
-        has_warnings: !warnings.is_empty(),
-    })
+    Ok(text)
 }

@@ -1,11 +1,11 @@
 //! The work of the program for each document.
 
 use crate::arguments::Request;
-use crate::error::DocumentError;
-use crate::form::{Output, render};
+use crate::error::PrintError;
+use crate::form::print_form;
 use crate::progress::Progress;
 use crate::source::Source;
-use std::io::{self, ErrorKind, Write};
+use std::io::ErrorKind;
 
 /// Prints what is requested of each document, and returns the status: the greatest of theirs.
 ///
@@ -23,39 +23,37 @@ pub fn run(rt: &HostRuntime, request: &Request) -> u8 {
     status
 }
 
-/// Prints what is requested of a document, or why there is no output, and returns the status. The
-/// error is that the output cannot be written.
+/// Prints what is requested of a document, or why there is no output or no more of it, and returns
+/// the status. The error is that the output cannot be written.
 fn print_document(
     rt: &HostRuntime,
     request: &Request,
     source: &Source,
     progress: &mut Progress,
 ) -> Result<u8, ErrorKind> {
-    let output = output_of(rt, request, source, progress);
-    progress.clear(rt);
-    match output {
-        Ok(output) => match io::writer(rt).write_all(output.text.as_bytes()) {
-            Ok(()) => Ok(u8::from(output.has_warnings)),
-            Err(error) => Err(error.kind()),
-        },
-        Err(error) => {
+    let printed = print(rt, request, source, progress);
+    match printed {
+        Ok(status) => Ok(status),
+        Err(PrintError::Unwritten(kind)) => Err(kind),
+        Err(PrintError::Document(error)) => {
+            progress.clear(rt);
             let _ = rt.eprintln(format_args!("mdast: {source}: {error}"));
             Ok(error.status())
         }
     }
 }
 
-/// Returns what is printed of a document.
-fn output_of(
+/// Prints what is requested of a document, and returns the status.
+fn print(
     rt: &HostRuntime,
     request: &Request,
     source: &Source,
     progress: &mut Progress,
-) -> Result<Output, DocumentError> {
+) -> Result<u8, PrintError> {
     progress.next();
     let text = source.read_text(rt)?;
     progress.show(rt, source, text.len());
-    render(rt, request, source, text.as_str(), progress.is_last())
+    print_form(rt, request, source, text.as_str(), progress)
 }
 
 /// Reports why the output cannot be written, and returns the status.
