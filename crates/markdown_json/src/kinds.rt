@@ -1,8 +1,8 @@
 //! The fields of each kind of node, in the terms of mdast.
 
-ghost use Rattle.std.specs.Prelude.{◌≡◌, ◌++◌, OnOk, string_bytes};
+ghost use Rattle.std.specs.Prelude.{◌≡◌, ◌++◌, OnOk, codes, string_bytes};
 ghost use Rattle.markdown_json.specs.Counting.{counted_as};
-ghost use Rattle.markdown_json.specs.Fields.{position_field};
+ghost use Rattle.markdown_json.specs.Fields.{literal, position_field};
 ghost use Rattle.markdown_nodes.specs.Access.{label_of, position_of};
 ghost use Rattle.markdown_nodes.specs.Labels.{
   code_label,
@@ -26,7 +26,7 @@ use crate::fields::{
     push_start, push_text,
 };
 use crate::points::Points;
-use crate::strings::push;
+use crate::strings::{push, push_started};
 use markdown_nodes::mdast::{
     Code, Definition, FootnoteDefinition, FootnoteReference, Heading, Image, ImageReference, Link,
     LinkReference, List, ListItem, Math, Node, Table,
@@ -45,7 +45,7 @@ pub fn push_opening(out: &mut String, node: &Node) -> Result<(), AllocError>
         Node::Toml(node) => push_literal(out, "toml", &node.value),
         Node::Yaml(node) => push_literal(out, "yaml", &node.value),
         Node::Break(_) => push_kind(out, "break"),
-        Node::InlineCode(node) => push_literal(out, "inlineCode", &node.value),
+        Node::InlineCode(node) => push_inline_code(out, &node.value),
         Node::InlineMath(node) => push_literal(out, "inlineMath", &node.value),
         Node::Delete(_) => push_parent(out, "delete"),
         Node::Emphasis(_) => push_parent(out, "emphasis"),
@@ -56,7 +56,7 @@ pub fn push_opening(out: &mut String, node: &Node) -> Result<(), AllocError>
         Node::Link(node) => push_link(out, node),
         Node::LinkReference(node) => push_link_reference(out, node),
         Node::Strong(_) => push_parent(out, "strong"),
-        Node::Text(node) => push_literal(out, "text", &node.value),
+        Node::Text(node) => push_text_node(out, &node.value),
         Node::Code(node) => push_code(out, node),
         Node::Math(node) => push_math(out, node),
         Node::Heading(node) => push_heading(out, node),
@@ -68,6 +68,20 @@ pub fn push_opening(out: &mut String, node: &Node) -> Result<(), AllocError>
         Node::Definition(node) => push_definition(out, node),
         Node::Paragraph(_) => push_parent(out, "paragraph"),
     }
+}
+
+/// Appends a text. Most nodes are texts or inline code, so all before the value is one append.
+fn push_text_node(out: &mut String, value: &String) -> Result<(), AllocError>
+    ensures { OnOk result (string_bytes out.new ≡ string_bytes out.old ++ literal (codes "text") (string_bytes value.now)) }
+{
+    push_started(out, r#"{"type":"text","value":""#, value)
+}
+
+/// Appends inline code.
+fn push_inline_code(out: &mut String, value: &String) -> Result<(), AllocError>
+    ensures { OnOk result (string_bytes out.new ≡ string_bytes out.old ++ literal (codes "inlineCode") (string_bytes value.now)) }
+{
+    push_started(out, r#"{"type":"inlineCode","value":""#, value)
 }
 
 /// Appends the text after the children of a node.

@@ -1,7 +1,7 @@
 //! Texts as JSON strings.
 
 ghost use Rattle.std.specs.Char.{digit_char};
-ghost use Rattle.std.specs.Prelude.{◌≡◌, ◌++◌, ◌∷◌, ◌<◌, ◌≤◌, ℕ, [], OnOk, IsFalse, IsTrue, length, slice_index, string_bytes};
+ghost use Rattle.std.specs.Prelude.{◌≡◌, ◌++◌, ◌∷◌, ◌<◌, ◌≤◌, ℕ, [], OnOk, IsFalse, IsTrue, codes, length, slice_index, string_bytes};
 ghost use Rattle.markdown_json.specs.Strings.{escape, escaped, string};
 
 use markdown_events::search::{first_below, first_equal};
@@ -29,6 +29,18 @@ pub fn push_string(out: &mut String, text: &str) -> Result<(), AllocError>
     push(out, "\"")
 }
 
+/// Appends a start, which ends with a quote, and a text with the quote after it. The only error is
+/// that memory ran out.
+///
+/// The start `{"a":"` and the text `b` make `{"a":"b"`.
+pub fn push_started(out: &mut String, start: &str, text: &String) -> Result<(), AllocError>
+    ensures { OnOk result (string_bytes out.new ≡ string_bytes out.old ++ (start.now ++ (escaped (string_bytes text.now) ++ codes "\""))) }
+{
+    push(out, start)?;
+    push_escaped(out, text.as_str())?;
+    push(out, "\"")
+}
+
 /// Appends a text as it is written between quotes. Bytes that need no escape are written as one
 /// fragment.
 fn push_escaped(out: &mut String, text: &str) -> Result<(), AllocError>
@@ -46,21 +58,26 @@ fn push_escaped(out: &mut String, text: &str) -> Result<(), AllocError>
     }
 }
 
-/// Returns how many bytes of a text come before the first one that has an escape.
+/// Returns how many bytes of a text come before the first one that has an escape. The last 16 bytes
+/// are searched together, whichever of them were searched before.
 fn plain_size(text: &[u8]) -> usize
     ensures within { result ≤ length text.now }
     ensures plain { (k : ℕ) → k < result → escape (slice_index text.now k) ≡ slice_index text.now k ∷ [] }
     ensures ascii { result < length text.now → slice_index text.now result < 128 }
 {
+    if text.len() < 16 {
+        return plain_size_of_few(text);
+    }
+    let last = text.len() - 16;
     let mut at = 0;
-    while text.len() - at >= 16 {
+    while at < last {
         let before = plain_size_of_16(&text[at..]);
         if before < 16 {
             return at + before;
         }
         at += 16;
     }
-    at + plain_size_of_few(&text[at..])
+    last + plain_size_of_16(&text[last..])
 }
 
 /// Returns how many of the first 16 bytes of a text come before the first one that has an escape.

@@ -1,4 +1,4 @@
-use Rattle.std.proofs.Common.{◌≡◌, ◌∷◌, [], ℕ, arith}
+use Rattle.std.proofs.Common.{◌≡◌, ◌∷◌, ◌-◌, [], ℕ, length, arith}
 use Rattle.markdown_events.proofs.Searches.{joined}
 use Rattle.markdown_json.specs.Strings.{escape}
 use Rattle.markdown_json.proofs.strings.plain_size.Goals as goal
@@ -16,4 +16,5 @@ loop-at-preserved c =
 
 pub returns-clause-plain : goal.returns-clause-plain
 returns-clause-plain c =
-    joined (λ (b : ℕ). escape b ≡ b ∷ []) c.loop-at.at c.plain_size_of_few.result c.args.text.now c.loop-at.invariant.plain c.plain_size_of_few.ensures.plain
+    let last : ℕ = length c.args.text.now - 16 in
+    joined (λ (b : ℕ). escape b ≡ b ∷ []) last c.plain_size_of_16.result c.args.text.now (λ k below. c.loop-at.invariant.plain k (omega (arith, c.loop-at-test.false))) c.plain_size_of_16.ensures.plain
