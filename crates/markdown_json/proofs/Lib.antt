@@ -1,5 +1,5 @@
 mod Escapes
 mod Fragments
 pub mod Utf16Counts
-mod Positions
+mod PointTexts
 mod Left

@@ -2,10 +2,8 @@
 //! only error is that memory ran out.
 
 ghost use Rattle.std.specs.Fmt.{decimal};
-ghost use Rattle.std.specs.Prelude.{◌≡◌, ◌≤◌, ◌<◌, ◌+◌, ◌++◌, [], OnOk, codes, drop, if◌then◌else◌, length, option_map, string_bytes};
-ghost use Rattle.std.specs.Str.{IsUtf8};
+ghost use Rattle.std.specs.Prelude.{◌≡◌, ◌++◌, [], OnOk, codes, if◌then◌else◌, option_map, string_bytes};
 ghost use Rattle.markdown_kinds.specs.Fields.{bool_text};
-ghost use Rattle.markdown_json.specs.Counting.{counted_as};
 ghost use Rattle.markdown_json.specs.Fields.{
   align_field,
   alignment,
@@ -18,77 +16,17 @@ ghost use Rattle.markdown_json.specs.Fields.{
   literal,
   maybe,
   or_null,
-  point,
-  position_between,
-  position_value,
   reference_of,
   reference_type,
   resource_of,
 };
 ghost use Rattle.markdown_json.specs.Strings.{string};
 
-use crate::points::Points;
 use crate::strings::{push, push_string};
-use markdown_events::decimal::{push_decimal, put_decimal, put_text, text};
+use markdown_events::decimal::push_decimal;
 use markdown_events::infer::AlignKind;
-use markdown_events::unist::{Point, Position};
 use markdown_kinds::ReferenceKind;
 use std::alloc::AllocError;
-
-/// The greatest size of the field of a position, in bytes: six numbers of up to 20 digits, and 87
-/// bytes around them.
-const POSITION_SIZE: usize = 207;
-
-/// Appends the field of a position, with its points as `points` counts them.
-///
-/// For the first character of a document it is
-/// `,"position":{"start":{"line":1,"column":1,"offset":0},"end":{"line":1,"column":2,"offset":1}}`.
-pub fn push_position_field(
-    out: &mut String,
-    points: &Points,
-    position: Position,
-) -> Result<(), AllocError>
-    ensures { OnOk result (string_bytes out.new
-        ≡ string_bytes out.old ++ field (codes "position") (position_value (counted_as points.now) position)) }
-{
-    let start = points.counted(position.start);
-    let end = points.counted(position.end);
-    let mut buffer = [0; POSITION_SIZE];
-    let first = put_position(&mut buffer, start, end);
-    push(out, text(&buffer, first))
-}
-
-/// Writes the field of a position at the end of a buffer, and returns the index of its first byte.
-fn put_position(buffer: &mut [u8; POSITION_SIZE], start: Point, end: Point) -> usize
-    ensures within { result ≤ 207 }
-    ensures text { drop result buffer.new ≡ field (codes "position") (position_between start end) }
-    ensures utf8 { IsUtf8 (drop result buffer.new) }
-{
-    let at = put_text(buffer, POSITION_SIZE, "}");
-    let at = put_point(buffer, at, end);
-    let at = put_text(buffer, at, ",\"end\":");
-    let at = put_point(buffer, at, start);
-    put_text(buffer, at, ",\"position\":{\"start\":")
-}
-
-/// Writes a point before the bytes from `end` on, and returns the index of its first byte.
-#[inline(always)]
-fn put_point(buffer: &mut [u8], end: usize, place: Point) -> usize
-    requires room { 89 ≤ end }
-    requires within { end ≤ length buffer.old }
-    ensures room { end ≤ result + 89 }
-    ensures place { result < end }
-    ensures text { drop result buffer.new ≡ point place ++ drop end buffer.old }
-    ensures utf8 { IsUtf8 (drop end buffer.old) → IsUtf8 (drop result buffer.new) }
-{
-    let at = put_text(buffer, end, "}");
-    let at = put_decimal(buffer, at, place.offset);
-    let at = put_text(buffer, at, ",\"offset\":");
-    let at = put_decimal(buffer, at, place.column);
-    let at = put_text(buffer, at, ",\"column\":");
-    let at = put_decimal(buffer, at, place.line);
-    put_text(buffer, at, "{\"line\":")
-}
 
 /// Appends the kind of a node, which begins its object.
 ///

@@ -22,10 +22,11 @@ ghost use Rattle.markdown_json.specs.Json.{children_end, closing, opening};
 
 use crate::fields::{
     push_align, push_association, push_checked, push_children, push_flag, push_kind, push_literal,
-    push_number, push_option, push_parent, push_position_field, push_reference, push_resource,
+    push_number, push_option, push_parent, push_reference, push_resource,
     push_start, push_text,
 };
 use crate::points::Points;
+use crate::positions::LastPosition;
 use crate::strings::{push, push_started};
 use markdown_nodes::mdast::{
     Code, Definition, FootnoteDefinition, FootnoteReference, Heading, Image, ImageReference, Link,
@@ -85,12 +86,17 @@ fn push_inline_code(out: &mut String, value: &String) -> Result<(), AllocError>
 }
 
 /// Appends the text after the children of a node.
-pub fn push_closing(out: &mut String, points: &Points, node: &Node) -> Result<(), AllocError>
+pub fn push_closing(
+    out: &mut String,
+    points: &Points,
+    last: &mut LastPosition,
+    node: &Node,
+) -> Result<(), AllocError>
     ensures { OnOk result (string_bytes out.new
         ≡ string_bytes out.old ++ closing (counted_as points.now) (label_of node.now) (position_of node.now)) }
 {
     push(out, children_end(node))?;
-    push_position(out, points, node)?;
+    push_position(out, points, last, node)?;
     push(out, "}")
 }
 
@@ -118,11 +124,20 @@ fn children_end(node: &Node) -> &'static str
 }
 
 /// Appends the position of a node, if it has one.
-fn push_position(out: &mut String, points: &Points, node: &Node) -> Result<(), AllocError>
+fn push_position(
+    out: &mut String,
+    points: &Points,
+    last: &mut LastPosition,
+    node: &Node,
+) -> Result<(), AllocError>
     ensures { OnOk result (string_bytes out.new ≡ string_bytes out.old ++ position_field (counted_as points.now) (position_of node.now)) }
 {
     match node.position() {
-        Some(position) => push_position_field(out, points, *position),
+        Some(position) => {
+            let start = points.counted(position.start);
+            let end = points.counted(position.end);
+            last.push(out, start, end)
+        }
         None => Ok(()),
     }
 }

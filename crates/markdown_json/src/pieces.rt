@@ -8,6 +8,7 @@ ghost use Rattle.markdown_nodes.specs.View.{view};
 
 use crate::kinds::{push_closing, push_opening};
 use crate::points::Points;
+use crate::positions::LastPosition;
 use crate::strings::push;
 use crate::utf16::Utf16Points;
 use markdown_nodes::mdast::Node;
@@ -32,6 +33,8 @@ struct Frame<'a> {
 #[derive(Drop)]
 pub struct JsonPieces<'a> {
     points: Points,
+    /// The last position that is written.
+    last: LastPosition,
     /// The nodes to come on the level of the walk.
     level: &'a [Node],
     /// Whether a node of the level is written.
@@ -82,6 +85,7 @@ impl<'a> JsonPieces<'a> {
     {
         JsonPieces {
             points,
+            last: LastPosition::none(),
             level: slice::from_ref(tree),
             later: false,
             frames: Vec::new(alloc),
@@ -152,7 +156,7 @@ impl<'a> JsonPieces<'a> {
             let Some(frame) = self.frames.pop() else {
                 return Ok(false);
             };
-            push_closing(out, &self.points, frame.node)?;
+            push_closing(out, &self.points, &mut self.last, frame.node)?;
             self.level = frame.rest;
             self.later = true;
         }

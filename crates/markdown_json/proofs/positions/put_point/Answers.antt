@@ -1,5 +1,5 @@
-use Rattle.markdown_json.proofs.Positions.{point-is}
-use Rattle.markdown_json.proofs.fields.put_point.Goals as goal
+use Rattle.markdown_json.proofs.PointTexts.{point-is}
+use Rattle.markdown_json.proofs.positions.put_point.Goals as goal
 
 pub returns-clause-text : goal.returns-clause-text
 returns-clause-text c =

@@ -1,5 +1,5 @@
--- A position, put together from its last byte to its first.
-use Rattle.std.proofs.Common.{◌≡◌, ◌++◌, List, [], ℕ, codes, sym, ap, ◌∙◌, append_assoc}
+-- The text of a point, put together from its last byte to its first, and that of a position.
+use Rattle.std.proofs.Common.{◌≡◌, ◌++◌, List, ℕ, codes, refl, sym, ap, ◌∙◌, append_assoc}
 use Rattle.std.specs.Fmt.{decimal}
 use Rattle.markdown_events.specs.declared.unist.Point.{Point}
 use Rattle.markdown_json.specs.Fields.{field, key, point, position_between}
@@ -14,8 +14,12 @@ point-is p back t u v w x y z t-is u-is v-is w-is x-is y-is z-is =
     rw (z-is, y-is, x-is, w-is, v-is, u-is, t-is)
     (sym (append_assoc (line ++ column ++ offset) (codes "}") back ∙ append_assoc (line ++ column) offset end ∙ append_assoc line column (offset ++ end)))
 
-pub position-is : (start end : Point) (back v w x y z : List ℕ) → back ≡ [] → v ≡ codes "}" ++ back → w ≡ point end ++ v → x ≡ codes ",\"end\":" ++ w → y ≡ point start ++ x → z ≡ codes ",\"position\":{\"start\":" ++ y → z ≡ field (codes "position") (position_between start end)
+regroup : (old a b c d e : List ℕ) → ((((old ++ a) ++ b) ++ c) ++ d) ++ e ≡ old ++ ((((a ++ b) ++ c) ++ d) ++ e)
+regroup old a b c d e = simp append_assoc refl
+
+pub position-is : (start end : Point) (old v w x y : List ℕ) → v ≡ old ++ codes ",\"position\":{\"start\":" → w ≡ v ++ point start → x ≡ w ++ codes ",\"end\":" → y ≡ x ++ point end → y ++ codes "}" ≡ old ++ field (codes "position") (position_between start end)
 unfolding field key position_between
-position-is start end back v w x y z none v-is w-is x-is y-is z-is =
-    rw (z-is, y-is, x-is, w-is, v-is, none)
-    (sym (ap (λ s. codes ",\"position\":{\"start\":" ++ s) (append_assoc (point start) (field (codes "end") (point end)) (codes "}"))))
+position-is start end old v w x y v-is w-is x-is y-is =
+    rw (y-is, x-is, w-is, v-is)
+    (regroup old (codes ",\"position\":{\"start\":") (point start) (codes ",\"end\":") (point end) (codes "}")
+    ∙ ap (λ s. old ++ (codes ",\"position\":{\"start\":" ++ (s ++ codes "}"))) (append_assoc (point start) (codes ",\"end\":") (point end)))
