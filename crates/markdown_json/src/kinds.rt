@@ -22,8 +22,7 @@ ghost use Rattle.markdown_json.specs.Json.{children_end, closing, opening};
 
 use crate::fields::{
     push_align, push_association, push_checked, push_children, push_flag, push_kind, push_literal,
-    push_number, push_option, push_parent, push_reference, push_resource,
-    push_start, push_text,
+    push_number, push_option, push_parent, push_reference, push_resource, push_start, push_text,
 };
 use crate::points::Points;
 use crate::positions::LastPosition;
@@ -95,31 +94,31 @@ pub fn push_closing(
     ensures { OnOk result (string_bytes out.new
         ≡ string_bytes out.old ++ closing (counted_as points.now) (label_of node.now) (position_of node.now)) }
 {
-    push(out, children_end(node))?;
+    push_children_end(out, node)?;
     push_position(out, points, last, node)?;
     push(out, "}")
 }
 
-/// Returns the end of the children of a parent, or an empty text for any other node.
-fn children_end(node: &Node) -> &'static str
-    ensures { result.now ≡ children_end (label_of node.now) }
+/// Appends the end of the children of a parent, and nothing for any other node.
+fn push_children_end(out: &mut String, node: &Node) -> Result<(), AllocError>
+    ensures { OnOk result (string_bytes out.new ≡ string_bytes out.old ++ children_end (label_of node.now)) }
 {
     match node {
-        Node::Toml(_) => "",
-        Node::Yaml(_) => "",
-        Node::Break(_) => "",
-        Node::InlineCode(_) => "",
-        Node::InlineMath(_) => "",
-        Node::FootnoteReference(_) => "",
-        Node::Html(_) => "",
-        Node::Image(_) => "",
-        Node::ImageReference(_) => "",
-        Node::Text(_) => "",
-        Node::Code(_) => "",
-        Node::Math(_) => "",
-        Node::ThematicBreak(_) => "",
-        Node::Definition(_) => "",
-        _ => "]",
+        Node::Toml(_) => Ok(()),
+        Node::Yaml(_) => Ok(()),
+        Node::Break(_) => Ok(()),
+        Node::InlineCode(_) => Ok(()),
+        Node::InlineMath(_) => Ok(()),
+        Node::FootnoteReference(_) => Ok(()),
+        Node::Html(_) => Ok(()),
+        Node::Image(_) => Ok(()),
+        Node::ImageReference(_) => Ok(()),
+        Node::Text(_) => Ok(()),
+        Node::Code(_) => Ok(()),
+        Node::Math(_) => Ok(()),
+        Node::ThematicBreak(_) => Ok(()),
+        Node::Definition(_) => Ok(()),
+        _ => push(out, "]"),
     }
 }
 
