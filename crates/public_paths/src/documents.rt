@@ -4,8 +4,8 @@ use crate::expect::holds;
 use character_references::html::HtmlReferences;
 use markdown::mdast::Node;
 use markdown::{
-    Constructs, ParseOptions, Walk, compile_events, definition_of, hidden_bytes, node_at,
-    to_events, to_json, to_mdast,
+    Constructs, JsonPieces, ParseOptions, Walk, compile_events, definition_of, hidden_bytes,
+    node_at, to_events, to_json, to_mdast,
 };
 use markdown_nodes::message::Fault;
 use markdown_tree::to_mdast::{Document, Steps, compile_document};
@@ -63,5 +63,11 @@ fn a_tree_is_asked(rt: HostRuntime) -> Result<(), AllocError> {
     holds(&rt, Walk::new(rt.alloc(), &tree).next()? == Some(&tree));
     let line = to_json(rt.alloc(), &tree)?;
     holds(&rt, line.as_str().starts_with("{\"type\":\"root\""));
+    let mut piece = String::new(rt.alloc());
+    holds(
+        &rt,
+        JsonPieces::new(rt.alloc(), &tree).next_into(&mut piece)?,
+    );
+    holds(&rt, piece == line);
     Ok(())
 }
