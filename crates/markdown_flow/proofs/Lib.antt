@@ -16,6 +16,7 @@ pub mod Items
 pub mod Marks
 pub mod Definitions
 pub mod Tails
+pub mod HtmlEnds
 pub mod Scanned
 mod CodeExamples
 mod LineSizes

@@ -1,6 +1,6 @@
 //! HTML blocks (CommonMark).
 
-ghost use Rattle.std.specs.Prelude.{Bool, List, OnOk, IfNone, IfOk, IfSome, false, true, ◌≡◌, ◌<◌, ◌⊎◌};
+ghost use Rattle.std.specs.Prelude.{Bool, List, OnOk, IfNone, IfOk, IfSome, false, length, slice_index, true, ℕ, ◌≡◌, ◌≢◌, ◌<◌, ◌⊎◌};
 ghost use Rattle.commonmark_syntax.specs.Language.{IsNotAt};
 ghost use Rattle.commonmark_syntax.specs.declared.html_block.Kind.{Kind};
 ghost use Rattle.event_writer.specs.Stages.{Enclosing};
@@ -9,9 +9,10 @@ ghost use Rattle.markdown_flow.specs.Outputs.{Opens, Writes, WritesOut, construc
 
 use crate::line::Line;
 use crate::output::Output;
-use commonmark_syntax::bytes::{count_while, is_space_or_tab};
+use commonmark_syntax::bytes::{count_while, has_byte, is_space_or_tab};
 use commonmark_syntax::html_block::Kind;
 use markdown_events::event::Name;
+use markdown_events::search::first_equal;
 use std::alloc::AllocError;
 
 /// An HTML block.
@@ -22,7 +23,7 @@ pub struct Html {
 }
 
 impl Html {
-    ghost use Rattle.commonmark_syntax.specs.Html.{HoldsFirst, condition, html_start};
+    ghost use Rattle.commonmark_syntax.specs.Html.{HasEnd, HoldsFirst, condition, html_start};
 
     /// Returns the HTML block that begins in a line, if one does (CommonMark). The last kind cannot
     /// interrupt a paragraph. Always `None` with `html_flow` off.
@@ -65,7 +66,7 @@ impl Html {
         ensures written { OnOk result (WritesOut output.old output.new) }
         ensures opens { (n : Bool) → (outer : List Enclosing) → Opens output.old (in_html false n outer) → IfOk result (λ ends. Opens output.new (in_html ends n outer)) }
     {
-        let ends = self.kind.ends_in(output.rest());
+        let ends = self.ends_in(output.rest());
         output.token_of_rest(Name::HtmlFlowData)?;
         if !ends {
             return Ok(false);
@@ -73,4 +74,28 @@ impl Html {
         output.exit(Name::HtmlFlow)?;
         Ok(true)
     }
+
+    /// Whether a line contains its end. Few lines contain the byte that each end has, so that is
+    /// searched for first.
+    fn ends_in(self, text: &[u8]) -> bool
+        ensures yes { result ≡ true → HasEnd self.kind text.now }
+        ensures no { result ≡ false → HasEnd self.kind text.now → ⊥ }
+    {
+        has_end_byte(text) && self.kind.ends_in(text)
+    }
+}
+
+/// Whether a text contains the byte `>`, which each end of an HTML block has. It is searched for in
+/// 16 bytes at a time.
+fn has_end_byte(text: &[u8]) -> bool
+    ensures { result ≡ false → (k : ℕ) → k < length text.now → slice_index text.now k ≢ 62 }
+{
+    let mut at = 0;
+    while text.len() - at >= 16 {
+        if first_equal(&text[at..], b'>') < 16 {
+            return true;
+        }
+        at += 16;
+    }
+    has_byte(&text[at..], b'>')
 }
