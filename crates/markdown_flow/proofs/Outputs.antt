@@ -43,14 +43,13 @@ stands_alone output none start tiles on = record {
 }
 
 -- a piece more
-pub written_on : (output : Output) (items : List Piece) (cursor : Cursor) (p : Piece) → Writes output → items ≡ output.pieces.items ++ p ∷ [] → (cursor.extent).source ≡ source_of output → end_of p ≡ spot cursor
-    → Goes (document_of output) p.kind (spot output.cursor) (spot cursor) → Tiles (cursor.extent).source.document.now origin (items ++ drop output.held_start output.held.items) (spot cursor)
-written_on output items cursor p w is same end goes =
-    let bytes : (cursor.extent).source.document.now ≡ document_of output = ap (λ (s : Source). s.document.now) same in
-    let more : Tiles (document_of output) origin (output.pieces.items ++ p ∷ []) (spot cursor) =
-    joined (document_of output) origin (spot output.cursor) (spot cursor) output.pieces.items (p ∷ []) (written output w) (subst (λ (s : Spot). Goes (document_of output) p.kind (spot output.cursor) s) (sym end) goes, end) in
-    subst (λ (ps : List Piece). Tiles (cursor.extent).source.document.now origin ps (spot cursor)) (sym (none_after items output.held_start output.held.items w.none_held))
-    (subst (λ (ps : List Piece). Tiles (cursor.extent).source.document.now origin ps (spot cursor)) (sym is) (subst (λ (bs : List ℕ). Tiles bs origin (output.pieces.items ++ p ∷ []) (spot cursor)) (sym bytes) more))
+pub written_on : (output : Output) (items : List Piece) (to : Spot) (p : Piece) → Writes output → items ≡ output.pieces.items ++ p ∷ [] → end_of p ≡ to
+    → Goes (document_of output) p.kind (spot output.cursor) to → Tiles (document_of output) origin (items ++ drop output.held_start output.held.items) to
+written_on output items to p w is end goes =
+    let more : Tiles (document_of output) origin (output.pieces.items ++ p ∷ []) to =
+    joined (document_of output) origin (spot output.cursor) to output.pieces.items (p ∷ []) (written output w) (subst (λ (s : Spot). Goes (document_of output) p.kind (spot output.cursor) s) (sym end) goes, end) in
+    subst (λ (ps : List Piece). Tiles (document_of output) origin ps to) (sym (none_after items output.held_start output.held.items w.none_held))
+    (subst (λ (ps : List Piece). Tiles (document_of output) origin ps to) (sym is) more)
 
 -- a piece without length, after the settled pieces
 pub stands_with : (output : Output) (items : List Piece) (p : Piece) → Stands output → items ≡ output.pieces.items ++ p ∷ [] → end_of p ≡ end_from origin output.pieces.items → Goes (document_of output) p.kind (end_from origin output.pieces.items) (end_from origin output.pieces.items)

@@ -443,7 +443,7 @@ impl<'d> Output<'d> {
     /// Adds a piece of the current line, which ends at a place.
     fn push(&mut self, piece: Piece, cursor: Cursor<'d>) -> Result<(), AllocError>
         requires writes { Writes self.old }
-        requires source { cursor.extent.source ≡ source_of self.old }
+        requires extent { cursor.extent ≡ self.old.cursor.extent }
         requires end { end_of piece ≡ spot cursor }
         requires on { IsOn (constructs_of self.old) piece.kind }
         requires goes { Goes (document_of self.old) piece.kind (spot self.old.cursor) (spot cursor) }
@@ -453,7 +453,8 @@ impl<'d> Output<'d> {
         ensures opens { (a : Stage) → (outer : List Enclosing) → Opens self.old (at a outer) → OnOk result (IfSome (stage_after a piece.kind) (λ b. Opens self.new (at b outer))) }
     {
         self.pieces.push(piece)?;
-        self.cursor = cursor;
+        self.cursor.offset = cursor.offset;
+        self.cursor.virtual_spaces = cursor.virtual_spaces;
         Ok(())
     }
 
@@ -658,6 +659,9 @@ impl<'d> Output<'d> {
         ensures text { line.new.text ≡ line.old.text }
         ensures indent { line.new.indent ≡ line.old.indent - columns }
     {
+        if columns == 0 {
+            return Ok(());
+        }
         line.skip_columns(columns);
         self.token_to(Name::SpaceOrTab, line)
     }
