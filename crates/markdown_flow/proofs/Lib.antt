@@ -17,6 +17,7 @@ pub mod Marks
 pub mod Definitions
 pub mod Tails
 pub mod HtmlEnds
+pub mod Nexts
 pub mod Scanned
 mod CodeExamples
 mod LineSizes

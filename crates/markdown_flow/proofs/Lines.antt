@@ -89,6 +89,16 @@ indentation-none columns (b ∷ bs) = by (is_space_or_tab b) refl (indentation-n
     by true e r = r
     by false e r = ap (λ (t : Bool). cond t (width b columns + indentation (columns + width b columns) bs) 0) e
 
+-- a text that is as long without the white space at its start begins with none
+pub indentation-unspaced : (columns : ℕ) (text : List ℕ) → length (after_spaces text) ≡ length text → indentation columns text ≡ 0
+unfolding after_spaces indentation
+indentation-unspaced columns [] same = refl
+indentation-unspaced columns (b ∷ bs) same = by (is_space_or_tab b) same
+  where
+    by : (t : Bool) → length (cond t (after_spaces bs) (b ∷ bs)) ≡ length (b ∷ bs) → cond t (width b columns + indentation (columns + width b columns) bs) 0 ≡ 0
+    by true same = let less = after_spaces-length bs in absurd (omega (arith, same, less))
+    by false same = refl
+
 -- a text that begins with columns of white space begins with a byte of it
 pub white-more : (b columns : ℕ) (rest : List ℕ) → 0 < indentation columns (b ∷ rest)
     → (after_spaces (b ∷ rest) ≡ after_spaces rest) × (indentation columns (b ∷ rest) ≡ width b columns + indentation (columns + width b columns) rest)
@@ -515,6 +525,14 @@ columns-at-next bytes from end next line less = by line.ending
         let place : IsPlace bytes at = record { within = omega arith; line = refl; column = sym (add-zero (column_at bytes end)); tab = λ some. absurd (omega arith) } in
         let first = place-after-ending bytes at place (line_ending-least bytes end more.0) in
         record { column = first.column ∙ ap (λ (n : ℕ). column_at bytes n + 0) (sym more.1); tab = λ some. absurd (omega arith) }
+
+-- nor before another line that begins in the document
+pub columns-at-another : (bytes : List ℕ) (from end next : ℕ) → IsRest bytes from end next → next < length bytes → HasColumns bytes next 0 0
+columns-at-another bytes from end next line more = columns-at-next bytes from end next line (by line.ending)
+  where
+    by : Ending bytes end next → end < next
+    by (inl last) = absurd (omega (arith, more, last.1))
+    by (inr ends) = omega (arith, ends.1, line_ending-least bytes end ends.0)
 
 -- ---- The start of a document
 

@@ -146,13 +146,13 @@ impl<'d> Reader<'d> {
         ensures end { OnOk result (end_with self.new.flow self.new.output ≡ record { offset = length (document_of self.old.output); virtual_spaces = 0 }) }
         ensures opens { OnOk result (OpensAll self.new) }
     {
+        let source = first.line.source();
         let mut input = first;
-        let mut line = input.line;
+        let mut next = input.line.next();
         self.line(&mut input)?;
-        'lines: while let Some(next) = line.following() {
-            input.go_to(next);
+        'lines: while input.go_to(source, next) {
+            next = input.line.next();
             self.line(&mut input)?;
-            line = next;
         }
         Ok(())
     }

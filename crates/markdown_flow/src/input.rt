@@ -1,8 +1,8 @@
 //! The current line, and what the open containers took of it.
 
-ghost use Rattle.std.specs.Prelude.{[], OnOk, length, slice_index, ◌≡◌, ◌<◌, ◌++◌};
+ghost use Rattle.std.specs.Prelude.{[], OnOk, false, length, slice_index, true, ◌≡◌, ◌≤◌, ◌<◌, ◌++◌};
 
-use crate::line::Line;
+use crate::line::{Line, Source};
 use crate::output::piece_to;
 use markdown_events::event::Name;
 use markdown_pieces::piece::{Piece, PieceKind};
@@ -20,6 +20,7 @@ pub struct Input<'d> {
 }
 
 impl<'d> Input<'d> {
+    ghost use Rattle.markdown_flow.specs.Lines.{HasColumns};
     ghost use Rattle.markdown_flow.specs.Moves.{HasMoved};
     ghost use Rattle.markdown_flow.specs.Outputs.{Reads, spot_in};
     ghost use Rattle.markdown_flow.specs.declared.line.Source.{Source};
@@ -38,13 +39,23 @@ impl<'d> Input<'d> {
         }
     }
 
-    /// Moves to another line, of which nothing has been read yet.
-    pub fn go_to(&mut self, line: Line<'d>)
-        ensures line { self.new.line ≡ line.entry }
+    /// Moves to the line that begins at an offset, of which nothing has been read yet. Returns
+    /// whether there is one.
+    #[inline(always)]
+    pub fn go_to(&mut self, source: Source<'d>, start: usize) -> bool
+        requires { start < length source.document.now → HasColumns source.document.now start 0 0 }
+        ensures same { result ≡ true → self.new.line.source ≡ source.entry }
+        ensures start { result ≡ true → self.new.line.start ≡ start }
+        ensures spot { result ≡ true → spot_in self.new.line ≡ record { offset = start; virtual_spaces = 0 } }
+        ensures none { result ≡ false → length source.entry.document.now ≤ start }
         ensures prefix { self.new.prefix ≡ self.old.prefix }
     {
+        let Some(line) = Line::new(source, start) else {
+            return false;
+        };
         self.line = line;
         self.depth = 0;
+        true
     }
 
     /// Moves the cursor over the white space there, a byte, and a column of white space, if there

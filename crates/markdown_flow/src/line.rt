@@ -8,15 +8,20 @@ ghost use Rattle.std.specs.Prelude.{
   ◌-◌,
   ◌*◌,
   ◌^◌,
+  ◌||◌,
   IfNone,
   IfSome,
   drop,
   length,
+  nat_le,
   nat_lt,
   true,
+  ℕ,
 };
 ghost use Rattle.std.specs.Str.{IsAscii};
 ghost use Rattle.std.proofs.Props.{props};
+ghost use Rattle.commonmark_syntax.specs.Blocks.{has_one_sign, is_break_sign};
+ghost use Rattle.commonmark_syntax.specs.Syntax.{is_blank};
 ghost use Rattle.event_writer.specs.Calls.{EndsLine, line_ending_length};
 ghost use Rattle.markdown_flow.specs.Lines.{
   HasColumns,
@@ -86,14 +91,14 @@ pub struct Line<'d> {
 }
 
 impl<'d> Line<'d> {
-    ghost use Rattle.commonmark_syntax.specs.Blocks.{has_one_sign};
     ghost use Rattle.commonmark_syntax.specs.Cuts.{IsCut};
     ghost use Rattle.markdown_flow.specs.Moves.{HasMoved};
     ghost use Rattle.markdown_flow.specs.Outputs.{ComesToCut, constructs_in, is_indented};
 
     /// Returns the line that begins at an offset, or `None` at the end of the document.
+    #[inline(always)]
     pub fn new(source: Source<'d>, start: usize) -> Option<Line<'d>>
-        requires { HasColumns source.document.now start 0 0 }
+        requires { start < length source.document.now → HasColumns source.document.now start 0 0 }
         ensures same { IfSome result (λ line. line.source ≡ source.entry) }
         ensures start { IfSome result (λ line. line.start ≡ start) }
         ensures offset { IfSome result (λ line. line.end - length line.rest.now ≡ start) }
@@ -106,15 +111,16 @@ impl<'d> Line<'d> {
             return None;
         }
         let (bytes, ending) = rest.split_at(line_size(rest));
+        let text = after_spaces(bytes);
         Some(Line {
             source,
             start,
             rest: bytes,
-            text: after_spaces(bytes),
+            text,
             columns: 0,
             virtual_spaces: 0,
-            indent: indent_of(bytes, 0),
-            tail: thematic_break::tail_size(bytes),
+            indent: indent_before(text, bytes),
+            tail: tail_size(bytes),
             end: document.len() - ending.len(),
             next: document.len() - after_line_ending(ending).len(),
         })
@@ -315,6 +321,41 @@ fn after_line_ending(text: &[u8]) -> &[u8]
         [b'\r', b'\n', rest @ ..] | [_, rest @ ..] => rest,
         [] => text,
     }
+}
+
+/// Returns how many bytes at the end of a line are only white space and one of the signs of thematic
+/// breaks. Few lines end with such a byte.
+fn tail_size(line: &[u8]) -> usize
+    ensures { (n : ℕ) → n ≤ length line.now → has_one_sign (drop (length line.now - n) line.now) ≡ nat_le n result }
+{
+    let [.., last] = line else {
+        return 0;
+    };
+    if is_of_tail(*last) {
+        thematic_break::tail_size(line)
+    } else {
+        0
+    }
+}
+
+/// Whether a byte is white space or a sign of thematic breaks.
+fn is_of_tail(byte: u8) -> bool
+    ensures { result ≡ (is_blank byte || is_break_sign byte) }
+{
+    matches!(byte, b' ' | b'\t' | b'*' | b'-' | b'_')
+}
+
+/// Returns how many columns of white space a line begins with, before its text. Most lines begin
+/// with none.
+fn indent_before(text: &[u8], line: &[u8]) -> usize
+    requires text { text.now ≡ after_spaces line.now }
+    requires fits { 4 * length line.now < 2 ^ 64 }
+    ensures { result ≡ indentation 0 line.now }
+{
+    if text.len() == line.len() {
+        return 0;
+    }
+    indent_of(line, 0)
 }
 
 /// Returns how many columns of white space a text begins with, if `columns` columns come before it.

@@ -2,19 +2,16 @@ use Rattle.std.proofs.Common.{arith, ap, drop, length, subst, sym, take, List, �
 use Rattle.std.proofs.lemmas.Bool.Decides.{nat_tests}
 use Rattle.std.proofs.lemmas.List.{drop-drop}
 use Rattle.event_writer.specs.Calls.{EndsLine, line_ending_length}
-use Rattle.event_writer.proofs.Walks.{column-bound}
 use Rattle.markdown_flow.specs.Lines.{IsInLine, IsRest}
 use Rattle.markdown_flow.proofs.Tails.{tail_is}
 use Rattle.markdown_flow.proofs.Lines.{Begins, Stands, begins, ends-drop, line_ending-drop}
 use Rattle.markdown_flow.proofs.line.Line.new.Goals as goal
 use Rattle.markdown_flow.proofs.line.Line.new.Goals.{After-after_line_ending}
 
-pub indent_of-requires : goal.indent_of-requires
-indent_of-requires c =
-    let some : 0 < length c.after-rest.result.now = grind (arith, nat_tests) in
-    let b = column-bound c.args.source.document.now c.args.start in
+pub indent_before-requires-clause-fits : goal.indent_before-requires-clause-fits
+indent_before-requires-clause-fits c =
     let s = c.args.source.short in
-    omega (arith, c.requires.column, c.after-rest.ensures.length, c.split_at.ensures.front_len, c.split_at.ensures.back_len)
+    omega (arith, c.after-rest.ensures.length, c.split_at.ensures.front_len)
 
 pub after_line_ending-requires : goal.after_line_ending-requires
 after_line_ending-requires c some =
@@ -27,7 +24,7 @@ begun : (c : After-after_line_ending) → Begins c.args.source.document.now c.ar
 begun c =
     let is = c.after-rest.ensures.rest in
     let some : 0 < length c.after-rest.result.now = grind (arith, nat_tests) in
-    begins c.args.source.document.now c.args.start c.line_size.result 0 c.requires
+    begins c.args.source.document.now c.args.start c.line_size.result 0 (c.requires (omega (arith, some, c.after-rest.ensures.length)))
     (subst (λ (text : List ℕ). 0 < length text) is some)
     (subst (λ (text : List ℕ). c.line_size.result ≤ length text) is c.line_size.ensures.within)
     (subst (λ (text : List ℕ). IsInLine text 0 c.line_size.result) is c.line_size.ensures.in_line)
@@ -51,8 +48,8 @@ invariant_of-result c =
       later = subst (λ (n : ℕ). c.args.start < n) next at.later;
       rest_fits = stands.fits;
       rest_stands = stands.before;
-      text_rests = c.after_spaces.ensures.value;
+      text_rests = c.after_spaces-text.ensures.value;
       has_columns = stands.place;
-      has_indent = c.indent_of.ensures;
-      tail_exact = tail_is bytes c.split_at.result.0.now c.args.start (length bytes - length c.split_at.result.1.now) c.tail_size.result stands.before (omega (arith, stands.fits)) (omega (arith, end, c.split_at.ensures.front_len)) c.tail_size.ensures.exact;
+      has_indent = c.indent_before.ensures;
+      tail_exact = tail_is bytes c.split_at.result.0.now c.args.start (length bytes - length c.split_at.result.1.now) c.tail_size.result stands.before (omega (arith, stands.fits)) (omega (arith, end, c.split_at.ensures.front_len)) c.tail_size.ensures;
     }
