@@ -22,6 +22,7 @@ use crate::tree_sink::TreeSink;
 use character_references::html::HtmlReferences;
 use event_writer::laws::{no_message_comes, offsets_never_go_back};
 use markdown_events::event::Event;
+use markdown_events::search::first_equal;
 use markdown_flow::document::read;
 use markdown_nodes::mdast::Node;
 use markdown_nodes::message::Fault;
@@ -68,10 +69,20 @@ pub fn to_mdast(alloc: Global, value: &str, options: &ParseOptions) -> Result<No
 /// Whether a document has a backslash before a pipe, and tables are on. In a table that backslash is
 /// hidden. A tree that is built as if no byte were hidden would then be built in vain.
 fn expects_hidden(bytes: &[u8], options: &ParseOptions) -> bool {
-    options.constructs.gfm_table
-        && bytes.contains(&b'|')
-        && bytes.contains(&b'\\')
-        && has_escape(bytes)
+    options.constructs.gfm_table && bytes.contains(&b'|') && has_escaped_pipe(bytes)
+}
+
+/// Whether a text has a backslash before a pipe. Backslashes are searched for in 16 bytes at a time.
+fn has_escaped_pipe(text: &[u8]) -> bool {
+    let mut rest = text;
+    'backslashes: while rest.len() > 16 {
+        let at = first_equal(rest, b'\\');
+        if at < 16 && rest[at + 1] == b'|' {
+            return true;
+        }
+        rest = &rest[at.min(15) + 1..];
+    }
+    has_escape(rest)
 }
 
 /// Returns the tree that a sink has built, if its events hide no byte.

@@ -12,7 +12,7 @@ ghost use Rattle.markdown.specs.Hidden.{hidden};
 
 use crate::hiding::Hiding;
 use character_references::html::HtmlReferences;
-use event_writer::sink::{Sink, enter_event, exit_event};
+use event_writer::sink::Sink;
 use markdown_events::event::{Name, Point};
 use markdown_nodes::mdast::Node;
 use markdown_nodes::message::Fault;
@@ -73,7 +73,7 @@ impl<'d> TreeSink<'d> {
         ensures document { self.new.document ≡ self.old.document }
     {
         self.hiding.enter(name, &at);
-        self.builder.take(&enter_event(name, at));
+        self.builder.enter(name, at);
     }
 
     /// Takes the exit of a span.
@@ -83,7 +83,7 @@ impl<'d> TreeSink<'d> {
         ensures document { self.new.document ≡ self.old.document }
     {
         self.hiding.exit(self.bytes, name, &at);
-        self.builder.take(&exit_event(name, at));
+        self.builder.exit(name, at);
     }
 
     /// Takes the enter and the exit of a token.

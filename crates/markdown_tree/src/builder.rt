@@ -4,7 +4,7 @@ ghost use Rattle.std.specs.Prelude.{◌≡◌, ◌<◌, ◌^◌, ◌++◌, ◌�
 ghost use Rattle.markdown_events.specs.Forest.{enter, exit};
 ghost use Rattle.markdown_grammar.specs.Correct.{FailsRightly, IsMeaning};
 ghost use Rattle.markdown_containers.specs.ContainerStates.{Stops};
-ghost use Rattle.markdown_grammar.specs.Document.{source_of};
+ghost use Rattle.markdown_grammar.specs.Document.{Source, given_of, source_of};
 ghost use Rattle.markdown_grammar.specs.Ordered.{IsOrdered, NeverGoesBack};
 ghost use Rattle.markdown_grammar.specs.Refusals.{ErrorAt};
 ghost use Rattle.markdown_nodes.specs.Tree.{only};
@@ -109,6 +109,54 @@ impl<'a, R: References> TreeBuilder<'a, R> {
         self.passed.add(event);
     }
 
+    /// Takes the enter of a span. It does what [`take`](TreeBuilder::take) does with that event, in fewer
+    /// instructions.
+    #[inline(always)]
+    pub fn enter(&mut self, name: Name, at: Point)
+        ensures document { self.new.document ≡ self.old.document }
+        ensures references { self.new.references ≡ self.old.references }
+        ensures events { self.new.events ≡ self.old.events ++ enter name at ∷ [] }
+    {
+        if self.fault.is_some() {
+            self.passed.add_enter(name, at);
+            return;
+        }
+        open_span(
+            self.alloc,
+            &mut self.context,
+            &mut self.fault,
+            &self.document,
+            name,
+            &at,
+        );
+        self.passed.add_enter(name, at);
+    }
+
+    /// Takes the exit of a span. It does what [`take`](TreeBuilder::take) does with that event, in fewer
+    /// instructions.
+    #[inline(always)]
+    pub fn exit(&mut self, name: Name, at: Point)
+        ensures document { self.new.document ≡ self.old.document }
+        ensures references { self.new.references ≡ self.old.references }
+        ensures events { self.new.events ≡ self.old.events ++ exit name at ∷ [] }
+    {
+        if self.fault.is_some() {
+            self.passed.add_exit(name, at);
+            return;
+        }
+        close_span(
+            self.alloc,
+            &mut self.context,
+            &mut self.fault,
+            &mut self.steps.descents,
+            &self.document,
+            self.references,
+            name,
+            &at,
+        );
+        self.passed.add_exit(name, at);
+    }
+
     /// Takes the enter and the exit of a token, a span that contains no span. It does what two calls of
     /// [`take`](TreeBuilder::take) do, in fewer instructions.
     #[inline(always)]
@@ -190,6 +238,46 @@ fn advance<'a, R: References>(
 {
     if let Err(stop) = context.step(alloc, steps, document, references, event) {
         refuse(fault, stop, &event.point);
+    }
+}
+
+/// Does what the enter of a span does to a context that no event has been refused for.
+#[inline(always)]
+fn open_span<'a>(
+    alloc: Global,
+    context: &mut Context<'a>,
+    fault: &mut Option<Fault>,
+    document: &Document<'a>,
+    name: Name,
+    at: &Point,
+)
+    requires { is_some fault.old ≡ false }
+    ensures { (s : Source) → given_of s ≡ document.now → HasState context.new fault.new (Compiler.step s (enter name at.now) (state_of context.old)) }
+{
+    if let Err(stop) = context.enter(alloc, document, name, at) {
+        refuse(fault, stop, at);
+    }
+}
+
+/// Does what the exit of a span does to a context that no event has been refused for.
+#[inline(always)]
+fn close_span<'a, R: References>(
+    alloc: Global,
+    context: &mut Context<'a>,
+    fault: &mut Option<Fault>,
+    steps: &mut Count,
+    document: &Document<'a>,
+    references: &R,
+    name: Name,
+    at: &Point,
+)
+    requires well { Well (source_of document.now (R.text references.now)) (state_of context.old) }
+    requires none { is_some fault.old ≡ false }
+    ensures { HasState context.new fault.new
+        (Compiler.step (source_of document.now (R.text references.now)) (exit name at.now) (state_of context.old)) }
+{
+    if let Err(stop) = context.exit(alloc, steps, document, references, name, at) {
+        refuse(fault, stop, at);
     }
 }
 

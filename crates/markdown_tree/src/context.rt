@@ -315,7 +315,7 @@ impl<'a> Context<'a> {
 
     /// Opens a span.
     #[inline(always)]
-    fn enter(
+    pub fn enter(
         &mut self,
         alloc: Global,
         document: &Document<'_>,
@@ -425,7 +425,7 @@ impl<'a> Context<'a> {
 
     /// Closes the innermost span, if the name is its name.
     #[inline(always)]
-    fn exit<R: References>(
+    pub fn exit<R: References>(
         &mut self,
         alloc: Global,
         steps: &mut Count,

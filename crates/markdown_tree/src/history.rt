@@ -87,21 +87,37 @@ impl Passed {
         self.last = Some(event.point);
     }
 
+    /// Adds the enter of a span.
+    #[inline(always)]
+    pub fn add_enter(&mut self, name: Name, point: Point)
+        ensures { self.new ≡ self.old ++ enter name point ∷ [] }
+    {
+        self.add(&Event {
+            kind: Kind::Enter,
+            name,
+            point,
+        });
+    }
+
+    /// Adds the exit of a span.
+    #[inline(always)]
+    pub fn add_exit(&mut self, name: Name, point: Point)
+        ensures { self.new ≡ self.old ++ exit name point ∷ [] }
+    {
+        self.add(&Event {
+            kind: Kind::Exit,
+            name,
+            point,
+        });
+    }
+
     /// Adds the two events of a token.
     #[inline(always)]
     pub fn add_token(&mut self, name: Name, start: Point, end: Point)
         ensures { self.new ≡ self.old ++ enter name start ∷ exit name end ∷ [] }
     {
-        self.add(&Event {
-            kind: Kind::Enter,
-            name,
-            point: start,
-        });
-        self.add(&Event {
-            kind: Kind::Exit,
-            name,
-            point: end,
-        });
+        self.add_enter(name, start);
+        self.add_exit(name, end);
     }
 
     /// Returns the point of the last event, or the start of a document if there is none.

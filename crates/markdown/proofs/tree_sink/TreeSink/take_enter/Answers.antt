@@ -10,6 +10,6 @@ pub invariant_of-self : goal.invariant_of-self
 invariant_of-self c =
     let bytes = c.self.inside.bytes.now in
     let old = c.deref_mut.result.now in
-    let is = c.take.ensures.events ∙ (λ i. old.events ++ c.enter_event.ensures i ∷ []) in
+    let is = c.enter-2.ensures.events in
     let before = subst (λ (b : Building HtmlReferences). IsTreeOf bytes b c.self.inside.hiding) (sym c.deref_mut.ensures.value) c.self.invariant in
-    sink-more bytes old c.take.new.self (enter c.args.name c.args.at) c.self.inside.hiding c.enter.new.self c.take.ensures.document is (c.enter.ensures bytes) before
+    sink-more bytes old c.enter-2.new.self (enter c.args.name c.args.at) c.self.inside.hiding c.enter.new.self c.enter-2.ensures.document is (c.enter.ensures bytes) before

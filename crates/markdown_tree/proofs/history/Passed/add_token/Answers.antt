@@ -7,4 +7,4 @@ pub returns : goal.returns
 returns c =
     let first = enter c.args.name c.args.start in
     let second = exit c.args.name c.args.end in
-    c.add-2.ensures ∙ (λ i. c.add.ensures i ++ second ∷ []) ∙ append_assoc c.args.self.now (first ∷ []) (second ∷ [])
+    c.add_exit.ensures ∙ (λ i. c.add_enter.ensures i ++ second ∷ []) ∙ append_assoc c.args.self.now (first ∷ []) (second ∷ [])
