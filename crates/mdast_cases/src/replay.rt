@@ -363,7 +363,7 @@ fn counted(alloc: Global, case: &Case<'_>) -> Result<String, AllocError> {
     answer(alloc, &outcome)
 }
 
-/// Returns the answer of a case from a builder that takes its events, and tokens at once.
+/// Returns the answer of a case from a builder that takes its enters and exits, and tokens at once.
 fn built(alloc: Global, case: &Case<'_>) -> Result<String, AllocError> {
     let mut builder = TreeBuilder::new(alloc, document_of(case), &case.decoder);
     let mut waiting = None;
@@ -390,7 +390,10 @@ fn take<R: References>(
         builder.token(first.name, first.point, next.point);
         return None;
     }
-    builder.take(&first);
+    match first.kind {
+        Kind::Enter => builder.enter(first.name, first.point),
+        Kind::Exit => builder.exit(first.name, first.point),
+    }
     Some(next)
 }
 

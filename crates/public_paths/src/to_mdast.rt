@@ -59,6 +59,8 @@ fn steps_read_events(rt: HostRuntime) {
 fn a_builder_takes_events(rt: HostRuntime) {
     let document = Document::new(b"", Values::Whole);
     let mut builder = TreeBuilder::new(rt.alloc(), document, &Nothing);
+    builder.enter(ENTER.name, ENTER.point);
+    builder.exit(ENTER.name, ENTER.point);
     builder.take(&ENTER);
     // The span is left open.
     let outcome = builder.finish();
