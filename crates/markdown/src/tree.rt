@@ -56,7 +56,7 @@ pub fn to_mdast(alloc: Global, value: &str, options: &ParseOptions) -> Result<No
     let bytes = value.as_bytes();
     let blocks = read(alloc, bytes, options)?;
     if !expects_hidden(bytes, options) {
-        let sink = TreeSink::new(alloc, bytes)?;
+        let sink = TreeSink::new(alloc, value)?;
         let sink = recorded(alloc, bytes, options, &blocks, sink)?;
         if !sink.hides() {
             return shown_tree(sink);
@@ -140,7 +140,7 @@ pub fn compile_events(alloc: Global, value: &str, events: &[Event]) -> Result<No
 {
     let bytes = value.as_bytes();
     let hidden = hidden_bytes(alloc, bytes, events)?;
-    let document = Document::hiding(bytes, &hidden);
+    let document = Document::of_text(value, &hidden);
     compile_document(alloc, &mut Steps::new(events), &document, &HtmlReferences)
 }
 

@@ -47,13 +47,13 @@ impl<'d> Model for TreeSink<'d> {
 
 impl<'d> TreeSink<'d> {
     /// Returns a sink that has taken no event.
-    pub fn new(alloc: Global, bytes: &'d [u8]) -> Result<TreeSink<'d>, AllocError>
-        ensures document { IfOk result (λ sink. sink.document ≡ bytes.now) }
+    pub fn new(alloc: Global, text: &'d str) -> Result<TreeSink<'d>, AllocError>
+        ensures document { IfOk result (λ sink. sink.document ≡ text.now) }
         ensures events { IfOk result (λ sink. sink.events ≡ []) }
     {
-        let builder = TreeBuilder::new(alloc, Document::hiding(bytes, &[]), &HtmlReferences);
+        let builder = TreeBuilder::new(alloc, Document::of_text(text, &[]), &HtmlReferences);
         Ok(TreeSink {
-            bytes,
+            bytes: text.as_bytes(),
             builder: Box::new(alloc, builder)?,
             hiding: Hiding::new(),
         })

@@ -124,12 +124,12 @@ impl CodeFencedParts {
         alloc: Global,
         steps: &mut Count,
         document: &Document<'_>,
-        nodes: Vec<Node>,
+        nodes: &mut Vec<Node>,
         position: Position,
     ) -> Result<Node, Stop>
         ensures node { Makes result (is_some self.fence) MissingFence
-            (IsNode (code_label self.fence (fenced_text document.now position.end.offset nodes.items)) nothing position) }
-        ensures bound { steps.new.number ≤ steps.old.number + node_count (views nodes.items) }
+            (IsNode (code_label self.fence (fenced_text document.now position.end.offset nodes.old.items)) nothing position) }
+        ensures bound { steps.new.number ≤ steps.old.number + node_count (views nodes.old.items) }
     {
         match self.fence {
             Some(fence) => Ok(fenced_code(alloc, steps, document, nodes, position, fence)?),
@@ -144,12 +144,12 @@ fn fenced_code(
     alloc: Global,
     steps: &mut Count,
     document: &Document<'_>,
-    nodes: Vec<Node>,
+    nodes: &mut Vec<Node>,
     position: Position,
     fence: CodeFenceParts,
 ) -> Result<Node, AllocError>
-    ensures node { IfOk result (IsNode (code_label (Some fence) (fenced_text document.now position.end.offset nodes.items)) nothing position) }
-    ensures bound { steps.new.number ≤ steps.old.number + node_count (views nodes.items) }
+    ensures node { IfOk result (IsNode (code_label (Some fence) (fenced_text document.now position.end.offset nodes.old.items)) nothing position) }
+    ensures bound { steps.new.number ≤ steps.old.number + node_count (views nodes.old.items) }
 {
     let CodeFenceParts { info, meta } = fence;
     let value = fenced_value(alloc, steps, document, nodes, position.end.offset)?;
@@ -168,11 +168,11 @@ fn fenced_code(
 pub fn indented_code(
     alloc: Global,
     steps: &mut Count,
-    nodes: Vec<Node>,
+    nodes: &mut Vec<Node>,
     position: Position,
 ) -> Result<Node, AllocError>
-    ensures node { IfOk result (IsNode (tree.code (indented_text nodes.items) None None) nothing position) }
-    ensures bound { steps.new.number ≤ steps.old.number + node_count (views nodes.items) }
+    ensures node { IfOk result (IsNode (tree.code (indented_text nodes.old.items) None None) nothing position) }
+    ensures bound { steps.new.number ≤ steps.old.number + node_count (views nodes.old.items) }
 {
     let text = values_of(alloc, steps, nodes)?;
     Ok(Node::Code(Code {
@@ -190,12 +190,12 @@ pub fn indented_code(
 pub fn inline_code(
     alloc: Global,
     steps: &mut Count,
-    nodes: Vec<Node>,
+    nodes: &mut Vec<Node>,
     position: Position,
     in_table: bool,
 ) -> Result<Node, AllocError>
-    ensures node { IfOk result (IsNode (tree.inline_code (inline_text nodes.items in_table)) nothing position) }
-    ensures bound { steps.new.number ≤ steps.old.number + node_count (views nodes.items) }
+    ensures node { IfOk result (IsNode (tree.inline_code (inline_text nodes.old.items in_table)) nothing position) }
+    ensures bound { steps.new.number ≤ steps.old.number + node_count (views nodes.old.items) }
 {
     let text = values_of(alloc, steps, nodes)?;
     Ok(Node::InlineCode(InlineCode {

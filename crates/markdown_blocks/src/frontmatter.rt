@@ -24,12 +24,12 @@ use std::alloc::{AllocError, Global};
 pub fn frontmatter(
     alloc: Global,
     steps: &mut Count,
-    nodes: Vec<Node>,
+    nodes: &mut Vec<Node>,
     position: Position,
     is_toml: bool,
 ) -> Result<Node, AllocError>
-    ensures node { IfOk result (IsNode (frontmatter is_toml (frontmatter_text nodes.items)) nothing position) }
-    ensures bound { steps.new.number ≤ steps.old.number + node_count (views nodes.items) }
+    ensures node { IfOk result (IsNode (frontmatter is_toml (frontmatter_text nodes.old.items)) nothing position) }
+    ensures bound { steps.new.number ≤ steps.old.number + node_count (views nodes.old.items) }
 {
     let text = values_of(alloc, steps, nodes)?;
     let value = block_value(text, true, true);

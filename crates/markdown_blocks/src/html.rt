@@ -21,11 +21,11 @@ use std::alloc::{AllocError, Global};
 pub fn html(
     alloc: Global,
     steps: &mut Count,
-    nodes: Vec<Node>,
+    nodes: &mut Vec<Node>,
     position: Position,
 ) -> Result<Node, AllocError>
-    ensures node { IfOk result (IsNode (tree.html (plain_text (views nodes.items))) nothing position) }
-    ensures bound { steps.new.number ≤ steps.old.number + node_count (views nodes.items) }
+    ensures node { IfOk result (IsNode (tree.html (plain_text (views nodes.old.items))) nothing position) }
+    ensures bound { steps.new.number ≤ steps.old.number + node_count (views nodes.old.items) }
 {
     Ok(Node::Html(Html {
         value: values_of(alloc, steps, nodes)?,

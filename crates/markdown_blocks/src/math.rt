@@ -106,12 +106,12 @@ impl MathFlowParts {
         alloc: Global,
         steps: &mut Count,
         document: &Document<'_>,
-        nodes: Vec<Node>,
+        nodes: &mut Vec<Node>,
         position: Position,
     ) -> Result<Node, Stop>
         ensures node { Makes result (is_some self.fence) MissingFence
-            (IsNode (math_label self.fence (fenced_text document.now position.end.offset nodes.items)) nothing position) }
-        ensures bound { steps.new.number ≤ steps.old.number + node_count (views nodes.items) }
+            (IsNode (math_label self.fence (fenced_text document.now position.end.offset nodes.old.items)) nothing position) }
+        ensures bound { steps.new.number ≤ steps.old.number + node_count (views nodes.old.items) }
     {
         match self.fence {
             Some(fence) => Ok(block_math(alloc, steps, document, nodes, position, fence)?),
@@ -126,12 +126,12 @@ fn block_math(
     alloc: Global,
     steps: &mut Count,
     document: &Document<'_>,
-    nodes: Vec<Node>,
+    nodes: &mut Vec<Node>,
     position: Position,
     fence: MathFenceParts,
 ) -> Result<Node, AllocError>
-    ensures node { IfOk result (IsNode (math_label (Some fence) (fenced_text document.now position.end.offset nodes.items)) nothing position) }
-    ensures bound { steps.new.number ≤ steps.old.number + node_count (views nodes.items) }
+    ensures node { IfOk result (IsNode (math_label (Some fence) (fenced_text document.now position.end.offset nodes.old.items)) nothing position) }
+    ensures bound { steps.new.number ≤ steps.old.number + node_count (views nodes.old.items) }
 {
     let MathFenceParts { meta } = fence;
     let value = fenced_value(alloc, steps, document, nodes, position.end.offset)?;
@@ -149,12 +149,12 @@ fn block_math(
 pub fn inline_math(
     alloc: Global,
     steps: &mut Count,
-    nodes: Vec<Node>,
+    nodes: &mut Vec<Node>,
     position: Position,
     in_table: bool,
 ) -> Result<Node, AllocError>
-    ensures node { IfOk result (IsNode (tree.inline_math (inline_text nodes.items in_table)) nothing position) }
-    ensures bound { steps.new.number ≤ steps.old.number + node_count (views nodes.items) }
+    ensures node { IfOk result (IsNode (tree.inline_math (inline_text nodes.old.items in_table)) nothing position) }
+    ensures bound { steps.new.number ≤ steps.old.number + node_count (views nodes.old.items) }
 {
     let text = values_of(alloc, steps, nodes)?;
     Ok(Node::InlineMath(InlineMath {

@@ -50,6 +50,7 @@ use markdown_nodes::event::Point;
 use markdown_nodes::mdast::Node;
 use markdown_nodes::role::{Content, ItemKind, Part};
 use markdown_parts::buffer::values_of;
+use markdown_parts::joining::drained;
 use markdown_parts::slice::Document;
 use std::alloc::Global;
 
@@ -351,18 +352,21 @@ impl<'a> Container<'a> {
         steps: &mut Count,
         document: &Document<'a>,
         part: Part,
-        nodes: Vec<Node>,
+        nodes: &mut Vec<Node>,
         start: Point,
         end: Point,
     ) -> Result<(), Stop>
         requires such { is_part_model part models.any_content ≡ true }
         requires heading { part ≢ parts.HeadingSetextText }
         requires fits { misfit_of self.old (item_kinds.Part part) ≡ None }
-        ensures taken { KeepsNodes document.now part start end (views nodes.items) self.old self.new result }
-        ensures bound { steps.new.number ≤ steps.old.number + visits_at_end (item_kinds.Part part) (summary_of_nodes (views nodes.items)) }
+        ensures taken { KeepsNodes document.now part start end (views nodes.old.items) self.old self.new result }
+        ensures bound { steps.new.number ≤ steps.old.number + visits_at_end (item_kinds.Part part) (summary_of_nodes (views nodes.old.items)) }
     {
         match part {
-            Part::LabelText => self.take_label(alloc, document, nodes, start, end),
+            Part::LabelText => {
+                let nodes = drained(alloc, nodes)?;
+                self.take_label(alloc, document, nodes, start, end)
+            }
             Part::ReferenceString
             | Part::DefinitionLabelString
             | Part::FootnoteDefinitionLabelString => {
@@ -402,14 +406,14 @@ impl<'a> Container<'a> {
         steps: &mut Count,
         document: &Document<'_>,
         part: Part,
-        nodes: Vec<Node>,
+        nodes: &mut Vec<Node>,
         start: Point,
         end: Point,
     ) -> Result<(), Stop>
         requires such { is_label_string part ≡ true }
         requires fits { misfit_of self.old (item_kinds.Part part) ≡ None }
-        ensures taken { KeepsNodes document.now part start end (views nodes.items) self.old self.new result }
-        ensures bound { steps.new.number ≤ steps.old.number + node_count (views nodes.items) }
+        ensures taken { KeepsNodes document.now part start end (views nodes.old.items) self.old self.new result }
+        ensures bound { steps.new.number ≤ steps.old.number + node_count (views nodes.old.items) }
     {
         match (self, part) {
             (Container::Reference(parts), Part::ReferenceString) => {

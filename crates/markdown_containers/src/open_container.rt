@@ -62,7 +62,7 @@ use markdown_nodes::mdast::Node;
 use markdown_nodes::role::{Content, ItemKind, Part};
 use markdown_nodes::unist::Position;
 use markdown_parts::items::has_line_endings_after;
-use markdown_parts::joining::{append, put, put_text};
+use markdown_parts::joining::{append, drained, put, put_text};
 use markdown_parts::marks::Marks;
 use markdown_parts::nest::Nest;
 use markdown_parts::slice::{Document, byte_at, position_of};
@@ -247,13 +247,13 @@ impl<'a> OpenContainer<'a> {
         steps: &mut Count,
         document: &Document<'a>,
         part: Part,
-        nodes: Vec<Node>,
+        nodes: &mut Vec<Node>,
         ending: Ending,
     ) -> Result<(), Stop>
         requires such { is_part_model part models.any_content ≡ true }
         requires fits { misfit_of self.old.container (item_kinds.Part part) ≡ None }
-        ensures left { TakesText document.now part (views nodes.items) ending self.old self.new result }
-        ensures bound { steps.new.number ≤ steps.old.number + visits_at_end (item_kinds.Part part) (summary_of_nodes (views nodes.items)) }
+        ensures left { TakesText document.now part (views nodes.old.items) ending self.old self.new result }
+        ensures bound { steps.new.number ≤ steps.old.number + visits_at_end (item_kinds.Part part) (summary_of_nodes (views nodes.old.items)) }
     {
         match part {
             Part::HeadingSetextText => Ok(self.take_heading_text(nodes)?),
@@ -263,9 +263,9 @@ impl<'a> OpenContainer<'a> {
 
     /// Takes the text of a heading above its underline, whose nodes are the heading's. After it
     /// line endings are not text.
-    fn take_heading_text(&mut self, nodes: Vec<Node>) -> Result<(), AllocError>
+    fn take_heading_text(&mut self, nodes: &mut Vec<Node>) -> Result<(), AllocError>
         requires { misfit_of self.old.container (item_kinds.Part parts.HeadingSetextText) ≡ None }
-        ensures { OnOk result (TakesNodes (item_kinds.Part parts.HeadingSetextText) (views nodes.items) self.old self.new) }
+        ensures { OnOk result (TakesNodes (item_kinds.Part parts.HeadingSetextText) (views nodes.old.items) self.old self.new) }
     {
         self.container.take_heading_text();
         append(&mut self.nodes, nodes)?;
@@ -281,14 +281,14 @@ impl<'a> OpenContainer<'a> {
         steps: &mut Count,
         document: &Document<'a>,
         part: Part,
-        nodes: Vec<Node>,
+        nodes: &mut Vec<Node>,
         ending: Ending,
     ) -> Result<(), Stop>
         requires such { is_part_model part models.any_content ≡ true }
         requires heading { part ≢ parts.HeadingSetextText }
         requires fits { misfit_of self.old.container (item_kinds.Part part) ≡ None }
-        ensures left { TakesText document.now part (views nodes.items) ending self.old self.new result }
-        ensures bound { steps.new.number ≤ steps.old.number + visits_at_end (item_kinds.Part part) (summary_of_nodes (views nodes.items)) }
+        ensures left { TakesText document.now part (views nodes.old.items) ending self.old self.new result }
+        ensures bound { steps.new.number ≤ steps.old.number + visits_at_end (item_kinds.Part part) (summary_of_nodes (views nodes.old.items)) }
     {
         self.container.take_text(
             alloc,
@@ -384,14 +384,14 @@ impl<'a> OpenContainer<'a> {
         document: &Document<'_>,
         columns: &mut Columns,
         content: Content,
-        nodes: Vec<Node>,
+        nodes: &mut Vec<Node>,
         ending: Ending,
     ) -> Result<(), Stop>
         requires such { is_model_of content models.any_content ≡ true }
         requires no_parent { is_parent content ≡ false }
-        ensures left { TakesAnyContent document.now content nodes ending (columns_of columns.old) self.old self.new result }
+        ensures left { TakesAnyContent document.now content nodes.old ending (columns_of columns.old) self.old self.new result }
         ensures columns { OnOk result (LeavesColumns content ending.marks columns.old columns.new) }
-        ensures bound { steps.new.number ≤ steps.old.number + visits_at_end (item_kinds.Content content) (summary_of_nodes (views nodes.items)) }
+        ensures bound { steps.new.number ≤ steps.old.number + visits_at_end (item_kinds.Content content) (summary_of_nodes (views nodes.old.items)) }
     {
         let node = any_content_node(alloc, steps, document, columns, content, nodes, ending)?;
         put(&mut self.nodes, node)?;
@@ -471,7 +471,7 @@ impl<'a> OpenContainer<'a> {
         let OpenContainer {
             container,
             line_endings: _,
-            nodes,
+            mut nodes,
         } = self;
         let position = position_of(ending.start, ending.end);
         match container {
@@ -492,8 +492,10 @@ impl<'a> OpenContainer<'a> {
             Container::FootnoteDefinition(parts) => Ok(parts.node(alloc, nodes, position)),
             Container::HeadingAtx(parts) => parts.node(nodes, position),
             Container::HeadingSetext(parts) => parts.node(nodes, position),
-            Container::CodeFenced(parts) => parts.node(alloc, steps, document, nodes, position),
-            Container::MathFlow(parts) => parts.node(alloc, steps, document, nodes, position),
+            Container::CodeFenced(parts) => parts.node(
+                alloc, steps, document, &mut nodes, position,
+            ),
+            Container::MathFlow(parts) => parts.node(alloc, steps, document, &mut nodes, position),
             Container::Autolink(parts) => Ok(parts.node(alloc, ending.start, ending.end)?),
             Container::Media(parts) if content == Content::Image => {
                 Ok(parts.image(alloc, steps, position)?)
@@ -527,19 +529,22 @@ fn any_content_node(
     document: &Document<'_>,
     columns: &mut Columns,
     content: Content,
-    nodes: Vec<Node>,
+    nodes: &mut Vec<Node>,
     ending: Ending,
 ) -> Result<Node, AllocError>
     requires such { is_model_of content models.any_content ≡ true }
     requires no_parent { is_parent content ≡ false }
-    ensures node { IfOk result (IsNodeOf document.now content ending (columns_of columns.old) (summary_of_nodes (views nodes.items))) }
+    ensures node { IfOk result (IsNodeOf document.now content ending (columns_of columns.old) (summary_of_nodes (views nodes.old.items))) }
     ensures columns { OnOk result (LeavesColumns content ending.marks columns.old columns.new) }
-    ensures bound { steps.new.number ≤ steps.old.number + visits_at_end (item_kinds.Content content) (summary_of_nodes (views nodes.items)) }
+    ensures bound { steps.new.number ≤ steps.old.number + visits_at_end (item_kinds.Content content) (summary_of_nodes (views nodes.old.items)) }
 {
     let position = position_of(ending.start, ending.end);
     match content {
-        Content::Table => Ok(table(nodes, position, columns.take(alloc))),
-        Content::ListUnordered => Ok(unordered_list(nodes, position, ending.marks.is_loose_list)),
+        Content::Table => Ok(table(drained(alloc, nodes)?, position, columns.take(alloc))),
+        Content::ListUnordered => {
+            let children = drained(alloc, nodes)?;
+            Ok(unordered_list(children, position, ending.marks.is_loose_list))
+        }
         Content::CodeIndented => indented_code(alloc, steps, nodes, position),
         Content::CodeText => inline_code(
             alloc,

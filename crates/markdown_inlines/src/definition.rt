@@ -72,14 +72,14 @@ impl DefinitionParts {
         alloc: Global,
         steps: &mut Count,
         document: &Document<'_>,
-        nodes: Vec<Node>,
+        nodes: &mut Vec<Node>,
         start: Point,
         end: Point,
     ) -> Result<(), Stop>
         requires { misfit_in (definition self.old) (item_kinds.Part parts.DefinitionLabelString) ≡ None }
-        ensures taken { ReadsText document.now parts.DefinitionLabelString (views nodes.items) start end
+        ensures taken { ReadsText document.now parts.DefinitionLabelString (views nodes.old.items) start end
             (definition self.old) (definition self.new) result }
-        ensures bound { steps.new.number ≤ steps.old.number + node_count (views nodes.items) }
+        ensures bound { steps.new.number ≤ steps.old.number + node_count (views nodes.old.items) }
     {
         let visible = visible_of(alloc, document, start, end)?;
         self.label = Some(identify(alloc, steps, visible.as_str(), nodes)?);

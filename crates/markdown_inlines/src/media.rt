@@ -136,14 +136,14 @@ impl ReferenceParts {
         alloc: Global,
         steps: &mut Count,
         document: &Document<'_>,
-        nodes: Vec<Node>,
+        nodes: &mut Vec<Node>,
         start: Point,
         end: Point,
     ) -> Result<(), Stop>
         requires { misfit_in (reference self.old) (item_kinds.Part parts.ReferenceString) ≡ None }
-        ensures taken { ReadsText document.now parts.ReferenceString (views nodes.items) start end
+        ensures taken { ReadsText document.now parts.ReferenceString (views nodes.old.items) start end
             (reference self.old) (reference self.new) result }
-        ensures bound { steps.new.number ≤ steps.old.number + node_count (views nodes.items) }
+        ensures bound { steps.new.number ≤ steps.old.number + node_count (views nodes.old.items) }
     {
         let visible = visible_of(alloc, document, start, end)?;
         self.string = Some(identify(alloc, steps, visible.as_str(), nodes)?);

@@ -1,6 +1,6 @@
 -- Whole values, and texts that are whole as they stand.
 use Rattle.std.proofs.Common.{◌≡◌, ℕ, zero, suc, ◌+◌, ◌-◌, ◌<◌, Bool, true, false, cond, ◌&&◌, ◌||◌, List, [], ◌∷◌, ◌++◌, length, take, drop, get_or, append_assoc, ◌≢◌, Option, Some, None, Result, Ok, Err, refl, sym, ap, ◌∙◌, arith}
-use Rattle.std.specs.Prelude.{◌==◌, IfSome, OnOk, is_ok, is_some, nat_lt, slice_range, replicate, unwrap_or}
+use Rattle.std.specs.Prelude.{◌==◌, IfSome, OnOk, is_ok, is_some, nat_lt, slice_index, slice_range, replicate, unwrap_or}
 use Rattle.std.specs.Borrow.{Bor}
 use Rattle.std.proofs.lemmas.Bool.{lt-ltb, ne_eqb}
 use Rattle.std.proofs.lemmas.List.{replicate-append-replicate}
@@ -30,6 +30,14 @@ same_without_nul (b ∷ bytes) h =
     let first : (b == 0) ≡ false = or-left (b == 0) (has_nul bytes) h in
     let rest : has_nul bytes ≡ false = or-right (b == 0) (has_nul bytes) h in
     ap (λ (t : Bool). cond t (239 ∷ 191 ∷ 189 ∷ []) (b ∷ []) ++ without_nul bytes) first ∙ ap (λ (t : List ℕ). b ∷ t) (same_without_nul bytes rest)
+
+-- a text without a NUL up to a place, and none from there on
+pub none_before : (at : ℕ) (text rest : List ℕ) → rest ≡ drop at text → ((k : ℕ) → k < at → slice_index text k ≢ 0) → has_nul rest ≡ false → has_nul text ≡ false
+none_before zero text rest is before none = ap has_nul (sym is) ∙ none
+none_before (suc at) [] rest is before none = refl
+none_before (suc at) (b ∷ bytes) rest is before none =
+    ap (λ (t : Bool). t || has_nul bytes) (ne_eqb b 0 (before 0 (omega arith)))
+    ∙ none_before at bytes rest is (λ k below. before (suc k) (omega (arith, below))) none
 
 -- nor has a part of it one
 none-in-take : (n : ℕ) (text : List ℕ) → has_nul text ≡ false → has_nul (take n text) ≡ false

@@ -26,25 +26,25 @@ enum Form {
 /// the tree. Titles, destinations and blocks of code are read this way. It takes one step for each
 /// node. The only error is that memory ran out.
 ///
-/// The nodes are consumed: if there is one text alone, as in most buffers, its characters are
-/// moved, and not copied.
+/// The nodes are used up: if there is one text alone, as in most buffers, its characters are moved,
+/// and not copied.
 ///
 /// For an emphasis with the text `a` in it, and the text `b` after it, it is `ab`.
 pub fn values_of(
     alloc: Global,
     steps: &mut Count,
-    mut nodes: Vec<Node>,
+    nodes: &mut Vec<Node>,
 ) -> Result<String, AllocError>
-    ensures text { IfOk result (λ text. string_bytes text ≡ plain_text (views nodes.items)) }
+    ensures text { IfOk result (λ text. string_bytes text ≡ plain_text (views nodes.old.items)) }
     // Each node takes one step, and if memory runs out it takes no more than that.
-    ensures count { OnOk result (steps.new.number ≡ steps.old.number + node_count (views nodes.items)) }
-    ensures bound { steps.new.number ≤ steps.old.number + node_count (views nodes.items) }
+    ensures count { OnOk result (steps.new.number ≡ steps.old.number + node_count (views nodes.old.items)) }
+    ensures bound { steps.new.number ≤ steps.old.number + node_count (views nodes.old.items) }
 {
-    if let Some(text) = text_alone(alloc, &mut nodes) {
+    if let Some(text) = text_alone(alloc, nodes) {
         steps.tick();
         return Ok(text);
     }
-    text_of(alloc, steps, Form::Values, &nodes)
+    text_of(alloc, steps, Form::Values, nodes)
 }
 
 /// Moves the characters out of a text that is the only node. Other nodes are unchanged.

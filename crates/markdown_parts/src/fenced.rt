@@ -28,13 +28,13 @@ pub fn fenced_value(
     alloc: Global,
     steps: &mut Count,
     document: &Document<'_>,
-    nodes: Vec<Node>,
+    nodes: &mut Vec<Node>,
     end: usize,
 ) -> Result<String, AllocError>
-    ensures value { IfOk result (λ value. string_bytes value ≡ fenced document.now end (views nodes.items)) }
-    ensures bound { steps.new.number ≤ steps.old.number + node_count (views nodes.items) }
+    ensures value { IfOk result (λ value. string_bytes value ≡ fenced document.now end (views nodes.old.items)) }
+    ensures bound { steps.new.number ≤ steps.old.number + node_count (views nodes.old.items) }
 {
-    let place = place_of(&nodes);
+    let place = place_of(nodes);
     let text = values_of(alloc, steps, nodes)?;
     let has_line_after = has_line_after(document, place, end);
     Ok(block_value(text, true, !has_line_after))

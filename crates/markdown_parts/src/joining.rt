@@ -9,6 +9,7 @@ ghost use Rattle.markdown_steps.specs.TextNodes.{one_text, text_node};
 use markdown_nodes::mdast::{Node, Text};
 use markdown_nodes::unist::Position;
 use std::alloc::{AllocError, Global};
+use std::mem;
 
 /// Reserves room for one node if there is none: most lists of children stay that short.
 fn one_place(nodes: &mut Vec<Node>) -> Result<(), AllocError>
@@ -99,23 +100,41 @@ fn extend_text(text: &mut Text, part: &str, position: Position) -> Result<(), Al
     Ok(())
 }
 
-/// Appends nodes to a list. If the list ends with a text and the nodes begin with one, the two are
-/// joined. An empty list is replaced by the nodes.
+/// Moves nodes to the end of a list. If the list ends with a text and the nodes begin with one, the
+/// two are joined. An empty list changes places with the nodes.
 #[tactic(auto, using(crate::proofs::Joins::none_appended))]
-pub fn append(nodes: &mut Vec<Node>, others: Vec<Node>) -> Result<(), AllocError>
-    ensures { OnOk result (views nodes.new.items ≡ join (views nodes.old.items) (views others.items)) }
+pub fn append(nodes: &mut Vec<Node>, others: &mut Vec<Node>) -> Result<(), AllocError>
+    ensures { OnOk result (views nodes.new.items ≡ join (views nodes.old.items) (views others.old.items)) }
 {
     if nodes.is_empty() {
-        *nodes = others;
+        mem::swap(nodes, others);
         return Ok(());
     }
     if others.is_empty() {
         return Ok(());
     }
-    let mut rest = others;
-    put_any(nodes, rest.remove(0))?;
-    nodes.append(&mut rest)?;
+    put_any(nodes, others.remove(0))?;
+    nodes.append(others)?;
     Ok(())
+}
+
+/// The most nodes that are moved to a list of their own length. A longer list is kept as it is.
+const SHORT: usize = 32;
+
+/// Moves the nodes of a list to one without room for more. What is left of the list is its room, for
+/// the nodes of another span.
+pub fn drained(alloc: Global, nodes: &mut Vec<Node>) -> Result<Vec<Node>, AllocError>
+    ensures { IfOk result (λ list. list.items ≡ nodes.old.items) }
+{
+    if nodes.len() == nodes.capacity() || nodes.len() > SHORT {
+        let mut list = mem::replace(nodes, Vec::new(alloc));
+        list.shrink_to_fit();
+        return Ok(list);
+    }
+    let mut list = Vec::new(alloc);
+    list.reserve_exact(nodes.len())?;
+    list.append(nodes)?;
+    Ok(list)
 }
 
 /// Appends any node. A text is joined with a text that is the last node.

@@ -30,11 +30,11 @@ pub fn identify(
     alloc: Global,
     steps: &mut Count,
     slice: &str,
-    nodes: Vec<Node>,
+    nodes: &mut Vec<Node>,
 ) -> Result<Identified, AllocError>
     ensures identifier { IfOk result (λ made. string_bytes made.identifier ≡ fold slice.now) }
-    ensures label { IfOk result (λ made. string_bytes made.label ≡ plain_text (views nodes.items)) }
-    ensures bound { steps.new.number ≤ steps.old.number + node_count (views nodes.items) }
+    ensures label { IfOk result (λ made. string_bytes made.label ≡ plain_text (views nodes.old.items)) }
+    ensures bound { steps.new.number ≤ steps.old.number + node_count (views nodes.old.items) }
 {
     Ok(Identified {
         identifier: normalize_identifier(alloc, slice)?,

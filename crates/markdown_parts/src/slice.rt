@@ -1,6 +1,6 @@
 //! A document, its text between two points, and the position from one to the other.
 
-ghost use Rattle.std.specs.Prelude.{◌≡◌, ◌&&◌, ◌^◌, ◌<◌, ◌≤◌, [], IfErr, Some, SomeIff, IfSome, drop, length, option_copied, true};
+ghost use Rattle.std.specs.Prelude.{◌≡◌, ◌&&◌, ◌^◌, ◌<◌, ◌≤◌, [], IfErr, false, Some, SomeIff, IfSome, drop, length, option_copied, true};
 ghost use Rattle.std.specs.Result.{result_ok};
 ghost use Rattle.markdown_events.specs.Slices.{between, edge, slice, text_between};
 ghost use Rattle.markdown_grammar.specs.Document.{byte_at, length_between};
@@ -14,6 +14,7 @@ ghost use Rattle.markdown_grammar.specs.declared.error_kind.Stop.TheVariants.{Re
 use markdown_grammar::error_kind::{ErrorKind, Stop};
 use markdown_grammar::values::Values;
 use markdown_nodes::event::Point;
+use markdown_nodes::search::first_equal;
 use markdown_nodes::unist::Position;
 use std::marker::Model;
 
@@ -79,6 +80,23 @@ impl<'a> Document<'a> {
             values: Values::Whole,
             hidden,
             text: text_as_it_stands(bytes, Values::Whole, hidden),
+        }
+    }
+
+    /// Returns the document of a text, with whole values. It does what [`hiding`](Document::hiding) does
+    /// with the bytes of the text, which are not tested again.
+    ///
+    /// `Document::of_text("Hi", &[])` has the bytes `b"Hi"`.
+    pub fn of_text(text: &'a str, hidden: &'a [bool]) -> Document<'a>
+        ensures { result ≡ record { bytes = text.now; values = Whole; hidden = hidden.now } }
+    {
+        let bytes = text.as_bytes();
+        let stands_as_it_is = hidden.is_empty() && !has_nul(bytes);
+        Document {
+            bytes,
+            values: Values::Whole,
+            hidden,
+            text: if stands_as_it_is { Some(text) } else { None },
         }
     }
 
@@ -207,9 +225,23 @@ fn text_as_it_stands<'a>(bytes: &'a [u8], values: Values, hidden: &[bool]) -> Op
 
 /// Whether values are whole and the document has a NUL.
 fn replaces_nul(bytes: &[u8], values: Values) -> bool
-    ensures { result ≡ (is_whole values && has_nul bytes.now) }
+    ensures { result ≡ false → is_whole values ≡ true → has_nul bytes.now ≡ false }
 {
-    matches!(values, Values::Whole) && bytes.contains(&0)
+    matches!(values, Values::Whole) && has_nul(bytes)
+}
+
+/// Whether bytes contain a NUL. It is searched for in 16 bytes at a time.
+fn has_nul(bytes: &[u8]) -> bool
+    ensures { result ≡ false → has_nul bytes.now ≡ false }
+{
+    let mut at = 0;
+    while bytes.len() - at >= 16 {
+        if first_equal(&bytes[at..], 0) < 16 {
+            return true;
+        }
+        at += 16;
+    }
+    bytes[at..].contains(&0)
 }
 
 /// Returns the flags after the first `count`.

@@ -19,6 +19,8 @@ use Rattle.markdown_tree.specs.declared.context.Frame.{Frame}
 use Rattle.markdown_containers.specs.declared.container.Container.{Container}
 use Rattle.markdown_containers.specs.declared.open_container.OpenContainer.{OpenContainer}
 use Rattle.markdown_parts.specs.declared.marks.Marks.{Marks as OpenMarks}
+use Rattle.markdown_nodes.specs.View.{views}
+use Rattle.markdown_nodes.specs.declared.mdast.Node.{Node}
 use Rattle.markdown_grammar.specs.declared.error_kind.ErrorKind.{ErrorKind}
 use Rattle.markdown_grammar.specs.declared.error_kind.ErrorKind.TheVariants.{Unbalanced, UnfinishedBreak}
 use Rattle.markdown_grammar.specs.declared.error_kind.Stop.{Stop}
@@ -29,7 +31,7 @@ use Rattle.markdown_grammar.specs.Refusals.{missing_error, value_error}
 use Rattle.markdown_grammar.specs.Grammar.{rules}
 use Rattle.markdown_steps.specs.Compiler.{all_stood}
 use Rattle.markdown_grammar.specs.Grammar.{ContentModel, code_fenced, model_of, leaf, list_item, list_ordered, marked_item, marked_numbered_item, math_flow, numbered_item}
-use Rattle.markdown_containers.specs.Containers.{is_part_model, is_model_of, misfit_of, initial_model_of}
+use Rattle.markdown_containers.specs.Containers.{is_part_model, is_model_of, misfit_of, initial_model_of, summary_with}
 use Rattle.markdown_parts.specs.PartsSoFar.{first_failing}
 use Rattle.markdown_grammar.specs.Items.{is_line_ending, is_table}
 use Rattle.markdown_grammar.specs.Values.{is_read}
@@ -311,6 +313,14 @@ parent_taken s c f end old new rest own lent taken grows none any put is_lent sa
     closed_gives s (content c) f end old new rest own lent taken (Ok tt) grows none put is_lent same_leaf same_break same_table written
     ((λ t. leave s (content c) f.start end children (container_state_of old.in_table None (record own { container = is t })) (container_state_of f.in_table None lent))
     ∙ takes s f.in_table old.in_table own.line_endings children)
+
+-- a parent is taken with the same nodes in another list
+pub same_nodes : (c : Content) (start end : Point) (ns ms : Vec Node Global) (old new : OpenContainer) → ms.items ≡ ns.items → TakesParent c start end ns old new → TakesParent c start end ms old new
+same_nodes c start end ns ms old new is takes s in_table inner_table line_endings children =
+    (λ t. leave s (content c) start end children
+    (record (container_state_of inner_table None (record { container = containers.AnyContent; line_endings = line_endings; nodes = ns })) { inner = summary_with containers.AnyContent (views (is t)) })
+    (container_state_of in_table None old))
+    ∙ takes s in_table inner_table line_endings children
 
 -- ---- Rows
 

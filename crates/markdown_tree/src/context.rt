@@ -45,6 +45,7 @@ ghost use Rattle.markdown_tree.specs.States.{
 ghost use Rattle.markdown_steps.specs.Visits.{exit_visits, step_visits};
 ghost use Rattle.markdown_steps.specs.Well.{Well, is_transparent};
 
+use crate::room::Room;
 use character_references::references::References;
 use markdown_blocks::parent::is_parent;
 use markdown_blocks::table::Columns;
@@ -58,6 +59,7 @@ use markdown_nodes::mdast::Node;
 use markdown_nodes::role::{Content, ItemKind, Role, TransparentKind};
 use markdown_nodes::unist::Position;
 use markdown_parts::items::{has_line_endings, is_frontmatter, is_line_ending, is_table};
+use markdown_parts::joining::drained;
 use markdown_parts::marks::Marks;
 use markdown_parts::nest::Nest;
 use markdown_parts::slice::{Document, byte_at};
@@ -104,6 +106,8 @@ pub struct Context<'a> {
     /// Whether a table is around, at any depth.
     pub in_table: bool,
     pub columns: Columns,
+    /// Room for the nodes of the next containers.
+    pub room: Room,
     /// A break that waits for its line ending.
     pub pending: Option<Position>,
 }
@@ -138,6 +142,7 @@ impl<'a> Context<'a> {
             is_leaf: false,
             in_table: false,
             columns: Columns::new(alloc),
+            room: Room::new(alloc),
             pending: None,
         }
     }
@@ -235,7 +240,8 @@ impl<'a> Context<'a> {
             .container
             .opens_any_content(what)
         {
-            return self.put(alloc, what, Container::AnyContent);
+            let nodes = self.room.take(alloc);
+            return self.put(what, Container::AnyContent, nodes);
         }
         self.open_with_parts(alloc, what)
     }
@@ -248,23 +254,24 @@ impl<'a> Context<'a> {
             → OpenedContainer s what point self.old self.new) }
     {
         let container = self.containers.innermost().container.opened(what);
-        self.put(alloc, what, container)
+        self.put(what, container, Vec::new(alloc))
     }
 
     /// Opens a container in the innermost one, with no nodes in it.
     #[inline(always)]
     fn put(
         &mut self,
-        alloc: Global,
         what: ItemKind,
         container: Container<'a>,
+        nodes: Vec<Node>,
     ) -> Result<(), AllocError>
+        requires { nodes.items ≡ [] }
         ensures { OnOk result (PutIn what container.entry self.old self.new) }
     {
         let inner = OpenContainer {
             container,
             line_endings: has_line_endings(what),
-            nodes: Vec::new(alloc),
+            nodes,
         };
         inner.open_in(&mut self.containers)
     }
@@ -740,11 +747,13 @@ impl<'a> Context<'a> {
             item_left s (item_kinds.Content content) frame end.now self.old ≡ Ok (top_of self.new)) }
         ensures closed { OnOk result (Closed (roles.Significant (item_kinds.Content content)) self.old self.new) }
     {
-        let nodes = remove_last(alloc, &mut self.containers.inner);
+        let mut nodes = remove_last(alloc, &mut self.containers.inner);
+        let children = drained(alloc, &mut nodes)?;
+        self.room.keep(nodes);
         self.in_table = frame.in_table;
         self.containers
             .innermost_mut()
-            .take_parent(content, nodes, frame.start, *end)
+            .take_parent(content, children, frame.start, *end)
     }
 
     /// Closes any other container of which only the nodes are kept. No other part of it is moved.
@@ -776,15 +785,23 @@ impl<'a> Context<'a> {
             in_table: frame.in_table,
             marks: self.interior.marks,
         };
-        let nodes = remove_last(alloc, &mut self.containers.inner);
+        let mut nodes = remove_last(alloc, &mut self.containers.inner);
         self.in_table = frame.in_table;
         let top = self.containers.innermost_mut();
         match what {
             ItemKind::Content(content) => {
                 let columns = &mut self.columns;
-                top.take_any_content(alloc, steps, document, columns, content, nodes, ending)
+                let taken = top.take_any_content(
+                    alloc, steps, document, columns, content, &mut nodes, ending,
+                );
+                self.room.keep(nodes);
+                taken
             }
-            ItemKind::Part(part) => top.take_any_part(alloc, steps, document, part, nodes, ending),
+            ItemKind::Part(part) => {
+                let taken = top.take_any_part(alloc, steps, document, part, &mut nodes, ending);
+                self.room.keep(nodes);
+                taken
+            }
         }
     }
 

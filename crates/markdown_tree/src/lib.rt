@@ -7,6 +7,7 @@
 pub mod builder;
 mod context;
 mod history;
+mod room;
 pub mod to_mdast;
 
 pub use markdown_steps::laws;

@@ -24,6 +24,8 @@ mod depths;
 #[cfg(test)]
 mod expect;
 #[cfg(test)]
+mod joining;
+#[cfg(test)]
 mod json;
 #[cfg(test)]
 mod lines;

@@ -43,6 +43,20 @@ fn a_tree_is_made_without_hidden_bytes(rt: HostRuntime) -> Result<(), Fault> {
 }
 
 #[test]
+fn a_tree_is_made_of_a_text_without_hidden_bytes(rt: HostRuntime) -> Result<(), Fault> {
+    let events = to_events(rt.alloc(), QUOTE, &ParseOptions::default())?;
+    let hidden = hidden_bytes(rt.alloc(), QUOTE.as_bytes(), &events)?;
+    let document = Document::of_text(QUOTE, &hidden);
+    let mut steps = Steps::new(&events);
+    let tree = compile_document(rt.alloc(), &mut steps, &document, &HtmlReferences)?;
+    holds(
+        &rt,
+        tree == to_mdast(rt.alloc(), QUOTE, &ParseOptions::default())?,
+    );
+    Ok(())
+}
+
+#[test]
 fn events_give_the_tree_of_their_document(rt: HostRuntime) -> Result<(), Fault> {
     let options = ParseOptions::default();
     let events = to_events(rt.alloc(), QUOTE, &options)?;

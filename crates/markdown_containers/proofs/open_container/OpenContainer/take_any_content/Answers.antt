@@ -16,14 +16,14 @@ use Rattle.markdown_containers.proofs.open_container.OpenContainer.take_any_cont
 
 pub put-requires : goal.put-requires
 put-requires c =
-    made_no_text (source_of c.args.document.now (λ v m. None)) (place_with false c.args.ending.in_table None) c.args.content c.args.ending.start c.args.ending.end _ (summary_of_nodes (views c.args.nodes.items)) models.any_content _
+    made_no_text (source_of c.args.document.now (λ v m. None)) (place_with false c.args.ending.in_table None) c.args.content c.args.ending.start c.args.ending.end _ (summary_of_nodes (views c.args.nodes.now.items)) models.any_content _
     c.requires.such (no_reference c.args.content c.requires.such) (c.in_ok-node.ensures.node (source_of c.args.document.now (λ v m. None)) false None refl)
 
 pub returns-clause-left : goal.returns-clause-left
 returns-clause-left c line_endings s inner_table same =
-    content_left s c.args.ending.in_table inner_table c.args.self.now (record { container = containers.AnyContent; line_endings = line_endings; nodes = c.args.nodes })
+    content_left s c.args.ending.in_table inner_table c.args.self.now (record { container = containers.AnyContent; line_endings = line_endings; nodes = c.args.nodes.now })
     (record { container = c.args.self.now.container; line_endings = c.args.self.now.line_endings; nodes = c.put.new.nodes })
     c.args.content c.args.ending.start c.args.ending.end (child_facts (marks_of c.args.ending.marks) (columns_of c.args.columns.now))
     c.requires.such refl
-    (nodes_keep s (place_of c.args.ending.in_table c.args.self.now) c.args.content c.args.ending.start c.args.ending.end (views c.args.nodes.items) c.args.self.now.container c.requires.such) refl
+    (nodes_keep s (place_of c.args.ending.in_table c.args.self.now) c.args.content c.args.ending.start c.args.ending.end (views c.args.nodes.now.items) c.args.self.now.container c.requires.such) refl
     (c.in_ok-put.ensures ∙ ap (λ (ts : Trees). join (views c.args.self.now.nodes.items) ts) (c.in_ok-node.ensures.node s c.args.self.now.line_endings (marker_of c.args.self.now.container) same))

@@ -11,5 +11,5 @@ use Rattle.markdown_containers.proofs.open_container.OpenContainer.take_heading_
 pub returns : goal.returns
 returns c s a b in_table place children =
     part_left s in_table c.args.self.now (record { container = c.take_heading_text.new.self; line_endings = false; nodes = c.append.new.nodes })
-    models.any_content place (summary_with containers.AnyContent (views c.args.nodes.items)) parts.HeadingSetextText a b children
-    refl refl (c.take_heading_text.ensures s (place_of in_table c.args.self.now) a b (views c.args.nodes.items)) refl c.in_ok-append.ensures
+    models.any_content place (summary_with containers.AnyContent (views c.args.nodes.now.items)) parts.HeadingSetextText a b children
+    refl refl (c.take_heading_text.ensures s (place_of in_table c.args.self.now) a b (views c.args.nodes.now.items)) refl c.in_ok-append.ensures

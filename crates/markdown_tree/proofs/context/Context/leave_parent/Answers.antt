@@ -1,13 +1,11 @@
-use Rattle.std.proofs.Common.{Global, Vec, refl, subst}
-use Rattle.markdown_containers.specs.Takings.{TakesParent}
-use Rattle.markdown_nodes.specs.declared.mdast.Node.{Node}
+use Rattle.std.proofs.Common.{refl, subst, sym, ◌∙◌, ap}
 use Rattle.markdown_events.specs.declared.role.ItemKind.TheVariants.{Content as content}
 use Rattle.markdown_parts.specs.Nest.{with_innermost}
 use Rattle.markdown_tree.specs.declared.context.Context.{Context}
 use Rattle.markdown_parts.specs.declared.nest.Nest.{Nest}
 use Rattle.markdown_containers.specs.declared.open_container.OpenContainer.{OpenContainer}
 use Rattle.markdown_parts.proofs.Nesting.{taken_out}
-use Rattle.markdown_tree.proofs.Endings.{closed_so, columns_kept, parent_no_table, parent_taken}
+use Rattle.markdown_tree.proofs.Endings.{closed_so, columns_kept, parent_no_table, parent_taken, same_nodes}
 use Rattle.markdown_containers.proofs.Stopping.{on_ok}
 use Rattle.markdown_tree.proofs.context.Context.leave_parent.Goals as goal
 
@@ -19,7 +17,8 @@ returns-clause-gives c =
     on_ok c.take_parent.result _ _
     (λ takes s. parent_taken s c.args.content c.args.frame c.args.end.now c.args.self.now new rest own c.innermost_mut.result.now c.take_parent.new.self
     c.requires.«open» c.requires.settled c.requires.container (taken_out _ _ _ c.remove_last-nodes.ensures.1) c.innermost_mut.ensures.value refl refl refl refl
-    (subst (λ (ns : Vec Node Global). TakesParent c.args.content c.args.frame.start c.args.end.now ns c.innermost_mut.result.now c.take_parent.new.self) c.remove_last-nodes.ensures.2 takes))
+    (same_nodes c.args.content c.args.frame.start c.args.end.now c.in_ok-children.children own.nodes c.innermost_mut.result.now c.take_parent.new.self
+    (sym (c.in_ok-children.ensures ∙ ap (λ ns. ns.items) c.remove_last-nodes.ensures.2)) takes))
     c.take_parent.ensures
 
 pub returns-clause-closed : goal.returns-clause-closed
