@@ -122,10 +122,6 @@ TakesToken context start end (Err (AtEnd stop)) expected = Stops stop end expect
 abbrev pub Reaches : {X : Type 0} → Context → Point → Result X Stop → Result State ErrorAt → Type 0
 Reaches new point result expected = Gives (λ _. state_of new) point result expected
 
--- the context after a function, with the frame that it returned, is the expected state, unless memory ran out
-abbrev pub Begins : Context → Point → Result Frame Stop → Result State ErrorAt → Type 0
-Begins new point result expected = Gives (λ frame. state_with frame new) point result expected
-
 -- the innermost container after a function is the expected one, unless memory ran out
 abbrev pub ReachesTop : {X : Type 0} → Context → Point → Result X Stop → Result ContainerState ErrorAt → Type 0
 ReachesTop new point result expected = Gives (λ _. top_of new) point result expected

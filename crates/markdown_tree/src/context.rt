@@ -19,7 +19,6 @@ ghost use Rattle.markdown_grammar.specs.Items as Kinds;
 ghost use Rattle.markdown_grammar.specs.Document as Documents;
 ghost use Rattle.markdown_grammar.specs.Document.{Source, given_of, source_of};
 ghost use Rattle.markdown_tree.specs.States.{
-  Begins,
   Begun,
   Closed,
   ContainerEnds,
@@ -332,72 +331,54 @@ impl<'a> Context<'a> {
         ensures { (s : Source) → given_of s ≡ document.now
             → Reaches self.new point.now result (enter_step s name point.now (state_of self.old)) }
     {
-        let frame = self.begin(alloc, document, name, point)?;
-        self.frames.push(frame)?;
-        Ok(())
-    }
-
-    /// Begins a span. Returns its frame, which is not on the stack.
-    #[inline(always)]
-    fn begin(
-        &mut self,
-        alloc: Global,
-        document: &Document<'_>,
-        name: Name,
-        point: &Point,
-    ) -> Result<Frame, Stop>
-        ensures gives { (s : Source) → given_of s ≡ document.now
-            → Begins self.new point.now result (enter_step s name point.now (state_of self.old)) }
-        ensures name { IfOk result (λ frame. frame.name ≡ name) }
-        ensures frames { OnOk result (self.new.frames ≡ self.old.frames) }
-    {
         let role = name.role();
         if !self.interior.around.allows(role) {
             return Err(Stop::Refused(ErrorKind::Held));
         }
         match role {
-            Role::Transparent(_) => Ok(self.begin_transparent(alloc, name, role, point)),
-            Role::Significant(what) => self.begin_significant(alloc, document, name, what, point),
+            Role::Transparent(_) => Ok(self.enter_transparent(alloc, name, role, point)?),
+            Role::Significant(what) => self.enter_significant(alloc, document, name, what, point),
         }
     }
 
-    /// Begins a transparent span, which changes no container.
-    fn begin_transparent(&mut self, alloc: Global, name: Name, role: Role, point: &Point) -> Frame
+    /// Opens a transparent span, which changes no container.
+    #[inline(always)]
+    fn enter_transparent(
+        &mut self,
+        alloc: Global,
+        name: Name,
+        role: Role,
+        point: &Point,
+    ) -> Result<(), AllocError>
         requires role { role ≡ role_of name }
         requires transparent { is_transparent role ≡ true }
-        ensures gives { Compiler.push name point.now (state_of self.old) None (state_of self.old).top ≡ state_with result self.new }
-        ensures name { result.name ≡ name }
-        ensures frames { self.new.frames ≡ self.old.frames }
+        ensures { OnOk result (Compiler.push name point.now (state_of self.old) None (state_of self.old).top ≡ state_of self.new) }
     {
-        self.go_inside(alloc, name, role, point, self.is_leaf, self.in_table)
+        let frame = self.go_inside(alloc, name, role, point, self.is_leaf, self.in_table);
+        self.frames.push(frame)?;
+        Ok(())
     }
 
-    /// Begins a significant span, if the innermost container accepts it.
+    /// Opens a significant span, if the innermost container accepts it.
     #[inline(always)]
-    fn begin_significant(
+    fn enter_significant(
         &mut self,
         alloc: Global,
         document: &Document<'_>,
         name: Name,
         what: ItemKind,
         point: &Point,
-    ) -> Result<Frame, Stop>
+    ) -> Result<(), Stop>
         requires { role_of name ≡ roles.Significant what }
-        ensures gives { (s : Source) → given_of s ≡ document.now → Begins self.new point.now result
+        ensures { (s : Source) → given_of s ≡ document.now → Reaches self.new point.now result
             (enter_as s (roles.Significant what) name point.now (state_of self.old)) }
-        ensures name { IfOk result (λ frame. frame.name ≡ name) }
-        ensures frames { OnOk result (self.new.frames ≡ self.old.frames) }
     {
         let is_leaf = self.open(alloc, document, what, point)?;
         let in_table = self.is_in_table(what);
-        Ok(self.go_inside(
-            alloc,
-            name,
-            Role::Significant(what),
-            point,
-            is_leaf,
-            in_table,
-        ))
+        let role = Role::Significant(what);
+        let frame = self.go_inside(alloc, name, role, point, is_leaf, in_table);
+        self.frames.push(frame)?;
+        Ok(())
     }
 
     /// Begins the state inside a span. Returns the frame of the span, with the state around it.
