@@ -304,9 +304,12 @@ significant_entered s name what start is_leaf old mid new frame in_table is_sign
     entered true o b = leaf_entered s name what start old mid new in_table is_significant o b is
     entered false o b = container_entered s name what start old mid new in_table is_significant o b is
 
--- the open spans are the same
-pub same_frames : (s : Source) (what : ItemKind) (start : Point) (is_leaf : Bool) (role : Role) (in_table : Bool) (old mid new : Context) → Opened s what start old mid (Ok is_leaf) → Begun role is_leaf in_table mid new → new.frames ≡ old.frames
-same_frames s what start is_leaf role in_table old mid new o b = (λ t. (b.others t).frames) ∙ (λ t. (same_outside s what start is_leaf old mid o t).frames)
+-- a container begins, whose frame is kept outside the stack
+pub container_begins : (s : Source) (name : Name) (what : ItemKind) (start : Point) (old mid new : Context) (frame : Frame) (in_table : Bool) → role_of name ≡ significant what → may_begin old.interior.around (significant what) ≡ true → OpenedContainer s what start old mid
+    → Begun (significant what) false in_table mid new → frame ≡ frame_of name start mid → in_table ≡ (mid.in_table || is_table what) → enter_step s name start (state_of old) ≡ Ok (state_with frame new)
+container_begins s name what start old mid new frame in_table is begins opened begun made table =
+    enter_free s name (significant what) start true old (sym is) (sym begins) refl
+    ∙ significant_entered s name what start false old mid new frame in_table is opened begun made table
 
 -- or it stops there
 pub significant_stops : (s : Source) (name : Name) (what : ItemKind) (point : Point) (stop : Stop) (old mid : Context) → Opened s what point old mid (Err stop) → Stops stop point (enter_as s (significant what) name point (state_of old))

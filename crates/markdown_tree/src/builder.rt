@@ -22,7 +22,7 @@ use crate::history::Passed;
 use character_references::references::References;
 use markdown_grammar::error_kind::Stop;
 use markdown_nodes::count::Count;
-use markdown_nodes::event::{Event, Name, Point};
+use markdown_nodes::event::{Event, Kind, Name, Point};
 use markdown_nodes::mdast::{Node, Root};
 use markdown_nodes::message::Fault;
 use markdown_nodes::steps::Steps;
@@ -93,24 +93,13 @@ impl<'a, R: References> TreeBuilder<'a, R> {
         ensures references { self.new.references ≡ self.old.references }
         ensures events { self.new.events ≡ self.old.events ++ event.now ∷ [] }
     {
-        if self.fault.is_some() {
-            self.passed.add(event);
-            return;
+        match event.kind {
+            Kind::Enter => self.enter(event.name, event.point),
+            Kind::Exit => self.exit(event.name, event.point),
         }
-        advance(
-            self.alloc,
-            &mut self.context,
-            &mut self.fault,
-            &mut self.steps.descents,
-            &self.document,
-            self.references,
-            event,
-        );
-        self.passed.add(event);
     }
 
-    /// Takes the enter of a span. It does what [`take`](TreeBuilder::take) does with that event, in fewer
-    /// instructions.
+    /// Takes the enter of a span, as [`take`](TreeBuilder::take) does with that event.
     #[inline(always)]
     pub fn enter(&mut self, name: Name, at: Point)
         ensures document { self.new.document ≡ self.old.document }
@@ -132,8 +121,7 @@ impl<'a, R: References> TreeBuilder<'a, R> {
         self.passed.add_enter(name, at);
     }
 
-    /// Takes the exit of a span. It does what [`take`](TreeBuilder::take) does with that event, in fewer
-    /// instructions.
+    /// Takes the exit of a span, as [`take`](TreeBuilder::take) does with that event.
     #[inline(always)]
     pub fn exit(&mut self, name: Name, at: Point)
         ensures document { self.new.document ≡ self.old.document }
@@ -219,29 +207,8 @@ impl<'a, R: References> TreeBuilder<'a, R> {
     }
 }
 
-/// Does what an event does to a context that no event has been refused for. A fault says that it is
-/// refused, or that memory ran out.
-#[inline(always)]
-fn advance<'a, R: References>(
-    alloc: Global,
-    context: &mut Context<'a>,
-    fault: &mut Option<Fault>,
-    steps: &mut Count,
-    document: &Document<'a>,
-    references: &R,
-    event: &Event,
-)
-    requires well { Well (source_of document.now (R.text references.now)) (state_of context.old) }
-    requires none { is_some fault.old ≡ false }
-    ensures { HasState context.new fault.new
-        (Compiler.step (source_of document.now (R.text references.now)) event.now (state_of context.old)) }
-{
-    if let Err(stop) = context.step(alloc, steps, document, references, event) {
-        refuse(fault, stop, &event.point);
-    }
-}
-
-/// Does what the enter of a span does to a context that no event has been refused for.
+/// Does what the enter of a span does to a context that no event has been refused for. A fault says
+/// that it is refused, or that memory ran out.
 #[inline(always)]
 fn open_span<'a>(
     alloc: Global,

@@ -1,4 +1,4 @@
-use Rattle.std.proofs.Common.{None, rules, sym, ◌∙◌, ◌≡◌}
+use Rattle.std.proofs.Common.{None, rules, ◌≡◌}
 use Rattle.markdown_steps.specs.Compiler.{enter_checks}
 use Rattle.markdown_parts.specs.PartsSoFar.{first_failing}
 use Rattle.markdown_tree.specs.States.{top_of}

@@ -1,4 +1,4 @@
-use Rattle.std.proofs.Common.{Ok, refl, subst, sym, ◌∙◌, ◌≡◌}
+use Rattle.std.proofs.Common.{refl, subst, sym, ◌∙◌, ◌≡◌}
 use Rattle.std.specs.Prelude.{Result, ◌≢◌}
 use Rattle.markdown_events.specs.Forest.{enter, exit}
 use Rattle.markdown_events.specs.declared.role.Role.TheVariants.{Significant as significant}
