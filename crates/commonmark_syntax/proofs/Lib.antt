@@ -3,11 +3,13 @@ pub mod Counts
 pub mod Cuts
 pub mod Exact
 pub mod Goes
+pub mod Lanes
 pub mod Loops
 pub mod Names
 pub mod OpenTag
 pub mod Fronts
 pub mod Scans
+pub mod Searches
 pub mod Sizes
 pub mod Ascii
 pub mod Sound

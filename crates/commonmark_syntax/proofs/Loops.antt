@@ -1,9 +1,11 @@
 -- Loops that read as often as they can.
-use Rattle.std.proofs.Common.{◌≡◌, ℕ, zero, suc, ◌<◌, ◌≤◌, Bool, false, cond, List, [], ◌∷◌, length, Option, Some, None, refl, sym, inl, inr, ◌∙◌, ap, arith}
+use Rattle.std.proofs.Common.{◌≡◌, ℕ, zero, suc, ◌<◌, ◌≤◌, Bool, true, false, cond, ◌==◌, List, [], ◌∷◌, drop, length, slice_index, Option, Some, None, refl, sym, subst, inl, inr, ◌∙◌, ap, arith}
 use Rattle.std.specs.Prelude.{option_and_then}
+use Rattle.std.specs.Option.{option_or}
 use Rattle.commonmark_syntax.specs.Language.{Syntax, all, many, one, sequence}
 use Rattle.commonmark_syntax.specs.Reading.{behind_run, first_of_class, greedy, is_nullable, read}
-use Rattle.commonmark_syntax.proofs.Tests.{cases_bool, cases_option}
+use Rattle.commonmark_syntax.specs.Syntax.{character}
+use Rattle.commonmark_syntax.proofs.Tests.{cases_bool, cases_option, same_number}
 use Rattle.commonmark_syntax.proofs.Fronts.{progress_strict}
 use Rattle.commonmark_syntax.proofs.Sound.{greedy_go, greedy_stop, sound}
 
@@ -37,6 +39,31 @@ many_on a s t strict e =
 
 pub many_done : (a : Syntax) (s : List ℕ) → read a s ≡ None → greedy (read a) (length s) s ≡ s
 many_done a s e = greedy_stop (read a) (length s) s e
+
+-- a byte of a class without backslashes is a character
+not_backslash : (p : ℕ → Bool) (c : ℕ) → p 92 ≡ false → p c ≡ true → (c == 92) ≡ false
+not_backslash p c none there = elim (cases_bool (c == 92)) [
+  | inl e ↦ (let bad : p 92 ≡ true = subst (λ x. p x ≡ true) (same_number c 92 e) there in cc)
+  | inr e ↦ e
+]
+
+plain_read : (taken p : ℕ → Bool) (c : ℕ) (u : List ℕ) → p 92 ≡ false → p c ≡ true → read (character taken p) (c ∷ u) ≡ Some u
+plain_read taken p c u none there =
+    ap (λ b. option_or (option_and_then (first_of_class taken) (cond b (Some u) None)) (cond (p c) (Some u) None)) (not_backslash p c none there)
+    ∙ ap (λ b. cond b (Some u) None) there
+
+-- so a run of such bytes can be skipped
+run_skipped : (taken p : ℕ → Bool) (s : List ℕ) (n : ℕ) → p 92 ≡ false → n ≤ length s → ((k : ℕ) → k < n → p (slice_index s k) ≡ true)
+    → greedy (read (character taken p)) (length (drop n s)) (drop n s) ≡ greedy (read (character taken p)) (length s) s
+run_skipped taken p s zero none most plain = refl
+run_skipped taken p [] (suc n) none most plain = absurd (omega arith)
+run_skipped taken p (c ∷ u) (suc n) none most plain =
+    run_skipped taken p u n none (omega arith) (λ k less. plain (suc k) (omega (arith, less)))
+    ∙ many_on (character taken p) (c ∷ u) u refl (plain_read taken p c u none (plain 0 (omega arith)))
+
+pub plain_skipped : (taken p : ℕ → Bool) (s t : List ℕ) (n : ℕ) → t ≡ drop n s → p 92 ≡ false → n ≤ length s → ((k : ℕ) → k < n → p (slice_index s k) ≡ true)
+    → greedy (read (character taken p)) (length t) t ≡ greedy (read (character taken p)) (length s) s
+plain_skipped taken p s t n rest none most plain = ap (λ (x : List ℕ). greedy (read (character taken p)) (length x) x) rest ∙ run_skipped taken p s n none most plain
 
 -- any number of bytes of a class, as many as there are, are all
 greedy_behind : (p : ℕ → Bool) (k : ℕ) (s : List ℕ) → length s ≤ k → greedy (first_of_class p) k s ≡ behind_run p s

@@ -1,8 +1,8 @@
 -- Counting parentheses finds the end of what is balanced.
-use Rattle.std.proofs.Common.{◌≡◌, ℕ, zero, suc, ◌+◌, ◌≤◌, Bool, true, false, List, [], ◌∷◌, Some, None, refl, sym, ◌∙◌, ap, subst, cond, arith}
-use Rattle.std.specs.Prelude.{nat_le}
+use Rattle.std.proofs.Common.{◌≡◌, ℕ, zero, suc, ◌+◌, ◌<◌, ◌≤◌, ◌==◌, ◌||◌, Bool, true, false, List, [], ◌∷◌, drop, length, slice_index, Some, None, refl, sym, ◌∙◌, ap, subst, cond, arith}
+use Rattle.std.specs.Prelude.{nat_le, not}
 use Rattle.std.proofs.lemmas.Bool.Decides.{nat_tests}
-use Rattle.commonmark_syntax.specs.Parentheses.{Kind, plain, escapes, opens, closes, stops, kind, IsTaken, IsUntaken, Balanced, done, one_more, escaped, backslash, pair, MayEnd, IsEnded, at_depth, deeper, ends_at, ends}
+use Rattle.commonmark_syntax.specs.Parentheses.{Kind, plain, escapes, opens, closes, stops, is_plain, is_stop, kind, IsTaken, IsUntaken, Balanced, done, one_more, escaped, backslash, pair, MayEnd, IsEnded, at_depth, deeper, ends_at, ends}
 
 not_deep : (k : ℕ) → k + 1 ≤ 32 → nat_le 32 k ≡ false
 not_deep k fits = grind (arith, nat_tests)
@@ -18,6 +18,26 @@ taken_kind closes c s k h = refl
 untaken : (s : List ℕ) (k : ℕ) → IsUntaken s → ends s true k ≡ ends s false k
 untaken [] k h = refl
 untaken (c ∷ u) k h = ap (λ x. ends_at x true c u (ends u) k) h ∙ sym (ap (λ x. ends_at x false c u (ends u) k) h)
+
+-- A run of bytes that stand for themselves changes neither the depth nor where a destination ends.
+by_tests : (a b d e : Bool) → not (a || (b || (d || (e || false)))) ≡ true → cond a stops (cond b escapes (cond d opens (cond e closes plain))) ≡ plain
+by_tests true b d e is = cc
+by_tests false true d e is = cc
+by_tests false false true e is = cc
+by_tests false false false true is = cc
+by_tests false false false false is = refl
+
+plain_kind : (c : ℕ) → is_plain c ≡ true → kind c ≡ plain
+plain_kind c is = by_tests (is_stop c) (c == 92) (c == 40) (c == 41) is
+
+run_skipped : (s : List ℕ) (n k : ℕ) → n ≤ length s → ((i : ℕ) → i < n → is_plain (slice_index s i) ≡ true) → ends s false k ≡ ends (drop n s) false k
+run_skipped s zero k most all = refl
+run_skipped [] (suc n) k most all = absurd (omega arith)
+run_skipped (c ∷ u) (suc n) k most all =
+    ap (λ x. ends_at x false c u (ends u) k) (plain_kind c (all 0 (omega arith))) ∙ run_skipped u n k (omega arith) (λ i less. all (suc i) (omega (arith, less)))
+
+pub plain_skipped : (s t : List ℕ) (n k : ℕ) → t ≡ drop n s → n ≤ length s → ((i : ℕ) → i < n → is_plain (slice_index s i) ≡ true) → ends s false k ≡ ends t false k
+plain_skipped s t n k rest most all = run_skipped s n k most all ∙ ap (λ (x : List ℕ). ends x false k) (sym rest)
 
 -- A balanced text leaves the depth as it is.
 same_depth : (n : ℕ) (s t : List ℕ) → Balanced n s t → (k : ℕ) → n + k ≤ 32 → ends s false k ≡ ends t false k

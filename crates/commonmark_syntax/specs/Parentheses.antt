@@ -1,7 +1,7 @@
 -- Link destinations without angle brackets. They are not a regular syntax, because parentheses come in pairs.
-use Rattle.std.specs.Prelude.{◌≡◌, ◌≢◌, ◌⊎◌, ◌<◌, ℕ, zero, suc, Bool, true, false, ◌==◌, ◌||◌, List, [], ◌∷◌, Option, Some, None, if◌then◌else◌, length, nat_le}
+use Rattle.std.specs.Prelude.{◌≡◌, ◌≢◌, ◌⊎◌, ◌<◌, ℕ, zero, suc, Bool, true, false, ◌==◌, ◌||◌, List, [], ◌∷◌, Option, Some, None, if◌then◌else◌, length, nat_le, not}
 use Rattle.commonmark_syntax.specs.Language.{Reads}
-use Rattle.commonmark_syntax.specs.Syntax.{angle_destination, is_from}
+use Rattle.commonmark_syntax.specs.Syntax.{angle_destination, is_from, is_one_of}
 use Rattle.commonmark_syntax.specs.declared.destination.Kind as kinds
 use Rattle.commonmark_syntax.specs.declared.destination.Kind.TheVariants as kind_names
 
@@ -19,6 +19,10 @@ is_stop c = (c == 32) || (is_from 1 31 c || (c == 127))
 
 abbrev pub kind : ℕ → Kind
 kind c = if is_stop c then stops else if c == 92 then escapes else if c == 40 then opens else if c == 41 then closes else plain
+
+-- a byte that stands for itself
+abbrev pub is_plain : ℕ → Bool
+is_plain c = not (is_stop c || is_one_of (92 ∷ 40 ∷ 41 ∷ []) c)
 
 -- a backslash takes the next byte with it, unless that byte ends a destination
 abbrev pub IsTaken : Kind → Type 0

@@ -1,13 +1,16 @@
 //! Classes of bytes, as on the page of the syntax.
 
-ghost use Rattle.std.specs.Prelude.{◌≡◌, ◌==◌, ℕ, Bool, codes};
+ghost use Rattle.std.specs.Int.{bit_at};
+ghost use Rattle.std.specs.Prelude.{◌≡◌, ◌≤◌, ◌<◌, ◌==◌, ℕ, Bool, codes, cond, false, length, refl, slice_index};
 ghost use Rattle.commonmark_syntax.specs.Blocks as blocks;
 ghost use Rattle.commonmark_syntax.specs.EmailLiterals as literals;
 ghost use Rattle.commonmark_syntax.specs.ExtendedAutolinks as extended;
 ghost use Rattle.commonmark_syntax.specs.Inlines as inlines;
+ghost use Rattle.commonmark_syntax.specs.Parentheses as parentheses;
 ghost use Rattle.commonmark_syntax.specs.Syntax as page;
 
 use crate::bytes::is_control;
+use std::simd::prelude::*;
 
 /// A class of bytes.
 pub trait Class {
@@ -16,6 +19,18 @@ pub trait Class {
     /// Whether a byte is in the class.
     fn has(byte: u8) -> bool
         ensures { result ≡ class byte };
+}
+
+/// A class of bytes that stand for themselves where a backslash escapes, so that it has no
+/// backslash. 16 bytes are tested at a time.
+pub trait PlainClass: Class {
+    /// Returns a number with a bit for each of the first 16 bytes of a text, which is set where the
+    /// byte is not in the class.
+    fn others(text: &[u8]) -> u64
+        requires { 16 ≤ length text.now }
+        ensures { (k : ℕ) → k < 16 → bit_at result k ≡ cond (Self.class (slice_index text.now k)) 0 1 };
+
+    ghost no_backslash: { Self.class 92 ≡ false };
 }
 
 /// ASCII letters.
@@ -121,6 +136,17 @@ impl Class for InDoubleQuotes {
     }
 }
 
+impl PlainClass for InDoubleQuotes {
+    ghost no_backslash = { refl };
+
+    #[inline(always)]
+    fn others(text: &[u8]) -> u64 {
+        let bytes = u8x16::from_slice(text);
+        let others = bytes.simd_eq(u8x16::splat(b'"')) | bytes.simd_eq(u8x16::splat(b'\\'));
+        others.to_bitmask()
+    }
+}
+
 /// The bytes of a title between single quotes that stand for themselves.
 pub struct InSingleQuotes;
 
@@ -129,6 +155,17 @@ impl Class for InSingleQuotes {
 
     fn has(byte: u8) -> bool {
         !matches!(byte, b'\'' | b'\\')
+    }
+}
+
+impl PlainClass for InSingleQuotes {
+    ghost no_backslash = { refl };
+
+    #[inline(always)]
+    fn others(text: &[u8]) -> u64 {
+        let bytes = u8x16::from_slice(text);
+        let others = bytes.simd_eq(u8x16::splat(b'\'')) | bytes.simd_eq(u8x16::splat(b'\\'));
+        others.to_bitmask()
     }
 }
 
@@ -143,6 +180,19 @@ impl Class for InParentheses {
     }
 }
 
+impl PlainClass for InParentheses {
+    ghost no_backslash = { refl };
+
+    #[inline(always)]
+    fn others(text: &[u8]) -> u64 {
+        let bytes = u8x16::from_slice(text);
+        let others = bytes.simd_eq(u8x16::splat(b'('))
+            | bytes.simd_eq(u8x16::splat(b')'))
+            | bytes.simd_eq(u8x16::splat(b'\\'));
+        others.to_bitmask()
+    }
+}
+
 /// The bytes of a label that stand for themselves.
 pub struct InBrackets;
 
@@ -154,6 +204,19 @@ impl Class for InBrackets {
     }
 }
 
+impl PlainClass for InBrackets {
+    ghost no_backslash = { refl };
+
+    #[inline(always)]
+    fn others(text: &[u8]) -> u64 {
+        let bytes = u8x16::from_slice(text);
+        let others = bytes.simd_eq(u8x16::splat(b'['))
+            | bytes.simd_eq(u8x16::splat(b']'))
+            | bytes.simd_eq(u8x16::splat(b'\\'));
+        others.to_bitmask()
+    }
+}
+
 /// The bytes of a destination between angle brackets that stand for themselves.
 pub struct InAngleBrackets;
 
@@ -162,6 +225,47 @@ impl Class for InAngleBrackets {
 
     fn has(byte: u8) -> bool {
         !matches!(byte, b'\n' | b'<' | b'>' | b'\\')
+    }
+}
+
+impl PlainClass for InAngleBrackets {
+    ghost no_backslash = { refl };
+
+    #[inline(always)]
+    fn others(text: &[u8]) -> u64 {
+        let bytes = u8x16::from_slice(text);
+        let others = bytes.simd_eq(u8x16::splat(b'\n'))
+            | bytes.simd_eq(u8x16::splat(b'<'))
+            | bytes.simd_eq(u8x16::splat(b'>'))
+            | bytes.simd_eq(u8x16::splat(b'\\'));
+        others.to_bitmask()
+    }
+}
+
+/// The bytes of a destination without angle brackets that stand for themselves.
+pub struct InDestination;
+
+impl Class for InDestination {
+    ghost class = { parentheses.is_plain };
+
+    fn has(byte: u8) -> bool {
+        !is_control(byte) && !matches!(byte, b' ' | b'(' | b')' | b'\\')
+    }
+}
+
+impl PlainClass for InDestination {
+    ghost no_backslash = { refl };
+
+    #[inline(always)]
+    fn others(text: &[u8]) -> u64 {
+        let bytes = u8x16::from_slice(text);
+        let stops = (bytes - u8x16::splat(1)).simd_lt(u8x16::splat(32));
+        let parentheses = (bytes - u8x16::splat(b'(')).simd_lt(u8x16::splat(2));
+        let others = stops
+            | parentheses
+            | bytes.simd_eq(u8x16::splat(b'\\'))
+            | bytes.simd_eq(u8x16::splat(127));
+        others.to_bitmask()
     }
 }
 

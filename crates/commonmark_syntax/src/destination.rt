@@ -1,15 +1,16 @@
 //! Destinations of links, images and definitions (CommonMark).
 
-ghost use Rattle.std.specs.Prelude.{◌≡◌, ◌≢◌, ◌≤◌, ◌<◌, ◌-◌, false, MatchOption, drop, length, slice_index, IfSome, None, Some};
+ghost use Rattle.std.specs.Prelude.{◌≡◌, ◌≢◌, ◌≤◌, ◌<◌, ◌-◌, ℕ, false, true, MatchOption, drop, length, slice_index, IfSome, None, Some};
 ghost use Rattle.commonmark_syntax.specs.Cuts.{IsCut, IsInLine};
 ghost use Rattle.commonmark_syntax.specs.Language.{IsNotAt, Leaves};
 ghost use Rattle.commonmark_syntax.specs.Parentheses.{IsNoDestination, LeavesDestination, ends, kind, kind_in};
 ghost use Rattle.commonmark_syntax.specs.Reading.{Reading};
 ghost use Rattle.commonmark_syntax.specs.Syntax.{angle_destination};
 
-use crate::bytes::is_control;
-use crate::class::{InAngleBrackets, InLine};
+use crate::bytes::{after, is_control};
+use crate::class::{InAngleBrackets, InDestination, InLine};
 use crate::reading::{past_byte, past_characters};
+use crate::search::plain_length;
 
 /// How deep parentheses may be nested in a destination without angle brackets. CommonMark requires
 /// at least three; cmark and micromark allow this many.
@@ -92,21 +93,43 @@ fn past_raw(text: &[u8]) -> Option<&[u8]>
 {
     let mut rest = text;
     let mut depth: usize = 0;
-    let mut is_escaped = false;
     'bytes: while let [first, tail @ ..] = rest {
-        match kind_of(*first) {
+        rest = match kind_of(*first) {
             Kind::Stops => break,
-            _ if is_escaped => is_escaped = false,
-            Kind::Escapes => is_escaped = true,
+            Kind::Plain => past_plain(tail),
+            Kind::Escapes => past_escaped(tail),
             Kind::Opens if depth >= DEPTH_MOST => return None,
-            Kind::Opens => depth += 1,
+            Kind::Opens => {
+                depth += 1;
+                tail
+            }
             Kind::Closes if depth == 0 => return Some(rest),
-            Kind::Closes => depth -= 1,
-            Kind::Plain => {}
-        }
-        rest = tail;
+            Kind::Closes => {
+                depth -= 1;
+                tail
+            }
+        };
     }
     if depth == 0 { Some(rest) } else { None }
+}
+
+/// Returns the text after the bytes that stand for themselves.
+fn past_plain(text: &[u8]) -> &[u8]
+    ensures most { length result.now ≤ length text.now }
+    ensures same { (depth : ℕ) → ends text.now false depth ≡ ends result.now false depth }
+{
+    after(text, plain_length::<InDestination>(text))
+}
+
+/// Returns the text after the byte that a backslash before the text escapes, if it escapes one.
+fn past_escaped(text: &[u8]) -> &[u8]
+    ensures most { length result.now ≤ length text.now }
+    ensures same { (depth : ℕ) → ends text.now true depth ≡ ends result.now false depth }
+{
+    match text {
+        [first, rest @ ..] if !matches!(kind_of(*first), Kind::Stops) => rest,
+        _ => text,
+    }
 }
 
 /// Returns what a byte is to a destination without angle brackets.

@@ -1,6 +1,6 @@
 //! Labels of definitions and references (CommonMark).
 
-ghost use Rattle.std.specs.Prelude.{◌≡◌, ◌≤◌, ◌<◌, ◌-◌, MatchOption, drop, filter, length, not, slice_index, IfSome, IsSome};
+ghost use Rattle.std.specs.Prelude.{◌≡◌, ◌≤◌, ◌<◌, ◌-◌, MatchOption, drop, filter, length, nat_le, not, slice_index, IfSome, IsSome};
 ghost use Rattle.std.specs.List.{list_any};
 ghost use Rattle.commonmark_syntax.specs.Cuts.{IsCut};
 ghost use Rattle.commonmark_syntax.specs.Language.{IsNotAt, Leaves, many, tested};
@@ -59,7 +59,7 @@ fn past_text(text: &[u8]) -> Option<&[u8]>
 pub fn is_text(inside: &[u8]) -> bool
     ensures { result ≡ is_label_text inside.now }
 {
-    has_more_than_white_space(inside) && character_count(inside) <= CHARACTERS_MOST
+    has_more_than_white_space(inside) && has_few_characters(inside)
 }
 
 /// Whether a text contains more than white space.
@@ -67,6 +67,13 @@ fn has_more_than_white_space(text: &[u8]) -> bool
     ensures { result ≡ list_any (λ c. not (is_white_space c)) text.now }
 {
     text.iter().any(|byte| !is_space_or_line_ending(*byte))
+}
+
+/// Whether a text has at most [`CHARACTERS_MOST`] characters. It has at most as many as it has bytes.
+fn has_few_characters(text: &[u8]) -> bool
+    ensures { result ≡ nat_le (length (filter begins_character text.now)) 999 }
+{
+    text.len() <= CHARACTERS_MOST || character_count(text) <= CHARACTERS_MOST
 }
 
 /// Returns the number of characters of a text.

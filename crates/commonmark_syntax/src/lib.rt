@@ -47,6 +47,7 @@ pub mod list_marker;
 pub mod math_fence;
 pub mod open_tag;
 pub mod reading;
+mod search;
 pub mod setext_underline;
 pub mod spaces_break;
 pub mod tag_name;

@@ -7,7 +7,8 @@ ghost use Rattle.commonmark_syntax.specs.Reading.{Reading, find, read};
 ghost use Rattle.commonmark_syntax.specs.Syntax.{blanks, byte, character, new_line, some_blanks, word};
 
 use crate::bytes::{after, has_byte, has_more, is_space_or_tab, run_length};
-use crate::class::{Blank, Class};
+use crate::class::{Blank, Class, PlainClass};
+use crate::search::plain_length;
 
 /// Returns the text after a byte.
 pub fn past_byte(text: &[u8], expected: u8) -> Option<&[u8]>
@@ -127,12 +128,12 @@ fn past_new_line(text: &[u8]) -> Option<&[u8]>
 /// Returns the text after the characters that come first. There may be none. A backslash escapes a
 /// byte of one class, and the bytes of another class stand for themselves.
 #[tactic(auto, using(crate::proofs::Loops::many_done))]
-pub fn past_characters<T: Class, C: Class>(text: &[u8]) -> &[u8]
+pub fn past_characters<T: Class, C: PlainClass>(text: &[u8]) -> &[u8]
     ensures { read (many (character T.class C.class)) text.now ≡ Some result.now }
 {
     let mut rest = text;
     'characters: while let Some(tail) = past_character::<T, C>(rest) {
-        rest = tail;
+        rest = after(tail, plain_length::<C>(tail));
     }
     rest
 }

@@ -6,7 +6,7 @@ ghost use Rattle.commonmark_syntax.specs.Language.{IsNotAt, Leaves};
 ghost use Rattle.commonmark_syntax.specs.Reading.{Reading};
 ghost use Rattle.commonmark_syntax.specs.Syntax as page;
 
-use crate::class::{AnyByte, Class, InDoubleQuotes, InParentheses, InSingleQuotes};
+use crate::class::{AnyByte, InDoubleQuotes, InParentheses, InSingleQuotes, PlainClass};
 use crate::reading::{past_byte, past_characters};
 
 /// Returns the length of the title that a text begins with, with its markers: two quotation marks,
@@ -40,7 +40,7 @@ fn past(text: &[u8]) -> Option<&[u8]>
 }
 
 /// Returns the text after a title between two markers.
-fn past_titled<C: Class>(text: &[u8], opening: u8, closing: u8) -> Option<&[u8]>
+fn past_titled<C: PlainClass>(text: &[u8], opening: u8, closing: u8) -> Option<&[u8]>
     ensures { Reading (page.titled opening C.class closing) text.now (λ rest. rest.now) result }
 {
     let inside = past_byte(text, opening)?;
@@ -48,7 +48,7 @@ fn past_titled<C: Class>(text: &[u8], opening: u8, closing: u8) -> Option<&[u8]>
 }
 
 /// Returns the text after the text of a title.
-fn past_text<C: Class>(text: &[u8]) -> Option<&[u8]>
+fn past_text<C: PlainClass>(text: &[u8]) -> Option<&[u8]>
     ensures { Reading (page.title_text C.class) text.now (λ rest. rest.now) result }
 {
     let rest = past_characters::<AnyByte, C>(text);

@@ -4,7 +4,7 @@ use Rattle.commonmark_syntax.proofs.destination.past_raw.Given as goal
 
 -- what is left ends where the text ends
 abbrev pub invariant-bytes : goal.invariant-bytes
-invariant-bytes l = (ends l.rest l.is_escaped l.depth ≡ ends l.text false 0) × (l.depth ≤ 32)
+invariant-bytes l = (ends l.rest false l.depth ≡ ends l.text false 0) × (l.depth ≤ 32)
 
 abbrev pub decreases-bytes : goal.decreases-bytes
 decreases-bytes l = length l.rest
