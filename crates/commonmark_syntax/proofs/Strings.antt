@@ -1,9 +1,11 @@
 -- The strings of marks before an offset.
-use Rattle.std.proofs.Common.{◌≡◌, ◌≢◌, ℕ, ◌+◌, ◌-◌, ◌<◌, ◌≤◌, List, [], drop, length, length-drop, ◌⊎◌, inl, inr, sym, ◌∙◌, ap, subst, arith}
+use Rattle.std.proofs.Common.{◌≡◌, ◌≢◌, ℕ, ◌+◌, ◌-◌, ◌<◌, ◌≤◌, List, [], drop, take, length, length-drop, ◌⊎◌, inl, inr, sym, ◌∙◌, ap, subst, arith}
 use Rattle.std.proofs.lemmas.List.{get_or-drop}
 use Rattle.std.specs.Prelude.{false, nat_lt, slice_index, slice_set}
+use Rattle.std.proofs.lemmas.Bool.{cases_lt}
 use Rattle.std.proofs.lemmas.Bool.Decides.{nat_tests}
 use Rattle.std.proofs.lemmas.Grind.{common_steps}
+use Rattle.commonmark_syntax.proofs.Searches.{rest_at, shifted, shifted_there}
 use Rattle.commonmark_syntax.specs.Strings.{FirstStringEnds, HasNoString, IsKept, IsStringAt}
 
 -- Marks stand right before an offset, run of them, and none before those.
@@ -112,6 +114,60 @@ ends_at mark text n i run h same fits stops =
 pub ends_nowhere : (mark : ℕ) (text : List ℕ) (n run : ℕ) → SoFar mark text n (length text) run → 0 < n → run ≢ n → HasNoString mark text n
 ends_nowhere mark text n run h some wrong j at =
     no_string mark text n (length text) run j h (λ less. absurd (omega (arith, less))) (omega arith) wrong some (omega (arith, at.within)) at
+
+-- No string of n begins before an offset, and none goes on there.
+pub record Searched (mark : ℕ) (text : List ℕ) (n i : ℕ) : Type 0 where
+  pub none : (j : ℕ) → j < i → IsStringAt mark text n j → ⊥
+  pub apart : 0 < i → Stops mark text i
+
+-- The next mark after it begins a run.
+next_begins : (mark : ℕ) (text : List ℕ) (n i start : ℕ) → Searched mark text n i → i < length text → i ≤ start → ((k : ℕ) → i ≤ k → k < start → slice_index text k ≢ mark) → (start < length text → slice_index text start ≡ mark)
+    → (k : ℕ) → k + 1 ≡ start → slice_index text k ≢ mark
+next_begins mark text n i start h inside le other first k e = elim (same_or_less i start le) [
+  | inl none ↦ absurd (h.apart (omega (arith, none, e)) inside (ap (slice_index text) none ∙ first (omega (arith, none, inside))))
+  | inr some ↦ other k (omega (arith, some, e)) (omega (arith, e))
+]
+
+run_after : (mark : ℕ) (text : List ℕ) (start run : ℕ) → ((k : ℕ) → k + 1 ≡ start → slice_index text k ≢ mark) → ((k : ℕ) → k < run → slice_index text (start + k) ≡ mark) → Running mark text (start + run) run
+run_after mark text start run before marks = record {
+  inside = omega arith;
+  marks = λ k less near. (let place : start + (k - start) ≡ k = omega (arith, near) in ap (slice_index text) (sym place) ∙ marks (k - start) (omega (arith, less, near)));
+  start = λ k e. before k (omega (arith, e));
+}
+
+none_before_run : (mark : ℕ) (text : List ℕ) (n i start j : ℕ) → Searched mark text n i → 0 < n → ((k : ℕ) → i ≤ k → k < start → slice_index text k ≢ mark) → j < start → IsStringAt mark text n j → ⊥
+none_before_run mark text n i start j h some other less at = elim (cases_lt j i) [
+  | inl before ↦ h.none j before at
+  | inr later ↦ other j later less (ap (slice_index text) (let k : j ≡ j + 0 = omega arith in k) ∙ at.marks 0 some)
+]
+
+-- the bytes from an offset on
+abbrev rest : List ℕ → ℕ → List ℕ
+rest text i = take (length text - i) (drop i text)
+
+-- the next run of marks, after bytes that are none
+pub next_run : (mark : ℕ) (text : List ℕ) (n i before run : ℕ) → Searched mark text n i → 0 < n → i < length text → ((k : ℕ) → k < before → slice_index (rest text i) k ≢ mark)
+    → (before < length (rest text i) → slice_index (rest text i) before ≡ mark) → ((k : ℕ) → k < run → slice_index (rest text (i + before)) k ≡ mark) → SoFar mark text n (i + before + run) run
+next_run mark text n i before run h some inside others first marks =
+    let other = shifted (λ b. b ≢ mark) i before text others in
+    let begins = next_begins mark text n i (i + before) h inside (omega arith) other (shifted_there (λ b. b ≡ mark) i before text first) in record {
+      running = run_after mark text (i + before) run begins (λ k less. sym (rest_at text (i + before) k) ∙ marks k less);
+      none = λ j less at. none_before_run mark text n i (i + before) j h some other (omega (arith, less)) at;
+    }
+
+-- where the next run ends, no mark stands
+pub run_stops : (mark : ℕ) (text : List ℕ) (start run : ℕ) → (run < length (rest text start) → slice_index (rest text start) run ≢ mark) → Stops mark text (start + run)
+run_stops mark text start run next = shifted_there (λ b. b ≢ mark) start run text next
+
+-- where they are not n, the search goes on
+pub searched_on : (mark : ℕ) (text : List ℕ) (n i run : ℕ) → SoFar mark text n i run → Stops mark text i → i ≤ length text → run ≢ n → 0 < n → Searched mark text n i
+searched_on mark text n i run h stops fits wrong some = record {
+  none = λ j less at. no_string mark text n i run j h stops fits wrong some (omega (arith, less)) at;
+  apart = λ _. stops;
+}
+
+pub searched_all : (mark : ℕ) (text : List ℕ) (n i : ℕ) → Searched mark text n i → length text ≤ i → 0 < n → HasNoString mark text n
+searched_all mark text n i h whole some j at = h.none j (omega (arith, at.within, whole, some)) at
 
 -- The strings before the marks that stand right before an offset are kept.
 pub record Keeps (mark : ℕ) (text : List ℕ) (i run : ℕ) (ends : List ℕ) : Type 0 where

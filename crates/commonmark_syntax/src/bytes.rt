@@ -6,6 +6,8 @@ ghost use Rattle.commonmark_syntax.specs.Cuts.{IsCut, IsInLine, IsRunOf, IsOfAsc
 ghost use Rattle.commonmark_syntax.specs.Reading.{read};
 ghost use Rattle.commonmark_syntax.specs.Syntax.{blanks, is_blank};
 
+use crate::search::find_byte;
+
 /// Returns how many bytes at the start of a text satisfy `is_such`.
 ///
 /// In `aab` two are the letter `a`.
@@ -152,5 +154,5 @@ pub fn has_more(text: &[u8]) -> bool
 pub fn has_byte(text: &[u8], of: u8) -> bool
     ensures { result ≡ has of text.now }
 {
-    text.iter().any(|byte| *byte == of)
+    find_byte(text, of) < text.len()
 }

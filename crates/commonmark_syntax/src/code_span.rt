@@ -3,7 +3,8 @@
 ghost use Rattle.std.specs.Prelude.{◌≡◌, ◌≢◌, ◌≤◌, ◌<◌, ◌+◌, ◌-◌, ◌^◌, IfOk, IfSome, MatchOption, OnOk, drop, false, length, nat_lt, slice_index, ℕ};
 ghost use Rattle.commonmark_syntax.specs.Strings.{AreLast, FirstStringEnds, HasNoString, IsKept};
 
-use crate::bytes::after;
+use crate::bytes::{after, run_length};
+use crate::search::find_byte;
 use std::alloc::{AllocError, Global};
 
 /// Where the last string of each size ends, for one mark in a text.
@@ -138,15 +139,14 @@ fn length_through_string(text: &[u8], mark: u8, size: usize) -> Option<usize>
     ensures most { IfSome result (λ end. end ≤ length text.now) }
     ensures least { IfSome result (λ end. size ≤ end) }
 {
-    let mut run: usize = 0;
-    for (at, byte) in text.iter().enumerate() {
-        if *byte == mark {
-            run += 1;
-        } else if run == size {
+    let mut at = 0;
+    while at < text.len() {
+        let start = at + find_byte(&text[at..], mark);
+        let run = run_length(&text[start..], mark);
+        at = start + run;
+        if run == size {
             return Some(at);
-        } else {
-            run = 0;
         }
     }
-    if run == size { Some(text.len()) } else { None }
+    None
 }

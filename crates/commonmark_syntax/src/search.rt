@@ -1,9 +1,10 @@
-//! Searches for the first byte that does not stand for itself, 16 bytes at a time.
+//! Searches in bytes, 16 at a time.
 
 ghost use Rattle.std.specs.Int.{bit_at};
-ghost use Rattle.std.specs.Prelude.{◌≡◌, ℕ, ◌<◌, ◌≤◌, false, length, slice_index, true};
+ghost use Rattle.std.specs.Prelude.{◌≡◌, ◌≢◌, ◌==◌, ℕ, ◌<◌, ◌≤◌, cond, length, slice_index, true};
 
 use crate::class::PlainClass;
+use std::simd::prelude::*;
 
 /// Returns how many bytes at the start of a text are in a class.
 pub(crate) fn plain_length<C: PlainClass>(text: &[u8]) -> usize
@@ -47,11 +48,69 @@ fn plain_length_of_16<C: PlainClass>(text: &[u8]) -> usize
     first_of(C::others(text))
 }
 
+/// Returns where a byte first is in a text, or the length of a text without it.
+pub(crate) fn find_byte(text: &[u8], of: u8) -> usize
+    ensures most { result ≤ length text.now }
+    ensures before { (k : ℕ) → k < result → slice_index text.now k ≢ of }
+    ensures at { result < length text.now → slice_index text.now result ≡ of }
+{
+    if text.len() < 16 {
+        return find_byte_in_few(text, of);
+    }
+    let last = text.len() - 16;
+    let mut at = 0;
+    while at < last {
+        let before = find_byte_in_16(&text[at..], of);
+        if before < 16 {
+            return at + before;
+        }
+        at += 16;
+    }
+    last + find_byte_in_16(&text[last..], of)
+}
+
+/// Does what `find_byte` does, byte by byte.
+fn find_byte_in_few(text: &[u8], of: u8) -> usize
+    ensures most { result ≤ length text.now }
+    ensures before { (k : ℕ) → k < result → slice_index text.now k ≢ of }
+    ensures at { result < length text.now → slice_index text.now result ≡ of }
+{
+    let mut at = 0;
+    while at < text.len() && text[at] != of {
+        at += 1;
+    }
+    at
+}
+
+/// Does what `find_byte` does, in the first 16 bytes of a text.
+#[inline(always)]
+fn find_byte_in_16(text: &[u8], of: u8) -> usize
+    requires { 16 ≤ length text.now }
+    ensures most { result ≤ 16 }
+    ensures before { (k : ℕ) → k < result → slice_index text.now k ≢ of }
+    ensures at { result < 16 → slice_index text.now result ≡ of }
+{
+    first_of(places(text, of))
+}
+
+/// Returns a number with a bit for each of the first 16 bytes of a text, which is set where the
+/// byte is this one.
+#[inline(always)]
+fn places(text: &[u8], of: u8) -> u64
+    requires { 16 ≤ length text.now }
+    ensures { (k : ℕ) → k < 16 → bit_at result k ≡ cond (slice_index text.now k == of) 1 0 }
+{
+    u8x16::from_slice(text)
+        .simd_eq(u8x16::splat(of))
+        .to_bitmask()
+}
+
 /// Returns the place of the lowest of 16 bits that is set, or 16.
 #[inline(always)]
 fn first_of(bits: u64) -> usize
     ensures most { result ≤ 16 }
     ensures before { (k : ℕ) → k < result → bit_at bits k ≡ 0 }
+    ensures at { result < 16 → bit_at bits result ≡ 1 }
 {
     if bits == 0 {
         16

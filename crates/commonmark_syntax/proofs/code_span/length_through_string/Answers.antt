@@ -1,28 +1,25 @@
-use Rattle.std.proofs.Common.{arith, length, subst, sym, ◌+◌, ◌≡◌}
-use Rattle.commonmark_syntax.proofs.Strings.{SoFar, ends_at, ends_nowhere, mark_step, other_step}
+use Rattle.std.proofs.Common.{◌+◌}
+use Rattle.commonmark_syntax.proofs.Searches.{most_of_rest}
+use Rattle.commonmark_syntax.proofs.Strings.{ends_at, next_run, run_stops, searched_all, searched_on}
 use Rattle.commonmark_syntax.proofs.code_span.length_through_string.Goals as goal
-use Rattle.commonmark_syntax.proofs.code_span.length_through_string.Goals.{then-byte-mark, else-byte-mark+else-run-size}
 
 pub returns-then-run-size-clause-exact : goal.returns-then-run-size-clause-exact
 returns-then-run-size-clause-exact c =
-    ends_at c.args.mark c.args.text.now c.args.size c.loop-at.at c.loop-at.run c.loop-at.invariant c.if-run-size.true (omega (arith, c.loop-at-test.true)) (λ _. c.if-byte-mark.false)
+    let text = c.args.text.now in
+    let start = c.loop-at.at + c.find_byte.result in
+    let here = next_run c.args.mark text c.args.size c.loop-at.at c.find_byte.result c.run_length-run.result c.loop-at.invariant.searched c.requires c.loop-at-test.true c.find_byte.ensures.before c.find_byte.ensures.at c.run_length-run.ensures.run in
+    ends_at c.args.mark text c.args.size (start + c.run_length-run.result) c.run_length-run.result here c.if-run-size.true (most_of_rest text start _ c.run_length-run.ensures.most (most_of_rest text c.loop-at.at _ c.find_byte.ensures.most c.loop-at.invariant.within))
+    (run_stops c.args.mark text start c.run_length-run.result c.run_length-run.ensures.next)
 
 pub loop-at-preserved : goal.loop-at-preserved
-loop-at-preserved c = elim c.if-byte-mark.branch [
-  | then-byte-mark w ↦ subst (SoFar c.args.mark c.args.text.now c.args.size (c.loop-at.at + 1)) (sym w.run-is)
-      (mark_step c.args.mark c.args.text.now c.args.size c.loop-at.at c.loop-at.run c.loop-at.invariant w.if-byte-mark.true)
-  | else-byte-mark+else-run-size w ↦ subst (SoFar c.args.mark c.args.text.now c.args.size (c.loop-at.at + 1)) (sym w.run-is)
-      (other_step c.args.mark c.args.text.now c.args.size c.loop-at.at c.loop-at.run c.loop-at.invariant c.requires c.loop-at-test.true w.if-byte-mark.false w.if-run-size.false)
-]
+loop-at-preserved c =
+    let text = c.args.text.now in
+    let start = c.loop-at.at + c.find_byte.result in
+    let here = next_run c.args.mark text c.args.size c.loop-at.at c.find_byte.result c.run_length-run.result c.loop-at.invariant.searched c.requires c.loop-at-test.true c.find_byte.ensures.before c.find_byte.ensures.at c.run_length-run.ensures.run in
+    let fits = most_of_rest text start _ c.run_length-run.ensures.most (most_of_rest text c.loop-at.at _ c.find_byte.ensures.most c.loop-at.invariant.within) in record {
+      within = fits;
+      searched = searched_on c.args.mark text c.args.size (start + c.run_length-run.result) c.run_length-run.result here (run_stops c.args.mark text start c.run_length-run.result c.run_length-run.ensures.next) fits c.if-run-size.false c.requires;
+    }
 
-pub returns-then-run-size-2-clause-exact : goal.returns-then-run-size-2-clause-exact
-returns-then-run-size-2-clause-exact c =
-    let at_end : c.loop-at.at ≡ length c.args.text.now = omega (arith, c.loop-at.auto.at-end, c.loop-at-test.false) in
-    ends_at c.args.mark c.args.text.now c.args.size (length c.args.text.now) c.loop-at.run
-    (subst (λ x. SoFar c.args.mark c.args.text.now c.args.size x c.loop-at.run) at_end c.loop-at.invariant) c.if-run-size-2.true (omega arith) (λ less. absurd (omega (arith, less)))
-
-pub returns-else-run-size-2-clause-exact : goal.returns-else-run-size-2-clause-exact
-returns-else-run-size-2-clause-exact c =
-    let at_end : c.loop-at.at ≡ length c.args.text.now = omega (arith, c.loop-at.auto.at-end, c.loop-at-test.false) in
-    ends_nowhere c.args.mark c.args.text.now c.args.size c.loop-at.run
-    (subst (λ x. SoFar c.args.mark c.args.text.now c.args.size x c.loop-at.run) at_end c.loop-at.invariant) c.requires c.if-run-size-2.false
+pub returns-clause-exact : goal.returns-clause-exact
+returns-clause-exact c = searched_all _ _ _ _ c.loop-at.invariant.searched c.loop-at-test.false c.requires
