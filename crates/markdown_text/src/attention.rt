@@ -5,6 +5,7 @@ ghost use Rattle.std.proofs.Props.{props};
 ghost use Rattle.markdown_attention.specs.Runs.{AreReady, AreResolved, IsReady, view, views};
 ghost use Rattle.markdown_options.specs.declared.Constructs.{Constructs};
 
+use crate::spare_lists::{SpareLists, take_cleared};
 use markdown_attention::delimiter::Delimiter;
 use markdown_attention::emphasis;
 use markdown_attention::run::Run;
@@ -24,15 +25,16 @@ impl Attention {
     ghost use Rattle.markdown_text.specs.Constructs.{AreDelimitersOn, is_marker_on};
     ghost use Rattle.markdown_text.specs.Runs.{IsAttentionOn, begun, room};
 
-    /// Returns no runs.
-    pub fn new(alloc: Global) -> Attention
+    /// Returns no runs, with lists that are spare.
+    #[inline(always)]
+    pub fn new(lists: &mut SpareLists, alloc: Global) -> Attention
         ensures on { (c : Constructs) → IsAttentionOn c result }
         ensures runs { result.runs.items ≡ [] }
         ensures delimiters { result.delimiters.items ≡ [] }
     {
         Attention {
-            runs: Vec::new(alloc),
-            delimiters: Vec::new(alloc),
+            runs: take_cleared(&mut lists.runs, alloc),
+            delimiters: take_cleared(&mut lists.delimiters, alloc),
         }
     }
 
@@ -62,7 +64,7 @@ impl Attention {
         if self.runs.len() <= from {
             return Ok(());
         }
-        self.begin(alloc, size)?;
+        self.begin(size)?;
         emphasis::resolve(alloc, &self.runs[from..], &mut self.delimiters)?;
         self.runs.truncate(from);
         Ok(())
@@ -70,7 +72,7 @@ impl Attention {
 
     /// Makes room for the delimiters in a content of `size` bytes, if there is none yet. The only
     /// error is that memory ran out.
-    fn begin(&mut self, alloc: Global, size: usize) -> Result<(), AllocError>
+    fn begin(&mut self, size: usize) -> Result<(), AllocError>
         ensures runs { self.new.runs ≡ self.old.runs }
         ensures on { (c : Constructs) → AreDelimitersOn c self.old.delimiters.items → AreDelimitersOn c self.new.delimiters.items }
         ensures delimiters { OnOk result (self.new.delimiters.items ≡ begun size self.old.delimiters.items) }
@@ -78,19 +80,19 @@ impl Attention {
         if !self.delimiters.is_empty() {
             return Ok(());
         }
-        self.delimiters = vec![in alloc; Delimiter::Data; size]?;
+        self.delimiters.resize(size, Delimiter::Data)?;
         Ok(())
     }
 
-    /// Returns what begins at each offset. It is empty if there are no runs.
-    pub fn into_delimiters(self) -> Vec<Delimiter>
+    /// Returns what begins at each offset. It is empty if there are no runs. The list of runs is
+    /// spare then.
+    #[inline(always)]
+    pub fn into_delimiters(self, lists: &mut SpareLists) -> Vec<Delimiter>
         ensures on { (c : Constructs) → IsAttentionOn c self → AreDelimitersOn c result.items }
         ensures same { result ≡ self.delimiters }
     {
-        let Attention {
-            runs: _,
-            delimiters,
-        } = self;
+        let Attention { runs, delimiters } = self;
+        lists.runs = runs;
         delimiters
     }
 }

@@ -6,6 +6,7 @@ ghost use Rattle.markdown_text.specs.Constructs.{AreBracketsOn, is_form_on};
 ghost use Rattle.markdown_text.specs.Reached.{AreOpen, IsOpen, has_bracket};
 ghost use Rattle.markdown_text.specs.declared.token.Token.{Token};
 
+use crate::spare_lists::{SpareLists, take_cleared};
 use crate::token::Labelled;
 use std::alloc::{AllocError, Global};
 
@@ -57,14 +58,21 @@ pub struct Brackets {
 }
 
 impl Brackets {
-    /// Returns an empty stack.
-    pub fn new(alloc: Global) -> Brackets
+    /// Returns an empty stack, with a list that is spare.
+    #[inline(always)]
+    pub fn new(lists: &mut SpareLists, alloc: Global) -> Brackets
         ensures { result.stack.items ≡ [] }
     {
         Brackets {
-            stack: Vec::new(alloc),
+            stack: take_cleared(&mut lists.brackets, alloc),
             around_link: 0,
         }
+    }
+
+    /// Makes the list of brackets spare.
+    #[inline(always)]
+    pub fn keep_list(self, lists: &mut SpareLists) {
+        lists.brackets = self.stack;
     }
 
     /// Whether there are any.

@@ -3,6 +3,7 @@
 ghost use Rattle.std.specs.Prelude.{◌≡◌, ◌≤◌, ◌<◌, ◌-◌, Some, ◌++◌, IfNone, IfOk, IfSome, IsTrue, OnOk, drop, length, slice_get, slice_range, take};
 ghost use Rattle.markdown_text.specs.Contents.{AreLines, IsPart, piece_bytes, joined, next_place};
 
+use crate::spare_lists::{SpareLists, take_cleared};
 use commonmark_syntax::bytes::after;
 use markdown_events::event::Name;
 use markdown_pieces::piece::{Piece, PieceKind};
@@ -100,8 +101,10 @@ fn stands_as_it_is(document: &[u8], start: usize, piece: &Piece) -> bool
     }
 }
 
-/// Returns the bytes of a content that begins at an offset. The only error is that memory ran out.
+/// Returns the bytes of a content that begins at an offset, in a list that is spare. The only error
+/// is that memory ran out.
 pub fn join(
+    lists: &mut SpareLists,
     alloc: Global,
     document: &[u8],
     start: usize,
@@ -109,7 +112,7 @@ pub fn join(
 ) -> Result<Vec<u8>, AllocError>
     ensures { IfOk result (λ bytes. bytes.items ≡ joined document.now start pieces.now) }
 {
-    let mut bytes = Vec::new(alloc);
+    let mut bytes = take_cleared(&mut lists.bytes, alloc);
     let mut at = start;
     for piece in pieces {
         add(&mut bytes, document, at, piece)?;

@@ -17,6 +17,7 @@ use crate::content::{between, content_size, join, range_end};
 use crate::output::ContentKind;
 use crate::pieces::{is_text, write_piece};
 use crate::source::Source;
+use crate::spare_lists::SpareLists;
 use crate::{string, text};
 use character_references::references::References;
 use event_writer::recorder::Recorder;
@@ -71,13 +72,14 @@ pub fn write<'c, 'd, R: References, S: Sink>(
     ensures options { IfOk result (λ written. AreOn reading.now.options.constructs written.events) }
 {
     let mut writer = writer;
+    let mut lists = SpareLists::new(reading.alloc);
     let mut rest = pieces;
     let mut name = None;
     let mut place = TaskPlace::Nowhere;
     'pieces: while let Some((piece, later)) = rest.split_first() {
         if is_text(piece.kind) {
             let (content, later) = rest.split_at(content_size(rest));
-            writer = inlines(reading, writer, content, name, place)?;
+            writer = inlines(reading, writer, content, name, place, &mut lists)?;
             place = TaskPlace::Nowhere;
             rest = later;
             continue;
@@ -153,6 +155,7 @@ fn inlines<'c, 'd, R: References, S: Sink>(
     pieces: &'c [Piece],
     name: Option<Name>,
     place: TaskPlace,
+    lists: &mut SpareLists,
 ) -> Result<Recorder<'d, R, S>, AllocError>
     requires document { writer.given.bytes ≡ reading.now.document.now }
     requires references { writer.given.references ≡ reading.now.references.now }
@@ -170,11 +173,14 @@ fn inlines<'c, 'd, R: References, S: Sink>(
     match range_end(document, start, pieces) {
         Some(end) => {
             let bytes = between(document, start, end);
-            inlines_of(reading, writer, bytes, pieces, name, place)
+            inlines_of(reading, writer, bytes, pieces, name, place, lists)
         }
         None => {
-            let bytes = join(reading.alloc, document, start, pieces)?;
-            inlines_of(reading, writer, bytes.as_slice(), pieces, name, place)
+            let bytes = join(lists, reading.alloc, document, start, pieces)?;
+            let text = bytes.as_slice();
+            let written = inlines_of(reading, writer, text, pieces, name, place, lists);
+            lists.bytes = bytes;
+            written
         }
     }
 }
@@ -188,6 +194,7 @@ fn inlines_of<'c, 'd, R: References, S: Sink>(
     pieces: &'c [Piece],
     name: Option<Name>,
     place: TaskPlace,
+    lists: &mut SpareLists,
 ) -> Result<Recorder<'d, R, S>, AllocError>
     requires document { writer.given.bytes ≡ reading.now.document.now }
     requires references { writer.given.references ≡ reading.now.references.now }
@@ -210,7 +217,7 @@ fn inlines_of<'c, 'd, R: References, S: Sink>(
     match content_kind(name) {
         ContentKind::Text => {
             let is_task = may_be_task(&reading.options, place);
-            text::inlines(&source, writer, pieces, is_task)
+            text::inlines(&source, writer, pieces, is_task, lists)
         }
         ContentKind::String => string::inlines(&source, writer, pieces),
     }

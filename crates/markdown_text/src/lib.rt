@@ -36,6 +36,7 @@ mod raw_text;
 mod reference;
 mod resource;
 mod source;
+mod spare_lists;
 mod string;
 mod text;
 mod title;

@@ -1,6 +1,6 @@
 //! String content (micromark): escapes and character references, as in a label, a destination or a title.
 
-ghost use Rattle.std.specs.Prelude.{Bool, IfOk, IsFalse, IsTrue, List, OnOk, false, length, slice_index, ◌≡◌, ◌≤◌, ◌<◌, ◌≢◌, true};
+ghost use Rattle.std.specs.Prelude.{Bool, IfOk, List, OnOk, false, length, slice_index, ◌≡◌, ◌≤◌, ◌<◌, ◌≢◌, true};
 ghost use Rattle.event_writer.specs.Stages.{Enclosing, inlines};
 ghost use Rattle.markdown_options.specs.declared.Constructs.{Constructs};
 ghost use Rattle.markdown_pieces.specs.Tilings.{Tiles, end_from};
@@ -13,11 +13,12 @@ ghost use Rattle.markdown_text.specs.Texts.{bare, text_of};
 ghost use Rattle.markdown_text.specs.Tokens.{IsFound, IsOfString};
 
 use crate::output::{ContentKind, Output};
+use crate::plain::plain_length;
 use crate::source::Source;
 use crate::token::{Found, TokenKind};
 use crate::{character_escape, character_reference};
 use character_references::references::References;
-use commonmark_syntax::bytes::{after, count_while};
+use commonmark_syntax::bytes::after;
 use event_writer::recorder::Recorder;
 use event_writer::sink::Sink;
 use markdown_events::event::Name;
@@ -98,7 +99,8 @@ fn scan<R: References>(source: &Source<'_, R>, text: &[u8]) -> Result<Found, All
     }
 }
 
-/// Returns how many bytes of data a text begins with. The first byte is data.
+/// Returns how many bytes of data a text begins with, at most up to a byte that may begin a construct
+/// of a text. The first byte is data.
 fn data_length(text: &[u8]) -> usize
     requires some { 0 < length text.now }
     requires first { slice_index text.now 0 ≢ 10 }
@@ -106,7 +108,7 @@ fn data_length(text: &[u8]) -> usize
     ensures most { result ≤ length text.now }
     ensures part { IsPart text.now 0 result }
 {
-    1 + count_while(after(text, 1), is_plain)
+    1 + plain_length(text, false)
 }
 
 /// Returns the character escape that a text begins with, or the backslash as data.
@@ -122,14 +124,6 @@ fn escape_or_data(text: &[u8]) -> Found
         Some(size) => Found::token(TokenKind::CharacterEscape, size),
         None => Found::data(1),
     }
-}
-
-/// Whether a byte begins nothing.
-fn is_plain(byte: u8) -> bool
-    ensures line { IsTrue result → byte ≢ 10 }
-    ensures ascii { IsFalse result → byte < 128 }
-{
-    !matches!(byte, b'\n' | b'\\' | b'&')
 }
 
 /// Writes what was found in a string, up to an offset.

@@ -32,6 +32,7 @@ use crate::attention_names::{group_name, sequence_name, text_name};
 use crate::output::{ContentKind, Next, Output};
 use crate::raw_text::{self, RawText};
 use crate::source::Source;
+use crate::spare_lists::SpareLists;
 use crate::token::{Labelled, Target, Token, TokenKind};
 use crate::tokenizer::{Tokens, tokenize};
 use crate::{
@@ -48,7 +49,7 @@ use std::alloc::AllocError;
 
 /// An open construct.
 #[derive(Clone, Copy)]
-enum Open {
+pub enum Open {
     /// Emphasis, strong emphasis or strikethrough.
     Attention(AttentionKind),
     /// A label with a text.
@@ -62,6 +63,7 @@ pub fn inlines<'c, 'd, R: References, S: Sink>(
     writer: Recorder<'d, R, S>,
     pieces: &'c [Piece],
     is_task: bool,
+    lists: &mut SpareLists,
 ) -> Result<Recorder<'d, R, S>, AllocError>
     requires document { writer.given.bytes ≡ source.now.reading.now.document.now }
     requires references { writer.given.references ≡ source.now.reading.now.references.now }
@@ -77,15 +79,16 @@ pub fn inlines<'c, 'd, R: References, S: Sink>(
     ensures within { IfOk result (λ written. IsWithin source.now.reading.now.options.constructs written) }
     ensures spans { HasNoClosing source.now.bytes.now → IfOk result (λ written. WritesSpans source.now.reading.now.options (place_at writer.entry pieces.now source.now.bytes.now) (text_of source.now.bytes.now (R.text source.now.reading.now.references.now) is_task) writer.entry written) }
 {
-    let found = tokenize(source, is_task)?;
+    let found = tokenize(source, is_task, lists)?;
     let mut output = Output::new(source, writer, pieces, ContentKind::Text)?;
-    let mut open = Vec::new(source.reading.alloc);
+    lists.open.clear();
     let tokens = write_task(&mut output, found.tokens.as_slice(), is_task)?;
-    write_tokens(&mut output, tokens, &found.delimiters, &mut open)?;
+    write_tokens(&mut output, tokens, &found.delimiters, &mut lists.open)?;
     output.data(source.bytes.len());
-    'open: while let Some(last) = open.pop() {
+    'open: while let Some(last) = lists.open.pop() {
         close(&mut output, last)?;
     }
+    found.keep_lists(lists);
     output.finish()
 }
 

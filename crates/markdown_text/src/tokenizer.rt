@@ -24,6 +24,7 @@ use crate::delimiter_run::{is_delimiter_run, run_at};
 use crate::label_end::{self, Match};
 use crate::plain::plain_length;
 use crate::source::Source;
+use crate::spare_lists::{SpareLists, take_cleared};
 use crate::token::{Found, Labelled, Token, TokenKind};
 use crate::{
     autolink, character_escape, character_reference, gfm_autolink_literal,
@@ -48,9 +49,22 @@ pub struct Tokens {
     pub delimiters: Vec<Delimiter>,
 }
 
+impl Tokens {
+    /// Makes the lists spare.
+    #[inline(always)]
+    pub fn keep_lists(self, lists: &mut SpareLists) {
+        lists.tokens = self.tokens;
+        lists.delimiters = self.delimiters;
+    }
+}
+
 /// Returns the constructs in a text. With `is_task` it may begin with the mark of a task. The only
 /// error is that memory ran out.
-pub fn tokenize<R: References>(source: &Source<'_, R>, is_task: bool) -> Result<Tokens, AllocError>
+pub fn tokenize<R: References>(
+    source: &Source<'_, R>,
+    is_task: bool,
+    lists: &mut SpareLists,
+) -> Result<Tokens, AllocError>
     requires task { is_task ≡ true → source.now.reading.now.options.constructs.gfm_task_list_item ≡ true }
     ensures found { IfOk result (λ found. AreTokens (text_of source.now.bytes.now (R.text source.now.reading.now.references.now) is_task) 0 found.tokens.items) }
     ensures on { IfOk result (λ found. AreTokensOn source.now.reading.now.options.constructs found.tokens.items) }
@@ -58,7 +72,7 @@ pub fn tokenize<R: References>(source: &Source<'_, R>, is_task: bool) -> Result<
     ensures pairs { HasNoClosing source.now.bytes.now → IfOk result (λ found. ArePairsOf source.now.reading.now.options source.now.bytes.now found.tokens.items found.delimiters.items) }
 {
     let content = source.bytes;
-    let mut tokenizer = Tokenizer::new(source);
+    let mut tokenizer = Tokenizer::new(source, lists);
     let mut at = 0;
     'tokens: while at < content.len() {
         let cursor = Cursor { content, at };
@@ -69,9 +83,10 @@ pub fn tokenize<R: References>(source: &Source<'_, R>, is_task: bool) -> Result<
     tokenizer
         .attention
         .resolve(source.reading.alloc, content.len(), 0)?;
+    tokenizer.brackets.keep_list(lists);
     Ok(Tokens {
         tokens: tokenizer.tokens,
-        delimiters: tokenizer.attention.into_delimiters(),
+        delimiters: tokenizer.attention.into_delimiters(lists),
     })
 }
 
@@ -104,8 +119,9 @@ struct Tokenizer<'c, R> {
 }
 
 impl<'c, R: References> Tokenizer<'c, R> {
-    /// Returns a tokenizer at the start of a content.
-    fn new(source: &'c Source<'c, R>) -> Self
+    /// Returns a tokenizer at the start of a content, with lists that are spare.
+    #[inline(always)]
+    fn new(source: &'c Source<'c, R>, lists: &mut SpareLists) -> Self
         ensures source { result.source.now ≡ source.now }
         ensures tokens { result.tokens.items ≡ [] }
         ensures brackets { result.brackets.stack.items ≡ [] }
@@ -114,9 +130,9 @@ impl<'c, R: References> Tokenizer<'c, R> {
         let alloc = source.reading.alloc;
         Tokenizer {
             source,
-            tokens: Vec::new(alloc),
-            attention: Attention::new(alloc),
-            brackets: Brackets::new(alloc),
+            tokens: take_cleared(&mut lists.tokens, alloc),
+            attention: Attention::new(lists, alloc),
+            brackets: Brackets::new(lists, alloc),
             backtick_strings: None,
             dollar_strings: None,
             missing: MissingEnds::new(source.bytes.len()),

@@ -14,10 +14,10 @@ inlines_of-requires-clause-utf8 g c =
     let is = c.between-bytes.ensures ∙ c.in-Some.ensures ∙ ap (λ (bs : List ℕ). joined bs c.cursor-start.result.index c.args.pieces.now) (sym c.requires.document) ∙ ap (λ (p : Point). joined w.given.bytes p.index c.args.pieces.now) c.cursor-start.ensures.here in
     content_valid w.given.bytes c.between-bytes.result.now w.cursor (end_from (spot w.cursor) c.args.pieces.now) c.args.pieces.now at.valid place at.boundary c.requires.tiles is
 
-pub inlines_of-requires-in-None-clause-utf8 : goal.inlines_of-requires-in-None-clause-utf8
-inlines_of-requires-in-None-clause-utf8 g c =
+pub inlines_of-written-requires-clause-utf8 : goal.inlines_of-written-requires-clause-utf8
+inlines_of-written-requires-clause-utf8 g c =
     let w = c.args.writer in
     let at = c.requires.begins.at.0 in
     let place = subst (λ (p : Point). IsPlace w.given.bytes p) c.cursor-start.ensures.here c.cursor-start.ensures.place in
-    let is = c.as_slice.ensures.value ∙ c.in_ok-bytes-in-None.ensures ∙ ap (λ (bs : List ℕ). joined bs c.cursor-start.result.index c.args.pieces.now) (sym c.requires.document) ∙ ap (λ (p : Point). joined w.given.bytes p.index c.args.pieces.now) c.cursor-start.ensures.here in
-    content_valid w.given.bytes c.as_slice.result.now w.cursor (end_from (spot w.cursor) c.args.pieces.now) c.args.pieces.now at.valid place at.boundary c.requires.tiles is
+    let is = c.as_slice-text.ensures.value ∙ c.in_ok-bytes-in-None.ensures ∙ ap (λ (bs : List ℕ). joined bs c.cursor-start.result.index c.args.pieces.now) (sym c.requires.document) ∙ ap (λ (p : Point). joined w.given.bytes p.index c.args.pieces.now) c.cursor-start.ensures.here in
+    content_valid w.given.bytes c.as_slice-text.result.now w.cursor (end_from (spot w.cursor) c.args.pieces.now) c.args.pieces.now at.valid place at.boundary c.requires.tiles is

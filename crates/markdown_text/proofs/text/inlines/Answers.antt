@@ -27,7 +27,7 @@ write_tokens-requires-clause-at g c =
     let h = c.requires.begins.in_heading in
     let outer = c.requires.begins.outer in
     let begun = text_goes c.args.is_task c.args.writer c.in_ok-output.output.writer h outer (λ a at. c.in_ok-output.ensures.stage a outer at) c.requires.begins.at in
-    record { in_heading = h; outer = outer; at = same_open c.write_task.new.output c.new-open.result.items [] h outer c.new-open.ensures.items (c.in_ok-tokens.ensures.at h outer begun) }
+    record { in_heading = h; outer = outer; at = same_open c.write_task.new.output c.clear.new.self.items [] h outer c.clear.ensures.items (c.in_ok-tokens.ensures.at h outer begun) }
 
 pub open-init : goal.open-init
 open-init g c =
@@ -47,13 +47,13 @@ open-init g c =
           let order = c.in_ok-write_tokens.ensures.rest.order in
           let size = ap length (c.in_ok-write_tokens.ensures.goes_on.bytes ∙ c.in_ok-tokens.ensures.goes_on.bytes ∙ first.ensures.bytes) in (
             (whole_walk source.reading.now.options c.args.writer.given.bytes text (end_from (spot c.args.writer.cursor) c.args.pieces.now) found.found.tokens.items c.as_slice.result.now c.in_ok-tokens.tokens.now found.found.delimiters.items c.deref.result.now (attention_events c.args.writer.events)
-                (found.ensures.pairs open_ended) found.ensures.found c.as_slice.ensures.value c.deref.ensures.value first.output c.write_task.new.output third c.new-open.result.items c.write_tokens.new.«open».items c.new-open.ensures.items
+                (found.ensures.pairs open_ended) found.ensures.found c.as_slice.ensures.value c.deref.ensures.value first.output c.write_task.new.output third c.clear.new.self.items c.write_tokens.new.«open».items c.clear.ensures.items
                 (first.ensures.document ∙ sym c.requires.document) first.ensures.bytes first.ensures.end first.ensures.attention first.ensures.data_end c.in_ok-tokens.ensures.walks c.in_ok-write_tokens.ensures.walks (omega (arith, order, size))).0,
             refl,
           );
       stage = λ h outer at.
           let begun = text_goes c.args.is_task c.args.writer c.in_ok-output.output.writer h outer (λ a at. c.in_ok-output.ensures.stage a outer at) at in
-          let none = same_open c.write_task.new.output c.new-open.result.items [] h outer c.new-open.ensures.items (c.in_ok-tokens.ensures.at h outer begun) in
+          let none = same_open c.write_task.new.output c.clear.new.self.items [] h outer c.clear.ensures.items (c.in_ok-tokens.ensures.at h outer begun) in
           moved_at c.write_tokens.new.output o (inlines (flag_of items h)) (outer_of items h outer) c.data.ensures.writer (c.in_ok-write_tokens.ensures.at h outer none);
     }
 
@@ -62,7 +62,7 @@ close-requires-clause-at g c =
     let h = c.requires.begins.in_heading in
     let outer = c.requires.begins.outer in
     let rest = c.pop.new.self.items in
-    record { in_heading = flag_of rest h; outer = outer_of rest h outer; at = has_innermost c.«open».output c.«open».«open».items rest c.in-Some.last h outer c.in-Some.ensures.items (c.«open».invariant.stage h outer c.requires.begins.at) }
+    record { in_heading = flag_of rest h; outer = outer_of rest h outer; at = has_innermost c.«open».output c.«open».lists.«open».items rest c.in-Some.last h outer c.in-Some.ensures.items (c.«open».invariant.stage h outer c.requires.begins.at) }
 
 pub open-preserved : goal.open-preserved
 open-preserved g c =
@@ -74,14 +74,14 @@ open-preserved g c =
       goes_on = goes_on_then c.data.new.self c.«open».output c.close.new.output i.goes_on closed.goes_on;
       ended = closed.data_end ∙ i.ended ∙ sym (ap (λ (bs : List ℕ). length bs) closed.goes_on.bytes);
       spans = λ open_ended. absurd (none_last rest c.in-Some.last (sym c.in-Some.ensures.items ∙ (i.spans open_ended).0));
-      stage = λ h outer at. closed.at (flag_of rest h) (outer_of rest h outer) (has_innermost c.«open».output c.«open».«open».items rest c.in-Some.last h outer c.in-Some.ensures.items (i.stage h outer at));
+      stage = λ h outer at. closed.at (flag_of rest h) (outer_of rest h outer) (has_innermost c.«open».output c.«open».lists.«open».items rest c.in-Some.last h outer c.in-Some.ensures.items (i.stage h outer at));
     }
 
 pub returns-clause-at : goal.returns-clause-at
 returns-clause-at g c = λ h outer at.
     let o = c.«open».output in
-    let items = c.«open».«open».items in
-    let none = none_open items (omega (arith, c.«open».«open».ok.0, c.in_default.ensures.cases.0)) in
+    let items = c.«open».lists.«open».items in
+    let none = none_open items (omega (arith, c.«open».lists.«open».ok.0, c.in_default.ensures.cases.0)) in
     c.finish.ensures.stage h outer (subst (λ (os : List Open). HasOpen o os h outer) none (c.«open».invariant.stage h outer at))
 
 pub returns-clause-spans : goal.returns-clause-spans
@@ -95,7 +95,7 @@ returns-clause-spans g c open_ended =
     let size = ap length (c.in_ok-write_tokens.ensures.goes_on.bytes ∙ c.in_ok-tokens.ensures.goes_on.bytes ∙ first.ensures.bytes) in
     let all =
     whole_walk source.reading.now.options c.args.writer.given.bytes text (end_from (spot c.args.writer.cursor) c.args.pieces.now) found.found.tokens.items c.as_slice.result.now c.in_ok-tokens.tokens.now found.found.delimiters.items c.deref.result.now (attention_events c.args.writer.events)
-    (found.ensures.pairs open_ended) found.ensures.found c.as_slice.ensures.value c.deref.ensures.value first.output c.write_task.new.output third c.new-open.result.items c.write_tokens.new.«open».items c.new-open.ensures.items
+    (found.ensures.pairs open_ended) found.ensures.found c.as_slice.ensures.value c.deref.ensures.value first.output c.write_task.new.output third c.clear.new.self.items c.write_tokens.new.«open».items c.clear.ensures.items
     (first.ensures.document ∙ sym c.requires.document) first.ensures.bytes first.ensures.end first.ensures.attention first.ensures.data_end c.in_ok-tokens.ensures.walks c.in_ok-write_tokens.ensures.walks (omega (arith, order, size)) in
     let es = all.1.0 in
     let last = (c.«open».invariant.spans open_ended).1 ∙ ap (λ w. attention_events w.events) c.data.ensures.writer ∙ all.1.1 in
@@ -105,7 +105,7 @@ pub finish-requires-clause-inlines : goal.finish-requires-clause-inlines
 finish-requires-clause-inlines g c =
     let h = c.requires.begins.in_heading in
     let outer = c.requires.begins.outer in
-    let none = none_open c.«open».«open».items (omega (arith, c.«open».«open».ok.0, c.in_default.ensures.cases.0)) in
+    let none = none_open c.«open».lists.«open».items (omega (arith, c.«open».lists.«open».ok.0, c.in_default.ensures.cases.0)) in
     record { in_heading = h; outer = outer; at = subst (λ (os : List Open). HasOpen c.«open».output os h outer) none (c.«open».invariant.stage h outer c.requires.begins.at) }
 
 pub returns-clause-given : goal.returns-clause-given

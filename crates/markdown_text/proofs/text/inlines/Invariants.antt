@@ -12,9 +12,9 @@ invariant-open g l = record {
   given : l.output.writer.given ≡ l.initial.output.writer.given;
   goes_on : GoesOn l.initial.output l.output;
   ended : l.output.data ≡ length (bytes_of l.output);
-  spans : HasNoClosing l.source.bytes.now → (l.open.items ≡ []) × (attention_of l.output ≡ attention_of l.initial.output);
-  stage : (h : Bool) → (outer : List Enclosing) → IsAtText l.is_task l.fn.writer h outer → HasOpen l.output l.open.items h outer;
+  spans : HasNoClosing l.source.bytes.now → (l.lists.open.items ≡ []) × (attention_of l.output ≡ attention_of l.initial.output);
+  stage : (h : Bool) → (outer : List Enclosing) → IsAtText l.is_task l.fn.writer h outer → HasOpen l.output l.lists.open.items h outer;
 }
 
 abbrev pub decreases-open : goal.decreases-open
-decreases-open g l = vec_len l.open
+decreases-open g l = vec_len l.lists.open
