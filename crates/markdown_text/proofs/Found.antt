@@ -5,7 +5,7 @@ use Rattle.commonmark_syntax.specs.Cuts.{IsCut}
 use Rattle.markdown_text.proofs.Parts.{cut_after, cut_before, part_join, part_none, range_join, range_of}
 use Rattle.markdown_text.specs.Reached.{IsWith, Reach}
 use Rattle.markdown_text.specs.Contents.{IsPart, IsRange}
-use Rattle.markdown_text.specs.Texts.{bare, text_of}
+use Rattle.markdown_text.specs.Texts.{text_of}
 use Rattle.markdown_text.specs.Tokens.{AreTokens, IsEnclosed, IsFound, IsToken, Text}
 use Rattle.markdown_text.specs.declared.token.Token.{Token}
 use Rattle.markdown_text.specs.declared.token.TokenKind.{TokenKind}

@@ -1,10 +1,9 @@
 -- Cuts and parts of texts, and those of a text in another.
-use Rattle.std.proofs.Common.{◌≡◌, ◌≢◌, ◌≤◌, ◌<◌, ◌+◌, ◌-◌, ◌^◌, ◌∙◌, ◌⊎◌, Bool, List, Some, ℕ, ap, arith, drop, get_or, inl, inr, length, length-drop, refl, slice_get, slice_index, slice_range, subst, sym, true}
-use Rattle.std.proofs.Math.Nat.{eq-or-lt_of_le}
+use Rattle.std.proofs.Common.{◌≡◌, ◌≢◌, ◌≤◌, ◌<◌, ◌+◌, ◌-◌, ◌∙◌, ◌⊎◌, List, Some, ℕ, ap, arith, drop, get_or, inl, inr, length, length-drop, refl, slice_get, slice_index, slice_range, subst, sym}
 use Rattle.std.proofs.lemmas.Bool.{cases_lt}
 use Rattle.std.proofs.lemmas.List.{drop-drop, get_or-drop, get_or-take, length-take-le, take_rest}
 use Rattle.std.proofs.lemmas.Option.{get_or_from_slice_get, slice_get-get_or, slice_get_within}
-use Rattle.commonmark_syntax.specs.Cuts.{IsCut, IsInLine, IsOfAscii, IsOfLine, IsRunOf}
+use Rattle.commonmark_syntax.specs.Cuts.{IsCut, IsInLine, IsRunOf}
 use Rattle.commonmark_syntax.proofs.Cuts.{cut_between, line_drop}
 use Rattle.markdown_text.specs.Contents.{IsAsciiPart, IsPart, IsRange}
 
@@ -222,10 +221,3 @@ part_after bytes at n within cut line next = record {
 pub part_after_two : (bytes : List ℕ) (at n m : ℕ) → at + (n + m) ≤ length bytes → IsCut bytes at → IsInLine (drop at bytes) n → IsInLine (drop (at + n) bytes) m → (at + (n + m) < length bytes → slice_index bytes (at + (n + m)) < 128) → IsPart bytes at (at + (n + m))
 part_after_two bytes at n m within cut first later next =
     part_after bytes at (n + m) within cut (line_drop (drop at bytes) n m (n + m) refl first (subst (λ (xs : List ℕ). IsInLine xs m) (sym (drop-drop n at bytes)) later)) next
-
--- one byte of a line
-pub line_first : (bytes : List ℕ) (at : ℕ) → slice_index bytes at ≢ 10 → IsInLine (drop at bytes) 1
-line_first bytes at other k less feed =
-    let e : k ≡ 0 = omega (arith, less) in
-    let f : at + k ≡ at = omega (arith, e) in
-    other (ap (slice_index bytes) (sym f) ∙ sym (get_or-drop at bytes k 0) ∙ feed)

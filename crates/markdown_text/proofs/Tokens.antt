@@ -1,20 +1,19 @@
 -- What is found in a part of a text, in the whole, and tokens in order.
-use Rattle.std.proofs.Common.{◌≡◌, ◌≤◌, ◌<◌, ◌+◌, ◌-◌, ◌∷◌, ◌∙◌, ◌≢◌, Bool, List, None, Option, Some, [], ap, arith, drop, false, get_or, inl, inr, is_some, length, refl, slice_index, slice_range, subst, suc, sym, take, true, zero, ℕ}
-use Rattle.std.proofs.lemmas.List.{drop-drop, drop-take, drop_more, take-take}
+use Rattle.std.proofs.Common.{◌≡◌, ◌≤◌, ◌<◌, ◌+◌, ◌-◌, ◌∷◌, ◌∙◌, ◌≢◌, Bool, List, None, Option, Some, [], ap, arith, drop, false, inl, inr, is_some, length, refl, slice_index, slice_range, subst, suc, sym, take, true, zero, ℕ}
+use Rattle.std.proofs.lemmas.List.{drop-drop, drop-take, take-take}
 use Rattle.commonmark_syntax.specs.Cuts.{IsCut}
 use Rattle.markdown_text.proofs.Found.{plain_found}
-use Rattle.markdown_text.proofs.Parts.{ascii_in, byte_in, cut_in, get_in, length_in, part_in, part_join, range_in, range_rest, rest_range}
+use Rattle.markdown_text.proofs.Parts.{ascii_in, byte_in, cut_in, get_in, length_in, part_in, range_in, range_rest, rest_range}
 use Rattle.markdown_text.specs.Constructs.{IsMarker}
-use Rattle.markdown_text.specs.Contents.{IsPart, IsRange}
+use Rattle.markdown_text.specs.Contents.{IsRange}
 use Rattle.markdown_text.specs.Texts.{text_of}
-use Rattle.markdown_text.specs.Tokens.{AreTokens, BeginsLabel, IsAfterLabel, IsDestination, IsEnclosed, IsFound, IsReference, IsResource, IsTarget, IsToken, Text, marker, markers}
+use Rattle.markdown_text.specs.Tokens.{BeginsLabel, IsAfterLabel, IsDestination, IsEnclosed, IsFound, IsReference, IsResource, IsTarget, IsToken, marker, markers}
 use Rattle.markdown_text.specs.declared.character_reference.ReferenceKind.{ReferenceKind}
 use Rattle.markdown_text.specs.declared.resource.Resource.{Resource}
 use Rattle.markdown_text.specs.declared.token.Labelled.{Labelled}
 use Rattle.markdown_text.specs.declared.token.Labelled.TheVariants.{FootnoteCall, Image, Link}
 use Rattle.markdown_text.specs.declared.token.Target.{Target}
 use Rattle.markdown_text.specs.declared.token.Target.TheVariants.{Collapsed, Full, Shortcut, Resource as InResource}
-use Rattle.markdown_text.specs.declared.token.Token.{Token}
 use Rattle.markdown_text.specs.declared.token.TokenKind.{TokenKind}
 use Rattle.markdown_text.specs.declared.token.TokenKind.TheVariants.{Attention, Autolink, AutolinkLiteral, CharacterEscape, CharacterReference, CodeText, HardBreakEscape, HtmlText, LabelEnd, LabelStart, LineEnding, MathText, TaskListItemCheck}
 
