@@ -1,6 +1,8 @@
 -- The cursor of a line, and the columns that come before it and before the text.
-use Rattle.std.proofs.Common.{◌≡◌, ◌<◌, ◌≤◌, ◌+◌, ◌*◌, ◌^◌, ◌⊎◌, inl, inr, List, ◌∷◌, ◌++◌, length, ℕ, ap, arith, subst, sym, ◌∙◌}
+use Rattle.std.proofs.Common.{◌≡◌, ◌<◌, ◌≤◌, ◌+◌, ◌-◌, ◌*◌, ◌^◌, ◌⊎◌, inl, inr, List, ◌∷◌, ◌++◌, length, ℕ, ap, arith, subst, sym, ◌∙◌}
 use Rattle.std.proofs.lemmas.Bool.{cases_lt}
+use Rattle.event_writer.specs.Places.{column_at}
+use Rattle.event_writer.proofs.Walks.{tab-below}
 use Rattle.markdown_flow.specs.Lines.{after_spaces, columns_after, indentation, width}
 use Rattle.markdown_flow.specs.declared.line.Line.{Line}
 use Rattle.markdown_flow.proofs.Lines.{Stands, after_spaces-twice, indentation-none, over, over-all, over-spaces, spaces-order, stands-bound}
@@ -8,6 +10,16 @@ use Rattle.markdown_flow.proofs.Lines.{Stands, after_spaces-twice, indentation-n
 -- the cursor stands in the line
 pub stands : (line : Line) → Stands line.source.document.now line.start line.end line.rest.now line.virtual_spaces line.columns
 stands line = record { fits = line.rest_fits; before = line.rest_stands; place = line.has_columns }
+
+-- fewer columns than the width of a tab come before it in one
+pub few_columns : (line : Line) → line.virtual_spaces < 4
+few_columns line =
+    let bytes = line.source.document.now in
+    let offset = line.end - length line.rest.now in
+    elim (cases_lt 0 line.virtual_spaces) [
+      | inl some ↦ omega (arith, line.has_columns.column, (line.has_columns.tab some).1, tab-below (column_at bytes offset))
+      | inr none ↦ omega (arith, none)
+    ]
 
 -- so does the start of the text
 pub text-stands : (line : Line) → Stands line.source.document.now line.start line.end line.text.now 0 (line.columns + line.indent)

@@ -177,10 +177,10 @@ impl<'d> Line<'d> {
 
     /// Returns how many columns of a tab come before the cursor, if it is within the tab, and
     /// otherwise 0.
-    pub fn virtual_spaces(&self) -> usize
+    pub fn virtual_spaces(&self) -> u8
         ensures { result ≡ self.now.virtual_spaces }
     {
-        self.virtual_spaces
+        self.virtual_spaces as u8
     }
 
     /// Returns how many columns come before the cursor.

@@ -50,7 +50,7 @@ struct Cursor<'d> {
     /// The offset.
     offset: usize,
     /// How many columns of a tab come before it, if it is within the tab, and otherwise 0.
-    virtual_spaces: usize,
+    virtual_spaces: u8,
 }
 
 impl<'d> Cursor<'d> {
@@ -159,8 +159,8 @@ pub fn piece_to(kind: PieceKind, line: &Line<'_>) -> Piece
 {
     Piece {
         kind,
-        end: line.offset(),
         virtual_spaces: line.virtual_spaces(),
+        end: line.offset(),
     }
 }
 

@@ -35,11 +35,11 @@ pub enum PieceKind {
 pub struct Piece {
     /// What it is.
     pub kind: PieceKind,
-    /// Where it ends: an offset, which counts bytes from 0.
-    pub end: usize,
     /// How many columns of the tab at its end belong to it, if it ends within a tab, and otherwise
     /// 0.
-    pub virtual_spaces: usize,
+    pub virtual_spaces: u8,
+    /// Where it ends: an offset, which counts bytes from 0.
+    pub end: usize,
 }
 
 impl Piece {
@@ -51,8 +51,8 @@ impl Piece {
     {
         Piece {
             kind,
-            end,
             virtual_spaces: 0,
+            end,
         }
     }
 }

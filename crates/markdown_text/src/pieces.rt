@@ -88,15 +88,16 @@ pub fn write_piece<R: References, S: Sink>(
     ensures attention { is_between_texts piece.now.kind ≡ true → OnOk result (attention_events writer.new.events ≡ attention_events writer.old.events) }
 {
     let end = piece.end;
+    let virtual_spaces = usize::from(piece.virtual_spaces);
     match piece.kind {
         PieceKind::Enter(name) => calls::enter(writer, name),
         PieceKind::Exit(_) => calls::exit(writer),
-        PieceKind::Token(name) => calls::token(writer, name, end, piece.virtual_spaces),
+        PieceKind::Token(name) => calls::token(writer, name, end, virtual_spaces),
         PieceKind::OpeningSequence => calls::token(writer, Name::HeadingAtxSequence, end, 0),
         PieceKind::LineEnding => calls::line_ending(writer, Name::LineEnding),
         PieceKind::BlankLineEnding => calls::line_ending(writer, Name::BlankLineEnding),
         PieceKind::BlockQuotePrefix => {
-            write_block_quote_prefix(writer, end, piece.virtual_spaces)
+            write_block_quote_prefix(writer, end, virtual_spaces)
         }
         PieceKind::Text => unreachable!(),
     }

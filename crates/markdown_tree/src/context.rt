@@ -44,7 +44,7 @@ ghost use Rattle.markdown_tree.specs.States.{
 ghost use Rattle.markdown_steps.specs.Visits.{exit_visits, step_visits};
 ghost use Rattle.markdown_steps.specs.Well.{Well, is_transparent};
 
-use crate::room::Room;
+use crate::spare_lists::SpareLists;
 use character_references::references::References;
 use markdown_blocks::parent::is_parent;
 use markdown_blocks::table::Columns;
@@ -105,8 +105,8 @@ pub struct Context<'a> {
     /// Whether a table is around, at any depth.
     pub in_table: bool,
     pub columns: Columns,
-    /// Room for the nodes of the next containers.
-    pub room: Room,
+    /// Lists for the nodes of the next containers.
+    pub spare: SpareLists,
     /// A break that waits for its line ending.
     pub pending: Option<Position>,
 }
@@ -141,7 +141,7 @@ impl<'a> Context<'a> {
             is_leaf: false,
             in_table: false,
             columns: Columns::new(alloc),
-            room: Room::new(alloc),
+            spare: SpareLists::new(alloc),
             pending: None,
         }
     }
@@ -239,7 +239,7 @@ impl<'a> Context<'a> {
             .container
             .opens_any_content(what)
         {
-            let nodes = self.room.take(alloc);
+            let nodes = self.spare.take(alloc);
             return self.put(what, Container::AnyContent, nodes);
         }
         self.open_with_parts(alloc, what)
@@ -730,7 +730,7 @@ impl<'a> Context<'a> {
     {
         let mut nodes = remove_last(alloc, &mut self.containers.inner);
         let children = drained(alloc, &mut nodes)?;
-        self.room.keep(nodes);
+        self.spare.keep(nodes);
         self.in_table = frame.in_table;
         self.containers
             .innermost_mut()
@@ -775,12 +775,12 @@ impl<'a> Context<'a> {
                 let taken = top.take_any_content(
                     alloc, steps, document, columns, content, &mut nodes, ending,
                 );
-                self.room.keep(nodes);
+                self.spare.keep(nodes);
                 taken
             }
             ItemKind::Part(part) => {
                 let taken = top.take_any_part(alloc, steps, document, part, &mut nodes, ending);
-                self.room.keep(nodes);
+                self.spare.keep(nodes);
                 taken
             }
         }

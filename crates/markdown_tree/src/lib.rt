@@ -7,7 +7,7 @@
 pub mod builder;
 mod context;
 mod history;
-mod room;
+mod spare_lists;
 pub mod to_mdast;
 
 pub use markdown_steps::laws;

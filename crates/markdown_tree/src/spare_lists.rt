@@ -15,20 +15,20 @@ const NODES: usize = 64;
 /// Lists that are kept for their room (ours): what one span needed for its nodes, the next one can
 /// use. No contract depends on them.
 #[derive(Drop)]
-pub struct Room {
+pub struct SpareLists {
     lists: Vec<Vec<Node>>,
 }
 
-impl Model for Room {
+impl Model for SpareLists {
     ghost Value = { Unit {0} };
 
     ghost view = { λ _. tt };
 }
 
-impl Room {
+impl SpareLists {
     /// Returns no lists. It allocates no memory.
-    pub fn new(alloc: Global) -> Room {
-        Room {
+    pub fn new(alloc: Global) -> SpareLists {
+        SpareLists {
             lists: Vec::new(alloc),
         }
     }
