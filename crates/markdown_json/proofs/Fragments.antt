@@ -1,9 +1,10 @@
 -- A text is written in fragments: what needs no escape, and an escape after it.
-use Rattle.std.proofs.Common.{◌≡◌, ◌≢◌, ℕ, zero, suc, ◌+◌, ◌<◌, ◌≤◌, List, [], ◌∷◌, ◌++◌, length, take, drop, slice_index, Option, None, Some, refl, subst, sym, ap, ap₂, ◌∙◌, arith, append-nil, append_assoc, nat_eq, nat_lt, false}
+use Rattle.std.proofs.Common.{◌≡◌, ◌≢◌, ℕ, zero, suc, ◌+◌, ◌<◌, ◌≤◌, List, [], ◌∷◌, ◌++◌, length, take, drop, slice_index, None, Some, refl, subst, sym, ap, ap₂, ◌∙◌, arith, append-nil, append_assoc, nat_eq, nat_lt, false}
 use Rattle.std.specs.Prelude.{slice_get}
 use Rattle.std.proofs.lemmas.Bool.Decides.{nat_tests}
 use Rattle.std.proofs.lemmas.Grind.{flat_map-append}
 use Rattle.std.proofs.lemmas.List.{get_or-drop, length-drop, take-append-drop}
+use Rattle.std.proofs.Math.Seq.{take-length}
 use Rattle.markdown_json.specs.Strings.{escape, escaped}
 
 -- a byte that is no control character, no quote and no backslash
@@ -25,6 +26,12 @@ pub stands : (text : List ℕ) (n : ℕ) → n ≤ length text → ((k : ℕ) �
 stands text zero within plain = refl
 stands [] (suc n) within plain = absurd (omega arith)
 stands (b ∷ text) (suc n) within plain = ap₂ (λ (s t : List ℕ). s ++ t) (plain 0 (omega arith)) (stands text n (omega arith) (λ k below. plain (suc k) (omega arith)))
+
+-- and so do all of them
+pub all_stand : (text : List ℕ) (n : ℕ) → n ≡ length text → ((k : ℕ) → k < n → escape (slice_index text k) ≡ slice_index text k ∷ []) → escaped text ≡ text
+all_stand text n all plain =
+    let whole : take n text ≡ text = ap (λ (k : ℕ). take k text) all ∙ take-length text in
+    sym (ap escaped whole) ∙ stands text n (omega (arith, all)) plain ∙ whole
 
 -- a fragment, the escape of the byte after it, and the rest
 pub fragment : (text : List ℕ) (n b : ℕ) (rest : List ℕ) → n ≤ length text → ((k : ℕ) → k < n → escape (slice_index text k) ≡ slice_index text k ∷ []) → drop n text ≡ b ∷ rest → escaped text ≡ take n text ++ (escape b ++ escaped rest)

@@ -71,6 +71,19 @@ module _ (counted : Point → Point) where
       ∙ ap (λ (n : Node). start ++ (first ++ ((closing counted (label_of n) (position_of n) ++ level_left counted true top.rest.now) ++ frames_left counted frames))) holds
       ∙ ap (λ (l : List Node). start ++ (first ++ ((closing counted (label_of node) (position_of node) ++ level_left counted true l) ++ frames_left counted frames))) goes_on)
 
+  -- over a node without children
+  pub left-past : (later : Bool) (level rest : List Node) (node : Node) (frames : List Frame) → level ≡ node ∷ rest → nodes_in node ≡ []
+      → left counted later level frames ≡ (opening_after later (label_of node) ++ closing counted (label_of node) (position_of node)) ++ left counted true rest frames
+  left-past later level rest node frames is none =
+      let start = opening_after later (label_of node) in
+      let end = closing counted (label_of node) (position_of node) in
+      let after = level_left counted true rest in
+      ap (λ (l : List Node). left counted later l frames) is
+      ∙ ap (λ s. s ++ frames_left counted frames) (one_more later node rest)
+      ∙ ap (λ (l : List Node). (start ++ (level_left counted false l ++ (end ++ after))) ++ frames_left counted frames) none
+      ∙ ap (λ s. s ++ frames_left counted frames) (sym (append_assoc start end after))
+      ∙ append_assoc (start ++ end) after (frames_left counted frames)
+
   -- to the end of a node
   pub left-up : (later : Bool) (level : List Node) (frames after : List Frame) (top : Frame) → level ≡ [] → frames ≡ after ++ top ∷ []
       → left counted later level frames ≡ closing counted (label_of top.node.now) (position_of top.node.now) ++ left counted true top.rest.now after
@@ -79,3 +92,33 @@ module _ (counted : Point → Point) where
       ∙ ap (λ (fs : List Frame). frames_left counted fs) popped
       ∙ frames_left-snoc after top
       ∙ append_assoc (closing counted (label_of top.node.now) (position_of top.node.now)) (level_left counted true top.rest.now) (frames_left counted after)
+
+  -- ---- A step that writes the end of a node
+
+  -- what is written before that end, the end, and what is left after it are what was written before the step and what was left; and less is left
+  abbrev pub Closes : List ℕ → List ℕ → List ℕ → Frame → List Frame → Type 0
+  Closes done before out frame frames =
+      (out ++ (closing counted (label_of frame.node.now) (position_of frame.node.now) ++ left counted true frame.rest.now frames) ≡ done ++ before)
+      × (length (left counted true frame.rest.now frames) < length before)
+
+  -- a node without children, whose start is written in the same step
+  pub closes-past : (done before out : List ℕ) (later : Bool) (level : List Node) (frame : Frame) (frames : List Frame) → before ≡ left counted later level frames → level ≡ frame.node.now ∷ frame.rest.now
+      → nodes_in frame.node.now ≡ [] → out ≡ done ++ opening_after later (label_of frame.node.now) → Closes done before out frame frames
+  closes-past done before out later level frame frames before-is is none out-is =
+      let start = opening_after later (label_of frame.node.now) in
+      let end = closing counted (label_of frame.node.now) (position_of frame.node.now) in
+      let after = left counted true frame.rest.now frames in
+      let whole : before ≡ (start ++ end) ++ after = before-is ∙ left-past later level frame.rest.now frame.node.now frames is none in (
+        ap (λ s. s ++ (end ++ after)) out-is ∙ append_assoc done start (end ++ after) ∙ ap (λ s. done ++ s) (sym (append_assoc start end after)) ∙ ap (λ s. done ++ s) (sym whole),
+        omega (arith, ap length whole, length-append (start ++ end) after, length-append start end, some_end counted (label_of frame.node.now) (position_of frame.node.now)),
+      )
+
+  -- the last node on the stack
+  pub closes-up : (done before out : List ℕ) (later : Bool) (level : List Node) (frame : Frame) (frames after : List Frame) → before ≡ left counted later level frames → level ≡ [] → frames ≡ after ++ frame ∷ []
+      → out ≡ done → Closes done before out frame after
+  closes-up done before out later level frame frames after before-is empty popped out-is =
+      let end = closing counted (label_of frame.node.now) (position_of frame.node.now) in
+      let whole = before-is ∙ left-up later level frames after frame empty popped in (
+        ap (λ s. s ++ (end ++ left counted true frame.rest.now after)) out-is ∙ ap (λ s. done ++ s) (sym whole),
+        shorter end before (left counted true frame.rest.now after) (some_end counted (label_of frame.node.now) (position_of frame.node.now)) whole,
+      )

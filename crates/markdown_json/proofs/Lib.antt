@@ -2,4 +2,5 @@ mod Escapes
 mod Fragments
 pub mod Utf16Counts
 mod PointTexts
+mod NodeTexts
 mod Left

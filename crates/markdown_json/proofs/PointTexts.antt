@@ -1,8 +1,12 @@
 -- The text of a point, put together from its last byte to its first, and that of a position.
-use Rattle.std.proofs.Common.{◌≡◌, ◌++◌, List, ℕ, codes, refl, sym, ap, ◌∙◌, append_assoc}
+use Rattle.std.proofs.Common.{◌≡◌, ◌+◌, ◌≤◌, ◌++◌, List, [], ℕ, codes, drop, take, length, refl, sym, ap, subst, ◌∙◌, arith, append_assoc, length-append}
+use Rattle.std.proofs.lemmas.Grind.{common_steps}
+use Rattle.std.proofs.lemmas.List.{drop-drop, drop-take, length-drop}
+use Rattle.std.proofs.lemmas.Str.{IsCharBoundary-at_seam, IsUtf8-take}
 use Rattle.std.specs.Fmt.{decimal}
+use Rattle.std.specs.Str.{IsUtf8}
 use Rattle.markdown_events.specs.declared.unist.Point.{Point}
-use Rattle.markdown_json.specs.Fields.{field, key, point, position_between}
+use Rattle.markdown_json.specs.Fields.{field, key, point, position_between, position_end}
 
 pub point-is : (p : Point) (back t u v w x y z : List ℕ) → t ≡ codes "}" ++ back → u ≡ decimal p.offset ++ t → v ≡ codes ",\"offset\":" ++ u → w ≡ decimal p.column ++ v → x ≡ codes ",\"column\":" ++ w → y ≡ decimal p.line ++ x → z ≡ codes "{\"line\":" ++ y → z ≡ point p ++ back
 unfolding point field key
@@ -14,12 +18,28 @@ point-is p back t u v w x y z t-is u-is v-is w-is x-is y-is z-is =
     rw (z-is, y-is, x-is, w-is, v-is, u-is, t-is)
     (sym (append_assoc (line ++ column ++ offset) (codes "}") back ∙ append_assoc (line ++ column) offset end ∙ append_assoc line column (offset ++ end)))
 
-regroup : (old a b c d e : List ℕ) → ((((old ++ a) ++ b) ++ c) ++ d) ++ e ≡ old ++ ((((a ++ b) ++ c) ++ d) ++ e)
-regroup old a b c d e = simp append_assoc refl
+-- the end of a position, written in the same way
+pub end-is : (p : Point) (back t u v : List ℕ) → back ≡ [] → t ≡ codes "}}" ++ back → u ≡ point p ++ t → v ≡ codes ",\"end\":" ++ u → v ≡ position_end p
+end-is p back t u v none t-is u-is v-is = rw (v-is, u-is, t-is, none) refl
 
-pub position-is : (start end : Point) (old v w x y : List ℕ) → v ≡ old ++ codes ",\"position\":{\"start\":" → w ≡ v ++ point start → x ≡ w ++ codes ",\"end\":" → y ≡ x ++ point end → y ++ codes "}" ≡ old ++ field (codes "position") (position_between start end)
+-- what comes before a text is UTF-8 if both together are
+pub front-IsUtf8 : (front back : List ℕ) → IsUtf8 (front ++ back) → IsUtf8 back → IsUtf8 front
+front-IsUtf8 front back whole rest =
+    let all : take (length front) (front ++ back) ≡ front = grind (arith, common_steps) in
+    subst IsUtf8 all (IsUtf8-take (front ++ back) (length front) whole (IsCharBoundary-at_seam (front ++ back) front back refl rest))
+
+-- the point in the end of a position
+pub inner : (bytes : List ℕ) (first : ℕ) (p : Point) → length bytes ≡ 98 → first + 7 ≤ 96 → drop first bytes ≡ position_end p → drop (first + 7) (take 96 bytes) ≡ point p
+inner bytes first p long within is =
+    let after : drop (first + 7) bytes ≡ point p ++ codes "}}" = sym (drop-drop 7 first bytes) ∙ ap (λ (s : List ℕ). drop 7 s) is in
+    let size : 96 ≡ (first + 7) + length (point p) = omega (arith, long, within, length-drop (first + 7) bytes, ap length after, length-append (point p) (codes "}}")) in
+    let all : take (length (point p)) (point p ++ codes "}}") ≡ point p = grind (arith, common_steps) in
+    ap (λ (n : ℕ). drop (first + 7) (take n bytes)) size ∙ drop-take (first + 7) (length (point p)) bytes ∙ ap (λ (s : List ℕ). take (length (point p)) s) after ∙ all
+
+regroup : (old a b c d e f : List ℕ) → ((old ++ a) ++ b) ++ (c ++ (d ++ (e ++ f))) ≡ old ++ ((a ++ ((b ++ (c ++ d)) ++ e)) ++ f)
+regroup old a b c d e f = simp append_assoc refl
+
+pub position-is : (start end : Point) (old v w : List ℕ) → v ≡ old ++ codes ",\"position\":{\"start\":" → w ≡ v ++ point start → w ++ position_end end ≡ old ++ (field (codes "position") (position_between start end) ++ codes "}")
 unfolding field key position_between
-position-is start end old v w x y v-is w-is x-is y-is =
-    rw (y-is, x-is, w-is, v-is)
-    (regroup old (codes ",\"position\":{\"start\":") (point start) (codes ",\"end\":") (point end) (codes "}")
-    ∙ ap (λ s. old ++ (codes ",\"position\":{\"start\":" ++ (s ++ codes "}"))) (append_assoc (point start) (codes ",\"end\":") (point end)))
+position-is start end old v w v-is w-is =
+    rw (w-is, v-is) (regroup old (codes ",\"position\":{\"start\":") (point start) (codes ",\"end\":") (point end) (codes "}") (codes "}"))

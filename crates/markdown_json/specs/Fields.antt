@@ -81,6 +81,10 @@ point place = codes "{\"line\":" ++ decimal place.line ++ field (codes "column")
 unfoldable pub position_between : Point → Point → List ℕ
 position_between start end = codes "{\"start\":" ++ point start ++ field (codes "end") (point end) ++ codes "}"
 
+-- the end of a position, and that of its node
+abbrev pub position_end : Point → List ℕ
+position_end end = codes ",\"end\":" ++ (point end ++ codes "}}")
+
 -- a position, with its points counted in this way
 abbrev pub position_value : (Point → Point) → Position → List ℕ
 position_value counted position = position_between (counted position.start) (counted position.end)

@@ -1,5 +1,7 @@
-//! The fields of a node, in the terms of mdast: each has its name and its value, after a comma. The
-//! only error is that memory ran out.
+//! The fields of a node, in the terms of mdast: each has its name and its value, after a comma. Text
+//! that is the same in each node of a kind is appended at once. The only error is that memory ran
+//! out.
+#![tactic(auto, unfolding(crate::specs::Fields::key, crate::specs::Fields::field, crate::specs::Fields::children, crate::specs::Strings::string))]
 
 ghost use Rattle.std.specs.Fmt.{decimal};
 ghost use Rattle.std.specs.Prelude.{◌≡◌, ◌++◌, [], OnOk, codes, if◌then◌else◌, option_map, string_bytes};
@@ -11,9 +13,6 @@ ghost use Rattle.markdown_json.specs.Fields.{
   association_of,
   children,
   field,
-  key,
-  kind,
-  literal,
   maybe,
   or_null,
   reference_of,
@@ -22,120 +21,56 @@ ghost use Rattle.markdown_json.specs.Fields.{
 };
 ghost use Rattle.markdown_json.specs.Strings.{string};
 
-use crate::strings::{push, push_string};
+use crate::strings::{push, push_started, push_string};
 use markdown_events::decimal::push_decimal;
 use markdown_events::infer::AlignKind;
 use markdown_kinds::ReferenceKind;
 use std::alloc::AllocError;
 
-/// Appends the kind of a node, which begins its object.
-///
-/// For the name `text` it is `{"type":"text"`.
-#[tactic(auto, unfolding(crate::specs::Fields::kind))]
-pub fn push_kind(out: &mut String, name: &str) -> Result<(), AllocError>
-    ensures { OnOk result (string_bytes out.new ≡ string_bytes out.old ++ kind name.now) }
-{
-    push(out, "{\"type\":\"")?;
-    push(out, name)?;
-    push(out, "\"")
-}
-
-/// Appends the name of a field.
-#[tactic(auto, unfolding(crate::specs::Fields::key))]
-fn push_key(out: &mut String, name: &str) -> Result<(), AllocError>
-    ensures { OnOk result (string_bytes out.new ≡ string_bytes out.old ++ key name.now) }
-{
-    push(out, ",\"")?;
-    push(out, name)?;
-    push(out, "\":")
-}
-
 /// Appends the start of the children of a parent: `,"children":[`.
-#[tactic(auto, unfolding(crate::specs::Fields::children))]
 pub fn push_children(out: &mut String) -> Result<(), AllocError>
     ensures { OnOk result (string_bytes out.new ≡ string_bytes out.old ++ children) }
 {
-    push(out, ",\"children\":[")
+    push(out, r#","children":["#)
 }
 
-/// Appends the text before the children of a parent that has no other fields.
+/// Appends a start, which ends with a key, and a number.
 ///
-/// For the name `root` it is `{"type":"root","children":[`.
-pub fn push_parent(out: &mut String, name: &str) -> Result<(), AllocError>
-    ensures { OnOk result (string_bytes out.new ≡ string_bytes out.old ++ (kind name.now ++ children)) }
+/// The start `,"depth":` and the number 2 make `,"depth":2`.
+pub fn push_number(out: &mut String, start: &str, number: usize) -> Result<(), AllocError>
+    ensures { OnOk result (string_bytes out.new ≡ string_bytes out.old ++ (start.now ++ decimal number)) }
 {
-    push_kind(out, name)?;
-    push_children(out)
-}
-
-/// Appends a literal whose only field is its value, up to its position.
-///
-/// For the name `text` and the value `a` it is `{"type":"text","value":"a"`.
-pub fn push_literal(out: &mut String, name: &str, value: &String) -> Result<(), AllocError>
-    ensures { OnOk result (string_bytes out.new ≡ string_bytes out.old ++ literal name.now (string_bytes value.now)) }
-{
-    push_kind(out, name)?;
-    push_text(out, "value", value)
-}
-
-/// Appends a field that is a number.
-///
-/// For the name `depth` and the number 2 it is `,"depth":2`.
-#[tactic(auto, unfolding(crate::specs::Fields::field))]
-pub fn push_number(out: &mut String, name: &str, number: usize) -> Result<(), AllocError>
-    ensures { OnOk result (string_bytes out.new ≡ string_bytes out.old ++ field name.now (decimal number)) }
-{
-    push_key(out, name)?;
+    push(out, start)?;
     push_decimal(out, number)
 }
 
-/// Appends a field with a value that is already JSON.
+/// Appends a start, which ends with a key, and a boolean.
 ///
-/// For the name `title` and the value `null` it is `,"title":null`.
-#[tactic(auto, unfolding(crate::specs::Fields::field))]
-pub fn push_value(out: &mut String, name: &str, value: &str) -> Result<(), AllocError>
-    ensures { OnOk result (string_bytes out.new ≡ string_bytes out.old ++ field name.now value.now) }
+/// The start `,"spread":` and false make `,"spread":false`.
+pub fn push_flag(out: &mut String, start: &str, flag: bool) -> Result<(), AllocError>
+    ensures { OnOk result (string_bytes out.new ≡ string_bytes out.old ++ (start.now ++ bool_text flag)) }
 {
-    push_key(out, name)?;
-    push(out, value)
+    push(out, start)?;
+    push(out, if flag { "true" } else { "false" })
 }
 
-/// Appends a boolean field.
+/// Appends a start, which ends with a key, and a text or null.
 ///
-/// For the name `spread` and false it is `,"spread":false`.
-pub fn push_flag(out: &mut String, name: &str, flag: bool) -> Result<(), AllocError>
-    ensures { OnOk result (string_bytes out.new ≡ string_bytes out.old ++ field name.now (bool_text flag)) }
+/// The start `,"lang":` and no text make `,"lang":null`.
+pub fn push_option(out: &mut String, start: &str, text: &Option<String>) -> Result<(), AllocError>
+    ensures { OnOk result (string_bytes out.new ≡ string_bytes out.old ++ (start.now ++ maybe (option_map string_bytes text.now))) }
 {
-    push_value(out, name, if flag { "true" } else { "false" })
-}
-
-/// Appends a field that is a text.
-///
-/// For the name `alt` and the text `a` it is `,"alt":"a"`.
-#[tactic(auto, unfolding(crate::specs::Fields::field))]
-pub fn push_text(out: &mut String, name: &str, text: &String) -> Result<(), AllocError>
-    ensures { OnOk result (string_bytes out.new ≡ string_bytes out.old ++ field name.now (string (string_bytes text.now))) }
-{
-    push_key(out, name)?;
-    push_string(out, text.as_str())
-}
-
-/// Appends a field that is a text or null.
-///
-/// For the name `lang` and no text it is `,"lang":null`.
-pub fn push_option(out: &mut String, name: &str, text: &Option<String>) -> Result<(), AllocError>
-    ensures { OnOk result (string_bytes out.new ≡ string_bytes out.old ++ field name.now (maybe (option_map string_bytes text.now))) }
-{
+    push(out, start)?;
     match text {
-        Some(text) => push_text(out, name, text),
-        None => push_value(out, name, "null"),
+        Some(text) => push_string(out, text.as_str()),
+        None => push(out, "null"),
     }
 }
 
 /// Appends the fields of a resource (mdast).
 ///
 /// For the URL `a` without a title they are `,"title":null,"url":"a"`.
-#[tactic(auto, unfolding(crate::specs::Fields::resource))]
+#[tactic(auto, unfolding(crate::specs::Fields::resource, crate::specs::Fields::key, crate::specs::Fields::field, crate::specs::Strings::string))]
 pub fn push_resource(
     out: &mut String,
     url: &String,
@@ -143,14 +78,14 @@ pub fn push_resource(
 ) -> Result<(), AllocError>
     ensures { OnOk result (string_bytes out.new ≡ string_bytes out.old ++ resource_of url.now title.now) }
 {
-    push_option(out, "title", title)?;
-    push_text(out, "url", url)
+    push_option(out, r#","title":"#, title)?;
+    push_started(out, r#","url":""#, url)
 }
 
 /// Appends the fields of an association (mdast).
 ///
 /// For the identifier `a` and the label `A` they are `,"identifier":"a","label":"A"`.
-#[tactic(auto, unfolding(crate::specs::Fields::association))]
+#[tactic(auto, unfolding(crate::specs::Fields::association, crate::specs::Fields::key, crate::specs::Fields::field, crate::specs::Strings::string))]
 pub fn push_association(
     out: &mut String,
     identifier: &String,
@@ -158,8 +93,8 @@ pub fn push_association(
 ) -> Result<(), AllocError>
     ensures { OnOk result (string_bytes out.new ≡ string_bytes out.old ++ association_of identifier.now label.now) }
 {
-    push_text(out, "identifier", identifier)?;
-    push_option(out, "label", label)
+    push_started(out, r#","identifier":""#, identifier)?;
+    push_option(out, r#","label":"#, label)
 }
 
 /// Appends the fields of a reference (mdast): those of an association, and its form.
@@ -183,9 +118,9 @@ fn push_reference_type(out: &mut String, kind: ReferenceKind) -> Result<(), Allo
     ensures { OnOk result (string_bytes out.new ≡ string_bytes out.old ++ field (codes "referenceType") (reference_type kind)) }
 {
     match kind {
-        ReferenceKind::Shortcut => push_value(out, "referenceType", "\"shortcut\""),
-        ReferenceKind::Collapsed => push_value(out, "referenceType", "\"collapsed\""),
-        ReferenceKind::Full => push_value(out, "referenceType", "\"full\""),
+        ReferenceKind::Shortcut => push(out, r#","referenceType":"shortcut""#),
+        ReferenceKind::Collapsed => push(out, r#","referenceType":"collapsed""#),
+        ReferenceKind::Full => push(out, r#","referenceType":"full""#),
     }
 }
 
@@ -196,8 +131,8 @@ pub fn push_start(out: &mut String, start: Option<u32>) -> Result<(), AllocError
     ensures { OnOk result (string_bytes out.new ≡ string_bytes out.old ++ field (codes "start") (or_null decimal start)) }
 {
     match start {
-        Some(start) => push_number(out, "start", start as usize),
-        None => push_value(out, "start", "null"),
+        Some(start) => push_number(out, r#","start":"#, start as usize),
+        None => push(out, r#","start":null"#),
     }
 }
 
@@ -208,20 +143,18 @@ pub fn push_checked(out: &mut String, checked: Option<bool>) -> Result<(), Alloc
     ensures { OnOk result (string_bytes out.new ≡ string_bytes out.old ++ field (codes "checked") (or_null bool_text checked)) }
 {
     match checked {
-        Some(checked) => push_flag(out, "checked", checked),
-        None => push_value(out, "checked", "null"),
+        Some(checked) => push_flag(out, r#","checked":"#, checked),
+        None => push(out, r#","checked":null"#),
     }
 }
 
 /// Appends the field that says how the columns of a table are aligned.
 ///
 /// For one column to the left and one without alignment it is `,"align":["left",null]`.
-#[tactic(auto, unfolding(crate::specs::Fields::field))]
 pub fn push_align(out: &mut String, align: &[AlignKind]) -> Result<(), AllocError>
     ensures { OnOk result (string_bytes out.new ≡ string_bytes out.old ++ align_field align.now) }
 {
-    push_key(out, "align")?;
-    push(out, "[")?;
+    push(out, r#","align":["#)?;
     push_alignments(out, align)?;
     push(out, "]")
 }

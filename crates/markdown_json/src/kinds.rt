@@ -1,8 +1,9 @@
 //! The fields of each kind of node, in the terms of mdast.
+#![tactic(auto, unfolding(crate::specs::Fields::kind, crate::specs::Fields::key, crate::specs::Fields::field, crate::specs::Fields::children, crate::specs::Strings::string))]
 
 ghost use Rattle.std.specs.Prelude.{◌≡◌, ◌++◌, OnOk, codes, string_bytes};
 ghost use Rattle.markdown_json.specs.Counting.{counted_as};
-ghost use Rattle.markdown_json.specs.Fields.{literal, position_field};
+ghost use Rattle.markdown_json.specs.Fields.{position_field};
 ghost use Rattle.markdown_nodes.specs.Access.{label_of, position_of};
 ghost use Rattle.markdown_nodes.specs.Labels.{
   code_label,
@@ -21,8 +22,8 @@ ghost use Rattle.markdown_nodes.specs.Tree.{heading, table};
 ghost use Rattle.markdown_json.specs.Json.{children_end, closing, opening};
 
 use crate::fields::{
-    push_align, push_association, push_checked, push_children, push_flag, push_kind, push_literal,
-    push_number, push_option, push_parent, push_reference, push_resource, push_start, push_text,
+    push_align, push_association, push_checked, push_children, push_flag, push_number, push_option,
+    push_reference, push_resource, push_start,
 };
 use crate::points::Points;
 use crate::positions::LastPosition;
@@ -38,50 +39,44 @@ pub fn push_opening(out: &mut String, node: &Node) -> Result<(), AllocError>
     ensures { OnOk result (string_bytes out.new ≡ string_bytes out.old ++ opening (label_of node.now)) }
 {
     match node {
-        Node::Root(_) => push_parent(out, "root"),
-        Node::Blockquote(_) => push_parent(out, "blockquote"),
+        Node::Root(_) => push(out, r#"{"type":"root","children":["#),
+        Node::Blockquote(_) => push(out, r#"{"type":"blockquote","children":["#),
         Node::FootnoteDefinition(node) => push_footnote_definition(out, node),
         Node::List(node) => push_list(out, node),
-        Node::Toml(node) => push_literal(out, "toml", &node.value),
-        Node::Yaml(node) => push_literal(out, "yaml", &node.value),
-        Node::Break(_) => push_kind(out, "break"),
-        Node::InlineCode(node) => push_inline_code(out, &node.value),
-        Node::InlineMath(node) => push_literal(out, "inlineMath", &node.value),
-        Node::Delete(_) => push_parent(out, "delete"),
-        Node::Emphasis(_) => push_parent(out, "emphasis"),
+        Node::Toml(node) => push_started(out, r#"{"type":"toml","value":""#, &node.value),
+        Node::Yaml(node) => push_started(out, r#"{"type":"yaml","value":""#, &node.value),
+        Node::Break(_) => push(out, r#"{"type":"break""#),
+        Node::InlineCode(node) => push_started(
+            out,
+            r#"{"type":"inlineCode","value":""#,
+            &node.value,
+        ),
+        Node::InlineMath(node) => push_started(
+            out,
+            r#"{"type":"inlineMath","value":""#,
+            &node.value,
+        ),
+        Node::Delete(_) => push(out, r#"{"type":"delete","children":["#),
+        Node::Emphasis(_) => push(out, r#"{"type":"emphasis","children":["#),
         Node::FootnoteReference(node) => push_footnote_reference(out, node),
-        Node::Html(node) => push_literal(out, "html", &node.value),
+        Node::Html(node) => push_started(out, r#"{"type":"html","value":""#, &node.value),
         Node::Image(node) => push_image(out, node),
         Node::ImageReference(node) => push_image_reference(out, node),
         Node::Link(node) => push_link(out, node),
         Node::LinkReference(node) => push_link_reference(out, node),
-        Node::Strong(_) => push_parent(out, "strong"),
-        Node::Text(node) => push_text_node(out, &node.value),
+        Node::Strong(_) => push(out, r#"{"type":"strong","children":["#),
+        Node::Text(node) => push_started(out, r#"{"type":"text","value":""#, &node.value),
         Node::Code(node) => push_code(out, node),
         Node::Math(node) => push_math(out, node),
         Node::Heading(node) => push_heading(out, node),
         Node::Table(node) => push_table(out, node),
-        Node::ThematicBreak(_) => push_kind(out, "thematicBreak"),
-        Node::TableRow(_) => push_parent(out, "tableRow"),
-        Node::TableCell(_) => push_parent(out, "tableCell"),
+        Node::ThematicBreak(_) => push(out, r#"{"type":"thematicBreak""#),
+        Node::TableRow(_) => push(out, r#"{"type":"tableRow","children":["#),
+        Node::TableCell(_) => push(out, r#"{"type":"tableCell","children":["#),
         Node::ListItem(node) => push_list_item(out, node),
         Node::Definition(node) => push_definition(out, node),
-        Node::Paragraph(_) => push_parent(out, "paragraph"),
+        Node::Paragraph(_) => push(out, r#"{"type":"paragraph","children":["#),
     }
-}
-
-/// Appends a text. Most nodes are texts or inline code, so all before the value is one append.
-fn push_text_node(out: &mut String, value: &String) -> Result<(), AllocError>
-    ensures { OnOk result (string_bytes out.new ≡ string_bytes out.old ++ literal (codes "text") (string_bytes value.now)) }
-{
-    push_started(out, r#"{"type":"text","value":""#, value)
-}
-
-/// Appends inline code.
-fn push_inline_code(out: &mut String, value: &String) -> Result<(), AllocError>
-    ensures { OnOk result (string_bytes out.new ≡ string_bytes out.old ++ literal (codes "inlineCode") (string_bytes value.now)) }
-{
-    push_started(out, r#"{"type":"inlineCode","value":""#, value)
 }
 
 /// Appends the text after the children of a node.
@@ -95,8 +90,7 @@ pub fn push_closing(
         ≡ string_bytes out.old ++ closing (counted_as points.now) (label_of node.now) (position_of node.now)) }
 {
     push_children_end(out, node)?;
-    push_position(out, points, last, node)?;
-    push(out, "}")
+    push_node_end(out, points, last, node)
 }
 
 /// Appends the end of the children of a parent, and nothing for any other node.
@@ -122,14 +116,14 @@ fn push_children_end(out: &mut String, node: &Node) -> Result<(), AllocError>
     }
 }
 
-/// Appends the position of a node, if it has one.
-fn push_position(
+/// Appends the position of a node, if it has one, and the brace after it.
+fn push_node_end(
     out: &mut String,
     points: &Points,
     last: &mut LastPosition,
     node: &Node,
 ) -> Result<(), AllocError>
-    ensures { OnOk result (string_bytes out.new ≡ string_bytes out.old ++ position_field (counted_as points.now) (position_of node.now)) }
+    ensures { OnOk result (string_bytes out.new ≡ string_bytes out.old ++ (position_field (counted_as points.now) (position_of node.now) ++ codes "}")) }
 {
     match node.position() {
         Some(position) => {
@@ -137,7 +131,7 @@ fn push_position(
             let end = points.counted(position.end);
             last.push(out, start, end)
         }
-        None => Ok(()),
+        None => push(out, "}"),
     }
 }
 
@@ -145,8 +139,7 @@ fn push_position(
 fn push_heading(out: &mut String, node: &Heading) -> Result<(), AllocError>
     ensures { OnOk result (string_bytes out.new ≡ string_bytes out.old ++ opening (heading node.now.depth)) }
 {
-    push_kind(out, "heading")?;
-    push_number(out, "depth", node.depth as usize)?;
+    push_number(out, r#"{"type":"heading","depth":"#, node.depth as usize)?;
     push_children(out)
 }
 
@@ -154,10 +147,9 @@ fn push_heading(out: &mut String, node: &Heading) -> Result<(), AllocError>
 fn push_list(out: &mut String, node: &List) -> Result<(), AllocError>
     ensures { OnOk result (string_bytes out.new ≡ string_bytes out.old ++ opening (list_label node.now)) }
 {
-    push_kind(out, "list")?;
-    push_flag(out, "ordered", node.ordered)?;
+    push_flag(out, r#"{"type":"list","ordered":"#, node.ordered)?;
     push_start(out, node.start)?;
-    push_flag(out, "spread", node.spread)?;
+    push_flag(out, r#","spread":"#, node.spread)?;
     push_children(out)
 }
 
@@ -165,8 +157,7 @@ fn push_list(out: &mut String, node: &List) -> Result<(), AllocError>
 fn push_list_item(out: &mut String, node: &ListItem) -> Result<(), AllocError>
     ensures { OnOk result (string_bytes out.new ≡ string_bytes out.old ++ opening (list_item_label node.now)) }
 {
-    push_kind(out, "listItem")?;
-    push_flag(out, "spread", node.spread)?;
+    push_flag(out, r#"{"type":"listItem","spread":"#, node.spread)?;
     push_checked(out, node.checked)?;
     push_children(out)
 }
@@ -175,7 +166,7 @@ fn push_list_item(out: &mut String, node: &ListItem) -> Result<(), AllocError>
 fn push_table(out: &mut String, node: &Table) -> Result<(), AllocError>
     ensures { OnOk result (string_bytes out.new ≡ string_bytes out.old ++ opening (table node.now.align.items)) }
 {
-    push_kind(out, "table")?;
+    push(out, r#"{"type":"table""#)?;
     push_align(out, &node.align)?;
     push_children(out)
 }
@@ -184,26 +175,24 @@ fn push_table(out: &mut String, node: &Table) -> Result<(), AllocError>
 fn push_code(out: &mut String, node: &Code) -> Result<(), AllocError>
     ensures { OnOk result (string_bytes out.new ≡ string_bytes out.old ++ opening (code_label node.now)) }
 {
-    push_kind(out, "code")?;
-    push_option(out, "lang", &node.lang)?;
-    push_option(out, "meta", &node.meta)?;
-    push_text(out, "value", &node.value)
+    push_option(out, r#"{"type":"code","lang":"#, &node.lang)?;
+    push_option(out, r#","meta":"#, &node.meta)?;
+    push_started(out, r#","value":""#, &node.value)
 }
 
 /// Appends a block of math.
 fn push_math(out: &mut String, node: &Math) -> Result<(), AllocError>
     ensures { OnOk result (string_bytes out.new ≡ string_bytes out.old ++ opening (math_label node.now)) }
 {
-    push_kind(out, "math")?;
-    push_option(out, "meta", &node.meta)?;
-    push_text(out, "value", &node.value)
+    push_option(out, r#"{"type":"math","meta":"#, &node.meta)?;
+    push_started(out, r#","value":""#, &node.value)
 }
 
 /// Appends a link, up to its children.
 fn push_link(out: &mut String, node: &Link) -> Result<(), AllocError>
     ensures { OnOk result (string_bytes out.new ≡ string_bytes out.old ++ opening (link_label node.now)) }
 {
-    push_kind(out, "link")?;
+    push(out, r#"{"type":"link""#)?;
     push_resource(out, &node.url, &node.title)?;
     push_children(out)
 }
@@ -212,16 +201,16 @@ fn push_link(out: &mut String, node: &Link) -> Result<(), AllocError>
 fn push_image(out: &mut String, node: &Image) -> Result<(), AllocError>
     ensures { OnOk result (string_bytes out.new ≡ string_bytes out.old ++ opening (image_label node.now)) }
 {
-    push_kind(out, "image")?;
+    push(out, r#"{"type":"image""#)?;
     push_resource(out, &node.url, &node.title)?;
-    push_text(out, "alt", &node.alt)
+    push_started(out, r#","alt":""#, &node.alt)
 }
 
 /// Appends a link by reference, up to its children.
 fn push_link_reference(out: &mut String, node: &LinkReference) -> Result<(), AllocError>
     ensures { OnOk result (string_bytes out.new ≡ string_bytes out.old ++ opening (link_reference_label node.now)) }
 {
-    push_kind(out, "linkReference")?;
+    push(out, r#"{"type":"linkReference""#)?;
     push_reference(out, node.reference_kind, &node.identifier, &node.label)?;
     push_children(out)
 }
@@ -230,16 +219,16 @@ fn push_link_reference(out: &mut String, node: &LinkReference) -> Result<(), All
 fn push_image_reference(out: &mut String, node: &ImageReference) -> Result<(), AllocError>
     ensures { OnOk result (string_bytes out.new ≡ string_bytes out.old ++ opening (image_reference_label node.now)) }
 {
-    push_kind(out, "imageReference")?;
+    push(out, r#"{"type":"imageReference""#)?;
     push_reference(out, node.reference_kind, &node.identifier, &node.label)?;
-    push_text(out, "alt", &node.alt)
+    push_started(out, r#","alt":""#, &node.alt)
 }
 
 /// Appends a reference to a footnote.
 fn push_footnote_reference(out: &mut String, node: &FootnoteReference) -> Result<(), AllocError>
     ensures { OnOk result (string_bytes out.new ≡ string_bytes out.old ++ opening (footnote_reference_label node.now)) }
 {
-    push_kind(out, "footnoteReference")?;
+    push(out, r#"{"type":"footnoteReference""#)?;
     push_association(out, &node.identifier, &node.label)
 }
 
@@ -247,7 +236,7 @@ fn push_footnote_reference(out: &mut String, node: &FootnoteReference) -> Result
 fn push_footnote_definition(out: &mut String, node: &FootnoteDefinition) -> Result<(), AllocError>
     ensures { OnOk result (string_bytes out.new ≡ string_bytes out.old ++ opening (footnote_definition_label node.now)) }
 {
-    push_kind(out, "footnoteDefinition")?;
+    push(out, r#"{"type":"footnoteDefinition""#)?;
     push_association(out, &node.identifier, &node.label)?;
     push_children(out)
 }
@@ -256,7 +245,7 @@ fn push_footnote_definition(out: &mut String, node: &FootnoteDefinition) -> Resu
 fn push_definition(out: &mut String, node: &Definition) -> Result<(), AllocError>
     ensures { OnOk result (string_bytes out.new ≡ string_bytes out.old ++ opening (definition_label node.now)) }
 {
-    push_kind(out, "definition")?;
+    push(out, r#"{"type":"definition""#)?;
     push_association(out, &node.identifier, &node.label)?;
     push_resource(out, &node.url, &node.title)
 }

@@ -147,19 +147,28 @@ impl<'a> JsonPieces<'a> {
         ensures end { IfOk result (λ more. IsFalse more → self.new ≡ []) }
         ensures more { IfOk result (λ more. IsTrue more → length self.new < length self.old) }
     {
-        if let Some((node, rest)) = self.level.split_first() {
-            begin(out, node, self.later)?;
-            self.frames.push(Frame { node, rest })?;
-            self.level = node.child_nodes();
-            self.later = false;
-        } else {
-            let Some(frame) = self.frames.pop() else {
-                return Ok(false);
-            };
-            push_closing(out, &self.points, &mut self.last, frame.node)?;
-            self.level = frame.rest;
-            self.later = true;
-        }
+        let frame = match self.level.split_first() {
+            Some((node, rest)) => {
+                begin(out, node, self.later)?;
+                let children = node.child_nodes();
+                if !children.is_empty() {
+                    self.frames.push(Frame { node, rest })?;
+                    self.level = children;
+                    self.later = false;
+                    return Ok(true);
+                }
+                Frame { node, rest }
+            }
+            None => {
+                let Some(frame) = self.frames.pop() else {
+                    return Ok(false);
+                };
+                frame
+            }
+        };
+        push_closing(out, &self.points, &mut self.last, frame.node)?;
+        self.level = frame.rest;
+        self.later = true;
         Ok(true)
     }
 

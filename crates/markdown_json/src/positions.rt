@@ -2,7 +2,7 @@
 
 ghost use Rattle.std.specs.Prelude.{◌≡◌, ◌+◌, ◌++◌, ◌≤◌, ◌<◌, IsFalse, IsTrue, OnOk, codes, drop, length, string_bytes};
 ghost use Rattle.std.specs.Str.{IsUtf8};
-ghost use Rattle.markdown_json.specs.Fields.{field, point, position_between};
+ghost use Rattle.markdown_json.specs.Fields.{field, point, position_between, position_end};
 
 use crate::strings::push;
 use markdown_events::decimal::{put_decimal, put_text, text};
@@ -10,9 +10,15 @@ use markdown_events::unist::Point;
 use std::alloc::AllocError;
 use std::marker::Model;
 
-/// The greatest size of a point, in bytes: three numbers of up to 20 digits, and 29 bytes around
-/// them.
-const POINT_SIZE: usize = 89;
+/// The greatest size of a point at the end of a position, in bytes: three numbers of up to 20
+/// digits, and 38 bytes around them.
+const END_SIZE: usize = 98;
+
+/// The key before the point.
+const END_KEY: &str = r#","end":"#;
+
+/// Where the point ends, before the braces that close its position and its node.
+const POINT_END: usize = 96;
 
 /// The texts of the points of the last position, which are often those of the next one, too: a node
 /// starts where the one before it ends, and a parent starts and ends as its first and last nodes do.
@@ -31,19 +37,18 @@ impl LastPosition {
         }
     }
 
-    /// Appends the field of a position from one point to another, which is the last one then.
+    /// Appends the field of a position from one point to another, which is the last one then, and
+    /// the brace that closes its node.
     ///
-    /// For the first character of a document it is
-    /// `,"position":{"start":{"line":1,"column":1,"offset":0},"end":{"line":1,"column":2,"offset":1}}`.
+    /// For the first character of a document they are
+    /// `,"position":{"start":{"line":1,"column":1,"offset":0},"end":{"line":1,"column":2,"offset":1}}}`.
     pub fn push(&mut self, out: &mut String, start: Point, end: Point) -> Result<(), AllocError>
-        ensures { OnOk result (string_bytes out.new ≡ string_bytes out.old ++ field (codes "position") (position_between start end)) }
+        ensures { OnOk result (string_bytes out.new ≡ string_bytes out.old ++ (field (codes "position") (position_between start end) ++ codes "}")) }
     {
-        push(out, ",\"position\":{\"start\":")?;
+        push(out, r#","position":{"start":"#)?;
         self.push_start(out, start)?;
-        push(out, ",\"end\":")?;
         self.end.set(end);
-        self.end.push(out)?;
-        push(out, "}")
+        self.end.push_end(out)
     }
 
     /// Appends the point at which a position starts.
@@ -58,34 +63,34 @@ impl LastPosition {
     }
 }
 
-/// A point, and its text at the end of a buffer.
+/// A point, and its text as the end of a position, at the end of a buffer.
 #[derive(Drop)]
 struct PointText {
     place: Point,
-    buffer: [u8; POINT_SIZE],
-    /// The index of its first byte.
+    buffer: [u8; END_SIZE],
+    /// The index of the first byte of that text.
     first: usize,
 }
 
 impl Model for PointText {
-    ghost use Rattle.std.specs.Prelude.{◌≡◌, ◌≤◌, drop};
+    ghost use Rattle.std.specs.Prelude.{◌≡◌, ◌≤◌, ◌+◌, drop};
     ghost use Rattle.std.specs.Str.{IsUtf8};
     ghost use Rattle.markdown_events.specs.declared.unist.Point.{Point};
-    ghost use Rattle.markdown_json.specs.Fields.{point};
+    ghost use Rattle.markdown_json.specs.Fields.{point, position_end};
 
     ghost Value = { Point };
 
     ghost view = { λ it. it.place };
 
-    ghost invariant = { λ it. (it.first ≤ 89) × (drop it.first it.buffer ≡ point it.place) × IsUtf8 (drop it.first it.buffer) };
+    ghost invariant = { λ it. (it.first + 7 ≤ 96) × (drop it.first it.buffer ≡ position_end it.place) × IsUtf8 (drop it.first it.buffer) × IsUtf8 (point it.place) };
 }
 
 impl PointText {
     /// Returns the text of the first point of a document.
     fn new() -> PointText {
         let place = Point::new(1, 1, 0);
-        let mut buffer = [0; POINT_SIZE];
-        let first = put_whole_point(&mut buffer, place);
+        let mut buffer = [0; END_SIZE];
+        let first = put_end(&mut buffer, place);
         PointText {
             place,
             buffer,
@@ -106,25 +111,39 @@ impl PointText {
     {
         if self.place != place {
             self.place = place;
-            self.first = put_whole_point(&mut self.buffer, place);
+            self.first = put_end(&mut self.buffer, place);
         }
     }
 
-    /// Appends the text.
+    /// Appends the point.
     fn push(&self, out: &mut String) -> Result<(), AllocError>
         ensures { OnOk result (string_bytes out.new ≡ string_bytes out.old ++ point self.now) }
+    {
+        push(
+            out,
+            text(&self.buffer[..POINT_END], self.first + END_KEY.len()),
+        )
+    }
+
+    /// Appends the point as the end of a position.
+    fn push_end(&self, out: &mut String) -> Result<(), AllocError>
+        ensures { OnOk result (string_bytes out.new ≡ string_bytes out.old ++ position_end self.now) }
     {
         push(out, text(&self.buffer, self.first))
     }
 }
 
-/// Writes a point at the end of a buffer, and returns the index of its first byte.
-fn put_whole_point(buffer: &mut [u8; POINT_SIZE], place: Point) -> usize
-    ensures within { result ≤ 89 }
-    ensures text { drop result buffer.new ≡ point place }
+/// Writes a point as the end of a position at the end of a buffer, and returns the index of its
+/// first byte.
+fn put_end(buffer: &mut [u8; END_SIZE], place: Point) -> usize
+    ensures within { result + 7 ≤ 96 }
+    ensures text { drop result buffer.new ≡ position_end place }
     ensures utf8 { IsUtf8 (drop result buffer.new) }
+    ensures point { IsUtf8 (point place) }
 {
-    put_point(buffer, POINT_SIZE, place)
+    let at = put_text(buffer, END_SIZE, "}}");
+    let at = put_point(buffer, at, place);
+    put_text(buffer, at, END_KEY)
 }
 
 /// Writes a point before the bytes from `end` on, and returns the index of its first byte.

@@ -33,6 +33,7 @@ pub fn push_string(out: &mut String, text: &str) -> Result<(), AllocError>
 /// that memory ran out.
 ///
 /// The start `{"a":"` and the text `b` make `{"a":"b"`.
+#[inline(always)]
 pub fn push_started(out: &mut String, start: &str, text: &String) -> Result<(), AllocError>
     ensures { OnOk result (string_bytes out.new ≡ string_bytes out.old ++ (start.now ++ (escaped (string_bytes text.now) ++ codes "\""))) }
 {
@@ -41,9 +42,20 @@ pub fn push_started(out: &mut String, start: &str, text: &String) -> Result<(), 
     push(out, "\"")
 }
 
-/// Appends a text as it is written between quotes. Bytes that need no escape are written as one
-/// fragment.
+/// Appends a text as it is written between quotes. Most texts need no escape.
+#[inline(always)]
 fn push_escaped(out: &mut String, text: &str) -> Result<(), AllocError>
+    ensures { OnOk result (string_bytes out.new ≡ string_bytes out.old ++ escaped text.now) }
+{
+    if plain_size(text.as_bytes()) == text.len() {
+        return push(out, text);
+    }
+    push_fragments(out, text)
+}
+
+/// Does what `push_escaped` does. Bytes that need no escape are written as one fragment.
+#[inline(never)]
+fn push_fragments(out: &mut String, text: &str) -> Result<(), AllocError>
     ensures { OnOk result (string_bytes out.new ≡ string_bytes out.old ++ escaped text.now) }
 {
     let mut rest = text;
@@ -113,7 +125,7 @@ fn is_escaped(byte: u8) -> bool
     ensures ascii { IsTrue result → byte < 128 }
     ensures plain { IsFalse result → escape byte ≡ byte ∷ [] }
 {
-    byte < b' ' || byte == b'"' || byte == b'\\'
+    byte <= b'\\' && (byte < b' ' || byte == b'"' || byte == b'\\')
 }
 
 /// Appends the escape of a byte.

@@ -1,4 +1,4 @@
-use Rattle.std.proofs.Common.{◌≤◌, arith}
+use Rattle.std.proofs.Common.{arith}
 use Rattle.markdown_json.proofs.Fragments.{plain_byte}
 use Rattle.markdown_json.proofs.strings.plain_size_of_16.Goals as goal
 
