@@ -139,8 +139,8 @@ impl<'a> JsonPieces<'a> {
         Ok(())
     }
 
-    /// Appends the start of the next node, or the end of the last one whose nodes are all written,
-    /// and returns whether there was one.
+    /// Appends the start of the next node, and its end if no node is in it, or the end of the last
+    /// node whose nodes are all written. It returns whether there was one.
     #[inline(always)]
     fn step(&mut self, out: &mut String) -> Result<bool, AllocError>
         ensures text { OnOk result (string_bytes out.new ++ self.new ≡ string_bytes out.old ++ self.old) }

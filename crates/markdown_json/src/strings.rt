@@ -43,7 +43,6 @@ pub fn push_started(out: &mut String, start: &str, text: &String) -> Result<(), 
 }
 
 /// Appends a text as it is written between quotes. Most texts need no escape.
-#[inline(always)]
 fn push_escaped(out: &mut String, text: &str) -> Result<(), AllocError>
     ensures { OnOk result (string_bytes out.new ≡ string_bytes out.old ++ escaped text.now) }
 {
@@ -119,7 +118,8 @@ fn plain_size_of_few(text: &[u8]) -> usize
     at
 }
 
-/// Whether a byte has an escape: a quote, a backslash or a control character.
+/// Whether a byte has an escape: a quote, a backslash or a control character. Small letters come
+/// after these three, and most bytes are small letters.
 #[tactic(auto, unfolding(crate::specs::Strings::escape))]
 fn is_escaped(byte: u8) -> bool
     ensures ascii { IsTrue result → byte < 128 }
