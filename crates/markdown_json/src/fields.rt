@@ -19,7 +19,6 @@ ghost use Rattle.markdown_json.specs.Fields.{
   reference_type,
   resource_of,
 };
-ghost use Rattle.markdown_json.specs.Strings.{string};
 
 use crate::strings::{push, push_started, push_string};
 use markdown_events::decimal::push_decimal;
