@@ -76,13 +76,13 @@ impl Model for PointText {
     ghost use Rattle.std.specs.Prelude.{◌≡◌, ◌≤◌, ◌+◌, drop};
     ghost use Rattle.std.specs.Str.{IsUtf8};
     ghost use Rattle.markdown_events.specs.declared.unist.Point.{Point};
-    ghost use Rattle.markdown_json.specs.Fields.{point, position_end};
+    ghost use Rattle.markdown_json.specs.Fields.{position_end};
 
     ghost Value = { Point };
 
     ghost view = { λ it. it.place };
 
-    ghost invariant = { λ it. (it.first + 7 ≤ 96) × (drop it.first it.buffer ≡ position_end it.place) × IsUtf8 (drop it.first it.buffer) × IsUtf8 (point it.place) };
+    ghost invariant = { λ it. (it.first + 7 ≤ 96) × (drop it.first it.buffer ≡ position_end it.place) × IsUtf8 (drop it.first it.buffer) };
 }
 
 impl PointText {
@@ -139,28 +139,12 @@ fn put_end(buffer: &mut [u8; END_SIZE], place: Point) -> usize
     ensures within { result + 7 ≤ 96 }
     ensures text { drop result buffer.new ≡ position_end place }
     ensures utf8 { IsUtf8 (drop result buffer.new) }
-    ensures point { IsUtf8 (point place) }
 {
-    let at = put_text(buffer, END_SIZE, "}}");
-    let at = put_point(buffer, at, place);
-    put_text(buffer, at, END_KEY)
-}
-
-/// Writes a point before the bytes from `end` on, and returns the index of its first byte.
-#[inline(always)]
-fn put_point(buffer: &mut [u8], end: usize, place: Point) -> usize
-    requires room { 89 ≤ end }
-    requires within { end ≤ length buffer.old }
-    ensures room { end ≤ result + 89 }
-    ensures place { result < end }
-    ensures text { drop result buffer.new ≡ point place ++ drop end buffer.old }
-    ensures utf8 { IsUtf8 (drop end buffer.old) → IsUtf8 (drop result buffer.new) }
-{
-    let at = put_text(buffer, end, "}");
+    let at = put_text(buffer, END_SIZE, "}}}");
     let at = put_decimal(buffer, at, place.offset);
-    let at = put_text(buffer, at, ",\"offset\":");
+    let at = put_text(buffer, at, r#","offset":"#);
     let at = put_decimal(buffer, at, place.column);
-    let at = put_text(buffer, at, ",\"column\":");
+    let at = put_text(buffer, at, r#","column":"#);
     let at = put_decimal(buffer, at, place.line);
-    put_text(buffer, at, "{\"line\":")
+    put_text(buffer, at, r#","end":{"line":"#)
 }
