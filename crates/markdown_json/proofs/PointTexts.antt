@@ -25,7 +25,7 @@ end-is p back t u v w x y z none t-is u-is v-is w-is x-is y-is z-is =
     z-is ∙ ap (λ s. codes ",\"end\":" ++ s) (point-is p (codes "}}") t u v w x y (codes "{\"line\":" ++ y) (t-is ∙ ap (λ s. codes "}}}" ++ s) none) u-is v-is w-is x-is y-is refl)
 
 -- what comes before a text is UTF-8 if both together are
-pub front-IsUtf8 : (front back : List ℕ) → IsUtf8 (front ++ back) → IsUtf8 back → IsUtf8 front
+front-IsUtf8 : (front back : List ℕ) → IsUtf8 (front ++ back) → IsUtf8 back → IsUtf8 front
 front-IsUtf8 front back whole rest =
     let all : take (length front) (front ++ back) ≡ front = grind (arith, common_steps) in
     subst IsUtf8 all (IsUtf8-take (front ++ back) (length front) whole (IsCharBoundary-at_seam (front ++ back) front back refl rest))
