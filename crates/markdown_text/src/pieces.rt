@@ -96,9 +96,7 @@ pub fn write_piece<R: References, S: Sink>(
         PieceKind::OpeningSequence => calls::token(writer, Name::HeadingAtxSequence, end, 0),
         PieceKind::LineEnding => calls::line_ending(writer, Name::LineEnding),
         PieceKind::BlankLineEnding => calls::line_ending(writer, Name::BlankLineEnding),
-        PieceKind::BlockQuotePrefix => {
-            write_block_quote_prefix(writer, end, virtual_spaces)
-        }
+        PieceKind::BlockQuotePrefix => { write_block_quote_prefix(writer, end, virtual_spaces) }
         PieceKind::Text => unreachable!(),
     }
 }
