@@ -77,6 +77,7 @@ impl<'c, 'd, R: References, S: Sink> Output<'c, 'd, R, S> {
 
     /// Returns the start of a content, which is at the cursor of the writer. `pieces` are those of
     /// the block structure.
+    #[inline(always)]
     pub fn new(
         source: &'c Source<'c, R>,
         writer: Recorder<'d, R, S>,
@@ -501,6 +502,7 @@ impl<'c, 'd, R: References, S: Sink> Output<'c, 'd, R, S> {
     }
 
     /// Writes the waiting data at the end of the content, and returns the writer.
+    #[inline(always)]
     pub fn finish(mut self) -> Result<Recorder<'d, R, S>, AllocError>
         requires stands { Stands self }
         requires ended { self.data ≡ length (bytes_of self) }
