@@ -31,7 +31,7 @@ pub fn write<R: References, S: Sink>(
     ensures at { (h : Bool) → (outer : List Enclosing) → IsAt output.old.writer (inlines h) outer → OnOk result (IsFlushed next output.new (inlines h) outer) }
     ensures attention { OnOk result (attention_of output.new ≡ attention_of output.old) }
 {
-    let constructs = output.source().reading.options.constructs;
+    let constructs = &output.source().reading.options.constructs;
     let space = whitespace::scan(
         output.rest_to(end),
         output.kind(),
@@ -81,7 +81,7 @@ fn write_text<R: References, S: Sink>(
     ensures at { KeepsInlines result output.old output.new }
     ensures attention { OnOk result (attention_of output.new ≡ attention_of output.old) }
 {
-    let constructs = output.source().reading.options.constructs;
+    let constructs = &output.source().reading.options.constructs;
     if constructs.gfm_autolink_literal && output.may_link() {
         return gfm_autolink_literal_email::write(output, end);
     }
