@@ -1,6 +1,6 @@
 //! Attention (micromark): emphasis, strong emphasis (CommonMark) and strikethrough (GFM).
 
-ghost use Rattle.std.specs.Prelude.{OnOk, ◌≡◌, ◌++◌, ◌∷◌, [], drop, take, true};
+ghost use Rattle.std.specs.Prelude.{OnOk, ◌≡◌, ◌<◌, ◌++◌, ◌∷◌, [], drop, length, take, true};
 ghost use Rattle.std.proofs.Props.{props};
 ghost use Rattle.markdown_attention.specs.Runs.{AreReady, AreResolved, IsReady, view, views};
 ghost use Rattle.markdown_options.specs.declared.Constructs.{Constructs};
@@ -56,6 +56,7 @@ impl Attention {
 
     /// Resolves the runs from this one on, in a content of `size` bytes. They no longer wait then.
     /// The only error is that memory ran out.
+    #[inline(always)]
     pub fn resolve(&mut self, alloc: Global, size: usize, from: usize) -> Result<(), AllocError>
         ensures on { (c : Constructs) → IsAttentionOn c self.old → IsAttentionOn c self.new }
         ensures resolved { OnOk result (AreResolved (views (drop from self.old.runs.items)) (room (drop from self.old.runs.items) size self.old.delimiters.items) self.new.delimiters.items) }
@@ -64,6 +65,17 @@ impl Attention {
         if self.runs.len() <= from {
             return Ok(());
         }
+        self.resolve_some(alloc, size, from)
+    }
+
+    /// Resolves the runs from this one on, of which there is at least one.
+    #[inline(never)]
+    fn resolve_some(&mut self, alloc: Global, size: usize, from: usize) -> Result<(), AllocError>
+        requires { from < length self.old.runs.items }
+        ensures on { (c : Constructs) → IsAttentionOn c self.old → IsAttentionOn c self.new }
+        ensures resolved { OnOk result (AreResolved (views (drop from self.old.runs.items)) (room (drop from self.old.runs.items) size self.old.delimiters.items) self.new.delimiters.items) }
+        ensures waiting { OnOk result (self.new.runs.items ≡ take from self.old.runs.items) }
+    {
         self.begin(size)?;
         emphasis::resolve(alloc, &self.runs[from..], &mut self.delimiters)?;
         self.runs.truncate(from);
