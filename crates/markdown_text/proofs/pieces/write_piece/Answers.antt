@@ -1,10 +1,11 @@
-use Rattle.std.proofs.Common.{false, subst}
+use Rattle.std.proofs.Common.{false, subst, sym, ℕ}
 use Rattle.markdown_pieces.specs.Tilings.{Goes, GoesAsOpening, GoesAsToken, end_of}
 use Rattle.markdown_pieces.specs.Walks.{Steps}
 use Rattle.markdown_pieces.specs.declared.piece.PieceKind.{PieceKind}
 use Rattle.markdown_text.proofs.Standings.{cut_is_boundary}
 use Rattle.markdown_text.proofs.Steps.{may_end_line, may_write_token, on_ok, step_ending, step_enter, step_exit, step_opening, step_same, step_token, token_boundary}
 use Rattle.markdown_text.specs.Contents.{spot}
+use Rattle.markdown_text.specs.Standings.{MayWrite}
 use Rattle.markdown_text.proofs.pieces.write_piece.Goals as goal
 
 pub token-requires-clause-cut : goal.token-requires-clause-cut
@@ -15,8 +16,9 @@ token-requires-clause-cut g c =
 pub token-requires-clause-may : goal.token-requires-clause-may
 token-requires-clause-may g c =
     let step = c.requires.step in
-    may_write_token (g.R.References.text c.args.writer.now.given.references) c.args.writer.now c.in-Token.name (end_of c.args.piece.now) step.before step.after step.at (subst (λ (k : PieceKind). Steps k step.before step.after) c.in-Token.is step.steps)
-    (subst (λ (k : PieceKind). Goes c.args.writer.now.given.bytes k (spot c.args.writer.now.cursor) (end_of c.args.piece.now)) c.in-Token.is c.requires.goes)
+    subst (λ (n : ℕ). MayWrite (g.R.References.text c.args.writer.now.given.references) c.args.writer.now c.in-Token.name (record { offset = c.args.piece.now.end; virtual_spaces = n })) (sym c.from-virtual_spaces.ensures)
+    (may_write_token (g.R.References.text c.args.writer.now.given.references) c.args.writer.now c.in-Token.name (end_of c.args.piece.now) step.before step.after step.at (subst (λ (k : PieceKind). Steps k step.before step.after) c.in-Token.is step.steps)
+    (subst (λ (k : PieceKind). Goes c.args.writer.now.given.bytes k (spot c.args.writer.now.cursor) (end_of c.args.piece.now)) c.in-Token.is c.requires.goes))
 
 pub token-requires-in-OpeningSequence-clause-cut : goal.token-requires-in-OpeningSequence-clause-cut
 token-requires-in-OpeningSequence-clause-cut g c =
