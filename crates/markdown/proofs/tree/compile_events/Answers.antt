@@ -14,6 +14,6 @@ returns-clause-refused c =
     let events = c.args.events.now in
     let flags : c.deref.result.now ≡ hidden bytes events =
     c.deref.ensures.value ∙ c.in_ok-hidden.ensures ∙ ap (λ (all : List ℕ). hidden all events) c.as_bytes-bytes.ensures.value in
-    let document = c.hiding-document.ensures ∙ (λ i. record { bytes = c.as_bytes-bytes.ensures.value i; values = Whole; hidden = flags i }) in
+    let document = c.of_text-document.ensures ∙ (λ i. record { bytes = bytes; values = Whole; hidden = flags i }) in
     subst (λ (given : Given). IfErr c.compile_document.result (λ (fault : Fault). FailsRightly fault events (source_of given html))) document
-    (subst (λ (listed : List Event). IfErr c.compile_document.result (λ (fault : Fault). FailsRightly fault listed (source_of c.hiding-document.result html))) c.new.ensures.list c.compile_document.ensures.refused)
+    (subst (λ (listed : List Event). IfErr c.compile_document.result (λ (fault : Fault). FailsRightly fault listed (source_of c.of_text-document.result html))) c.new.ensures.list c.compile_document.ensures.refused)
