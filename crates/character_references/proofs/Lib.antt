@@ -1,2 +1,3 @@
 pub mod DecoderLemmas
 pub mod NamedLemmas
+pub mod SearchLemmas

@@ -1,3 +1,4 @@
 pub mod Decoder
 pub mod Named
 pub mod Html
+pub mod Search

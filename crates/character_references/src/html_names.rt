@@ -2,8 +2,8 @@
 //! of CommonMark: 2,125 names and their texts. `scripts/html-names` writes this file.
 //!
 //! For each first letter there are the lines of a table of [`NamedReferences`]. In each, names that are often
-//! written come first, and then all others in the order of their bytes. `NewLine`, whose text no line can
-//! hold, is not among them.
+//! written come first, and then all others, the shortest first. `NewLine`, whose text no line can hold, is
+//! not among them.
 //!
 //! [`NamedReferences`]: crate::named::NamedReferences
 
@@ -19,625 +19,628 @@ pub static LINES: [&str; 58] = [
 
 /// Names that begin with `A`.
 const UPPER_A: &str = "\
-    AElig=\u{c6}\nAMP=&\nAacute=\u{c1}\nAbreve=\u{102}\nAcirc=\u{c2}\nAcy=\u{410}\n\
-    Afr=\u{1d504}\nAgrave=\u{c0}\nAlpha=\u{391}\nAmacr=\u{100}\nAnd=\u{2a53}\nAogon=\u{104}\n\
-    Aopf=\u{1d538}\nApplyFunction=\u{2061}\nAring=\u{c5}\nAscr=\u{1d49c}\nAssign=\u{2254}\n\
-    Atilde=\u{c3}\nAuml=\u{c4}";
+    AMP=&\nAcy=\u{410}\nAfr=\u{1d504}\nAnd=\u{2a53}\nAopf=\u{1d538}\nAscr=\u{1d49c}\n\
+    Auml=\u{c4}\nAElig=\u{c6}\nAcirc=\u{c2}\nAlpha=\u{391}\nAmacr=\u{100}\nAogon=\u{104}\n\
+    Aring=\u{c5}\nAacute=\u{c1}\nAbreve=\u{102}\nAgrave=\u{c0}\nAssign=\u{2254}\nAtilde=\u{c3}\n\
+    ApplyFunction=\u{2061}";
 
 /// Names that begin with `B`.
 const UPPER_B: &str = "\
-    Backslash=\u{2216}\nBarv=\u{2ae7}\nBarwed=\u{2306}\nBcy=\u{411}\nBecause=\u{2235}\n\
-    Bernoullis=\u{212c}\nBeta=\u{392}\nBfr=\u{1d505}\nBopf=\u{1d539}\nBreve=\u{2d8}\n\
-    Bscr=\u{212c}\nBumpeq=\u{224e}";
+    Bcy=\u{411}\nBfr=\u{1d505}\nBarv=\u{2ae7}\nBeta=\u{392}\nBopf=\u{1d539}\nBscr=\u{212c}\n\
+    Breve=\u{2d8}\nBarwed=\u{2306}\nBumpeq=\u{224e}\nBecause=\u{2235}\nBackslash=\u{2216}\n\
+    Bernoullis=\u{212c}";
 
 /// Names that begin with `C`.
 const UPPER_C: &str = "\
-    CHcy=\u{427}\nCOPY=\u{a9}\nCacute=\u{106}\nCap=\u{22d2}\nCapitalDifferentialD=\u{2145}\n\
-    Cayleys=\u{212d}\nCcaron=\u{10c}\nCcedil=\u{c7}\nCcirc=\u{108}\nCconint=\u{2230}\n\
-    Cdot=\u{10a}\nCedilla=\u{b8}\nCenterDot=\u{b7}\nCfr=\u{212d}\nChi=\u{3a7}\n\
-    CircleDot=\u{2299}\nCircleMinus=\u{2296}\nCirclePlus=\u{2295}\nCircleTimes=\u{2297}\n\
-    ClockwiseContourIntegral=\u{2232}\nCloseCurlyDoubleQuote=\u{201d}\n\
-    CloseCurlyQuote=\u{2019}\nColon=\u{2237}\nColone=\u{2a74}\nCongruent=\u{2261}\n\
-    Conint=\u{222f}\nContourIntegral=\u{222e}\nCopf=\u{2102}\nCoproduct=\u{2210}\n\
-    CounterClockwiseContourIntegral=\u{2233}\nCross=\u{2a2f}\nCscr=\u{1d49e}\nCup=\u{22d3}\n\
-    CupCap=\u{224d}";
+    Cap=\u{22d2}\nCfr=\u{212d}\nChi=\u{3a7}\nCup=\u{22d3}\nCHcy=\u{427}\nCOPY=\u{a9}\n\
+    Cdot=\u{10a}\nCopf=\u{2102}\nCscr=\u{1d49e}\nCcirc=\u{108}\nColon=\u{2237}\nCross=\u{2a2f}\n\
+    Cacute=\u{106}\nCcaron=\u{10c}\nCcedil=\u{c7}\nColone=\u{2a74}\nConint=\u{222f}\n\
+    CupCap=\u{224d}\nCayleys=\u{212d}\nCconint=\u{2230}\nCedilla=\u{b8}\nCenterDot=\u{b7}\n\
+    CircleDot=\u{2299}\nCongruent=\u{2261}\nCoproduct=\u{2210}\nCirclePlus=\u{2295}\n\
+    CircleMinus=\u{2296}\nCircleTimes=\u{2297}\nCloseCurlyQuote=\u{2019}\n\
+    ContourIntegral=\u{222e}\nCapitalDifferentialD=\u{2145}\nCloseCurlyDoubleQuote=\u{201d}\n\
+    ClockwiseContourIntegral=\u{2232}\nCounterClockwiseContourIntegral=\u{2233}";
 
 /// Names that begin with `D`.
 const UPPER_D: &str = "\
-    DD=\u{2145}\nDDotrahd=\u{2911}\nDJcy=\u{402}\nDScy=\u{405}\nDZcy=\u{40f}\nDagger=\u{2021}\n\
-    Darr=\u{21a1}\nDashv=\u{2ae4}\nDcaron=\u{10e}\nDcy=\u{414}\nDel=\u{2207}\nDelta=\u{394}\n\
-    Dfr=\u{1d507}\nDiacriticalAcute=\u{b4}\nDiacriticalDot=\u{2d9}\n\
-    DiacriticalDoubleAcute=\u{2dd}\nDiacriticalGrave=`\nDiacriticalTilde=\u{2dc}\n\
-    Diamond=\u{22c4}\nDifferentialD=\u{2146}\nDopf=\u{1d53b}\nDot=\u{a8}\nDotDot=\u{20dc}\n\
-    DotEqual=\u{2250}\nDoubleContourIntegral=\u{222f}\nDoubleDot=\u{a8}\n\
-    DoubleDownArrow=\u{21d3}\nDoubleLeftArrow=\u{21d0}\nDoubleLeftRightArrow=\u{21d4}\n\
-    DoubleLeftTee=\u{2ae4}\nDoubleLongLeftArrow=\u{27f8}\nDoubleLongLeftRightArrow=\u{27fa}\n\
-    DoubleLongRightArrow=\u{27f9}\nDoubleRightArrow=\u{21d2}\nDoubleRightTee=\u{22a8}\n\
-    DoubleUpArrow=\u{21d1}\nDoubleUpDownArrow=\u{21d5}\nDoubleVerticalBar=\u{2225}\n\
-    DownArrow=\u{2193}\nDownArrowBar=\u{2913}\nDownArrowUpArrow=\u{21f5}\nDownBreve=\u{311}\n\
-    DownLeftRightVector=\u{2950}\nDownLeftTeeVector=\u{295e}\nDownLeftVector=\u{21bd}\n\
-    DownLeftVectorBar=\u{2956}\nDownRightTeeVector=\u{295f}\nDownRightVector=\u{21c1}\n\
-    DownRightVectorBar=\u{2957}\nDownTee=\u{22a4}\nDownTeeArrow=\u{21a7}\nDownarrow=\u{21d3}\n\
-    Dscr=\u{1d49f}\nDstrok=\u{110}";
+    DD=\u{2145}\nDcy=\u{414}\nDel=\u{2207}\nDfr=\u{1d507}\nDot=\u{a8}\nDJcy=\u{402}\n\
+    DScy=\u{405}\nDZcy=\u{40f}\nDarr=\u{21a1}\nDopf=\u{1d53b}\nDscr=\u{1d49f}\nDashv=\u{2ae4}\n\
+    Delta=\u{394}\nDagger=\u{2021}\nDcaron=\u{10e}\nDotDot=\u{20dc}\nDstrok=\u{110}\n\
+    Diamond=\u{22c4}\nDownTee=\u{22a4}\nDDotrahd=\u{2911}\nDotEqual=\u{2250}\nDoubleDot=\u{a8}\n\
+    DownArrow=\u{2193}\nDownBreve=\u{311}\nDownarrow=\u{21d3}\nDownArrowBar=\u{2913}\n\
+    DownTeeArrow=\u{21a7}\nDifferentialD=\u{2146}\nDoubleLeftTee=\u{2ae4}\n\
+    DoubleUpArrow=\u{21d1}\nDiacriticalDot=\u{2d9}\nDoubleRightTee=\u{22a8}\n\
+    DownLeftVector=\u{21bd}\nDoubleDownArrow=\u{21d3}\nDoubleLeftArrow=\u{21d0}\n\
+    DownRightVector=\u{21c1}\nDiacriticalAcute=\u{b4}\nDiacriticalGrave=`\n\
+    DiacriticalTilde=\u{2dc}\nDoubleRightArrow=\u{21d2}\nDownArrowUpArrow=\u{21f5}\n\
+    DoubleUpDownArrow=\u{21d5}\nDoubleVerticalBar=\u{2225}\nDownLeftTeeVector=\u{295e}\n\
+    DownLeftVectorBar=\u{2956}\nDownRightTeeVector=\u{295f}\nDownRightVectorBar=\u{2957}\n\
+    DoubleLongLeftArrow=\u{27f8}\nDownLeftRightVector=\u{2950}\nDoubleLeftRightArrow=\u{21d4}\n\
+    DoubleLongRightArrow=\u{27f9}\nDoubleContourIntegral=\u{222f}\n\
+    DiacriticalDoubleAcute=\u{2dd}\nDoubleLongLeftRightArrow=\u{27fa}";
 
 /// Names that begin with `E`.
 const UPPER_E: &str = "\
-    ENG=\u{14a}\nETH=\u{d0}\nEacute=\u{c9}\nEcaron=\u{11a}\nEcirc=\u{ca}\nEcy=\u{42d}\n\
-    Edot=\u{116}\nEfr=\u{1d508}\nEgrave=\u{c8}\nElement=\u{2208}\nEmacr=\u{112}\n\
-    EmptySmallSquare=\u{25fb}\nEmptyVerySmallSquare=\u{25ab}\nEogon=\u{118}\nEopf=\u{1d53c}\n\
-    Epsilon=\u{395}\nEqual=\u{2a75}\nEqualTilde=\u{2242}\nEquilibrium=\u{21cc}\nEscr=\u{2130}\n\
-    Esim=\u{2a73}\nEta=\u{397}\nEuml=\u{cb}\nExists=\u{2203}\nExponentialE=\u{2147}";
+    ENG=\u{14a}\nETH=\u{d0}\nEcy=\u{42d}\nEfr=\u{1d508}\nEta=\u{397}\nEdot=\u{116}\n\
+    Eopf=\u{1d53c}\nEscr=\u{2130}\nEsim=\u{2a73}\nEuml=\u{cb}\nEcirc=\u{ca}\nEmacr=\u{112}\n\
+    Eogon=\u{118}\nEqual=\u{2a75}\nEacute=\u{c9}\nEcaron=\u{11a}\nEgrave=\u{c8}\n\
+    Exists=\u{2203}\nElement=\u{2208}\nEpsilon=\u{395}\nEqualTilde=\u{2242}\n\
+    Equilibrium=\u{21cc}\nExponentialE=\u{2147}\nEmptySmallSquare=\u{25fb}\n\
+    EmptyVerySmallSquare=\u{25ab}";
 
 /// Names that begin with `F`.
 const UPPER_F: &str = "\
-    Fcy=\u{424}\nFfr=\u{1d509}\nFilledSmallSquare=\u{25fc}\nFilledVerySmallSquare=\u{25aa}\n\
-    Fopf=\u{1d53d}\nForAll=\u{2200}\nFouriertrf=\u{2131}\nFscr=\u{2131}";
+    Fcy=\u{424}\nFfr=\u{1d509}\nFopf=\u{1d53d}\nFscr=\u{2131}\nForAll=\u{2200}\n\
+    Fouriertrf=\u{2131}\nFilledSmallSquare=\u{25fc}\nFilledVerySmallSquare=\u{25aa}";
 
 /// Names that begin with `G`.
 const UPPER_G: &str = "\
-    GJcy=\u{403}\nGT=>\nGamma=\u{393}\nGammad=\u{3dc}\nGbreve=\u{11e}\nGcedil=\u{122}\n\
-    Gcirc=\u{11c}\nGcy=\u{413}\nGdot=\u{120}\nGfr=\u{1d50a}\nGg=\u{22d9}\nGopf=\u{1d53e}\n\
-    GreaterEqual=\u{2265}\nGreaterEqualLess=\u{22db}\nGreaterFullEqual=\u{2267}\n\
-    GreaterGreater=\u{2aa2}\nGreaterLess=\u{2277}\nGreaterSlantEqual=\u{2a7e}\n\
-    GreaterTilde=\u{2273}\nGscr=\u{1d4a2}\nGt=\u{226b}";
+    GT=>\nGg=\u{22d9}\nGt=\u{226b}\nGcy=\u{413}\nGfr=\u{1d50a}\nGJcy=\u{403}\nGdot=\u{120}\n\
+    Gopf=\u{1d53e}\nGscr=\u{1d4a2}\nGamma=\u{393}\nGcirc=\u{11c}\nGammad=\u{3dc}\n\
+    Gbreve=\u{11e}\nGcedil=\u{122}\nGreaterLess=\u{2277}\nGreaterEqual=\u{2265}\n\
+    GreaterTilde=\u{2273}\nGreaterGreater=\u{2aa2}\nGreaterEqualLess=\u{22db}\n\
+    GreaterFullEqual=\u{2267}\nGreaterSlantEqual=\u{2a7e}";
 
 /// Names that begin with `H`.
 const UPPER_H: &str = "\
-    HARDcy=\u{42a}\nHacek=\u{2c7}\nHat=^\nHcirc=\u{124}\nHfr=\u{210c}\nHilbertSpace=\u{210b}\n\
-    Hopf=\u{210d}\nHorizontalLine=\u{2500}\nHscr=\u{210b}\nHstrok=\u{126}\n\
-    HumpDownHump=\u{224e}\nHumpEqual=\u{224f}";
+    Hat=^\nHfr=\u{210c}\nHopf=\u{210d}\nHscr=\u{210b}\nHacek=\u{2c7}\nHcirc=\u{124}\n\
+    HARDcy=\u{42a}\nHstrok=\u{126}\nHumpEqual=\u{224f}\nHilbertSpace=\u{210b}\n\
+    HumpDownHump=\u{224e}\nHorizontalLine=\u{2500}";
 
 /// Names that begin with `I`.
 const UPPER_I: &str = "\
-    IEcy=\u{415}\nIJlig=\u{132}\nIOcy=\u{401}\nIacute=\u{cd}\nIcirc=\u{ce}\nIcy=\u{418}\n\
-    Idot=\u{130}\nIfr=\u{2111}\nIgrave=\u{cc}\nIm=\u{2111}\nImacr=\u{12a}\nImaginaryI=\u{2148}\n\
-    Implies=\u{21d2}\nInt=\u{222c}\nIntegral=\u{222b}\nIntersection=\u{22c2}\n\
-    InvisibleComma=\u{2063}\nInvisibleTimes=\u{2062}\nIogon=\u{12e}\nIopf=\u{1d540}\n\
-    Iota=\u{399}\nIscr=\u{2110}\nItilde=\u{128}\nIukcy=\u{406}\nIuml=\u{cf}";
+    Im=\u{2111}\nIcy=\u{418}\nIfr=\u{2111}\nInt=\u{222c}\nIEcy=\u{415}\nIOcy=\u{401}\n\
+    Idot=\u{130}\nIopf=\u{1d540}\nIota=\u{399}\nIscr=\u{2110}\nIuml=\u{cf}\nIJlig=\u{132}\n\
+    Icirc=\u{ce}\nImacr=\u{12a}\nIogon=\u{12e}\nIukcy=\u{406}\nIacute=\u{cd}\nIgrave=\u{cc}\n\
+    Itilde=\u{128}\nImplies=\u{21d2}\nIntegral=\u{222b}\nImaginaryI=\u{2148}\n\
+    Intersection=\u{22c2}\nInvisibleComma=\u{2063}\nInvisibleTimes=\u{2062}";
 
 /// Names that begin with `J`.
 const UPPER_J: &str = "\
-    Jcirc=\u{134}\nJcy=\u{419}\nJfr=\u{1d50d}\nJopf=\u{1d541}\nJscr=\u{1d4a5}\nJsercy=\u{408}\n\
-    Jukcy=\u{404}";
+    Jcy=\u{419}\nJfr=\u{1d50d}\nJopf=\u{1d541}\nJscr=\u{1d4a5}\nJcirc=\u{134}\nJukcy=\u{404}\n\
+    Jsercy=\u{408}";
 
 /// Names that begin with `K`.
 const UPPER_K: &str = "\
-    KHcy=\u{425}\nKJcy=\u{40c}\nKappa=\u{39a}\nKcedil=\u{136}\nKcy=\u{41a}\nKfr=\u{1d50e}\n\
-    Kopf=\u{1d542}\nKscr=\u{1d4a6}";
+    Kcy=\u{41a}\nKfr=\u{1d50e}\nKHcy=\u{425}\nKJcy=\u{40c}\nKopf=\u{1d542}\nKscr=\u{1d4a6}\n\
+    Kappa=\u{39a}\nKcedil=\u{136}";
 
 /// Names that begin with `L`.
 const UPPER_L: &str = "\
-    LJcy=\u{409}\nLT=<\nLacute=\u{139}\nLambda=\u{39b}\nLang=\u{27ea}\nLaplacetrf=\u{2112}\n\
-    Larr=\u{219e}\nLcaron=\u{13d}\nLcedil=\u{13b}\nLcy=\u{41b}\nLeftAngleBracket=\u{27e8}\n\
-    LeftArrow=\u{2190}\nLeftArrowBar=\u{21e4}\nLeftArrowRightArrow=\u{21c6}\n\
-    LeftCeiling=\u{2308}\nLeftDoubleBracket=\u{27e6}\nLeftDownTeeVector=\u{2961}\n\
-    LeftDownVector=\u{21c3}\nLeftDownVectorBar=\u{2959}\nLeftFloor=\u{230a}\n\
-    LeftRightArrow=\u{2194}\nLeftRightVector=\u{294e}\nLeftTee=\u{22a3}\nLeftTeeArrow=\u{21a4}\n\
-    LeftTeeVector=\u{295a}\nLeftTriangle=\u{22b2}\nLeftTriangleBar=\u{29cf}\n\
-    LeftTriangleEqual=\u{22b4}\nLeftUpDownVector=\u{2951}\nLeftUpTeeVector=\u{2960}\n\
-    LeftUpVector=\u{21bf}\nLeftUpVectorBar=\u{2958}\nLeftVector=\u{21bc}\n\
-    LeftVectorBar=\u{2952}\nLeftarrow=\u{21d0}\nLeftrightarrow=\u{21d4}\n\
-    LessEqualGreater=\u{22da}\nLessFullEqual=\u{2266}\nLessGreater=\u{2276}\nLessLess=\u{2aa1}\n\
-    LessSlantEqual=\u{2a7d}\nLessTilde=\u{2272}\nLfr=\u{1d50f}\nLl=\u{22d8}\n\
-    Lleftarrow=\u{21da}\nLmidot=\u{13f}\nLongLeftArrow=\u{27f5}\nLongLeftRightArrow=\u{27f7}\n\
-    LongRightArrow=\u{27f6}\nLongleftarrow=\u{27f8}\nLongleftrightarrow=\u{27fa}\n\
-    Longrightarrow=\u{27f9}\nLopf=\u{1d543}\nLowerLeftArrow=\u{2199}\nLowerRightArrow=\u{2198}\n\
-    Lscr=\u{2112}\nLsh=\u{21b0}\nLstrok=\u{141}\nLt=\u{226a}";
+    LT=<\nLl=\u{22d8}\nLt=\u{226a}\nLcy=\u{41b}\nLfr=\u{1d50f}\nLsh=\u{21b0}\nLJcy=\u{409}\n\
+    Lang=\u{27ea}\nLarr=\u{219e}\nLopf=\u{1d543}\nLscr=\u{2112}\nLacute=\u{139}\n\
+    Lambda=\u{39b}\nLcaron=\u{13d}\nLcedil=\u{13b}\nLmidot=\u{13f}\nLstrok=\u{141}\n\
+    LeftTee=\u{22a3}\nLessLess=\u{2aa1}\nLeftArrow=\u{2190}\nLeftFloor=\u{230a}\n\
+    Leftarrow=\u{21d0}\nLessTilde=\u{2272}\nLaplacetrf=\u{2112}\nLeftVector=\u{21bc}\n\
+    Lleftarrow=\u{21da}\nLeftCeiling=\u{2308}\nLessGreater=\u{2276}\nLeftArrowBar=\u{21e4}\n\
+    LeftTeeArrow=\u{21a4}\nLeftTriangle=\u{22b2}\nLeftUpVector=\u{21bf}\n\
+    LeftTeeVector=\u{295a}\nLeftVectorBar=\u{2952}\nLessFullEqual=\u{2266}\n\
+    LongLeftArrow=\u{27f5}\nLongleftarrow=\u{27f8}\nLeftDownVector=\u{21c3}\n\
+    LeftRightArrow=\u{2194}\nLeftrightarrow=\u{21d4}\nLessSlantEqual=\u{2a7d}\n\
+    LongRightArrow=\u{27f6}\nLongrightarrow=\u{27f9}\nLowerLeftArrow=\u{2199}\n\
+    LeftRightVector=\u{294e}\nLeftTriangleBar=\u{29cf}\nLeftUpTeeVector=\u{2960}\n\
+    LeftUpVectorBar=\u{2958}\nLowerRightArrow=\u{2198}\nLeftAngleBracket=\u{27e8}\n\
+    LeftUpDownVector=\u{2951}\nLessEqualGreater=\u{22da}\nLeftDoubleBracket=\u{27e6}\n\
+    LeftDownTeeVector=\u{2961}\nLeftDownVectorBar=\u{2959}\nLeftTriangleEqual=\u{22b4}\n\
+    LongLeftRightArrow=\u{27f7}\nLongleftrightarrow=\u{27fa}\nLeftArrowRightArrow=\u{21c6}";
 
 /// Names that begin with `M`.
 const UPPER_M: &str = "\
-    Map=\u{2905}\nMcy=\u{41c}\nMediumSpace=\u{205f}\nMellintrf=\u{2133}\nMfr=\u{1d510}\n\
-    MinusPlus=\u{2213}\nMopf=\u{1d544}\nMscr=\u{2133}\nMu=\u{39c}";
+    Mu=\u{39c}\nMap=\u{2905}\nMcy=\u{41c}\nMfr=\u{1d510}\nMopf=\u{1d544}\nMscr=\u{2133}\n\
+    Mellintrf=\u{2133}\nMinusPlus=\u{2213}\nMediumSpace=\u{205f}";
 
 /// Names that begin with `N`.
 const UPPER_N: &str = "\
-    NJcy=\u{40a}\nNacute=\u{143}\nNcaron=\u{147}\nNcedil=\u{145}\nNcy=\u{41d}\n\
-    NegativeMediumSpace=\u{200b}\nNegativeThickSpace=\u{200b}\nNegativeThinSpace=\u{200b}\n\
-    NegativeVeryThinSpace=\u{200b}\nNestedGreaterGreater=\u{226b}\nNestedLessLess=\u{226a}\n\
-    Nfr=\u{1d511}\nNoBreak=\u{2060}\nNonBreakingSpace=\u{a0}\nNopf=\u{2115}\nNot=\u{2aec}\n\
-    NotCongruent=\u{2262}\nNotCupCap=\u{226d}\nNotDoubleVerticalBar=\u{2226}\n\
-    NotElement=\u{2209}\nNotEqual=\u{2260}\nNotEqualTilde=\u{2242}\u{338}\nNotExists=\u{2204}\n\
-    NotGreater=\u{226f}\nNotGreaterEqual=\u{2271}\nNotGreaterFullEqual=\u{2267}\u{338}\n\
-    NotGreaterGreater=\u{226b}\u{338}\nNotGreaterLess=\u{2279}\n\
-    NotGreaterSlantEqual=\u{2a7e}\u{338}\nNotGreaterTilde=\u{2275}\n\
-    NotHumpDownHump=\u{224e}\u{338}\nNotHumpEqual=\u{224f}\u{338}\nNotLeftTriangle=\u{22ea}\n\
-    NotLeftTriangleBar=\u{29cf}\u{338}\nNotLeftTriangleEqual=\u{22ec}\nNotLess=\u{226e}\n\
-    NotLessEqual=\u{2270}\nNotLessGreater=\u{2278}\nNotLessLess=\u{226a}\u{338}\n\
-    NotLessSlantEqual=\u{2a7d}\u{338}\nNotLessTilde=\u{2274}\n\
-    NotNestedGreaterGreater=\u{2aa2}\u{338}\nNotNestedLessLess=\u{2aa1}\u{338}\n\
-    NotPrecedes=\u{2280}\nNotPrecedesEqual=\u{2aaf}\u{338}\nNotPrecedesSlantEqual=\u{22e0}\n\
-    NotReverseElement=\u{220c}\nNotRightTriangle=\u{22eb}\nNotRightTriangleBar=\u{29d0}\u{338}\n\
-    NotRightTriangleEqual=\u{22ed}\nNotSquareSubset=\u{228f}\u{338}\n\
-    NotSquareSubsetEqual=\u{22e2}\nNotSquareSuperset=\u{2290}\u{338}\n\
-    NotSquareSupersetEqual=\u{22e3}\nNotSubset=\u{2282}\u{20d2}\nNotSubsetEqual=\u{2288}\n\
-    NotSucceeds=\u{2281}\nNotSucceedsEqual=\u{2ab0}\u{338}\nNotSucceedsSlantEqual=\u{22e1}\n\
-    NotSucceedsTilde=\u{227f}\u{338}\nNotSuperset=\u{2283}\u{20d2}\nNotSupersetEqual=\u{2289}\n\
-    NotTilde=\u{2241}\nNotTildeEqual=\u{2244}\nNotTildeFullEqual=\u{2247}\n\
-    NotTildeTilde=\u{2249}\nNotVerticalBar=\u{2224}\nNscr=\u{1d4a9}\nNtilde=\u{d1}\nNu=\u{39d}";
+    Nu=\u{39d}\nNcy=\u{41d}\nNfr=\u{1d511}\nNot=\u{2aec}\nNJcy=\u{40a}\nNopf=\u{2115}\n\
+    Nscr=\u{1d4a9}\nNacute=\u{143}\nNcaron=\u{147}\nNcedil=\u{145}\nNtilde=\u{d1}\n\
+    NoBreak=\u{2060}\nNotLess=\u{226e}\nNotEqual=\u{2260}\nNotTilde=\u{2241}\n\
+    NotCupCap=\u{226d}\nNotExists=\u{2204}\nNotSubset=\u{2282}\u{20d2}\nNotElement=\u{2209}\n\
+    NotGreater=\u{226f}\nNotLessLess=\u{226a}\u{338}\nNotPrecedes=\u{2280}\n\
+    NotSucceeds=\u{2281}\nNotSuperset=\u{2283}\u{20d2}\nNotCongruent=\u{2262}\n\
+    NotHumpEqual=\u{224f}\u{338}\nNotLessEqual=\u{2270}\nNotLessTilde=\u{2274}\n\
+    NotEqualTilde=\u{2242}\u{338}\nNotTildeEqual=\u{2244}\nNotTildeTilde=\u{2249}\n\
+    NestedLessLess=\u{226a}\nNotGreaterLess=\u{2279}\nNotLessGreater=\u{2278}\n\
+    NotSubsetEqual=\u{2288}\nNotVerticalBar=\u{2224}\nNotGreaterEqual=\u{2271}\n\
+    NotGreaterTilde=\u{2275}\nNotHumpDownHump=\u{224e}\u{338}\nNotLeftTriangle=\u{22ea}\n\
+    NotSquareSubset=\u{228f}\u{338}\nNonBreakingSpace=\u{a0}\nNotPrecedesEqual=\u{2aaf}\u{338}\n\
+    NotRightTriangle=\u{22eb}\nNotSucceedsEqual=\u{2ab0}\u{338}\n\
+    NotSucceedsTilde=\u{227f}\u{338}\nNotSupersetEqual=\u{2289}\nNegativeThinSpace=\u{200b}\n\
+    NotGreaterGreater=\u{226b}\u{338}\nNotLessSlantEqual=\u{2a7d}\u{338}\n\
+    NotNestedLessLess=\u{2aa1}\u{338}\nNotReverseElement=\u{220c}\n\
+    NotSquareSuperset=\u{2290}\u{338}\nNotTildeFullEqual=\u{2247}\nNegativeThickSpace=\u{200b}\n\
+    NotLeftTriangleBar=\u{29cf}\u{338}\nNegativeMediumSpace=\u{200b}\n\
+    NotGreaterFullEqual=\u{2267}\u{338}\nNotRightTriangleBar=\u{29d0}\u{338}\n\
+    NestedGreaterGreater=\u{226b}\nNotDoubleVerticalBar=\u{2226}\n\
+    NotGreaterSlantEqual=\u{2a7e}\u{338}\nNotLeftTriangleEqual=\u{22ec}\n\
+    NotSquareSubsetEqual=\u{22e2}\nNegativeVeryThinSpace=\u{200b}\n\
+    NotPrecedesSlantEqual=\u{22e0}\nNotRightTriangleEqual=\u{22ed}\n\
+    NotSucceedsSlantEqual=\u{22e1}\nNotSquareSupersetEqual=\u{22e3}\n\
+    NotNestedGreaterGreater=\u{2aa2}\u{338}";
 
 /// Names that begin with `O`.
 const UPPER_O: &str = "\
-    OElig=\u{152}\nOacute=\u{d3}\nOcirc=\u{d4}\nOcy=\u{41e}\nOdblac=\u{150}\nOfr=\u{1d512}\n\
-    Ograve=\u{d2}\nOmacr=\u{14c}\nOmega=\u{3a9}\nOmicron=\u{39f}\nOopf=\u{1d546}\n\
-    OpenCurlyDoubleQuote=\u{201c}\nOpenCurlyQuote=\u{2018}\nOr=\u{2a54}\nOscr=\u{1d4aa}\n\
-    Oslash=\u{d8}\nOtilde=\u{d5}\nOtimes=\u{2a37}\nOuml=\u{d6}\nOverBar=\u{203e}\n\
-    OverBrace=\u{23de}\nOverBracket=\u{23b4}\nOverParenthesis=\u{23dc}";
+    Or=\u{2a54}\nOcy=\u{41e}\nOfr=\u{1d512}\nOopf=\u{1d546}\nOscr=\u{1d4aa}\nOuml=\u{d6}\n\
+    OElig=\u{152}\nOcirc=\u{d4}\nOmacr=\u{14c}\nOmega=\u{3a9}\nOacute=\u{d3}\nOdblac=\u{150}\n\
+    Ograve=\u{d2}\nOslash=\u{d8}\nOtilde=\u{d5}\nOtimes=\u{2a37}\nOmicron=\u{39f}\n\
+    OverBar=\u{203e}\nOverBrace=\u{23de}\nOverBracket=\u{23b4}\nOpenCurlyQuote=\u{2018}\n\
+    OverParenthesis=\u{23dc}\nOpenCurlyDoubleQuote=\u{201c}";
 
 /// Names that begin with `P`.
 const UPPER_P: &str = "\
-    PartialD=\u{2202}\nPcy=\u{41f}\nPfr=\u{1d513}\nPhi=\u{3a6}\nPi=\u{3a0}\nPlusMinus=\u{b1}\n\
-    Poincareplane=\u{210c}\nPopf=\u{2119}\nPr=\u{2abb}\nPrecedes=\u{227a}\n\
-    PrecedesEqual=\u{2aaf}\nPrecedesSlantEqual=\u{227c}\nPrecedesTilde=\u{227e}\n\
-    Prime=\u{2033}\nProduct=\u{220f}\nProportion=\u{2237}\nProportional=\u{221d}\n\
-    Pscr=\u{1d4ab}\nPsi=\u{3a8}";
+    Pi=\u{3a0}\nPr=\u{2abb}\nPcy=\u{41f}\nPfr=\u{1d513}\nPhi=\u{3a6}\nPsi=\u{3a8}\n\
+    Popf=\u{2119}\nPscr=\u{1d4ab}\nPrime=\u{2033}\nProduct=\u{220f}\nPartialD=\u{2202}\n\
+    Precedes=\u{227a}\nPlusMinus=\u{b1}\nProportion=\u{2237}\nProportional=\u{221d}\n\
+    Poincareplane=\u{210c}\nPrecedesEqual=\u{2aaf}\nPrecedesTilde=\u{227e}\n\
+    PrecedesSlantEqual=\u{227c}";
 
 /// Names that begin with `Q`.
 const UPPER_Q: &str = "\
-    QUOT=\"\nQfr=\u{1d514}\nQopf=\u{211a}\nQscr=\u{1d4ac}";
+    Qfr=\u{1d514}\nQUOT=\"\nQopf=\u{211a}\nQscr=\u{1d4ac}";
 
 /// Names that begin with `R`.
 const UPPER_R: &str = "\
-    RBarr=\u{2910}\nREG=\u{ae}\nRacute=\u{154}\nRang=\u{27eb}\nRarr=\u{21a0}\nRarrtl=\u{2916}\n\
-    Rcaron=\u{158}\nRcedil=\u{156}\nRcy=\u{420}\nRe=\u{211c}\nReverseElement=\u{220b}\n\
-    ReverseEquilibrium=\u{21cb}\nReverseUpEquilibrium=\u{296f}\nRfr=\u{211c}\nRho=\u{3a1}\n\
-    RightAngleBracket=\u{27e9}\nRightArrow=\u{2192}\nRightArrowBar=\u{21e5}\n\
-    RightArrowLeftArrow=\u{21c4}\nRightCeiling=\u{2309}\nRightDoubleBracket=\u{27e7}\n\
-    RightDownTeeVector=\u{295d}\nRightDownVector=\u{21c2}\nRightDownVectorBar=\u{2955}\n\
-    RightFloor=\u{230b}\nRightTee=\u{22a2}\nRightTeeArrow=\u{21a6}\nRightTeeVector=\u{295b}\n\
-    RightTriangle=\u{22b3}\nRightTriangleBar=\u{29d0}\nRightTriangleEqual=\u{22b5}\n\
-    RightUpDownVector=\u{294f}\nRightUpTeeVector=\u{295c}\nRightUpVector=\u{21be}\n\
-    RightUpVectorBar=\u{2954}\nRightVector=\u{21c0}\nRightVectorBar=\u{2953}\n\
-    Rightarrow=\u{21d2}\nRopf=\u{211d}\nRoundImplies=\u{2970}\nRrightarrow=\u{21db}\n\
-    Rscr=\u{211b}\nRsh=\u{21b1}\nRuleDelayed=\u{29f4}";
+    Re=\u{211c}\nREG=\u{ae}\nRcy=\u{420}\nRfr=\u{211c}\nRho=\u{3a1}\nRsh=\u{21b1}\n\
+    Rang=\u{27eb}\nRarr=\u{21a0}\nRopf=\u{211d}\nRscr=\u{211b}\nRBarr=\u{2910}\nRacute=\u{154}\n\
+    Rarrtl=\u{2916}\nRcaron=\u{158}\nRcedil=\u{156}\nRightTee=\u{22a2}\nRightArrow=\u{2192}\n\
+    RightFloor=\u{230b}\nRightarrow=\u{21d2}\nRightVector=\u{21c0}\nRrightarrow=\u{21db}\n\
+    RuleDelayed=\u{29f4}\nRightCeiling=\u{2309}\nRoundImplies=\u{2970}\nRightArrowBar=\u{21e5}\n\
+    RightTeeArrow=\u{21a6}\nRightTriangle=\u{22b3}\nRightUpVector=\u{21be}\n\
+    ReverseElement=\u{220b}\nRightTeeVector=\u{295b}\nRightVectorBar=\u{2953}\n\
+    RightDownVector=\u{21c2}\nRightTriangleBar=\u{29d0}\nRightUpTeeVector=\u{295c}\n\
+    RightUpVectorBar=\u{2954}\nRightAngleBracket=\u{27e9}\nRightUpDownVector=\u{294f}\n\
+    ReverseEquilibrium=\u{21cb}\nRightDoubleBracket=\u{27e7}\nRightDownTeeVector=\u{295d}\n\
+    RightDownVectorBar=\u{2955}\nRightTriangleEqual=\u{22b5}\nRightArrowLeftArrow=\u{21c4}\n\
+    ReverseUpEquilibrium=\u{296f}";
 
 /// Names that begin with `S`.
 const UPPER_S: &str = "\
-    SHCHcy=\u{429}\nSHcy=\u{428}\nSOFTcy=\u{42c}\nSacute=\u{15a}\nSc=\u{2abc}\nScaron=\u{160}\n\
-    Scedil=\u{15e}\nScirc=\u{15c}\nScy=\u{421}\nSfr=\u{1d516}\nShortDownArrow=\u{2193}\n\
-    ShortLeftArrow=\u{2190}\nShortRightArrow=\u{2192}\nShortUpArrow=\u{2191}\nSigma=\u{3a3}\n\
-    SmallCircle=\u{2218}\nSopf=\u{1d54a}\nSqrt=\u{221a}\nSquare=\u{25a1}\n\
-    SquareIntersection=\u{2293}\nSquareSubset=\u{228f}\nSquareSubsetEqual=\u{2291}\n\
-    SquareSuperset=\u{2290}\nSquareSupersetEqual=\u{2292}\nSquareUnion=\u{2294}\n\
-    Sscr=\u{1d4ae}\nStar=\u{22c6}\nSub=\u{22d0}\nSubset=\u{22d0}\nSubsetEqual=\u{2286}\n\
-    Succeeds=\u{227b}\nSucceedsEqual=\u{2ab0}\nSucceedsSlantEqual=\u{227d}\n\
-    SucceedsTilde=\u{227f}\nSuchThat=\u{220b}\nSum=\u{2211}\nSup=\u{22d1}\nSuperset=\u{2283}\n\
-    SupersetEqual=\u{2287}\nSupset=\u{22d1}";
+    Sc=\u{2abc}\nScy=\u{421}\nSfr=\u{1d516}\nSub=\u{22d0}\nSum=\u{2211}\nSup=\u{22d1}\n\
+    SHcy=\u{428}\nSopf=\u{1d54a}\nSqrt=\u{221a}\nSscr=\u{1d4ae}\nStar=\u{22c6}\nScirc=\u{15c}\n\
+    Sigma=\u{3a3}\nSHCHcy=\u{429}\nSOFTcy=\u{42c}\nSacute=\u{15a}\nScaron=\u{160}\n\
+    Scedil=\u{15e}\nSquare=\u{25a1}\nSubset=\u{22d0}\nSupset=\u{22d1}\nSucceeds=\u{227b}\n\
+    SuchThat=\u{220b}\nSuperset=\u{2283}\nSmallCircle=\u{2218}\nSquareUnion=\u{2294}\n\
+    SubsetEqual=\u{2286}\nShortUpArrow=\u{2191}\nSquareSubset=\u{228f}\nSucceedsEqual=\u{2ab0}\n\
+    SucceedsTilde=\u{227f}\nSupersetEqual=\u{2287}\nShortDownArrow=\u{2193}\n\
+    ShortLeftArrow=\u{2190}\nSquareSuperset=\u{2290}\nShortRightArrow=\u{2192}\n\
+    SquareSubsetEqual=\u{2291}\nSquareIntersection=\u{2293}\nSucceedsSlantEqual=\u{227d}\n\
+    SquareSupersetEqual=\u{2292}";
 
 /// Names that begin with `T`.
 const UPPER_T: &str = "\
-    THORN=\u{de}\nTRADE=\u{2122}\nTSHcy=\u{40b}\nTScy=\u{426}\nTab=\t\nTau=\u{3a4}\n\
-    Tcaron=\u{164}\nTcedil=\u{162}\nTcy=\u{422}\nTfr=\u{1d517}\nTherefore=\u{2234}\n\
-    Theta=\u{398}\nThickSpace=\u{205f}\u{200a}\nThinSpace=\u{2009}\nTilde=\u{223c}\n\
-    TildeEqual=\u{2243}\nTildeFullEqual=\u{2245}\nTildeTilde=\u{2248}\nTopf=\u{1d54b}\n\
-    TripleDot=\u{20db}\nTscr=\u{1d4af}\nTstrok=\u{166}";
+    Tab=\t\nTau=\u{3a4}\nTcy=\u{422}\nTfr=\u{1d517}\nTScy=\u{426}\nTopf=\u{1d54b}\n\
+    Tscr=\u{1d4af}\nTHORN=\u{de}\nTRADE=\u{2122}\nTSHcy=\u{40b}\nTheta=\u{398}\nTilde=\u{223c}\n\
+    Tcaron=\u{164}\nTcedil=\u{162}\nTstrok=\u{166}\nTherefore=\u{2234}\nThinSpace=\u{2009}\n\
+    TripleDot=\u{20db}\nThickSpace=\u{205f}\u{200a}\nTildeEqual=\u{2243}\nTildeTilde=\u{2248}\n\
+    TildeFullEqual=\u{2245}";
 
 /// Names that begin with `U`.
 const UPPER_U: &str = "\
-    Uacute=\u{da}\nUarr=\u{219f}\nUarrocir=\u{2949}\nUbrcy=\u{40e}\nUbreve=\u{16c}\n\
-    Ucirc=\u{db}\nUcy=\u{423}\nUdblac=\u{170}\nUfr=\u{1d518}\nUgrave=\u{d9}\nUmacr=\u{16a}\n\
-    UnderBar=_\nUnderBrace=\u{23df}\nUnderBracket=\u{23b5}\nUnderParenthesis=\u{23dd}\n\
-    Union=\u{22c3}\nUnionPlus=\u{228e}\nUogon=\u{172}\nUopf=\u{1d54c}\nUpArrow=\u{2191}\n\
-    UpArrowBar=\u{2912}\nUpArrowDownArrow=\u{21c5}\nUpDownArrow=\u{2195}\n\
-    UpEquilibrium=\u{296e}\nUpTee=\u{22a5}\nUpTeeArrow=\u{21a5}\nUparrow=\u{21d1}\n\
-    Updownarrow=\u{21d5}\nUpperLeftArrow=\u{2196}\nUpperRightArrow=\u{2197}\nUpsi=\u{3d2}\n\
-    Upsilon=\u{3a5}\nUring=\u{16e}\nUscr=\u{1d4b0}\nUtilde=\u{168}\nUuml=\u{dc}";
+    Ucy=\u{423}\nUfr=\u{1d518}\nUarr=\u{219f}\nUopf=\u{1d54c}\nUpsi=\u{3d2}\nUscr=\u{1d4b0}\n\
+    Uuml=\u{dc}\nUbrcy=\u{40e}\nUcirc=\u{db}\nUmacr=\u{16a}\nUnion=\u{22c3}\nUogon=\u{172}\n\
+    UpTee=\u{22a5}\nUring=\u{16e}\nUacute=\u{da}\nUbreve=\u{16c}\nUdblac=\u{170}\n\
+    Ugrave=\u{d9}\nUtilde=\u{168}\nUpArrow=\u{2191}\nUparrow=\u{21d1}\nUpsilon=\u{3a5}\n\
+    Uarrocir=\u{2949}\nUnderBar=_\nUnionPlus=\u{228e}\nUnderBrace=\u{23df}\n\
+    UpArrowBar=\u{2912}\nUpTeeArrow=\u{21a5}\nUpDownArrow=\u{2195}\nUpdownarrow=\u{21d5}\n\
+    UnderBracket=\u{23b5}\nUpEquilibrium=\u{296e}\nUpperLeftArrow=\u{2196}\n\
+    UpperRightArrow=\u{2197}\nUnderParenthesis=\u{23dd}\nUpArrowDownArrow=\u{21c5}";
 
 /// Names that begin with `V`.
 const UPPER_V: &str = "\
-    VDash=\u{22ab}\nVbar=\u{2aeb}\nVcy=\u{412}\nVdash=\u{22a9}\nVdashl=\u{2ae6}\nVee=\u{22c1}\n\
-    Verbar=\u{2016}\nVert=\u{2016}\nVerticalBar=\u{2223}\nVerticalLine=|\n\
-    VerticalSeparator=\u{2758}\nVerticalTilde=\u{2240}\nVeryThinSpace=\u{200a}\nVfr=\u{1d519}\n\
-    Vopf=\u{1d54d}\nVscr=\u{1d4b1}\nVvdash=\u{22aa}";
+    Vcy=\u{412}\nVee=\u{22c1}\nVfr=\u{1d519}\nVbar=\u{2aeb}\nVert=\u{2016}\nVopf=\u{1d54d}\n\
+    Vscr=\u{1d4b1}\nVDash=\u{22ab}\nVdash=\u{22a9}\nVdashl=\u{2ae6}\nVerbar=\u{2016}\n\
+    Vvdash=\u{22aa}\nVerticalBar=\u{2223}\nVerticalLine=|\nVerticalTilde=\u{2240}\n\
+    VeryThinSpace=\u{200a}\nVerticalSeparator=\u{2758}";
 
 /// Names that begin with `W`.
 const UPPER_W: &str = "\
-    Wcirc=\u{174}\nWedge=\u{22c0}\nWfr=\u{1d51a}\nWopf=\u{1d54e}\nWscr=\u{1d4b2}";
+    Wfr=\u{1d51a}\nWopf=\u{1d54e}\nWscr=\u{1d4b2}\nWcirc=\u{174}\nWedge=\u{22c0}";
 
 /// Names that begin with `X`.
 const UPPER_X: &str = "\
-    Xfr=\u{1d51b}\nXi=\u{39e}\nXopf=\u{1d54f}\nXscr=\u{1d4b3}";
+    Xi=\u{39e}\nXfr=\u{1d51b}\nXopf=\u{1d54f}\nXscr=\u{1d4b3}";
 
 /// Names that begin with `Y`.
 const UPPER_Y: &str = "\
-    YAcy=\u{42f}\nYIcy=\u{407}\nYUcy=\u{42e}\nYacute=\u{dd}\nYcirc=\u{176}\nYcy=\u{42b}\n\
-    Yfr=\u{1d51c}\nYopf=\u{1d550}\nYscr=\u{1d4b4}\nYuml=\u{178}";
+    Ycy=\u{42b}\nYfr=\u{1d51c}\nYAcy=\u{42f}\nYIcy=\u{407}\nYUcy=\u{42e}\nYopf=\u{1d550}\n\
+    Yscr=\u{1d4b4}\nYuml=\u{178}\nYcirc=\u{176}\nYacute=\u{dd}";
 
 /// Names that begin with `Z`.
 const UPPER_Z: &str = "\
-    ZHcy=\u{416}\nZacute=\u{179}\nZcaron=\u{17d}\nZcy=\u{417}\nZdot=\u{17b}\n\
-    ZeroWidthSpace=\u{200b}\nZeta=\u{396}\nZfr=\u{2128}\nZopf=\u{2124}\nZscr=\u{1d4b5}";
+    Zcy=\u{417}\nZfr=\u{2128}\nZHcy=\u{416}\nZdot=\u{17b}\nZeta=\u{396}\nZopf=\u{2124}\n\
+    Zscr=\u{1d4b5}\nZacute=\u{179}\nZcaron=\u{17d}\nZeroWidthSpace=\u{200b}";
 
 /// Names that begin with `a`.
 const LOWER_A: &str = "\
-    amp=&\nauml=\u{e4}\napos='\naacute=\u{e1}\nabreve=\u{103}\nac=\u{223e}\n\
-    acE=\u{223e}\u{333}\nacd=\u{223f}\nacirc=\u{e2}\nacute=\u{b4}\nacy=\u{430}\naelig=\u{e6}\n\
-    af=\u{2061}\nafr=\u{1d51e}\nagrave=\u{e0}\nalefsym=\u{2135}\naleph=\u{2135}\nalpha=\u{3b1}\n\
-    amacr=\u{101}\namalg=\u{2a3f}\nand=\u{2227}\nandand=\u{2a55}\nandd=\u{2a5c}\n\
-    andslope=\u{2a58}\nandv=\u{2a5a}\nang=\u{2220}\nange=\u{29a4}\nangle=\u{2220}\n\
-    angmsd=\u{2221}\nangmsdaa=\u{29a8}\nangmsdab=\u{29a9}\nangmsdac=\u{29aa}\n\
-    angmsdad=\u{29ab}\nangmsdae=\u{29ac}\nangmsdaf=\u{29ad}\nangmsdag=\u{29ae}\n\
-    angmsdah=\u{29af}\nangrt=\u{221f}\nangrtvb=\u{22be}\nangrtvbd=\u{299d}\nangsph=\u{2222}\n\
-    angst=\u{c5}\nangzarr=\u{237c}\naogon=\u{105}\naopf=\u{1d552}\nap=\u{2248}\napE=\u{2a70}\n\
-    apacir=\u{2a6f}\nape=\u{224a}\napid=\u{224b}\napprox=\u{2248}\napproxeq=\u{224a}\n\
-    aring=\u{e5}\nascr=\u{1d4b6}\nast=*\nasymp=\u{2248}\nasympeq=\u{224d}\natilde=\u{e3}\n\
-    awconint=\u{2233}\nawint=\u{2a11}";
+    amp=&\nauml=\u{e4}\napos='\nac=\u{223e}\naf=\u{2061}\nap=\u{2248}\nacE=\u{223e}\u{333}\n\
+    acd=\u{223f}\nacy=\u{430}\nafr=\u{1d51e}\nand=\u{2227}\nang=\u{2220}\napE=\u{2a70}\n\
+    ape=\u{224a}\nast=*\nandd=\u{2a5c}\nandv=\u{2a5a}\nange=\u{29a4}\naopf=\u{1d552}\n\
+    apid=\u{224b}\nascr=\u{1d4b6}\nacirc=\u{e2}\nacute=\u{b4}\naelig=\u{e6}\naleph=\u{2135}\n\
+    alpha=\u{3b1}\namacr=\u{101}\namalg=\u{2a3f}\nangle=\u{2220}\nangrt=\u{221f}\nangst=\u{c5}\n\
+    aogon=\u{105}\naring=\u{e5}\nasymp=\u{2248}\nawint=\u{2a11}\naacute=\u{e1}\nabreve=\u{103}\n\
+    agrave=\u{e0}\nandand=\u{2a55}\nangmsd=\u{2221}\nangsph=\u{2222}\napacir=\u{2a6f}\n\
+    approx=\u{2248}\natilde=\u{e3}\nalefsym=\u{2135}\nangrtvb=\u{22be}\nangzarr=\u{237c}\n\
+    asympeq=\u{224d}\nandslope=\u{2a58}\nangmsdaa=\u{29a8}\nangmsdab=\u{29a9}\n\
+    angmsdac=\u{29aa}\nangmsdad=\u{29ab}\nangmsdae=\u{29ac}\nangmsdaf=\u{29ad}\n\
+    angmsdag=\u{29ae}\nangmsdah=\u{29af}\nangrtvbd=\u{299d}\napproxeq=\u{224a}\n\
+    awconint=\u{2233}";
 
 /// Names that begin with `b`.
 const LOWER_B: &str = "\
-    bull=\u{2022}\nbNot=\u{2aed}\nbackcong=\u{224c}\nbackepsilon=\u{3f6}\nbackprime=\u{2035}\n\
-    backsim=\u{223d}\nbacksimeq=\u{22cd}\nbarvee=\u{22bd}\nbarwed=\u{2305}\nbarwedge=\u{2305}\n\
-    bbrk=\u{23b5}\nbbrktbrk=\u{23b6}\nbcong=\u{224c}\nbcy=\u{431}\nbdquo=\u{201e}\n\
-    becaus=\u{2235}\nbecause=\u{2235}\nbemptyv=\u{29b0}\nbepsi=\u{3f6}\nbernou=\u{212c}\n\
-    beta=\u{3b2}\nbeth=\u{2136}\nbetween=\u{226c}\nbfr=\u{1d51f}\nbigcap=\u{22c2}\n\
-    bigcirc=\u{25ef}\nbigcup=\u{22c3}\nbigodot=\u{2a00}\nbigoplus=\u{2a01}\nbigotimes=\u{2a02}\n\
-    bigsqcup=\u{2a06}\nbigstar=\u{2605}\nbigtriangledown=\u{25bd}\nbigtriangleup=\u{25b3}\n\
-    biguplus=\u{2a04}\nbigvee=\u{22c1}\nbigwedge=\u{22c0}\nbkarow=\u{290d}\n\
-    blacklozenge=\u{29eb}\nblacksquare=\u{25aa}\nblacktriangle=\u{25b4}\n\
-    blacktriangledown=\u{25be}\nblacktriangleleft=\u{25c2}\nblacktriangleright=\u{25b8}\n\
-    blank=\u{2423}\nblk12=\u{2592}\nblk14=\u{2591}\nblk34=\u{2593}\nblock=\u{2588}\n\
-    bne==\u{20e5}\nbnequiv=\u{2261}\u{20e5}\nbnot=\u{2310}\nbopf=\u{1d553}\nbot=\u{22a5}\n\
-    bottom=\u{22a5}\nbowtie=\u{22c8}\nboxDL=\u{2557}\nboxDR=\u{2554}\nboxDl=\u{2556}\n\
-    boxDr=\u{2553}\nboxH=\u{2550}\nboxHD=\u{2566}\nboxHU=\u{2569}\nboxHd=\u{2564}\n\
-    boxHu=\u{2567}\nboxUL=\u{255d}\nboxUR=\u{255a}\nboxUl=\u{255c}\nboxUr=\u{2559}\n\
-    boxV=\u{2551}\nboxVH=\u{256c}\nboxVL=\u{2563}\nboxVR=\u{2560}\nboxVh=\u{256b}\n\
-    boxVl=\u{2562}\nboxVr=\u{255f}\nboxbox=\u{29c9}\nboxdL=\u{2555}\nboxdR=\u{2552}\n\
-    boxdl=\u{2510}\nboxdr=\u{250c}\nboxh=\u{2500}\nboxhD=\u{2565}\nboxhU=\u{2568}\n\
-    boxhd=\u{252c}\nboxhu=\u{2534}\nboxminus=\u{229f}\nboxplus=\u{229e}\nboxtimes=\u{22a0}\n\
-    boxuL=\u{255b}\nboxuR=\u{2558}\nboxul=\u{2518}\nboxur=\u{2514}\nboxv=\u{2502}\n\
-    boxvH=\u{256a}\nboxvL=\u{2561}\nboxvR=\u{255e}\nboxvh=\u{253c}\nboxvl=\u{2524}\n\
-    boxvr=\u{251c}\nbprime=\u{2035}\nbreve=\u{2d8}\nbrvbar=\u{a6}\nbscr=\u{1d4b7}\n\
-    bsemi=\u{204f}\nbsim=\u{223d}\nbsime=\u{22cd}\nbsol=\\\nbsolb=\u{29c5}\nbsolhsub=\u{27c8}\n\
-    bullet=\u{2022}\nbump=\u{224e}\nbumpE=\u{2aae}\nbumpe=\u{224f}\nbumpeq=\u{224f}";
+    bull=\u{2022}\nbcy=\u{431}\nbfr=\u{1d51f}\nbne==\u{20e5}\nbot=\u{22a5}\nbNot=\u{2aed}\n\
+    bbrk=\u{23b5}\nbeta=\u{3b2}\nbeth=\u{2136}\nbnot=\u{2310}\nbopf=\u{1d553}\nboxH=\u{2550}\n\
+    boxV=\u{2551}\nboxh=\u{2500}\nboxv=\u{2502}\nbscr=\u{1d4b7}\nbsim=\u{223d}\nbsol=\\\n\
+    bump=\u{224e}\nbcong=\u{224c}\nbdquo=\u{201e}\nbepsi=\u{3f6}\nblank=\u{2423}\n\
+    blk12=\u{2592}\nblk14=\u{2591}\nblk34=\u{2593}\nblock=\u{2588}\nboxDL=\u{2557}\n\
+    boxDR=\u{2554}\nboxDl=\u{2556}\nboxDr=\u{2553}\nboxHD=\u{2566}\nboxHU=\u{2569}\n\
+    boxHd=\u{2564}\nboxHu=\u{2567}\nboxUL=\u{255d}\nboxUR=\u{255a}\nboxUl=\u{255c}\n\
+    boxUr=\u{2559}\nboxVH=\u{256c}\nboxVL=\u{2563}\nboxVR=\u{2560}\nboxVh=\u{256b}\n\
+    boxVl=\u{2562}\nboxVr=\u{255f}\nboxdL=\u{2555}\nboxdR=\u{2552}\nboxdl=\u{2510}\n\
+    boxdr=\u{250c}\nboxhD=\u{2565}\nboxhU=\u{2568}\nboxhd=\u{252c}\nboxhu=\u{2534}\n\
+    boxuL=\u{255b}\nboxuR=\u{2558}\nboxul=\u{2518}\nboxur=\u{2514}\nboxvH=\u{256a}\n\
+    boxvL=\u{2561}\nboxvR=\u{255e}\nboxvh=\u{253c}\nboxvl=\u{2524}\nboxvr=\u{251c}\n\
+    breve=\u{2d8}\nbsemi=\u{204f}\nbsime=\u{22cd}\nbsolb=\u{29c5}\nbumpE=\u{2aae}\n\
+    bumpe=\u{224f}\nbarvee=\u{22bd}\nbarwed=\u{2305}\nbecaus=\u{2235}\nbernou=\u{212c}\n\
+    bigcap=\u{22c2}\nbigcup=\u{22c3}\nbigvee=\u{22c1}\nbkarow=\u{290d}\nbottom=\u{22a5}\n\
+    bowtie=\u{22c8}\nboxbox=\u{29c9}\nbprime=\u{2035}\nbrvbar=\u{a6}\nbullet=\u{2022}\n\
+    bumpeq=\u{224f}\nbacksim=\u{223d}\nbecause=\u{2235}\nbemptyv=\u{29b0}\nbetween=\u{226c}\n\
+    bigcirc=\u{25ef}\nbigodot=\u{2a00}\nbigstar=\u{2605}\nbnequiv=\u{2261}\u{20e5}\n\
+    boxplus=\u{229e}\nbackcong=\u{224c}\nbarwedge=\u{2305}\nbbrktbrk=\u{23b6}\n\
+    bigoplus=\u{2a01}\nbigsqcup=\u{2a06}\nbiguplus=\u{2a04}\nbigwedge=\u{22c0}\n\
+    boxminus=\u{229f}\nboxtimes=\u{22a0}\nbsolhsub=\u{27c8}\nbackprime=\u{2035}\n\
+    backsimeq=\u{22cd}\nbigotimes=\u{2a02}\nbackepsilon=\u{3f6}\nblacksquare=\u{25aa}\n\
+    blacklozenge=\u{29eb}\nbigtriangleup=\u{25b3}\nblacktriangle=\u{25b4}\n\
+    bigtriangledown=\u{25bd}\nblacktriangledown=\u{25be}\nblacktriangleleft=\u{25c2}\n\
+    blacktriangleright=\u{25b8}";
 
 /// Names that begin with `c`.
 const LOWER_C: &str = "\
-    copy=\u{a9}\ncacute=\u{107}\ncap=\u{2229}\ncapand=\u{2a44}\ncapbrcup=\u{2a49}\n\
-    capcap=\u{2a4b}\ncapcup=\u{2a47}\ncapdot=\u{2a40}\ncaps=\u{2229}\u{fe00}\ncaret=\u{2041}\n\
-    caron=\u{2c7}\nccaps=\u{2a4d}\nccaron=\u{10d}\nccedil=\u{e7}\nccirc=\u{109}\n\
-    ccups=\u{2a4c}\nccupssm=\u{2a50}\ncdot=\u{10b}\ncedil=\u{b8}\ncemptyv=\u{29b2}\n\
-    cent=\u{a2}\ncenterdot=\u{b7}\ncfr=\u{1d520}\nchcy=\u{447}\ncheck=\u{2713}\n\
-    checkmark=\u{2713}\nchi=\u{3c7}\ncir=\u{25cb}\ncirE=\u{29c3}\ncirc=\u{2c6}\n\
-    circeq=\u{2257}\ncirclearrowleft=\u{21ba}\ncirclearrowright=\u{21bb}\ncircledR=\u{ae}\n\
-    circledS=\u{24c8}\ncircledast=\u{229b}\ncircledcirc=\u{229a}\ncircleddash=\u{229d}\n\
-    cire=\u{2257}\ncirfnint=\u{2a10}\ncirmid=\u{2aef}\ncirscir=\u{29c2}\nclubs=\u{2663}\n\
-    clubsuit=\u{2663}\ncolon=:\ncolone=\u{2254}\ncoloneq=\u{2254}\ncomma=,\ncommat=@\n\
-    comp=\u{2201}\ncompfn=\u{2218}\ncomplement=\u{2201}\ncomplexes=\u{2102}\ncong=\u{2245}\n\
-    congdot=\u{2a6d}\nconint=\u{222e}\ncopf=\u{1d554}\ncoprod=\u{2210}\ncopysr=\u{2117}\n\
-    crarr=\u{21b5}\ncross=\u{2717}\ncscr=\u{1d4b8}\ncsub=\u{2acf}\ncsube=\u{2ad1}\n\
-    csup=\u{2ad0}\ncsupe=\u{2ad2}\nctdot=\u{22ef}\ncudarrl=\u{2938}\ncudarrr=\u{2935}\n\
-    cuepr=\u{22de}\ncuesc=\u{22df}\ncularr=\u{21b6}\ncularrp=\u{293d}\ncup=\u{222a}\n\
-    cupbrcap=\u{2a48}\ncupcap=\u{2a46}\ncupcup=\u{2a4a}\ncupdot=\u{228d}\ncupor=\u{2a45}\n\
-    cups=\u{222a}\u{fe00}\ncurarr=\u{21b7}\ncurarrm=\u{293c}\ncurlyeqprec=\u{22de}\n\
-    curlyeqsucc=\u{22df}\ncurlyvee=\u{22ce}\ncurlywedge=\u{22cf}\ncurren=\u{a4}\n\
-    curvearrowleft=\u{21b6}\ncurvearrowright=\u{21b7}\ncuvee=\u{22ce}\ncuwed=\u{22cf}\n\
-    cwconint=\u{2232}\ncwint=\u{2231}\ncylcty=\u{232d}";
+    copy=\u{a9}\ncap=\u{2229}\ncfr=\u{1d520}\nchi=\u{3c7}\ncir=\u{25cb}\ncup=\u{222a}\n\
+    caps=\u{2229}\u{fe00}\ncdot=\u{10b}\ncent=\u{a2}\nchcy=\u{447}\ncirE=\u{29c3}\n\
+    circ=\u{2c6}\ncire=\u{2257}\ncomp=\u{2201}\ncong=\u{2245}\ncopf=\u{1d554}\ncscr=\u{1d4b8}\n\
+    csub=\u{2acf}\ncsup=\u{2ad0}\ncups=\u{222a}\u{fe00}\ncaret=\u{2041}\ncaron=\u{2c7}\n\
+    ccaps=\u{2a4d}\nccirc=\u{109}\nccups=\u{2a4c}\ncedil=\u{b8}\ncheck=\u{2713}\n\
+    clubs=\u{2663}\ncolon=:\ncomma=,\ncrarr=\u{21b5}\ncross=\u{2717}\ncsube=\u{2ad1}\n\
+    csupe=\u{2ad2}\nctdot=\u{22ef}\ncuepr=\u{22de}\ncuesc=\u{22df}\ncupor=\u{2a45}\n\
+    cuvee=\u{22ce}\ncuwed=\u{22cf}\ncwint=\u{2231}\ncacute=\u{107}\ncapand=\u{2a44}\n\
+    capcap=\u{2a4b}\ncapcup=\u{2a47}\ncapdot=\u{2a40}\nccaron=\u{10d}\nccedil=\u{e7}\n\
+    circeq=\u{2257}\ncirmid=\u{2aef}\ncolone=\u{2254}\ncommat=@\ncompfn=\u{2218}\n\
+    conint=\u{222e}\ncoprod=\u{2210}\ncopysr=\u{2117}\ncularr=\u{21b6}\ncupcap=\u{2a46}\n\
+    cupcup=\u{2a4a}\ncupdot=\u{228d}\ncurarr=\u{21b7}\ncurren=\u{a4}\ncylcty=\u{232d}\n\
+    ccupssm=\u{2a50}\ncemptyv=\u{29b2}\ncirscir=\u{29c2}\ncoloneq=\u{2254}\ncongdot=\u{2a6d}\n\
+    cudarrl=\u{2938}\ncudarrr=\u{2935}\ncularrp=\u{293d}\ncurarrm=\u{293c}\ncapbrcup=\u{2a49}\n\
+    circledR=\u{ae}\ncircledS=\u{24c8}\ncirfnint=\u{2a10}\nclubsuit=\u{2663}\n\
+    cupbrcap=\u{2a48}\ncurlyvee=\u{22ce}\ncwconint=\u{2232}\ncenterdot=\u{b7}\n\
+    checkmark=\u{2713}\ncomplexes=\u{2102}\ncircledast=\u{229b}\ncomplement=\u{2201}\n\
+    curlywedge=\u{22cf}\ncircledcirc=\u{229a}\ncircleddash=\u{229d}\ncurlyeqprec=\u{22de}\n\
+    curlyeqsucc=\u{22df}\ncurvearrowleft=\u{21b6}\ncirclearrowleft=\u{21ba}\n\
+    curvearrowright=\u{21b7}\ncirclearrowright=\u{21bb}";
 
 /// Names that begin with `d`.
 const LOWER_D: &str = "\
-    deg=\u{b0}\ndArr=\u{21d3}\ndHar=\u{2965}\ndagger=\u{2020}\ndaleth=\u{2138}\ndarr=\u{2193}\n\
-    dash=\u{2010}\ndashv=\u{22a3}\ndbkarow=\u{290f}\ndblac=\u{2dd}\ndcaron=\u{10f}\n\
-    dcy=\u{434}\ndd=\u{2146}\nddagger=\u{2021}\nddarr=\u{21ca}\nddotseq=\u{2a77}\n\
-    delta=\u{3b4}\ndemptyv=\u{29b1}\ndfisht=\u{297f}\ndfr=\u{1d521}\ndharl=\u{21c3}\n\
-    dharr=\u{21c2}\ndiam=\u{22c4}\ndiamond=\u{22c4}\ndiamondsuit=\u{2666}\ndiams=\u{2666}\n\
-    die=\u{a8}\ndigamma=\u{3dd}\ndisin=\u{22f2}\ndiv=\u{f7}\ndivide=\u{f7}\n\
-    divideontimes=\u{22c7}\ndivonx=\u{22c7}\ndjcy=\u{452}\ndlcorn=\u{231e}\ndlcrop=\u{230d}\n\
-    dollar=$\ndopf=\u{1d555}\ndot=\u{2d9}\ndoteq=\u{2250}\ndoteqdot=\u{2251}\n\
-    dotminus=\u{2238}\ndotplus=\u{2214}\ndotsquare=\u{22a1}\ndoublebarwedge=\u{2306}\n\
-    downarrow=\u{2193}\ndowndownarrows=\u{21ca}\ndownharpoonleft=\u{21c3}\n\
-    downharpoonright=\u{21c2}\ndrbkarow=\u{2910}\ndrcorn=\u{231f}\ndrcrop=\u{230c}\n\
-    dscr=\u{1d4b9}\ndscy=\u{455}\ndsol=\u{29f6}\ndstrok=\u{111}\ndtdot=\u{22f1}\ndtri=\u{25bf}\n\
-    dtrif=\u{25be}\nduarr=\u{21f5}\nduhar=\u{296f}\ndwangle=\u{29a6}\ndzcy=\u{45f}\n\
-    dzigrarr=\u{27ff}";
+    deg=\u{b0}\ndd=\u{2146}\ndcy=\u{434}\ndfr=\u{1d521}\ndie=\u{a8}\ndiv=\u{f7}\ndot=\u{2d9}\n\
+    dArr=\u{21d3}\ndHar=\u{2965}\ndarr=\u{2193}\ndash=\u{2010}\ndiam=\u{22c4}\ndjcy=\u{452}\n\
+    dopf=\u{1d555}\ndscr=\u{1d4b9}\ndscy=\u{455}\ndsol=\u{29f6}\ndtri=\u{25bf}\ndzcy=\u{45f}\n\
+    dashv=\u{22a3}\ndblac=\u{2dd}\nddarr=\u{21ca}\ndelta=\u{3b4}\ndharl=\u{21c3}\n\
+    dharr=\u{21c2}\ndiams=\u{2666}\ndisin=\u{22f2}\ndoteq=\u{2250}\ndtdot=\u{22f1}\n\
+    dtrif=\u{25be}\nduarr=\u{21f5}\nduhar=\u{296f}\ndagger=\u{2020}\ndaleth=\u{2138}\n\
+    dcaron=\u{10f}\ndfisht=\u{297f}\ndivide=\u{f7}\ndivonx=\u{22c7}\ndlcorn=\u{231e}\n\
+    dlcrop=\u{230d}\ndollar=$\ndrcorn=\u{231f}\ndrcrop=\u{230c}\ndstrok=\u{111}\n\
+    dbkarow=\u{290f}\nddagger=\u{2021}\nddotseq=\u{2a77}\ndemptyv=\u{29b1}\ndiamond=\u{22c4}\n\
+    digamma=\u{3dd}\ndotplus=\u{2214}\ndwangle=\u{29a6}\ndoteqdot=\u{2251}\ndotminus=\u{2238}\n\
+    drbkarow=\u{2910}\ndzigrarr=\u{27ff}\ndotsquare=\u{22a1}\ndownarrow=\u{2193}\n\
+    diamondsuit=\u{2666}\ndivideontimes=\u{22c7}\ndoublebarwedge=\u{2306}\n\
+    downdownarrows=\u{21ca}\ndownharpoonleft=\u{21c3}\ndownharpoonright=\u{21c2}";
 
 /// Names that begin with `e`.
 const LOWER_E: &str = "\
-    eacute=\u{e9}\negrave=\u{e8}\neuro=\u{20ac}\neDDot=\u{2a77}\neDot=\u{2251}\n\
-    easter=\u{2a6e}\necaron=\u{11b}\necir=\u{2256}\necirc=\u{ea}\necolon=\u{2255}\necy=\u{44d}\n\
-    edot=\u{117}\nee=\u{2147}\nefDot=\u{2252}\nefr=\u{1d522}\neg=\u{2a9a}\negs=\u{2a96}\n\
-    egsdot=\u{2a98}\nel=\u{2a99}\nelinters=\u{23e7}\nell=\u{2113}\nels=\u{2a95}\n\
-    elsdot=\u{2a97}\nemacr=\u{113}\nempty=\u{2205}\nemptyset=\u{2205}\nemptyv=\u{2205}\n\
-    emsp=\u{2003}\nemsp13=\u{2004}\nemsp14=\u{2005}\neng=\u{14b}\nensp=\u{2002}\neogon=\u{119}\n\
-    eopf=\u{1d556}\nepar=\u{22d5}\neparsl=\u{29e3}\neplus=\u{2a71}\nepsi=\u{3b5}\n\
-    epsilon=\u{3b5}\nepsiv=\u{3f5}\neqcirc=\u{2256}\neqcolon=\u{2255}\neqsim=\u{2242}\n\
-    eqslantgtr=\u{2a96}\neqslantless=\u{2a95}\nequals==\nequest=\u{225f}\nequiv=\u{2261}\n\
-    equivDD=\u{2a78}\neqvparsl=\u{29e5}\nerDot=\u{2253}\nerarr=\u{2971}\nescr=\u{212f}\n\
-    esdot=\u{2250}\nesim=\u{2242}\neta=\u{3b7}\neth=\u{f0}\neuml=\u{eb}\nexcl=!\n\
-    exist=\u{2203}\nexpectation=\u{2130}\nexponentiale=\u{2147}";
+    eacute=\u{e9}\negrave=\u{e8}\neuro=\u{20ac}\nee=\u{2147}\neg=\u{2a9a}\nel=\u{2a99}\n\
+    ecy=\u{44d}\nefr=\u{1d522}\negs=\u{2a96}\nell=\u{2113}\nels=\u{2a95}\neng=\u{14b}\n\
+    eta=\u{3b7}\neth=\u{f0}\neDot=\u{2251}\necir=\u{2256}\nedot=\u{117}\nemsp=\u{2003}\n\
+    ensp=\u{2002}\neopf=\u{1d556}\nepar=\u{22d5}\nepsi=\u{3b5}\nescr=\u{212f}\nesim=\u{2242}\n\
+    euml=\u{eb}\nexcl=!\neDDot=\u{2a77}\necirc=\u{ea}\nefDot=\u{2252}\nemacr=\u{113}\n\
+    empty=\u{2205}\neogon=\u{119}\neplus=\u{2a71}\nepsiv=\u{3f5}\neqsim=\u{2242}\n\
+    equiv=\u{2261}\nerDot=\u{2253}\nerarr=\u{2971}\nesdot=\u{2250}\nexist=\u{2203}\n\
+    easter=\u{2a6e}\necaron=\u{11b}\necolon=\u{2255}\negsdot=\u{2a98}\nelsdot=\u{2a97}\n\
+    emptyv=\u{2205}\nemsp13=\u{2004}\nemsp14=\u{2005}\neparsl=\u{29e3}\neqcirc=\u{2256}\n\
+    equals==\nequest=\u{225f}\nepsilon=\u{3b5}\neqcolon=\u{2255}\nequivDD=\u{2a78}\n\
+    elinters=\u{23e7}\nemptyset=\u{2205}\neqvparsl=\u{29e5}\neqslantgtr=\u{2a96}\n\
+    eqslantless=\u{2a95}\nexpectation=\u{2130}\nexponentiale=\u{2147}";
 
 /// Names that begin with `f`.
 const LOWER_F: &str = "\
-    fallingdotseq=\u{2252}\nfcy=\u{444}\nfemale=\u{2640}\nffilig=\u{fb03}\nfflig=\u{fb00}\n\
-    ffllig=\u{fb04}\nffr=\u{1d523}\nfilig=\u{fb01}\nfjlig=fj\nflat=\u{266d}\nfllig=\u{fb02}\n\
-    fltns=\u{25b1}\nfnof=\u{192}\nfopf=\u{1d557}\nforall=\u{2200}\nfork=\u{22d4}\n\
-    forkv=\u{2ad9}\nfpartint=\u{2a0d}\nfrac12=\u{bd}\nfrac13=\u{2153}\nfrac14=\u{bc}\n\
+    fcy=\u{444}\nffr=\u{1d523}\nflat=\u{266d}\nfnof=\u{192}\nfopf=\u{1d557}\nfork=\u{22d4}\n\
+    fscr=\u{1d4bb}\nfflig=\u{fb00}\nfilig=\u{fb01}\nfjlig=fj\nfllig=\u{fb02}\nfltns=\u{25b1}\n\
+    forkv=\u{2ad9}\nfrasl=\u{2044}\nfrown=\u{2322}\nfemale=\u{2640}\nffilig=\u{fb03}\n\
+    ffllig=\u{fb04}\nforall=\u{2200}\nfrac12=\u{bd}\nfrac13=\u{2153}\nfrac14=\u{bc}\n\
     frac15=\u{2155}\nfrac16=\u{2159}\nfrac18=\u{215b}\nfrac23=\u{2154}\nfrac25=\u{2156}\n\
     frac34=\u{be}\nfrac35=\u{2157}\nfrac38=\u{215c}\nfrac45=\u{2158}\nfrac56=\u{215a}\n\
-    frac58=\u{215d}\nfrac78=\u{215e}\nfrasl=\u{2044}\nfrown=\u{2322}\nfscr=\u{1d4bb}";
+    frac58=\u{215d}\nfrac78=\u{215e}\nfpartint=\u{2a0d}\nfallingdotseq=\u{2252}";
 
 /// Names that begin with `g`.
 const LOWER_G: &str = "\
-    gt=>\ngE=\u{2267}\ngEl=\u{2a8c}\ngacute=\u{1f5}\ngamma=\u{3b3}\ngammad=\u{3dd}\n\
-    gap=\u{2a86}\ngbreve=\u{11f}\ngcirc=\u{11d}\ngcy=\u{433}\ngdot=\u{121}\nge=\u{2265}\n\
-    gel=\u{22db}\ngeq=\u{2265}\ngeqq=\u{2267}\ngeqslant=\u{2a7e}\nges=\u{2a7e}\ngescc=\u{2aa9}\n\
-    gesdot=\u{2a80}\ngesdoto=\u{2a82}\ngesdotol=\u{2a84}\ngesl=\u{22db}\u{fe00}\n\
-    gesles=\u{2a94}\ngfr=\u{1d524}\ngg=\u{226b}\nggg=\u{22d9}\ngimel=\u{2137}\ngjcy=\u{453}\n\
-    gl=\u{2277}\nglE=\u{2a92}\ngla=\u{2aa5}\nglj=\u{2aa4}\ngnE=\u{2269}\ngnap=\u{2a8a}\n\
-    gnapprox=\u{2a8a}\ngne=\u{2a88}\ngneq=\u{2a88}\ngneqq=\u{2269}\ngnsim=\u{22e7}\n\
-    gopf=\u{1d558}\ngrave=`\ngscr=\u{210a}\ngsim=\u{2273}\ngsime=\u{2a8e}\ngsiml=\u{2a90}\n\
-    gtcc=\u{2aa7}\ngtcir=\u{2a7a}\ngtdot=\u{22d7}\ngtlPar=\u{2995}\ngtquest=\u{2a7c}\n\
-    gtrapprox=\u{2a86}\ngtrarr=\u{2978}\ngtrdot=\u{22d7}\ngtreqless=\u{22db}\n\
-    gtreqqless=\u{2a8c}\ngtrless=\u{2277}\ngtrsim=\u{2273}\ngvertneqq=\u{2269}\u{fe00}\n\
-    gvnE=\u{2269}\u{fe00}";
+    gt=>\ngE=\u{2267}\nge=\u{2265}\ngg=\u{226b}\ngl=\u{2277}\ngEl=\u{2a8c}\ngap=\u{2a86}\n\
+    gcy=\u{433}\ngel=\u{22db}\ngeq=\u{2265}\nges=\u{2a7e}\ngfr=\u{1d524}\nggg=\u{22d9}\n\
+    glE=\u{2a92}\ngla=\u{2aa5}\nglj=\u{2aa4}\ngnE=\u{2269}\ngne=\u{2a88}\ngdot=\u{121}\n\
+    geqq=\u{2267}\ngesl=\u{22db}\u{fe00}\ngjcy=\u{453}\ngnap=\u{2a8a}\ngneq=\u{2a88}\n\
+    gopf=\u{1d558}\ngscr=\u{210a}\ngsim=\u{2273}\ngtcc=\u{2aa7}\ngvnE=\u{2269}\u{fe00}\n\
+    gamma=\u{3b3}\ngcirc=\u{11d}\ngescc=\u{2aa9}\ngimel=\u{2137}\ngneqq=\u{2269}\n\
+    gnsim=\u{22e7}\ngrave=`\ngsime=\u{2a8e}\ngsiml=\u{2a90}\ngtcir=\u{2a7a}\ngtdot=\u{22d7}\n\
+    gacute=\u{1f5}\ngammad=\u{3dd}\ngbreve=\u{11f}\ngesdot=\u{2a80}\ngesles=\u{2a94}\n\
+    gtlPar=\u{2995}\ngtrarr=\u{2978}\ngtrdot=\u{22d7}\ngtrsim=\u{2273}\ngesdoto=\u{2a82}\n\
+    gtquest=\u{2a7c}\ngtrless=\u{2277}\ngeqslant=\u{2a7e}\ngesdotol=\u{2a84}\n\
+    gnapprox=\u{2a8a}\ngtrapprox=\u{2a86}\ngtreqless=\u{22db}\ngvertneqq=\u{2269}\u{fe00}\n\
+    gtreqqless=\u{2a8c}";
 
 /// Names that begin with `h`.
 const LOWER_H: &str = "\
-    hellip=\u{2026}\nhArr=\u{21d4}\nhairsp=\u{200a}\nhalf=\u{bd}\nhamilt=\u{210b}\n\
-    hardcy=\u{44a}\nharr=\u{2194}\nharrcir=\u{2948}\nharrw=\u{21ad}\nhbar=\u{210f}\n\
-    hcirc=\u{125}\nhearts=\u{2665}\nheartsuit=\u{2665}\nhercon=\u{22b9}\nhfr=\u{1d525}\n\
-    hksearow=\u{2925}\nhkswarow=\u{2926}\nhoarr=\u{21ff}\nhomtht=\u{223b}\n\
-    hookleftarrow=\u{21a9}\nhookrightarrow=\u{21aa}\nhopf=\u{1d559}\nhorbar=\u{2015}\n\
-    hscr=\u{1d4bd}\nhslash=\u{210f}\nhstrok=\u{127}\nhybull=\u{2043}\nhyphen=\u{2010}";
+    hellip=\u{2026}\nhfr=\u{1d525}\nhArr=\u{21d4}\nhalf=\u{bd}\nharr=\u{2194}\nhbar=\u{210f}\n\
+    hopf=\u{1d559}\nhscr=\u{1d4bd}\nharrw=\u{21ad}\nhcirc=\u{125}\nhoarr=\u{21ff}\n\
+    hairsp=\u{200a}\nhamilt=\u{210b}\nhardcy=\u{44a}\nhearts=\u{2665}\nhercon=\u{22b9}\n\
+    homtht=\u{223b}\nhorbar=\u{2015}\nhslash=\u{210f}\nhstrok=\u{127}\nhybull=\u{2043}\n\
+    hyphen=\u{2010}\nharrcir=\u{2948}\nhksearow=\u{2925}\nhkswarow=\u{2926}\n\
+    heartsuit=\u{2665}\nhookleftarrow=\u{21a9}\nhookrightarrow=\u{21aa}";
 
 /// Names that begin with `i`.
 const LOWER_I: &str = "\
-    iacute=\u{ed}\nic=\u{2063}\nicirc=\u{ee}\nicy=\u{438}\niecy=\u{435}\niexcl=\u{a1}\n\
-    iff=\u{21d4}\nifr=\u{1d526}\nigrave=\u{ec}\nii=\u{2148}\niiiint=\u{2a0c}\niiint=\u{222d}\n\
-    iinfin=\u{29dc}\niiota=\u{2129}\nijlig=\u{133}\nimacr=\u{12b}\nimage=\u{2111}\n\
-    imagline=\u{2110}\nimagpart=\u{2111}\nimath=\u{131}\nimof=\u{22b7}\nimped=\u{1b5}\n\
-    in=\u{2208}\nincare=\u{2105}\ninfin=\u{221e}\ninfintie=\u{29dd}\ninodot=\u{131}\n\
-    int=\u{222b}\nintcal=\u{22ba}\nintegers=\u{2124}\nintercal=\u{22ba}\nintlarhk=\u{2a17}\n\
-    intprod=\u{2a3c}\niocy=\u{451}\niogon=\u{12f}\niopf=\u{1d55a}\niota=\u{3b9}\n\
-    iprod=\u{2a3c}\niquest=\u{bf}\niscr=\u{1d4be}\nisin=\u{2208}\nisinE=\u{22f9}\n\
-    isindot=\u{22f5}\nisins=\u{22f4}\nisinsv=\u{22f3}\nisinv=\u{2208}\nit=\u{2062}\n\
-    itilde=\u{129}\niukcy=\u{456}\niuml=\u{ef}";
+    ic=\u{2063}\nii=\u{2148}\nin=\u{2208}\nit=\u{2062}\nicy=\u{438}\niff=\u{21d4}\n\
+    ifr=\u{1d526}\nint=\u{222b}\niecy=\u{435}\nimof=\u{22b7}\niocy=\u{451}\niopf=\u{1d55a}\n\
+    iota=\u{3b9}\niscr=\u{1d4be}\nisin=\u{2208}\niuml=\u{ef}\nicirc=\u{ee}\niexcl=\u{a1}\n\
+    iiint=\u{222d}\niiota=\u{2129}\nijlig=\u{133}\nimacr=\u{12b}\nimage=\u{2111}\n\
+    imath=\u{131}\nimped=\u{1b5}\ninfin=\u{221e}\niogon=\u{12f}\niprod=\u{2a3c}\n\
+    isinE=\u{22f9}\nisins=\u{22f4}\nisinv=\u{2208}\niukcy=\u{456}\niacute=\u{ed}\n\
+    igrave=\u{ec}\niiiint=\u{2a0c}\niinfin=\u{29dc}\nincare=\u{2105}\ninodot=\u{131}\n\
+    intcal=\u{22ba}\niquest=\u{bf}\nisinsv=\u{22f3}\nitilde=\u{129}\nintprod=\u{2a3c}\n\
+    isindot=\u{22f5}\nimagline=\u{2110}\nimagpart=\u{2111}\ninfintie=\u{29dd}\n\
+    integers=\u{2124}\nintercal=\u{22ba}\nintlarhk=\u{2a17}";
 
 /// Names that begin with `j`.
 const LOWER_J: &str = "\
-    jcirc=\u{135}\njcy=\u{439}\njfr=\u{1d527}\njmath=\u{237}\njopf=\u{1d55b}\njscr=\u{1d4bf}\n\
-    jsercy=\u{458}\njukcy=\u{454}";
+    jcy=\u{439}\njfr=\u{1d527}\njopf=\u{1d55b}\njscr=\u{1d4bf}\njcirc=\u{135}\njmath=\u{237}\n\
+    jukcy=\u{454}\njsercy=\u{458}";
 
 /// Names that begin with `k`.
 const LOWER_K: &str = "\
-    kappa=\u{3ba}\nkappav=\u{3f0}\nkcedil=\u{137}\nkcy=\u{43a}\nkfr=\u{1d528}\nkgreen=\u{138}\n\
-    khcy=\u{445}\nkjcy=\u{45c}\nkopf=\u{1d55c}\nkscr=\u{1d4c0}";
+    kcy=\u{43a}\nkfr=\u{1d528}\nkhcy=\u{445}\nkjcy=\u{45c}\nkopf=\u{1d55c}\nkscr=\u{1d4c0}\n\
+    kappa=\u{3ba}\nkappav=\u{3f0}\nkcedil=\u{137}\nkgreen=\u{138}";
 
 /// Names that begin with `l`.
 const LOWER_L: &str = "\
-    lt=<\nlarr=\u{2190}\nlsquo=\u{2018}\nldquo=\u{201c}\nlaquo=\u{ab}\nlAarr=\u{21da}\n\
-    lArr=\u{21d0}\nlAtail=\u{291b}\nlBarr=\u{290e}\nlE=\u{2266}\nlEg=\u{2a8b}\nlHar=\u{2962}\n\
-    lacute=\u{13a}\nlaemptyv=\u{29b4}\nlagran=\u{2112}\nlambda=\u{3bb}\nlang=\u{27e8}\n\
-    langd=\u{2991}\nlangle=\u{27e8}\nlap=\u{2a85}\nlarrb=\u{21e4}\nlarrbfs=\u{291f}\n\
-    larrfs=\u{291d}\nlarrhk=\u{21a9}\nlarrlp=\u{21ab}\nlarrpl=\u{2939}\nlarrsim=\u{2973}\n\
-    larrtl=\u{21a2}\nlat=\u{2aab}\nlatail=\u{2919}\nlate=\u{2aad}\nlates=\u{2aad}\u{fe00}\n\
-    lbarr=\u{290c}\nlbbrk=\u{2772}\nlbrace={\nlbrack=[\nlbrke=\u{298b}\nlbrksld=\u{298f}\n\
-    lbrkslu=\u{298d}\nlcaron=\u{13e}\nlcedil=\u{13c}\nlceil=\u{2308}\nlcub={\nlcy=\u{43b}\n\
-    ldca=\u{2936}\nldquor=\u{201e}\nldrdhar=\u{2967}\nldrushar=\u{294b}\nldsh=\u{21b2}\n\
-    le=\u{2264}\nleftarrow=\u{2190}\nleftarrowtail=\u{21a2}\nleftharpoondown=\u{21bd}\n\
-    leftharpoonup=\u{21bc}\nleftleftarrows=\u{21c7}\nleftrightarrow=\u{2194}\n\
-    leftrightarrows=\u{21c6}\nleftrightharpoons=\u{21cb}\nleftrightsquigarrow=\u{21ad}\n\
-    leftthreetimes=\u{22cb}\nleg=\u{22da}\nleq=\u{2264}\nleqq=\u{2266}\nleqslant=\u{2a7d}\n\
-    les=\u{2a7d}\nlescc=\u{2aa8}\nlesdot=\u{2a7f}\nlesdoto=\u{2a81}\nlesdotor=\u{2a83}\n\
-    lesg=\u{22da}\u{fe00}\nlesges=\u{2a93}\nlessapprox=\u{2a85}\nlessdot=\u{22d6}\n\
-    lesseqgtr=\u{22da}\nlesseqqgtr=\u{2a8b}\nlessgtr=\u{2276}\nlesssim=\u{2272}\n\
-    lfisht=\u{297c}\nlfloor=\u{230a}\nlfr=\u{1d529}\nlg=\u{2276}\nlgE=\u{2a91}\nlhard=\u{21bd}\n\
-    lharu=\u{21bc}\nlharul=\u{296a}\nlhblk=\u{2584}\nljcy=\u{459}\nll=\u{226a}\nllarr=\u{21c7}\n\
-    llcorner=\u{231e}\nllhard=\u{296b}\nlltri=\u{25fa}\nlmidot=\u{140}\nlmoust=\u{23b0}\n\
-    lmoustache=\u{23b0}\nlnE=\u{2268}\nlnap=\u{2a89}\nlnapprox=\u{2a89}\nlne=\u{2a87}\n\
-    lneq=\u{2a87}\nlneqq=\u{2268}\nlnsim=\u{22e6}\nloang=\u{27ec}\nloarr=\u{21fd}\n\
-    lobrk=\u{27e6}\nlongleftarrow=\u{27f5}\nlongleftrightarrow=\u{27f7}\nlongmapsto=\u{27fc}\n\
-    longrightarrow=\u{27f6}\nlooparrowleft=\u{21ab}\nlooparrowright=\u{21ac}\nlopar=\u{2985}\n\
-    lopf=\u{1d55d}\nloplus=\u{2a2d}\nlotimes=\u{2a34}\nlowast=\u{2217}\nlowbar=_\nloz=\u{25ca}\n\
-    lozenge=\u{25ca}\nlozf=\u{29eb}\nlpar=(\nlparlt=\u{2993}\nlrarr=\u{21c6}\n\
-    lrcorner=\u{231f}\nlrhar=\u{21cb}\nlrhard=\u{296d}\nlrm=\u{200e}\nlrtri=\u{22bf}\n\
-    lsaquo=\u{2039}\nlscr=\u{1d4c1}\nlsh=\u{21b0}\nlsim=\u{2272}\nlsime=\u{2a8d}\n\
-    lsimg=\u{2a8f}\nlsqb=[\nlsquor=\u{201a}\nlstrok=\u{142}\nltcc=\u{2aa6}\nltcir=\u{2a79}\n\
-    ltdot=\u{22d6}\nlthree=\u{22cb}\nltimes=\u{22c9}\nltlarr=\u{2976}\nltquest=\u{2a7b}\n\
-    ltrPar=\u{2996}\nltri=\u{25c3}\nltrie=\u{22b4}\nltrif=\u{25c2}\nlurdshar=\u{294a}\n\
-    luruhar=\u{2966}\nlvertneqq=\u{2268}\u{fe00}\nlvnE=\u{2268}\u{fe00}";
+    lt=<\nlarr=\u{2190}\nlsquo=\u{2018}\nldquo=\u{201c}\nlaquo=\u{ab}\nlE=\u{2266}\n\
+    le=\u{2264}\nlg=\u{2276}\nll=\u{226a}\nlEg=\u{2a8b}\nlap=\u{2a85}\nlat=\u{2aab}\n\
+    lcy=\u{43b}\nleg=\u{22da}\nleq=\u{2264}\nles=\u{2a7d}\nlfr=\u{1d529}\nlgE=\u{2a91}\n\
+    lnE=\u{2268}\nlne=\u{2a87}\nloz=\u{25ca}\nlrm=\u{200e}\nlsh=\u{21b0}\nlArr=\u{21d0}\n\
+    lHar=\u{2962}\nlang=\u{27e8}\nlate=\u{2aad}\nlcub={\nldca=\u{2936}\nldsh=\u{21b2}\n\
+    leqq=\u{2266}\nlesg=\u{22da}\u{fe00}\nljcy=\u{459}\nlnap=\u{2a89}\nlneq=\u{2a87}\n\
+    lopf=\u{1d55d}\nlozf=\u{29eb}\nlpar=(\nlscr=\u{1d4c1}\nlsim=\u{2272}\nlsqb=[\n\
+    ltcc=\u{2aa6}\nltri=\u{25c3}\nlvnE=\u{2268}\u{fe00}\nlAarr=\u{21da}\nlBarr=\u{290e}\n\
+    langd=\u{2991}\nlarrb=\u{21e4}\nlates=\u{2aad}\u{fe00}\nlbarr=\u{290c}\nlbbrk=\u{2772}\n\
+    lbrke=\u{298b}\nlceil=\u{2308}\nlescc=\u{2aa8}\nlhard=\u{21bd}\nlharu=\u{21bc}\n\
+    lhblk=\u{2584}\nllarr=\u{21c7}\nlltri=\u{25fa}\nlneqq=\u{2268}\nlnsim=\u{22e6}\n\
+    loang=\u{27ec}\nloarr=\u{21fd}\nlobrk=\u{27e6}\nlopar=\u{2985}\nlrarr=\u{21c6}\n\
+    lrhar=\u{21cb}\nlrtri=\u{22bf}\nlsime=\u{2a8d}\nlsimg=\u{2a8f}\nltcir=\u{2a79}\n\
+    ltdot=\u{22d6}\nltrie=\u{22b4}\nltrif=\u{25c2}\nlAtail=\u{291b}\nlacute=\u{13a}\n\
+    lagran=\u{2112}\nlambda=\u{3bb}\nlangle=\u{27e8}\nlarrfs=\u{291d}\nlarrhk=\u{21a9}\n\
+    larrlp=\u{21ab}\nlarrpl=\u{2939}\nlarrtl=\u{21a2}\nlatail=\u{2919}\nlbrace={\nlbrack=[\n\
+    lcaron=\u{13e}\nlcedil=\u{13c}\nldquor=\u{201e}\nlesdot=\u{2a7f}\nlesges=\u{2a93}\n\
+    lfisht=\u{297c}\nlfloor=\u{230a}\nlharul=\u{296a}\nllhard=\u{296b}\nlmidot=\u{140}\n\
+    lmoust=\u{23b0}\nloplus=\u{2a2d}\nlowast=\u{2217}\nlowbar=_\nlparlt=\u{2993}\n\
+    lrhard=\u{296d}\nlsaquo=\u{2039}\nlsquor=\u{201a}\nlstrok=\u{142}\nlthree=\u{22cb}\n\
+    ltimes=\u{22c9}\nltlarr=\u{2976}\nltrPar=\u{2996}\nlarrbfs=\u{291f}\nlarrsim=\u{2973}\n\
+    lbrksld=\u{298f}\nlbrkslu=\u{298d}\nldrdhar=\u{2967}\nlesdoto=\u{2a81}\nlessdot=\u{22d6}\n\
+    lessgtr=\u{2276}\nlesssim=\u{2272}\nlotimes=\u{2a34}\nlozenge=\u{25ca}\nltquest=\u{2a7b}\n\
+    luruhar=\u{2966}\nlaemptyv=\u{29b4}\nldrushar=\u{294b}\nleqslant=\u{2a7d}\n\
+    lesdotor=\u{2a83}\nllcorner=\u{231e}\nlnapprox=\u{2a89}\nlrcorner=\u{231f}\n\
+    lurdshar=\u{294a}\nleftarrow=\u{2190}\nlesseqgtr=\u{22da}\nlvertneqq=\u{2268}\u{fe00}\n\
+    lessapprox=\u{2a85}\nlesseqqgtr=\u{2a8b}\nlmoustache=\u{23b0}\nlongmapsto=\u{27fc}\n\
+    leftarrowtail=\u{21a2}\nleftharpoonup=\u{21bc}\nlongleftarrow=\u{27f5}\n\
+    looparrowleft=\u{21ab}\nleftleftarrows=\u{21c7}\nleftrightarrow=\u{2194}\n\
+    leftthreetimes=\u{22cb}\nlongrightarrow=\u{27f6}\nlooparrowright=\u{21ac}\n\
+    leftharpoondown=\u{21bd}\nleftrightarrows=\u{21c6}\nleftrightharpoons=\u{21cb}\n\
+    longleftrightarrow=\u{27f7}\nleftrightsquigarrow=\u{21ad}";
 
 /// Names that begin with `m`.
 const LOWER_M: &str = "\
-    mdash=\u{2014}\nmiddot=\u{b7}\nmDDot=\u{223a}\nmacr=\u{af}\nmale=\u{2642}\nmalt=\u{2720}\n\
-    maltese=\u{2720}\nmap=\u{21a6}\nmapsto=\u{21a6}\nmapstodown=\u{21a7}\nmapstoleft=\u{21a4}\n\
-    mapstoup=\u{21a5}\nmarker=\u{25ae}\nmcomma=\u{2a29}\nmcy=\u{43c}\nmeasuredangle=\u{2221}\n\
-    mfr=\u{1d52a}\nmho=\u{2127}\nmicro=\u{b5}\nmid=\u{2223}\nmidast=*\nmidcir=\u{2af0}\n\
-    minus=\u{2212}\nminusb=\u{229f}\nminusd=\u{2238}\nminusdu=\u{2a2a}\nmlcp=\u{2adb}\n\
-    mldr=\u{2026}\nmnplus=\u{2213}\nmodels=\u{22a7}\nmopf=\u{1d55e}\nmp=\u{2213}\n\
-    mscr=\u{1d4c2}\nmstpos=\u{223e}\nmu=\u{3bc}\nmultimap=\u{22b8}\nmumap=\u{22b8}";
+    mdash=\u{2014}\nmiddot=\u{b7}\nmp=\u{2213}\nmu=\u{3bc}\nmap=\u{21a6}\nmcy=\u{43c}\n\
+    mfr=\u{1d52a}\nmho=\u{2127}\nmid=\u{2223}\nmacr=\u{af}\nmale=\u{2642}\nmalt=\u{2720}\n\
+    mlcp=\u{2adb}\nmldr=\u{2026}\nmopf=\u{1d55e}\nmscr=\u{1d4c2}\nmDDot=\u{223a}\nmicro=\u{b5}\n\
+    minus=\u{2212}\nmumap=\u{22b8}\nmapsto=\u{21a6}\nmarker=\u{25ae}\nmcomma=\u{2a29}\n\
+    midast=*\nmidcir=\u{2af0}\nminusb=\u{229f}\nminusd=\u{2238}\nmnplus=\u{2213}\n\
+    models=\u{22a7}\nmstpos=\u{223e}\nmaltese=\u{2720}\nminusdu=\u{2a2a}\nmapstoup=\u{21a5}\n\
+    multimap=\u{22b8}\nmapstodown=\u{21a7}\nmapstoleft=\u{21a4}\nmeasuredangle=\u{2221}";
 
 /// Names that begin with `n`.
 const LOWER_N: &str = "\
-    nbsp=\u{a0}\nndash=\u{2013}\nnGg=\u{22d9}\u{338}\nnGt=\u{226b}\u{20d2}\n\
-    nGtv=\u{226b}\u{338}\nnLeftarrow=\u{21cd}\nnLeftrightarrow=\u{21ce}\nnLl=\u{22d8}\u{338}\n\
-    nLt=\u{226a}\u{20d2}\nnLtv=\u{226a}\u{338}\nnRightarrow=\u{21cf}\nnVDash=\u{22af}\n\
-    nVdash=\u{22ae}\nnabla=\u{2207}\nnacute=\u{144}\nnang=\u{2220}\u{20d2}\nnap=\u{2249}\n\
-    napE=\u{2a70}\u{338}\nnapid=\u{224b}\u{338}\nnapos=\u{149}\nnapprox=\u{2249}\n\
-    natur=\u{266e}\nnatural=\u{266e}\nnaturals=\u{2115}\nnbump=\u{224e}\u{338}\n\
-    nbumpe=\u{224f}\u{338}\nncap=\u{2a43}\nncaron=\u{148}\nncedil=\u{146}\nncong=\u{2247}\n\
-    ncongdot=\u{2a6d}\u{338}\nncup=\u{2a42}\nncy=\u{43d}\nne=\u{2260}\nneArr=\u{21d7}\n\
-    nearhk=\u{2924}\nnearr=\u{2197}\nnearrow=\u{2197}\nnedot=\u{2250}\u{338}\nnequiv=\u{2262}\n\
-    nesear=\u{2928}\nnesim=\u{2242}\u{338}\nnexist=\u{2204}\nnexists=\u{2204}\nnfr=\u{1d52b}\n\
-    ngE=\u{2267}\u{338}\nnge=\u{2271}\nngeq=\u{2271}\nngeqq=\u{2267}\u{338}\n\
-    ngeqslant=\u{2a7e}\u{338}\nnges=\u{2a7e}\u{338}\nngsim=\u{2275}\nngt=\u{226f}\n\
-    ngtr=\u{226f}\nnhArr=\u{21ce}\nnharr=\u{21ae}\nnhpar=\u{2af2}\nni=\u{220b}\nnis=\u{22fc}\n\
-    nisd=\u{22fa}\nniv=\u{220b}\nnjcy=\u{45a}\nnlArr=\u{21cd}\nnlE=\u{2266}\u{338}\n\
-    nlarr=\u{219a}\nnldr=\u{2025}\nnle=\u{2270}\nnleftarrow=\u{219a}\nnleftrightarrow=\u{21ae}\n\
-    nleq=\u{2270}\nnleqq=\u{2266}\u{338}\nnleqslant=\u{2a7d}\u{338}\nnles=\u{2a7d}\u{338}\n\
-    nless=\u{226e}\nnlsim=\u{2274}\nnlt=\u{226e}\nnltri=\u{22ea}\nnltrie=\u{22ec}\n\
-    nmid=\u{2224}\nnopf=\u{1d55f}\nnot=\u{ac}\nnotin=\u{2209}\nnotinE=\u{22f9}\u{338}\n\
-    notindot=\u{22f5}\u{338}\nnotinva=\u{2209}\nnotinvb=\u{22f7}\nnotinvc=\u{22f6}\n\
-    notni=\u{220c}\nnotniva=\u{220c}\nnotnivb=\u{22fe}\nnotnivc=\u{22fd}\nnpar=\u{2226}\n\
-    nparallel=\u{2226}\nnparsl=\u{2afd}\u{20e5}\nnpart=\u{2202}\u{338}\nnpolint=\u{2a14}\n\
-    npr=\u{2280}\nnprcue=\u{22e0}\nnpre=\u{2aaf}\u{338}\nnprec=\u{2280}\n\
-    npreceq=\u{2aaf}\u{338}\nnrArr=\u{21cf}\nnrarr=\u{219b}\nnrarrc=\u{2933}\u{338}\n\
-    nrarrw=\u{219d}\u{338}\nnrightarrow=\u{219b}\nnrtri=\u{22eb}\nnrtrie=\u{22ed}\n\
-    nsc=\u{2281}\nnsccue=\u{22e1}\nnsce=\u{2ab0}\u{338}\nnscr=\u{1d4c3}\nnshortmid=\u{2224}\n\
-    nshortparallel=\u{2226}\nnsim=\u{2241}\nnsime=\u{2244}\nnsimeq=\u{2244}\nnsmid=\u{2224}\n\
-    nspar=\u{2226}\nnsqsube=\u{22e2}\nnsqsupe=\u{22e3}\nnsub=\u{2284}\nnsubE=\u{2ac5}\u{338}\n\
-    nsube=\u{2288}\nnsubset=\u{2282}\u{20d2}\nnsubseteq=\u{2288}\nnsubseteqq=\u{2ac5}\u{338}\n\
-    nsucc=\u{2281}\nnsucceq=\u{2ab0}\u{338}\nnsup=\u{2285}\nnsupE=\u{2ac6}\u{338}\n\
-    nsupe=\u{2289}\nnsupset=\u{2283}\u{20d2}\nnsupseteq=\u{2289}\nnsupseteqq=\u{2ac6}\u{338}\n\
-    ntgl=\u{2279}\nntilde=\u{f1}\nntlg=\u{2278}\nntriangleleft=\u{22ea}\n\
-    ntrianglelefteq=\u{22ec}\nntriangleright=\u{22eb}\nntrianglerighteq=\u{22ed}\nnu=\u{3bd}\n\
-    num=#\nnumero=\u{2116}\nnumsp=\u{2007}\nnvDash=\u{22ad}\nnvHarr=\u{2904}\n\
-    nvap=\u{224d}\u{20d2}\nnvdash=\u{22ac}\nnvge=\u{2265}\u{20d2}\nnvgt=>\u{20d2}\n\
-    nvinfin=\u{29de}\nnvlArr=\u{2902}\nnvle=\u{2264}\u{20d2}\nnvlt=<\u{20d2}\n\
-    nvltrie=\u{22b4}\u{20d2}\nnvrArr=\u{2903}\nnvrtrie=\u{22b5}\u{20d2}\n\
-    nvsim=\u{223c}\u{20d2}\nnwArr=\u{21d6}\nnwarhk=\u{2923}\nnwarr=\u{2196}\nnwarrow=\u{2196}\n\
-    nwnear=\u{2927}";
+    nbsp=\u{a0}\nndash=\u{2013}\nne=\u{2260}\nni=\u{220b}\nnu=\u{3bd}\nnGg=\u{22d9}\u{338}\n\
+    nGt=\u{226b}\u{20d2}\nnLl=\u{22d8}\u{338}\nnLt=\u{226a}\u{20d2}\nnap=\u{2249}\nncy=\u{43d}\n\
+    nfr=\u{1d52b}\nngE=\u{2267}\u{338}\nnge=\u{2271}\nngt=\u{226f}\nnis=\u{22fc}\nniv=\u{220b}\n\
+    nlE=\u{2266}\u{338}\nnle=\u{2270}\nnlt=\u{226e}\nnot=\u{ac}\nnpr=\u{2280}\nnsc=\u{2281}\n\
+    num=#\nnGtv=\u{226b}\u{338}\nnLtv=\u{226a}\u{338}\nnang=\u{2220}\u{20d2}\n\
+    napE=\u{2a70}\u{338}\nncap=\u{2a43}\nncup=\u{2a42}\nngeq=\u{2271}\nnges=\u{2a7e}\u{338}\n\
+    ngtr=\u{226f}\nnisd=\u{22fa}\nnjcy=\u{45a}\nnldr=\u{2025}\nnleq=\u{2270}\n\
+    nles=\u{2a7d}\u{338}\nnmid=\u{2224}\nnopf=\u{1d55f}\nnpar=\u{2226}\nnpre=\u{2aaf}\u{338}\n\
+    nsce=\u{2ab0}\u{338}\nnscr=\u{1d4c3}\nnsim=\u{2241}\nnsub=\u{2284}\nnsup=\u{2285}\n\
+    ntgl=\u{2279}\nntlg=\u{2278}\nnvap=\u{224d}\u{20d2}\nnvge=\u{2265}\u{20d2}\nnvgt=>\u{20d2}\n\
+    nvle=\u{2264}\u{20d2}\nnvlt=<\u{20d2}\nnabla=\u{2207}\nnapid=\u{224b}\u{338}\n\
+    napos=\u{149}\nnatur=\u{266e}\nnbump=\u{224e}\u{338}\nncong=\u{2247}\nneArr=\u{21d7}\n\
+    nearr=\u{2197}\nnedot=\u{2250}\u{338}\nnesim=\u{2242}\u{338}\nngeqq=\u{2267}\u{338}\n\
+    ngsim=\u{2275}\nnhArr=\u{21ce}\nnharr=\u{21ae}\nnhpar=\u{2af2}\nnlArr=\u{21cd}\n\
+    nlarr=\u{219a}\nnleqq=\u{2266}\u{338}\nnless=\u{226e}\nnlsim=\u{2274}\nnltri=\u{22ea}\n\
+    notin=\u{2209}\nnotni=\u{220c}\nnpart=\u{2202}\u{338}\nnprec=\u{2280}\nnrArr=\u{21cf}\n\
+    nrarr=\u{219b}\nnrtri=\u{22eb}\nnsime=\u{2244}\nnsmid=\u{2224}\nnspar=\u{2226}\n\
+    nsubE=\u{2ac5}\u{338}\nnsube=\u{2288}\nnsucc=\u{2281}\nnsupE=\u{2ac6}\u{338}\n\
+    nsupe=\u{2289}\nnumsp=\u{2007}\nnvsim=\u{223c}\u{20d2}\nnwArr=\u{21d6}\nnwarr=\u{2196}\n\
+    nVDash=\u{22af}\nnVdash=\u{22ae}\nnacute=\u{144}\nnbumpe=\u{224f}\u{338}\nncaron=\u{148}\n\
+    ncedil=\u{146}\nnearhk=\u{2924}\nnequiv=\u{2262}\nnesear=\u{2928}\nnexist=\u{2204}\n\
+    nltrie=\u{22ec}\nnotinE=\u{22f9}\u{338}\nnparsl=\u{2afd}\u{20e5}\nnprcue=\u{22e0}\n\
+    nrarrc=\u{2933}\u{338}\nnrarrw=\u{219d}\u{338}\nnrtrie=\u{22ed}\nnsccue=\u{22e1}\n\
+    nsimeq=\u{2244}\nntilde=\u{f1}\nnumero=\u{2116}\nnvDash=\u{22ad}\nnvHarr=\u{2904}\n\
+    nvdash=\u{22ac}\nnvlArr=\u{2902}\nnvrArr=\u{2903}\nnwarhk=\u{2923}\nnwnear=\u{2927}\n\
+    napprox=\u{2249}\nnatural=\u{266e}\nnearrow=\u{2197}\nnexists=\u{2204}\nnotinva=\u{2209}\n\
+    notinvb=\u{22f7}\nnotinvc=\u{22f6}\nnotniva=\u{220c}\nnotnivb=\u{22fe}\nnotnivc=\u{22fd}\n\
+    npolint=\u{2a14}\nnpreceq=\u{2aaf}\u{338}\nnsqsube=\u{22e2}\nnsqsupe=\u{22e3}\n\
+    nsubset=\u{2282}\u{20d2}\nnsucceq=\u{2ab0}\u{338}\nnsupset=\u{2283}\u{20d2}\n\
+    nvinfin=\u{29de}\nnvltrie=\u{22b4}\u{20d2}\nnvrtrie=\u{22b5}\u{20d2}\nnwarrow=\u{2196}\n\
+    naturals=\u{2115}\nncongdot=\u{2a6d}\u{338}\nnotindot=\u{22f5}\u{338}\n\
+    ngeqslant=\u{2a7e}\u{338}\nnleqslant=\u{2a7d}\u{338}\nnparallel=\u{2226}\n\
+    nshortmid=\u{2224}\nnsubseteq=\u{2288}\nnsupseteq=\u{2289}\nnLeftarrow=\u{21cd}\n\
+    nleftarrow=\u{219a}\nnsubseteqq=\u{2ac5}\u{338}\nnsupseteqq=\u{2ac6}\u{338}\n\
+    nRightarrow=\u{21cf}\nnrightarrow=\u{219b}\nntriangleleft=\u{22ea}\n\
+    nshortparallel=\u{2226}\nntriangleright=\u{22eb}\nnLeftrightarrow=\u{21ce}\n\
+    nleftrightarrow=\u{21ae}\nntrianglelefteq=\u{22ec}\nntrianglerighteq=\u{22ed}";
 
 /// Names that begin with `o`.
 const LOWER_O: &str = "\
-    ouml=\u{f6}\noS=\u{24c8}\noacute=\u{f3}\noast=\u{229b}\nocir=\u{229a}\nocirc=\u{f4}\n\
-    ocy=\u{43e}\nodash=\u{229d}\nodblac=\u{151}\nodiv=\u{2a38}\nodot=\u{2299}\nodsold=\u{29bc}\n\
-    oelig=\u{153}\nofcir=\u{29bf}\nofr=\u{1d52c}\nogon=\u{2db}\nograve=\u{f2}\nogt=\u{29c1}\n\
-    ohbar=\u{29b5}\nohm=\u{3a9}\noint=\u{222e}\nolarr=\u{21ba}\nolcir=\u{29be}\n\
-    olcross=\u{29bb}\noline=\u{203e}\nolt=\u{29c0}\nomacr=\u{14d}\nomega=\u{3c9}\n\
-    omicron=\u{3bf}\nomid=\u{29b6}\nominus=\u{2296}\noopf=\u{1d560}\nopar=\u{29b7}\n\
-    operp=\u{29b9}\noplus=\u{2295}\nor=\u{2228}\norarr=\u{21bb}\nord=\u{2a5d}\norder=\u{2134}\n\
-    orderof=\u{2134}\nordf=\u{aa}\nordm=\u{ba}\norigof=\u{22b6}\noror=\u{2a56}\n\
-    orslope=\u{2a57}\norv=\u{2a5b}\noscr=\u{2134}\noslash=\u{f8}\nosol=\u{2298}\notilde=\u{f5}\n\
-    otimes=\u{2297}\notimesas=\u{2a36}\novbar=\u{233d}";
+    ouml=\u{f6}\noS=\u{24c8}\nor=\u{2228}\nocy=\u{43e}\nofr=\u{1d52c}\nogt=\u{29c1}\n\
+    ohm=\u{3a9}\nolt=\u{29c0}\nord=\u{2a5d}\norv=\u{2a5b}\noast=\u{229b}\nocir=\u{229a}\n\
+    odiv=\u{2a38}\nodot=\u{2299}\nogon=\u{2db}\noint=\u{222e}\nomid=\u{29b6}\noopf=\u{1d560}\n\
+    opar=\u{29b7}\nordf=\u{aa}\nordm=\u{ba}\noror=\u{2a56}\noscr=\u{2134}\nosol=\u{2298}\n\
+    ocirc=\u{f4}\nodash=\u{229d}\noelig=\u{153}\nofcir=\u{29bf}\nohbar=\u{29b5}\n\
+    olarr=\u{21ba}\nolcir=\u{29be}\noline=\u{203e}\nomacr=\u{14d}\nomega=\u{3c9}\n\
+    operp=\u{29b9}\noplus=\u{2295}\norarr=\u{21bb}\norder=\u{2134}\novbar=\u{233d}\n\
+    oacute=\u{f3}\nodblac=\u{151}\nodsold=\u{29bc}\nograve=\u{f2}\nominus=\u{2296}\n\
+    origof=\u{22b6}\noslash=\u{f8}\notilde=\u{f5}\notimes=\u{2297}\nolcross=\u{29bb}\n\
+    omicron=\u{3bf}\norderof=\u{2134}\norslope=\u{2a57}\notimesas=\u{2a36}";
 
 /// Names that begin with `p`.
 const LOWER_P: &str = "\
-    pound=\u{a3}\npara=\u{b6}\npar=\u{2225}\nparallel=\u{2225}\nparsim=\u{2af3}\n\
-    parsl=\u{2afd}\npart=\u{2202}\npcy=\u{43f}\npercnt=%\nperiod=.\npermil=\u{2030}\n\
-    perp=\u{22a5}\npertenk=\u{2031}\npfr=\u{1d52d}\nphi=\u{3c6}\nphiv=\u{3d5}\nphmmat=\u{2133}\n\
-    phone=\u{260e}\npi=\u{3c0}\npitchfork=\u{22d4}\npiv=\u{3d6}\nplanck=\u{210f}\n\
-    planckh=\u{210e}\nplankv=\u{210f}\nplus=+\nplusacir=\u{2a23}\nplusb=\u{229e}\n\
-    pluscir=\u{2a22}\nplusdo=\u{2214}\nplusdu=\u{2a25}\npluse=\u{2a72}\nplusmn=\u{b1}\n\
-    plussim=\u{2a26}\nplustwo=\u{2a27}\npm=\u{b1}\npointint=\u{2a15}\npopf=\u{1d561}\n\
-    pr=\u{227a}\nprE=\u{2ab3}\nprap=\u{2ab7}\nprcue=\u{227c}\npre=\u{2aaf}\nprec=\u{227a}\n\
-    precapprox=\u{2ab7}\npreccurlyeq=\u{227c}\npreceq=\u{2aaf}\nprecnapprox=\u{2ab9}\n\
-    precneqq=\u{2ab5}\nprecnsim=\u{22e8}\nprecsim=\u{227e}\nprime=\u{2032}\nprimes=\u{2119}\n\
-    prnE=\u{2ab5}\nprnap=\u{2ab9}\nprnsim=\u{22e8}\nprod=\u{220f}\nprofalar=\u{232e}\n\
-    profline=\u{2312}\nprofsurf=\u{2313}\nprop=\u{221d}\npropto=\u{221d}\nprsim=\u{227e}\n\
-    prurel=\u{22b0}\npscr=\u{1d4c5}\npsi=\u{3c8}\npuncsp=\u{2008}";
+    pound=\u{a3}\npara=\u{b6}\npi=\u{3c0}\npm=\u{b1}\npr=\u{227a}\npar=\u{2225}\npcy=\u{43f}\n\
+    pfr=\u{1d52d}\nphi=\u{3c6}\npiv=\u{3d6}\nprE=\u{2ab3}\npre=\u{2aaf}\npsi=\u{3c8}\n\
+    part=\u{2202}\nperp=\u{22a5}\nphiv=\u{3d5}\nplus=+\npopf=\u{1d561}\nprap=\u{2ab7}\n\
+    prec=\u{227a}\nprnE=\u{2ab5}\nprod=\u{220f}\nprop=\u{221d}\npscr=\u{1d4c5}\nparsl=\u{2afd}\n\
+    phone=\u{260e}\nplusb=\u{229e}\npluse=\u{2a72}\nprcue=\u{227c}\nprime=\u{2032}\n\
+    prnap=\u{2ab9}\nprsim=\u{227e}\nparsim=\u{2af3}\npercnt=%\nperiod=.\npermil=\u{2030}\n\
+    phmmat=\u{2133}\nplanck=\u{210f}\nplankv=\u{210f}\nplusdo=\u{2214}\nplusdu=\u{2a25}\n\
+    plusmn=\u{b1}\npreceq=\u{2aaf}\nprimes=\u{2119}\nprnsim=\u{22e8}\npropto=\u{221d}\n\
+    prurel=\u{22b0}\npuncsp=\u{2008}\npertenk=\u{2031}\nplanckh=\u{210e}\npluscir=\u{2a22}\n\
+    plussim=\u{2a26}\nplustwo=\u{2a27}\nprecsim=\u{227e}\nparallel=\u{2225}\nplusacir=\u{2a23}\n\
+    pointint=\u{2a15}\nprecneqq=\u{2ab5}\nprecnsim=\u{22e8}\nprofalar=\u{232e}\n\
+    profline=\u{2312}\nprofsurf=\u{2313}\npitchfork=\u{22d4}\nprecapprox=\u{2ab7}\n\
+    preccurlyeq=\u{227c}\nprecnapprox=\u{2ab9}";
 
 /// Names that begin with `q`.
 const LOWER_Q: &str = "\
-    quot=\"\nqfr=\u{1d52e}\nqint=\u{2a0c}\nqopf=\u{1d562}\nqprime=\u{2057}\nqscr=\u{1d4c6}\n\
-    quaternions=\u{210d}\nquatint=\u{2a16}\nquest=?\nquesteq=\u{225f}";
+    quot=\"\nqfr=\u{1d52e}\nqint=\u{2a0c}\nqopf=\u{1d562}\nqscr=\u{1d4c6}\nquest=?\n\
+    qprime=\u{2057}\nquatint=\u{2a16}\nquesteq=\u{225f}\nquaternions=\u{210d}";
 
 /// Names that begin with `r`.
 const LOWER_R: &str = "\
-    reg=\u{ae}\nrarr=\u{2192}\nrsquo=\u{2019}\nrdquo=\u{201d}\nraquo=\u{bb}\nrAarr=\u{21db}\n\
-    rArr=\u{21d2}\nrAtail=\u{291c}\nrBarr=\u{290f}\nrHar=\u{2964}\nrace=\u{223d}\u{331}\n\
-    racute=\u{155}\nradic=\u{221a}\nraemptyv=\u{29b3}\nrang=\u{27e9}\nrangd=\u{2992}\n\
-    range=\u{29a5}\nrangle=\u{27e9}\nrarrap=\u{2975}\nrarrb=\u{21e5}\nrarrbfs=\u{2920}\n\
-    rarrc=\u{2933}\nrarrfs=\u{291e}\nrarrhk=\u{21aa}\nrarrlp=\u{21ac}\nrarrpl=\u{2945}\n\
-    rarrsim=\u{2974}\nrarrtl=\u{21a3}\nrarrw=\u{219d}\nratail=\u{291a}\nratio=\u{2236}\n\
-    rationals=\u{211a}\nrbarr=\u{290d}\nrbbrk=\u{2773}\nrbrace=}\nrbrack=]\nrbrke=\u{298c}\n\
-    rbrksld=\u{298e}\nrbrkslu=\u{2990}\nrcaron=\u{159}\nrcedil=\u{157}\nrceil=\u{2309}\nrcub=}\n\
-    rcy=\u{440}\nrdca=\u{2937}\nrdldhar=\u{2969}\nrdquor=\u{201d}\nrdsh=\u{21b3}\n\
-    real=\u{211c}\nrealine=\u{211b}\nrealpart=\u{211c}\nreals=\u{211d}\nrect=\u{25ad}\n\
-    rfisht=\u{297d}\nrfloor=\u{230b}\nrfr=\u{1d52f}\nrhard=\u{21c1}\nrharu=\u{21c0}\n\
-    rharul=\u{296c}\nrho=\u{3c1}\nrhov=\u{3f1}\nrightarrow=\u{2192}\nrightarrowtail=\u{21a3}\n\
-    rightharpoondown=\u{21c1}\nrightharpoonup=\u{21c0}\nrightleftarrows=\u{21c4}\n\
-    rightleftharpoons=\u{21cc}\nrightrightarrows=\u{21c9}\nrightsquigarrow=\u{219d}\n\
-    rightthreetimes=\u{22cc}\nring=\u{2da}\nrisingdotseq=\u{2253}\nrlarr=\u{21c4}\n\
-    rlhar=\u{21cc}\nrlm=\u{200f}\nrmoust=\u{23b1}\nrmoustache=\u{23b1}\nrnmid=\u{2aee}\n\
-    roang=\u{27ed}\nroarr=\u{21fe}\nrobrk=\u{27e7}\nropar=\u{2986}\nropf=\u{1d563}\n\
-    roplus=\u{2a2e}\nrotimes=\u{2a35}\nrpar=)\nrpargt=\u{2994}\nrppolint=\u{2a12}\n\
-    rrarr=\u{21c9}\nrsaquo=\u{203a}\nrscr=\u{1d4c7}\nrsh=\u{21b1}\nrsqb=]\nrsquor=\u{2019}\n\
-    rthree=\u{22cc}\nrtimes=\u{22ca}\nrtri=\u{25b9}\nrtrie=\u{22b5}\nrtrif=\u{25b8}\n\
-    rtriltri=\u{29ce}\nruluhar=\u{2968}\nrx=\u{211e}";
+    reg=\u{ae}\nrarr=\u{2192}\nrsquo=\u{2019}\nrdquo=\u{201d}\nraquo=\u{bb}\nrx=\u{211e}\n\
+    rcy=\u{440}\nrfr=\u{1d52f}\nrho=\u{3c1}\nrlm=\u{200f}\nrsh=\u{21b1}\nrArr=\u{21d2}\n\
+    rHar=\u{2964}\nrace=\u{223d}\u{331}\nrang=\u{27e9}\nrcub=}\nrdca=\u{2937}\nrdsh=\u{21b3}\n\
+    real=\u{211c}\nrect=\u{25ad}\nrhov=\u{3f1}\nring=\u{2da}\nropf=\u{1d563}\nrpar=)\n\
+    rscr=\u{1d4c7}\nrsqb=]\nrtri=\u{25b9}\nrAarr=\u{21db}\nrBarr=\u{290f}\nradic=\u{221a}\n\
+    rangd=\u{2992}\nrange=\u{29a5}\nrarrb=\u{21e5}\nrarrc=\u{2933}\nrarrw=\u{219d}\n\
+    ratio=\u{2236}\nrbarr=\u{290d}\nrbbrk=\u{2773}\nrbrke=\u{298c}\nrceil=\u{2309}\n\
+    reals=\u{211d}\nrhard=\u{21c1}\nrharu=\u{21c0}\nrlarr=\u{21c4}\nrlhar=\u{21cc}\n\
+    rnmid=\u{2aee}\nroang=\u{27ed}\nroarr=\u{21fe}\nrobrk=\u{27e7}\nropar=\u{2986}\n\
+    rrarr=\u{21c9}\nrtrie=\u{22b5}\nrtrif=\u{25b8}\nrAtail=\u{291c}\nracute=\u{155}\n\
+    rangle=\u{27e9}\nrarrap=\u{2975}\nrarrfs=\u{291e}\nrarrhk=\u{21aa}\nrarrlp=\u{21ac}\n\
+    rarrpl=\u{2945}\nrarrtl=\u{21a3}\nratail=\u{291a}\nrbrace=}\nrbrack=]\nrcaron=\u{159}\n\
+    rcedil=\u{157}\nrdquor=\u{201d}\nrfisht=\u{297d}\nrfloor=\u{230b}\nrharul=\u{296c}\n\
+    rmoust=\u{23b1}\nroplus=\u{2a2e}\nrpargt=\u{2994}\nrsaquo=\u{203a}\nrsquor=\u{2019}\n\
+    rthree=\u{22cc}\nrtimes=\u{22ca}\nrarrbfs=\u{2920}\nrarrsim=\u{2974}\nrbrksld=\u{298e}\n\
+    rbrkslu=\u{2990}\nrdldhar=\u{2969}\nrealine=\u{211b}\nrotimes=\u{2a35}\nruluhar=\u{2968}\n\
+    raemptyv=\u{29b3}\nrealpart=\u{211c}\nrppolint=\u{2a12}\nrtriltri=\u{29ce}\n\
+    rationals=\u{211a}\nrightarrow=\u{2192}\nrmoustache=\u{23b1}\nrisingdotseq=\u{2253}\n\
+    rightarrowtail=\u{21a3}\nrightharpoonup=\u{21c0}\nrightleftarrows=\u{21c4}\n\
+    rightsquigarrow=\u{219d}\nrightthreetimes=\u{22cc}\nrightharpoondown=\u{21c1}\n\
+    rightrightarrows=\u{21c9}\nrightleftharpoons=\u{21cc}";
 
 /// Names that begin with `s`.
 const LOWER_S: &str = "\
-    szlig=\u{df}\nsect=\u{a7}\nsacute=\u{15b}\nsbquo=\u{201a}\nsc=\u{227b}\nscE=\u{2ab4}\n\
-    scap=\u{2ab8}\nscaron=\u{161}\nsccue=\u{227d}\nsce=\u{2ab0}\nscedil=\u{15f}\nscirc=\u{15d}\n\
-    scnE=\u{2ab6}\nscnap=\u{2aba}\nscnsim=\u{22e9}\nscpolint=\u{2a13}\nscsim=\u{227f}\n\
-    scy=\u{441}\nsdot=\u{22c5}\nsdotb=\u{22a1}\nsdote=\u{2a66}\nseArr=\u{21d8}\n\
-    searhk=\u{2925}\nsearr=\u{2198}\nsearrow=\u{2198}\nsemi=;\nseswar=\u{2929}\n\
-    setminus=\u{2216}\nsetmn=\u{2216}\nsext=\u{2736}\nsfr=\u{1d530}\nsfrown=\u{2322}\n\
-    sharp=\u{266f}\nshchcy=\u{449}\nshcy=\u{448}\nshortmid=\u{2223}\nshortparallel=\u{2225}\n\
-    shy=\u{ad}\nsigma=\u{3c3}\nsigmaf=\u{3c2}\nsigmav=\u{3c2}\nsim=\u{223c}\nsimdot=\u{2a6a}\n\
-    sime=\u{2243}\nsimeq=\u{2243}\nsimg=\u{2a9e}\nsimgE=\u{2aa0}\nsiml=\u{2a9d}\n\
-    simlE=\u{2a9f}\nsimne=\u{2246}\nsimplus=\u{2a24}\nsimrarr=\u{2972}\nslarr=\u{2190}\n\
-    smallsetminus=\u{2216}\nsmashp=\u{2a33}\nsmeparsl=\u{29e4}\nsmid=\u{2223}\nsmile=\u{2323}\n\
-    smt=\u{2aaa}\nsmte=\u{2aac}\nsmtes=\u{2aac}\u{fe00}\nsoftcy=\u{44c}\nsol=/\nsolb=\u{29c4}\n\
-    solbar=\u{233f}\nsopf=\u{1d564}\nspades=\u{2660}\nspadesuit=\u{2660}\nspar=\u{2225}\n\
-    sqcap=\u{2293}\nsqcaps=\u{2293}\u{fe00}\nsqcup=\u{2294}\nsqcups=\u{2294}\u{fe00}\n\
-    sqsub=\u{228f}\nsqsube=\u{2291}\nsqsubset=\u{228f}\nsqsubseteq=\u{2291}\nsqsup=\u{2290}\n\
-    sqsupe=\u{2292}\nsqsupset=\u{2290}\nsqsupseteq=\u{2292}\nsqu=\u{25a1}\nsquare=\u{25a1}\n\
-    squarf=\u{25aa}\nsquf=\u{25aa}\nsrarr=\u{2192}\nsscr=\u{1d4c8}\nssetmn=\u{2216}\n\
-    ssmile=\u{2323}\nsstarf=\u{22c6}\nstar=\u{2606}\nstarf=\u{2605}\nstraightepsilon=\u{3f5}\n\
-    straightphi=\u{3d5}\nstrns=\u{af}\nsub=\u{2282}\nsubE=\u{2ac5}\nsubdot=\u{2abd}\n\
-    sube=\u{2286}\nsubedot=\u{2ac3}\nsubmult=\u{2ac1}\nsubnE=\u{2acb}\nsubne=\u{228a}\n\
-    subplus=\u{2abf}\nsubrarr=\u{2979}\nsubset=\u{2282}\nsubseteq=\u{2286}\nsubseteqq=\u{2ac5}\n\
-    subsetneq=\u{228a}\nsubsetneqq=\u{2acb}\nsubsim=\u{2ac7}\nsubsub=\u{2ad5}\nsubsup=\u{2ad3}\n\
-    succ=\u{227b}\nsuccapprox=\u{2ab8}\nsucccurlyeq=\u{227d}\nsucceq=\u{2ab0}\n\
-    succnapprox=\u{2aba}\nsuccneqq=\u{2ab6}\nsuccnsim=\u{22e9}\nsuccsim=\u{227f}\nsum=\u{2211}\n\
-    sung=\u{266a}\nsup=\u{2283}\nsup1=\u{b9}\nsup2=\u{b2}\nsup3=\u{b3}\nsupE=\u{2ac6}\n\
-    supdot=\u{2abe}\nsupdsub=\u{2ad8}\nsupe=\u{2287}\nsupedot=\u{2ac4}\nsuphsol=\u{27c9}\n\
-    suphsub=\u{2ad7}\nsuplarr=\u{297b}\nsupmult=\u{2ac2}\nsupnE=\u{2acc}\nsupne=\u{228b}\n\
-    supplus=\u{2ac0}\nsupset=\u{2283}\nsupseteq=\u{2287}\nsupseteqq=\u{2ac6}\n\
-    supsetneq=\u{228b}\nsupsetneqq=\u{2acc}\nsupsim=\u{2ac8}\nsupsub=\u{2ad4}\nsupsup=\u{2ad6}\n\
-    swArr=\u{21d9}\nswarhk=\u{2926}\nswarr=\u{2199}\nswarrow=\u{2199}\nswnwar=\u{292a}";
+    szlig=\u{df}\nsect=\u{a7}\nsc=\u{227b}\nscE=\u{2ab4}\nsce=\u{2ab0}\nscy=\u{441}\n\
+    sfr=\u{1d530}\nshy=\u{ad}\nsim=\u{223c}\nsmt=\u{2aaa}\nsol=/\nsqu=\u{25a1}\nsub=\u{2282}\n\
+    sum=\u{2211}\nsup=\u{2283}\nscap=\u{2ab8}\nscnE=\u{2ab6}\nsdot=\u{22c5}\nsemi=;\n\
+    sext=\u{2736}\nshcy=\u{448}\nsime=\u{2243}\nsimg=\u{2a9e}\nsiml=\u{2a9d}\nsmid=\u{2223}\n\
+    smte=\u{2aac}\nsolb=\u{29c4}\nsopf=\u{1d564}\nspar=\u{2225}\nsquf=\u{25aa}\nsscr=\u{1d4c8}\n\
+    star=\u{2606}\nsubE=\u{2ac5}\nsube=\u{2286}\nsucc=\u{227b}\nsung=\u{266a}\nsup1=\u{b9}\n\
+    sup2=\u{b2}\nsup3=\u{b3}\nsupE=\u{2ac6}\nsupe=\u{2287}\nsbquo=\u{201a}\nsccue=\u{227d}\n\
+    scirc=\u{15d}\nscnap=\u{2aba}\nscsim=\u{227f}\nsdotb=\u{22a1}\nsdote=\u{2a66}\n\
+    seArr=\u{21d8}\nsearr=\u{2198}\nsetmn=\u{2216}\nsharp=\u{266f}\nsigma=\u{3c3}\n\
+    simeq=\u{2243}\nsimgE=\u{2aa0}\nsimlE=\u{2a9f}\nsimne=\u{2246}\nslarr=\u{2190}\n\
+    smile=\u{2323}\nsmtes=\u{2aac}\u{fe00}\nsqcap=\u{2293}\nsqcup=\u{2294}\nsqsub=\u{228f}\n\
+    sqsup=\u{2290}\nsrarr=\u{2192}\nstarf=\u{2605}\nstrns=\u{af}\nsubnE=\u{2acb}\n\
+    subne=\u{228a}\nsupnE=\u{2acc}\nsupne=\u{228b}\nswArr=\u{21d9}\nswarr=\u{2199}\n\
+    sacute=\u{15b}\nscaron=\u{161}\nscedil=\u{15f}\nscnsim=\u{22e9}\nsearhk=\u{2925}\n\
+    seswar=\u{2929}\nsfrown=\u{2322}\nshchcy=\u{449}\nsigmaf=\u{3c2}\nsigmav=\u{3c2}\n\
+    simdot=\u{2a6a}\nsmashp=\u{2a33}\nsoftcy=\u{44c}\nsolbar=\u{233f}\nspades=\u{2660}\n\
+    sqcaps=\u{2293}\u{fe00}\nsqcups=\u{2294}\u{fe00}\nsqsube=\u{2291}\nsqsupe=\u{2292}\n\
+    square=\u{25a1}\nsquarf=\u{25aa}\nssetmn=\u{2216}\nssmile=\u{2323}\nsstarf=\u{22c6}\n\
+    subdot=\u{2abd}\nsubset=\u{2282}\nsubsim=\u{2ac7}\nsubsub=\u{2ad5}\nsubsup=\u{2ad3}\n\
+    succeq=\u{2ab0}\nsupdot=\u{2abe}\nsupset=\u{2283}\nsupsim=\u{2ac8}\nsupsub=\u{2ad4}\n\
+    supsup=\u{2ad6}\nswarhk=\u{2926}\nswnwar=\u{292a}\nsearrow=\u{2198}\nsimplus=\u{2a24}\n\
+    simrarr=\u{2972}\nsubedot=\u{2ac3}\nsubmult=\u{2ac1}\nsubplus=\u{2abf}\nsubrarr=\u{2979}\n\
+    succsim=\u{227f}\nsupdsub=\u{2ad8}\nsupedot=\u{2ac4}\nsuphsol=\u{27c9}\nsuphsub=\u{2ad7}\n\
+    suplarr=\u{297b}\nsupmult=\u{2ac2}\nsupplus=\u{2ac0}\nswarrow=\u{2199}\nscpolint=\u{2a13}\n\
+    setminus=\u{2216}\nshortmid=\u{2223}\nsmeparsl=\u{29e4}\nsqsubset=\u{228f}\n\
+    sqsupset=\u{2290}\nsubseteq=\u{2286}\nsuccneqq=\u{2ab6}\nsuccnsim=\u{22e9}\n\
+    supseteq=\u{2287}\nspadesuit=\u{2660}\nsubseteqq=\u{2ac5}\nsubsetneq=\u{228a}\n\
+    supseteqq=\u{2ac6}\nsupsetneq=\u{228b}\nsqsubseteq=\u{2291}\nsqsupseteq=\u{2292}\n\
+    subsetneqq=\u{2acb}\nsuccapprox=\u{2ab8}\nsupsetneqq=\u{2acc}\nstraightphi=\u{3d5}\n\
+    succcurlyeq=\u{227d}\nsuccnapprox=\u{2aba}\nshortparallel=\u{2225}\nsmallsetminus=\u{2216}\n\
+    straightepsilon=\u{3f5}";
 
 /// Names that begin with `t`.
 const LOWER_T: &str = "\
-    times=\u{d7}\ntrade=\u{2122}\ntarget=\u{2316}\ntau=\u{3c4}\ntbrk=\u{23b4}\ntcaron=\u{165}\n\
-    tcedil=\u{163}\ntcy=\u{442}\ntdot=\u{20db}\ntelrec=\u{2315}\ntfr=\u{1d531}\n\
-    there4=\u{2234}\ntherefore=\u{2234}\ntheta=\u{3b8}\nthetasym=\u{3d1}\nthetav=\u{3d1}\n\
-    thickapprox=\u{2248}\nthicksim=\u{223c}\nthinsp=\u{2009}\nthkap=\u{2248}\nthksim=\u{223c}\n\
-    thorn=\u{fe}\ntilde=\u{2dc}\ntimesb=\u{22a0}\ntimesbar=\u{2a31}\ntimesd=\u{2a30}\n\
-    tint=\u{222d}\ntoea=\u{2928}\ntop=\u{22a4}\ntopbot=\u{2336}\ntopcir=\u{2af1}\n\
-    topf=\u{1d565}\ntopfork=\u{2ada}\ntosa=\u{2929}\ntprime=\u{2034}\ntriangle=\u{25b5}\n\
-    triangledown=\u{25bf}\ntriangleleft=\u{25c3}\ntrianglelefteq=\u{22b4}\ntriangleq=\u{225c}\n\
-    triangleright=\u{25b9}\ntrianglerighteq=\u{22b5}\ntridot=\u{25ec}\ntrie=\u{225c}\n\
-    triminus=\u{2a3a}\ntriplus=\u{2a39}\ntrisb=\u{29cd}\ntritime=\u{2a3b}\ntrpezium=\u{23e2}\n\
-    tscr=\u{1d4c9}\ntscy=\u{446}\ntshcy=\u{45b}\ntstrok=\u{167}\ntwixt=\u{226c}\n\
+    times=\u{d7}\ntrade=\u{2122}\ntau=\u{3c4}\ntcy=\u{442}\ntfr=\u{1d531}\ntop=\u{22a4}\n\
+    tbrk=\u{23b4}\ntdot=\u{20db}\ntint=\u{222d}\ntoea=\u{2928}\ntopf=\u{1d565}\ntosa=\u{2929}\n\
+    trie=\u{225c}\ntscr=\u{1d4c9}\ntscy=\u{446}\ntheta=\u{3b8}\nthkap=\u{2248}\nthorn=\u{fe}\n\
+    tilde=\u{2dc}\ntrisb=\u{29cd}\ntshcy=\u{45b}\ntwixt=\u{226c}\ntarget=\u{2316}\n\
+    tcaron=\u{165}\ntcedil=\u{163}\ntelrec=\u{2315}\nthere4=\u{2234}\nthetav=\u{3d1}\n\
+    thinsp=\u{2009}\nthksim=\u{223c}\ntimesb=\u{22a0}\ntimesd=\u{2a30}\ntopbot=\u{2336}\n\
+    topcir=\u{2af1}\ntprime=\u{2034}\ntridot=\u{25ec}\ntstrok=\u{167}\ntopfork=\u{2ada}\n\
+    triplus=\u{2a39}\ntritime=\u{2a3b}\nthetasym=\u{3d1}\nthicksim=\u{223c}\ntimesbar=\u{2a31}\n\
+    triangle=\u{25b5}\ntriminus=\u{2a3a}\ntrpezium=\u{23e2}\ntherefore=\u{2234}\n\
+    triangleq=\u{225c}\nthickapprox=\u{2248}\ntriangledown=\u{25bf}\ntriangleleft=\u{25c3}\n\
+    triangleright=\u{25b9}\ntrianglelefteq=\u{22b4}\ntrianglerighteq=\u{22b5}\n\
     twoheadleftarrow=\u{219e}\ntwoheadrightarrow=\u{21a0}";
 
 /// Names that begin with `u`.
 const LOWER_U: &str = "\
-    uuml=\u{fc}\nuArr=\u{21d1}\nuHar=\u{2963}\nuacute=\u{fa}\nuarr=\u{2191}\nubrcy=\u{45e}\n\
-    ubreve=\u{16d}\nucirc=\u{fb}\nucy=\u{443}\nudarr=\u{21c5}\nudblac=\u{171}\nudhar=\u{296e}\n\
-    ufisht=\u{297e}\nufr=\u{1d532}\nugrave=\u{f9}\nuharl=\u{21bf}\nuharr=\u{21be}\n\
-    uhblk=\u{2580}\nulcorn=\u{231c}\nulcorner=\u{231c}\nulcrop=\u{230f}\nultri=\u{25f8}\n\
-    umacr=\u{16b}\numl=\u{a8}\nuogon=\u{173}\nuopf=\u{1d566}\nuparrow=\u{2191}\n\
-    updownarrow=\u{2195}\nupharpoonleft=\u{21bf}\nupharpoonright=\u{21be}\nuplus=\u{228e}\n\
-    upsi=\u{3c5}\nupsih=\u{3d2}\nupsilon=\u{3c5}\nupuparrows=\u{21c8}\nurcorn=\u{231d}\n\
-    urcorner=\u{231d}\nurcrop=\u{230e}\nuring=\u{16f}\nurtri=\u{25f9}\nuscr=\u{1d4ca}\n\
-    utdot=\u{22f0}\nutilde=\u{169}\nutri=\u{25b5}\nutrif=\u{25b4}\nuuarr=\u{21c8}\n\
-    uwangle=\u{29a7}";
+    uuml=\u{fc}\nucy=\u{443}\nufr=\u{1d532}\numl=\u{a8}\nuArr=\u{21d1}\nuHar=\u{2963}\n\
+    uarr=\u{2191}\nuopf=\u{1d566}\nupsi=\u{3c5}\nuscr=\u{1d4ca}\nutri=\u{25b5}\nubrcy=\u{45e}\n\
+    ucirc=\u{fb}\nudarr=\u{21c5}\nudhar=\u{296e}\nuharl=\u{21bf}\nuharr=\u{21be}\n\
+    uhblk=\u{2580}\nultri=\u{25f8}\numacr=\u{16b}\nuogon=\u{173}\nuplus=\u{228e}\n\
+    upsih=\u{3d2}\nuring=\u{16f}\nurtri=\u{25f9}\nutdot=\u{22f0}\nutrif=\u{25b4}\n\
+    uuarr=\u{21c8}\nuacute=\u{fa}\nubreve=\u{16d}\nudblac=\u{171}\nufisht=\u{297e}\n\
+    ugrave=\u{f9}\nulcorn=\u{231c}\nulcrop=\u{230f}\nurcorn=\u{231d}\nurcrop=\u{230e}\n\
+    utilde=\u{169}\nuparrow=\u{2191}\nupsilon=\u{3c5}\nuwangle=\u{29a7}\nulcorner=\u{231c}\n\
+    urcorner=\u{231d}\nupuparrows=\u{21c8}\nupdownarrow=\u{2195}\nupharpoonleft=\u{21bf}\n\
+    upharpoonright=\u{21be}";
 
 /// Names that begin with `v`.
 const LOWER_V: &str = "\
-    vArr=\u{21d5}\nvBar=\u{2ae8}\nvBarv=\u{2ae9}\nvDash=\u{22a8}\nvangrt=\u{299c}\n\
-    varepsilon=\u{3f5}\nvarkappa=\u{3f0}\nvarnothing=\u{2205}\nvarphi=\u{3d5}\nvarpi=\u{3d6}\n\
-    varpropto=\u{221d}\nvarr=\u{2195}\nvarrho=\u{3f1}\nvarsigma=\u{3c2}\n\
-    varsubsetneq=\u{228a}\u{fe00}\nvarsubsetneqq=\u{2acb}\u{fe00}\n\
-    varsupsetneq=\u{228b}\u{fe00}\nvarsupsetneqq=\u{2acc}\u{fe00}\nvartheta=\u{3d1}\n\
-    vartriangleleft=\u{22b2}\nvartriangleright=\u{22b3}\nvcy=\u{432}\nvdash=\u{22a2}\n\
-    vee=\u{2228}\nveebar=\u{22bb}\nveeeq=\u{225a}\nvellip=\u{22ee}\nverbar=|\nvert=|\n\
-    vfr=\u{1d533}\nvltri=\u{22b2}\nvnsub=\u{2282}\u{20d2}\nvnsup=\u{2283}\u{20d2}\n\
-    vopf=\u{1d567}\nvprop=\u{221d}\nvrtri=\u{22b3}\nvscr=\u{1d4cb}\nvsubnE=\u{2acb}\u{fe00}\n\
-    vsubne=\u{228a}\u{fe00}\nvsupnE=\u{2acc}\u{fe00}\nvsupne=\u{228b}\u{fe00}\nvzigzag=\u{299a}";
+    vcy=\u{432}\nvee=\u{2228}\nvfr=\u{1d533}\nvArr=\u{21d5}\nvBar=\u{2ae8}\nvarr=\u{2195}\n\
+    vert=|\nvopf=\u{1d567}\nvscr=\u{1d4cb}\nvBarv=\u{2ae9}\nvDash=\u{22a8}\nvarpi=\u{3d6}\n\
+    vdash=\u{22a2}\nveeeq=\u{225a}\nvltri=\u{22b2}\nvnsub=\u{2282}\u{20d2}\n\
+    vnsup=\u{2283}\u{20d2}\nvprop=\u{221d}\nvrtri=\u{22b3}\nvangrt=\u{299c}\nvarphi=\u{3d5}\n\
+    varrho=\u{3f1}\nveebar=\u{22bb}\nvellip=\u{22ee}\nverbar=|\nvsubnE=\u{2acb}\u{fe00}\n\
+    vsubne=\u{228a}\u{fe00}\nvsupnE=\u{2acc}\u{fe00}\nvsupne=\u{228b}\u{fe00}\n\
+    vzigzag=\u{299a}\nvarkappa=\u{3f0}\nvarsigma=\u{3c2}\nvartheta=\u{3d1}\nvarpropto=\u{221d}\n\
+    varepsilon=\u{3f5}\nvarnothing=\u{2205}\nvarsubsetneq=\u{228a}\u{fe00}\n\
+    varsupsetneq=\u{228b}\u{fe00}\nvarsubsetneqq=\u{2acb}\u{fe00}\n\
+    varsupsetneqq=\u{2acc}\u{fe00}\nvartriangleleft=\u{22b2}\nvartriangleright=\u{22b3}";
 
 /// Names that begin with `w`.
 const LOWER_W: &str = "\
-    wcirc=\u{175}\nwedbar=\u{2a5f}\nwedge=\u{2227}\nwedgeq=\u{2259}\nweierp=\u{2118}\n\
-    wfr=\u{1d534}\nwopf=\u{1d568}\nwp=\u{2118}\nwr=\u{2240}\nwreath=\u{2240}\nwscr=\u{1d4cc}";
+    wp=\u{2118}\nwr=\u{2240}\nwfr=\u{1d534}\nwopf=\u{1d568}\nwscr=\u{1d4cc}\nwcirc=\u{175}\n\
+    wedge=\u{2227}\nwedbar=\u{2a5f}\nwedgeq=\u{2259}\nweierp=\u{2118}\nwreath=\u{2240}";
 
 /// Names that begin with `x`.
 const LOWER_X: &str = "\
-    xcap=\u{22c2}\nxcirc=\u{25ef}\nxcup=\u{22c3}\nxdtri=\u{25bd}\nxfr=\u{1d535}\n\
-    xhArr=\u{27fa}\nxharr=\u{27f7}\nxi=\u{3be}\nxlArr=\u{27f8}\nxlarr=\u{27f5}\nxmap=\u{27fc}\n\
-    xnis=\u{22fb}\nxodot=\u{2a00}\nxopf=\u{1d569}\nxoplus=\u{2a01}\nxotime=\u{2a02}\n\
-    xrArr=\u{27f9}\nxrarr=\u{27f6}\nxscr=\u{1d4cd}\nxsqcup=\u{2a06}\nxuplus=\u{2a04}\n\
-    xutri=\u{25b3}\nxvee=\u{22c1}\nxwedge=\u{22c0}";
+    xi=\u{3be}\nxfr=\u{1d535}\nxcap=\u{22c2}\nxcup=\u{22c3}\nxmap=\u{27fc}\nxnis=\u{22fb}\n\
+    xopf=\u{1d569}\nxscr=\u{1d4cd}\nxvee=\u{22c1}\nxcirc=\u{25ef}\nxdtri=\u{25bd}\n\
+    xhArr=\u{27fa}\nxharr=\u{27f7}\nxlArr=\u{27f8}\nxlarr=\u{27f5}\nxodot=\u{2a00}\n\
+    xrArr=\u{27f9}\nxrarr=\u{27f6}\nxutri=\u{25b3}\nxoplus=\u{2a01}\nxotime=\u{2a02}\n\
+    xsqcup=\u{2a06}\nxuplus=\u{2a04}\nxwedge=\u{22c0}";
 
 /// Names that begin with `y`.
 const LOWER_Y: &str = "\
-    yen=\u{a5}\nyacute=\u{fd}\nyacy=\u{44f}\nycirc=\u{177}\nycy=\u{44b}\nyfr=\u{1d536}\n\
-    yicy=\u{457}\nyopf=\u{1d56a}\nyscr=\u{1d4ce}\nyucy=\u{44e}\nyuml=\u{ff}";
+    yen=\u{a5}\nycy=\u{44b}\nyfr=\u{1d536}\nyacy=\u{44f}\nyicy=\u{457}\nyopf=\u{1d56a}\n\
+    yscr=\u{1d4ce}\nyucy=\u{44e}\nyuml=\u{ff}\nycirc=\u{177}\nyacute=\u{fd}";
 
 /// Names that begin with `z`.
 const LOWER_Z: &str = "\
-    zacute=\u{17a}\nzcaron=\u{17e}\nzcy=\u{437}\nzdot=\u{17c}\nzeetrf=\u{2128}\nzeta=\u{3b6}\n\
-    zfr=\u{1d537}\nzhcy=\u{436}\nzigrarr=\u{21dd}\nzopf=\u{1d56b}\nzscr=\u{1d4cf}\n\
-    zwj=\u{200d}\nzwnj=\u{200c}";
+    zcy=\u{437}\nzfr=\u{1d537}\nzwj=\u{200d}\nzdot=\u{17c}\nzeta=\u{3b6}\nzhcy=\u{436}\n\
+    zopf=\u{1d56b}\nzscr=\u{1d4cf}\nzwnj=\u{200c}\nzacute=\u{17a}\nzcaron=\u{17e}\n\
+    zeetrf=\u{2128}\nzigrarr=\u{21dd}";

@@ -9,3 +9,4 @@ pub mod html;
 mod html_names;
 pub mod named;
 pub mod references;
+mod search;

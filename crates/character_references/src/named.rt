@@ -2,12 +2,14 @@
 
 ghost use Rattle.std.specs.Prelude.{◌≡◌, if◌then◌else◌, option_copied, ◌==◌, None};
 ghost use Rattle.std.specs.Option.{option_or};
+ghost use Rattle.std.specs.List.{before_first};
 ghost use Rattle.std.specs.Str.{byte};
 ghost use Rattle.character_references.specs.Named;
-ghost use Rattle.character_references.specs.Named.{known, new_line, text_in};
+ghost use Rattle.character_references.specs.Named.{is_line_feed, known, new_line, text_in};
 
 use crate::decoder::Decoder;
 use crate::references::References;
+use crate::search::find_line;
 use std::alloc::{AllocError, Global};
 
 /// The decoder that knows a table of names, such as that of HTML, and everything that [`Decoder`]
@@ -59,13 +61,29 @@ fn text_of<'a>(table: &'a str, name: &str) -> Option<&'a str>
     ensures { option_copied result ≡ Named.text_of name.now table.now }
 {
     let mut rest = table;
-    while let Some((line, more)) = rest.split_once('\n') {
-        if let Some(text) = text_in(line, name) {
+    loop {
+        if let Some(text) = first_text(rest, name) {
             return Some(text);
         }
-        rest = more;
+        let at = find_line(rest.as_bytes(), name.as_bytes());
+        if at == rest.len() {
+            return None;
+        }
+        rest = &rest[at + 1..];
     }
-    text_in(rest, name)
+}
+
+/// Returns the text of a name, if the first of these lines is for that name.
+fn first_text<'a>(lines: &'a str, name: &str) -> Option<&'a str>
+    ensures { option_copied result ≡ text_in name.now (before_first is_line_feed lines.now) }
+{
+    if !lines.starts_with(name) {
+        return None;
+    }
+    match lines.split_once('\n') {
+        Some((line, _)) => text_in(line, name),
+        None => text_in(lines, name),
+    }
 }
 
 /// Returns the text of a name, if this line is for that name.

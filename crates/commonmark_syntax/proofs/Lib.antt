@@ -3,7 +3,6 @@ pub mod Counts
 pub mod Cuts
 pub mod Exact
 pub mod Goes
-pub mod Lanes
 pub mod Loops
 pub mod Names
 pub mod OpenTag

@@ -4,7 +4,7 @@ ghost use Rattle.std.specs.Int.{bit_at};
 ghost use Rattle.std.specs.Prelude.{◌≡◌, ◌≢◌, ◌==◌, ℕ, ◌<◌, ◌≤◌, cond, length, slice_index, true};
 
 use crate::class::PlainClass;
-use std::simd::prelude::*;
+use byte_masks::{first_of, places};
 
 /// Returns how many bytes at the start of a text are in a class.
 pub(crate) fn plain_length<C: PlainClass>(text: &[u8]) -> usize
@@ -91,30 +91,4 @@ fn find_byte_in_16(text: &[u8], of: u8) -> usize
     ensures at { result < 16 → slice_index text.now result ≡ of }
 {
     first_of(places(text, of))
-}
-
-/// Returns a number with a bit for each of the first 16 bytes of a text, which is set where the
-/// byte is this one.
-#[inline(always)]
-fn places(text: &[u8], of: u8) -> u64
-    requires { 16 ≤ length text.now }
-    ensures { (k : ℕ) → k < 16 → bit_at result k ≡ cond (slice_index text.now k == of) 1 0 }
-{
-    u8x16::from_slice(text)
-        .simd_eq(u8x16::splat(of))
-        .to_bitmask()
-}
-
-/// Returns the place of the lowest of 16 bits that is set, or 16.
-#[inline(always)]
-fn first_of(bits: u64) -> usize
-    ensures most { result ≤ 16 }
-    ensures before { (k : ℕ) → k < result → bit_at bits k ≡ 0 }
-    ensures at { result < 16 → bit_at bits result ≡ 1 }
-{
-    if bits == 0 {
-        16
-    } else {
-        (bits.trailing_zeros() as usize).min(16)
-    }
 }

@@ -4,3 +4,5 @@ pub mod Roots
 pub mod Plain
 pub mod HiddenSoFar
 pub mod Plainly
+mod OutlineTaking
+mod TextTaking

@@ -1,9 +1,9 @@
--- Whether events hide a byte of a document, event by event.
-use Rattle.std.specs.Prelude.{List, [], false, ℕ, ◌∷◌, ◌≡◌}
+-- Whether events hide the bytes of a document that they are expected to hide, event by event.
+use Rattle.std.specs.Prelude.{Bool, List, [], false, length, ℕ, ◌++◌, ◌∷◌, ◌≡◌}
 use Rattle.markdown_events.specs.declared.event.Event.{Event}
 use Rattle.markdown_events.specs.declared.event.Kind.{Kind}
 use Rattle.markdown_events.specs.declared.event.Name.{Name}
-use Rattle.markdown.specs.Hidden.{cell_after, hidden_by, hidden_from, labels_after}
+use Rattle.markdown.specs.Hidden.{cell_after, flags_at, hidden_by, hidden_from, labels_after}
 use Rattle.markdown.specs.declared.hiding.Hiding.{Hiding}
 
 -- the number of open labels after events
@@ -16,15 +16,15 @@ abbrev pub cell_in : ℕ → List Event → ℕ
 cell_in start [] = start
 cell_in start (e ∷ events) = cell_in (cell_after start e.kind e.name e.point.index) events
 
--- what an event does: if no byte is hidden after it, none was before it, and it hides none
+-- what an event does: if nothing differs after it, nothing did before it, and what it hides is what was expected first
 pub record Passes (bytes : List ℕ) (kind : Kind) (name : Name) (index : ℕ) (old new : Hiding) : Type 0 where
   pub cell : new.cell ≡ cell_after old.cell kind name index
-  pub before : new.hides ≡ false → old.hides ≡ false
-  pub labels : new.hides ≡ false → new.labels ≡ labels_after old.labels kind name
-  pub none : new.hides ≡ false → hidden_by bytes old.labels old.cell kind name index ≡ []
+  pub before : new.differs ≡ false → old.differs ≡ false
+  pub labels : new.differs ≡ false → new.labels ≡ labels_after old.labels kind name
+  pub expected : new.differs ≡ false → old.expected.now ≡ hidden_by bytes old.labels old.cell kind name index ++ new.expected.now
 
--- what is known after events: if it says that no byte is hidden, none is
-pub record Tells (bytes : List ℕ) (events : List Event) (hiding : Hiding) : Type 0 where
+-- what is known after events: if nothing differs, the flags are those of what the events hide and what is expected after them
+pub record Tells (bytes : List ℕ) (flags : List Bool) (events : List Event) (hiding : Hiding) : Type 0 where
   pub cell : hiding.cell ≡ cell_in 0 events
-  pub labels : hiding.hides ≡ false → hiding.labels ≡ labels_in 0 events
-  pub none : hiding.hides ≡ false → hidden_from bytes 0 0 events ≡ []
+  pub labels : hiding.differs ≡ false → hiding.labels ≡ labels_in 0 events
+  pub hidden : hiding.differs ≡ false → flags ≡ flags_at (length bytes) (hidden_from bytes 0 0 events ++ hiding.expected.now)

@@ -4,3 +4,5 @@ pub mod Plain
 pub mod Hiding
 pub mod Blocks
 pub mod TreeSinks
+pub mod OutlineSinks
+pub mod TextSinks

@@ -8,17 +8,17 @@ use Rattle.markdown_tree.specs.Building.{Building}
 use Rattle.markdown.specs.Hiding.{Tells}
 use Rattle.markdown.specs.declared.hiding.Hiding.{Hiding}
 
--- a document whose values are whole, with no hidden byte
-abbrev pub shown_document : List ℕ → Given
-shown_document bytes = record { bytes = bytes; values = Whole; hidden = [] }
+-- a document whose values are whole, with these flags for hidden bytes
+abbrev pub hiding_document : List Bool → List ℕ → Given
+hiding_document flags bytes = record { bytes = bytes; values = Whole; hidden = flags }
 
--- the document, the events so far, and whether they may hide a byte
+-- the document, the flags of the bytes that are expected to be hidden, and the events so far
 pub record TreeOf : Type 0 where
   pub document : List ℕ
+  pub hidden : List Bool
   pub events : List Event
-  pub hides : Bool
 
--- the tree is built of the document as it is, and what is known of hidden bytes is that of the events
+-- the tree is built of the document without the bytes that are expected to be hidden, and what is known of hidden bytes is that of the events
 pub record IsTreeOf (bytes : List ℕ) (building : Building HtmlReferences) (hiding : Hiding) : Type 0 where
-  pub document : building.document ≡ shown_document bytes
-  pub tells : Tells bytes building.events hiding
+  pub document : building.document ≡ hiding_document building.document.hidden bytes
+  pub tells : Tells bytes building.document.hidden building.events hiding

@@ -41,20 +41,20 @@ pub fn to_events(
 {
     let document = value.as_bytes();
     let blocks = read(alloc, document, options)?;
-    recorded(alloc, document, options, &blocks, Vec::new(alloc))
+    recorded(alloc, document, options, blocks, Vec::new(alloc))
 }
 
 /// Returns a sink that has taken the events of a document, from its blocks and a sink that has taken
-/// none.
+/// none. The memory of the blocks is given back meanwhile.
 pub(crate) fn recorded<S: Sink>(
     alloc: Global,
     document: &[u8],
     options: &ParseOptions,
-    blocks: &Blocks,
+    blocks: Blocks,
     sink: S,
 ) -> Result<S, AllocError>
     requires text { IsUtf8 document.now }
-    requires blocks { AreBlocks document.now options.now.constructs blocks.now }
+    requires blocks { AreBlocks document.now options.now.constructs blocks }
     requires none { S.taken sink ≡ [] }
     ensures finished { IfOk result (λ taken. IsFinished (source document.now html) (S.taken taken)) }
     ensures on { IfOk result (λ taken. AreOn options.now.constructs (S.taken taken)) }
@@ -70,11 +70,11 @@ fn written<'d, S: Sink>(
     alloc: Global,
     document: &'d [u8],
     options: &ParseOptions,
-    blocks: &Blocks,
+    blocks: Blocks,
     sink: S,
 ) -> Result<Recorder<'d, HtmlReferences, S>, AllocError>
     requires text { IsUtf8 document.now }
-    requires blocks { AreBlocks document.now options.now.constructs blocks.now }
+    requires blocks { AreBlocks document.now options.now.constructs blocks }
     requires none { S.taken sink ≡ [] }
     ensures given { IfOk result (λ writer. writer.given.bytes ≡ document.now) }
     ensures sink { IfOk result (λ writer. writer.given.sink ≡ S.document sink) }
@@ -82,13 +82,17 @@ fn written<'d, S: Sink>(
     ensures root { IfOk result (λ writer. IsAt writer (flow false) []) }
     ensures on { IfOk result (λ writer. AreOn options.now.constructs writer.events) }
 {
+    let Blocks {
+        pieces,
+        identifiers,
+    } = blocks;
     let reading = Reading {
         alloc,
         document,
         options: *options,
-        identifiers: &blocks.identifiers,
+        identifiers: &identifiers,
         references: &HtmlReferences,
     };
     let writer = Recorder::new(alloc, document, &HtmlReferences, sink)?;
-    write(&reading, blocks.pieces.as_slice(), writer)
+    write(&reading, pieces, writer)
 }

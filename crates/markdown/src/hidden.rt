@@ -4,6 +4,7 @@ ghost use Rattle.std.specs.Prelude.{◌≡◌, ◌<◌, ◌+◌, ◌++◌, ◌-�
 ghost use Rattle.markdown.specs.Hidden.{cell_after, escapes, flags_at, hidden, hidden_by, hidden_from, is_label, labels_after, with_set};
 
 use markdown_events::event::{Event, Kind, Name};
+use markdown_pieces::piece::{Piece, PieceKind};
 use std::alloc::{AllocError, Global};
 
 /// Returns a flag for each byte of a document with these events, which says whether it is hidden,
@@ -39,6 +40,26 @@ fn hidden_offsets(alloc: Global, bytes: &[u8], events: &[Event]) -> Result<Vec<u
     Ok(offsets)
 }
 
+/// Returns the offsets of the bytes that the cells of tables hide, from the pieces of a document.
+pub(crate) fn offsets_in_cells(
+    alloc: Global,
+    bytes: &[u8],
+    pieces: &[Piece],
+) -> Result<Vec<usize>, AllocError> {
+    let mut offsets = Vec::new(alloc);
+    let mut cell = 0;
+    for piece in pieces {
+        match piece.kind {
+            PieceKind::Enter(Name::GfmTableCell) => cell = piece.end,
+            PieceKind::Exit(Name::GfmTableCell) => {
+                add_in_cell(&mut offsets, bytes, cell, piece.end)?;
+            }
+            _ => {}
+        }
+    }
+    Ok(offsets)
+}
+
 /// Adds the offsets that an event hides, given how many labels are open and where the open cell
 /// began.
 fn add_hidden(
@@ -53,10 +74,22 @@ fn add_hidden(
     let index = event.point.index;
     match (event.kind, event.name) {
         (Kind::Enter, Name::BlockQuoteMarker) if labels > 0 => offsets.push(index)?,
-        (Kind::Exit, Name::GfmTableCell) => add_escapes(offsets, part(bytes, cell, index), cell)?,
+        (Kind::Exit, Name::GfmTableCell) => add_in_cell(offsets, bytes, cell, index)?,
         _ => {}
     }
     Ok(())
+}
+
+/// Adds the offsets that a cell from one offset to another hides.
+fn add_in_cell(
+    offsets: &mut Vec<usize>,
+    bytes: &[u8],
+    start: usize,
+    end: usize,
+) -> Result<(), AllocError>
+    ensures { OnOk result (offsets.new.items ≡ offsets.old.items ++ escapes start (take (end - start) (drop start bytes.now))) }
+{
+    add_escapes(offsets, part(bytes, start, end), start)
 }
 
 /// Returns how many labels are open after an event.
@@ -122,7 +155,11 @@ fn add_escapes(offsets: &mut Vec<usize>, text: &[u8], start: usize) -> Result<()
 
 /// Returns a flag for each of `count` bytes, set at these offsets, or no flags if there is no
 /// offset.
-fn flags_at(alloc: Global, count: usize, offsets: &[usize]) -> Result<Vec<bool>, AllocError>
+pub(crate) fn flags_at(
+    alloc: Global,
+    count: usize,
+    offsets: &[usize],
+) -> Result<Vec<bool>, AllocError>
     ensures { IfOk result (λ flags. flags.items ≡ flags_at count offsets.now) }
 {
     if offsets.is_empty() {

@@ -1,6 +1,6 @@
-//! Whether events hide bytes, told while they are written.
+//! Whether events hide the bytes that they are expected to hide, told while they are written.
 
-ghost use Rattle.std.specs.Prelude.{◌≡◌, ◌<◌, ◌^◌, [], List, SomeIff, ℕ, false, true};
+ghost use Rattle.std.specs.Prelude.{◌≡◌, ◌<◌, ◌^◌, ◌+◌, ◌++◌, ◌∷◌, [], IfSome, List, SomeIff, ℕ, false, length, true};
 ghost use Rattle.markdown.specs.Hidden.{cell_after, escapes, hidden_by, is_label, labels_after};
 ghost use Rattle.markdown.specs.declared.hiding.Hiding.{Hiding};
 ghost use Rattle.markdown.specs.Hiding.{Passes};
@@ -9,36 +9,43 @@ ghost use Rattle.markdown_events.specs.declared.event.Kind.TheVariants.{Enter, E
 use crate::hidden::{is_label, part};
 use markdown_events::event::{Name, Point};
 
-/// Whether the events so far hide a byte of a document, and what that depends on for the next ones.
+/// Whether the events so far hide the bytes of a document that they are expected to hide, and what that
+/// depends on for the next ones.
 #[derive(Drop)]
-pub struct Hiding {
+pub struct Hiding<'e> {
     /// How many labels are open.
     labels: usize,
     /// Where the cell begins that is open, or was open last.
     cell: usize,
-    /// Whether a byte is hidden.
-    hides: bool,
+    /// The offsets of the bytes that the next events are expected to hide.
+    expected: &'e [usize],
+    /// Whether another byte is hidden, or may be.
+    differs: bool,
 }
 
-impl Hiding {
-    /// Returns what is known before the first event.
-    pub fn new() -> Hiding
+impl<'e> Hiding<'e> {
+    /// Returns what is known before the first event, with the offsets of the bytes that are expected to be
+    /// hidden.
+    pub fn new(expected: &'e [usize]) -> Hiding<'e>
         ensures labels { result.labels ≡ 0 }
         ensures cell { result.cell ≡ 0 }
-        ensures hides { result.hides ≡ false }
+        ensures expected { result.expected.now ≡ expected.now }
+        ensures differs { result.differs ≡ false }
     {
         Hiding {
             labels: 0,
             cell: 0,
-            hides: false,
+            expected,
+            differs: false,
         }
     }
 
-    /// Whether a byte is hidden.
-    pub fn hides(&self) -> bool
-        ensures { result ≡ self.now.hides }
+    /// Whether the events have hidden all bytes that they were expected to hide, and no other.
+    pub fn is_as_expected(&self) -> bool
+        ensures same { result ≡ true → self.now.differs ≡ false }
+        ensures all { result ≡ true → self.now.expected.now ≡ [] }
     {
-        self.hides
+        !self.differs && self.expected.is_empty()
     }
 
     /// Takes the enter of a span. Of most, nothing is to be known.
@@ -65,14 +72,14 @@ impl Hiding {
     fn pass_enter(&mut self, name: Name, at: &Point)
         ensures { (bytes : List ℕ) → Passes bytes Enter name at.now.index self.old self.new }
     {
-        let hides = self.hides | marks_quote(self.labels, name);
+        let differs = self.differs | marks_quote(self.labels, name);
         self.cell = cell_entered(self.cell, name, at.index);
         match labels_entered(self.labels, name) {
             Some(labels) => {
                 self.labels = labels;
-                self.hides = hides;
+                self.differs = differs;
             }
-            None => self.hides = true,
+            None => self.differs = true,
         }
     }
 
@@ -80,8 +87,11 @@ impl Hiding {
     fn pass_exit(&mut self, bytes: &[u8], name: Name, at: &Point)
         ensures { Passes bytes.now Exit name at.now.index self.old self.new }
     {
-        self.hides = self.hides | ends_escaped(bytes, self.cell, name, at.index);
         self.labels = labels_left(self.labels, name);
+        match expected_after(bytes, self.cell, name, at.index, self.expected) {
+            Some(later) => self.expected = later,
+            None => self.differs = true,
+        }
     }
 
     /// Takes the enter and the exit of a token. Of most, nothing is to be known.
@@ -145,14 +155,21 @@ fn labels_entered(labels: usize, name: Name) -> Option<usize>
     }
 }
 
-/// Whether the exit of a span at an index hides bytes.
+/// Returns the offsets that are expected after the exit of a span at an index, if those of the bytes that
+/// it hides come first.
 #[inline(always)]
-fn ends_escaped(bytes: &[u8], cell: usize, name: Name, index: usize) -> bool
-    ensures { result ≡ false → (labels : ℕ) → hidden_by bytes.now labels cell Exit name index ≡ [] }
+fn expected_after<'e>(
+    bytes: &[u8],
+    cell: usize,
+    name: Name,
+    index: usize,
+    expected: &'e [usize],
+) -> Option<&'e [usize]>
+    ensures { IfSome result (λ later. (labels : ℕ) → expected.now ≡ hidden_by bytes.now labels cell Exit name index ++ later.now) }
 {
     match name {
-        Name::GfmTableCell => has_escape(part(bytes, cell, index)),
-        _ => false,
+        Name::GfmTableCell => after_escapes(part(bytes, cell, index), cell, expected),
+        _ => Some(expected),
     }
 }
 
@@ -168,16 +185,31 @@ fn labels_left(labels: usize, name: Name) -> usize
     }
 }
 
-/// Whether a text has a backslash before a pipe.
-pub(crate) fn has_escape(text: &[u8]) -> bool
-    ensures { result ≡ false → (at : ℕ) → escapes at text.now ≡ [] }
+/// Returns the offsets after those of the backslashes before pipes in a text that begins at an offset, if
+/// these come first.
+fn after_escapes<'e>(text: &[u8], start: usize, expected: &'e [usize]) -> Option<&'e [usize]>
+    requires { start + length text.now < 2 ^ 64 }
+    ensures { IfSome result (λ later. expected.now ≡ escapes start text.now ++ later.now) }
 {
+    let mut at = start;
+    let mut left = expected;
     let mut rest = text;
     'bytes: while let Some((first, later)) = rest.split_first() {
         if *first == b'\\' && matches!(later, [b'|', ..]) {
-            return true;
+            left = after_offset(left, at)?;
         }
+        at += 1;
         rest = later;
     }
-    false
+    Some(left)
+}
+
+/// Returns the offsets after the first one, if that is this one.
+fn after_offset(offsets: &[usize], at: usize) -> Option<&[usize]>
+    ensures { IfSome result (λ later. offsets.now ≡ at ∷ later.now) }
+{
+    match offsets.split_first() {
+        Some((first, later)) if *first == at => Some(later),
+        _ => None,
+    }
 }

@@ -1,7 +1,8 @@
 //! Parses a markdown document to an mdast tree, or to the events of its tokenizer.
 //!
-//! Use `to_mdast` for the tree, and `to_events` for a token for every byte. `ParseOptions` says
-//! which constructs are on: CommonMark, GFM, frontmatter and math.
+//! Use `to_mdast` for the tree, `to_events` for a token for every byte, `to_outline` for the headings
+//! alone, and `to_text` for the text without its markup. `ParseOptions` says which constructs are on:
+//! CommonMark, GFM, frontmatter and math.
 //!
 //! The crate also has what programs need to work with a tree: `mdast` has its nodes, and `unist`
 //! their positions. `Walk` visits the nodes, `node_at` finds the one at a byte, and `definition_of`
@@ -10,9 +11,14 @@
 #![tactic(auto)]
 
 mod events;
+mod expected;
 mod hidden;
 mod hiding;
 pub mod laws;
+mod outline;
+mod outline_sink;
+mod text;
+mod text_sink;
 mod tree;
 mod tree_sink;
 
@@ -24,4 +30,6 @@ pub use markdown_nodes::{mdast, unist};
 pub use markdown_options::{Constructs, ParseOptions};
 pub use mdast_util::definitions::definition_of;
 pub use mdast_util::place::node_at;
+pub use outline::to_outline;
+pub use text::to_text;
 pub use tree::{compile_events, to_mdast};

@@ -15,14 +15,13 @@ ghost use Rattle.markdown_nodes.specs.View.{view};
 ghost use Rattle.markdown_events.specs.declared.message.Fault.TheVariants as faults;
 ghost use Rattle.markdown_events.specs.declared.message.Message.{Message};
 
-use crate::events::recorded;
+use crate::events::{recorded, to_events};
+use crate::expected::Expected;
 use crate::hidden::hidden_bytes;
-use crate::hiding::has_escape;
 use crate::tree_sink::TreeSink;
 use character_references::html::HtmlReferences;
 use event_writer::laws::{no_message_comes, offsets_never_go_back};
 use markdown_events::event::Event;
-use markdown_events::search::first_equal;
 use markdown_flow::document::read;
 use markdown_nodes::mdast::Node;
 use markdown_nodes::message::Fault;
@@ -55,40 +54,20 @@ pub fn to_mdast(alloc: Global, value: &str, options: &ParseOptions) -> Result<No
 {
     let bytes = value.as_bytes();
     let blocks = read(alloc, bytes, options)?;
-    if !expects_hidden(bytes, options) {
-        let sink = TreeSink::new(alloc, value)?;
-        let sink = recorded(alloc, bytes, options, &blocks, sink)?;
-        if !sink.hides() {
-            return shown_tree(sink);
-        }
+    let expected = Expected::new(alloc, bytes, options, &blocks)?;
+    let sink = TreeSink::new(alloc, value, &expected)?;
+    let sink = recorded(alloc, bytes, options, blocks, sink)?;
+    if sink.hides_as_expected() {
+        return built_tree(sink);
     }
-    let events = recorded(alloc, bytes, options, &blocks, Vec::new(alloc))?;
+    let events = to_events(alloc, value, options)?;
     tree_of(alloc, value, &events)
 }
 
-/// Whether a document has a backslash before a pipe, and tables are on. In a table that backslash is
-/// hidden. A tree that is built as if no byte were hidden would then be built in vain.
-fn expects_hidden(bytes: &[u8], options: &ParseOptions) -> bool {
-    options.constructs.gfm_table && bytes.contains(&b'|') && has_escaped_pipe(bytes)
-}
-
-/// Whether a text has a backslash before a pipe. Backslashes are searched for in 16 bytes at a time.
-fn has_escaped_pipe(text: &[u8]) -> bool {
-    let mut rest = text;
-    'backslashes: while rest.len() > 16 {
-        let at = first_equal(rest, b'\\');
-        if at < 16 && rest[at + 1] == b'|' {
-            return true;
-        }
-        rest = &rest[at.min(15) + 1..];
-    }
-    has_escape(rest)
-}
-
-/// Returns the tree that a sink has built, if its events hide no byte.
-fn shown_tree(sink: TreeSink<'_>) -> Result<Node, AllocError>
+/// Returns the tree that a sink has built, if its events hide what they were expected to hide.
+fn built_tree(sink: TreeSink<'_>) -> Result<Node, AllocError>
     requires finished { IsFinished (source sink.document html) sink.events }
-    requires none { hidden sink.document sink.events ≡ [] }
+    requires hidden { sink.hidden ≡ hidden sink.document sink.events }
     ensures tree { IfOk result (λ tree. IsMeaning tree sink.entry.events (source_hiding (hidden sink.entry.document sink.entry.events) sink.entry.document html)) }
     ensures root { IfOk result (λ tree. (view tree).position ≡ Some (whole_document sink.entry.document)) }
     ensures ordered { IfOk result (λ tree. IsOrdered (only (view tree))) }
@@ -103,7 +82,7 @@ fn shown_tree(sink: TreeSink<'_>) -> Result<Node, AllocError>
 }
 
 /// Returns the tree of a document and its events.
-fn tree_of(alloc: Global, value: &str, events: &[Event]) -> Result<Node, AllocError>
+pub(crate) fn tree_of(alloc: Global, value: &str, events: &[Event]) -> Result<Node, AllocError>
     requires { IsFinished (source value.now html) events.now }
     ensures tree { IfOk result (λ tree. IsMeaning tree events.now (source_hiding (hidden value.now events.now) value.now html)) }
     ensures root { IfOk result (λ tree. (view tree).position ≡ Some (whole_document value.now)) }
@@ -145,7 +124,7 @@ pub fn compile_events(alloc: Global, value: &str, events: &[Event]) -> Result<No
 }
 
 /// Returns the error that memory ran out, if a fault is not a message.
-fn memory_error(fault: Fault) -> AllocError
+pub(crate) fn memory_error(fault: Fault) -> AllocError
     requires { (message : Message) → fault ≢ faults.Message message }
 {
     match fault {

@@ -1,6 +1,6 @@
 //! A sink of events that builds their tree.
 
-ghost use Rattle.std.specs.Prelude.{◌≡◌, ◌++◌, ◌∷◌, [], IfErr, IfOk, Some, false};
+ghost use Rattle.std.specs.Prelude.{◌≡◌, ◌++◌, ◌∷◌, [], IfErr, IfOk, Some, length, true};
 ghost use Rattle.markdown_events.specs.Forest.{enter, exit};
 ghost use Rattle.character_references.specs.Html.{html};
 ghost use Rattle.markdown_grammar.specs.Correct.{FailsRightly, IsMeaning};
@@ -8,8 +8,9 @@ ghost use Rattle.markdown_grammar.specs.Document.{source_hiding};
 ghost use Rattle.markdown_grammar.specs.Ordered.{IsOrdered, NeverGoesBack};
 ghost use Rattle.markdown_nodes.specs.Tree.{only};
 ghost use Rattle.markdown_nodes.specs.View.{view};
-ghost use Rattle.markdown.specs.Hidden.{hidden};
+ghost use Rattle.markdown.specs.Hidden.{flags_at, hidden};
 
+use crate::expected::Expected;
 use crate::hiding::Hiding;
 use character_references::html::HtmlReferences;
 use event_writer::sink::Sink;
@@ -23,16 +24,16 @@ use std::marker::Model;
 
 /// A sink that builds the tree of the events that it takes, with whole values.
 ///
-/// The tree is built while no byte is known to be hidden. So it is the tree of the document only if
-/// its events hide no byte.
+/// The tree is built before it is known which bytes the events hide. So it is the tree of the document only
+/// if they hide those that they were expected to hide.
 #[derive(Drop)]
 pub struct TreeSink<'d> {
     /// The document.
     bytes: &'d [u8],
     /// The tree so far. It stays in place while the sink is handed on.
     builder: Box<TreeBuilder<'d, HtmlReferences>>,
-    /// Whether the events so far hide a byte.
-    hiding: Hiding,
+    /// Whether the events so far hide what they are expected to hide.
+    hiding: Box<Hiding<'d>>,
 }
 
 impl<'d> Model for TreeSink<'d> {
@@ -40,30 +41,36 @@ impl<'d> Model for TreeSink<'d> {
 
     ghost Value = { TreeOf };
 
-    ghost view = { λ t. record { document = t.bytes.now; events = t.builder.value.events; hides = t.hiding.hides } };
+    ghost view = { λ t. record { document = t.bytes.now; hidden = t.builder.value.document.hidden; events = t.builder.value.events } };
 
-    ghost invariant = { λ t. IsTreeOf t.bytes.now t.builder.value t.hiding };
+    ghost invariant = { λ t. IsTreeOf t.bytes.now t.builder.value t.hiding.value };
 }
 
 impl<'d> TreeSink<'d> {
-    /// Returns a sink that has taken no event.
-    pub fn new(alloc: Global, text: &'d str) -> Result<TreeSink<'d>, AllocError>
+    /// Returns a sink that has taken no event, for events that are expected to hide these bytes.
+    pub fn new(
+        alloc: Global,
+        text: &'d str,
+        expected: &'d Expected,
+    ) -> Result<TreeSink<'d>, AllocError>
+        requires expected { expected.now.flags.items ≡ flags_at (length text.now) expected.now.offsets.items }
         ensures document { IfOk result (λ sink. sink.document ≡ text.now) }
         ensures events { IfOk result (λ sink. sink.events ≡ []) }
     {
-        let builder = TreeBuilder::new(alloc, Document::of_text(text, &[]), &HtmlReferences);
+        let document = Document::of_text(text, &expected.flags);
+        let builder = TreeBuilder::new(alloc, document, &HtmlReferences);
         Ok(TreeSink {
             bytes: text.as_bytes(),
             builder: Box::new(alloc, builder)?,
-            hiding: Hiding::new(),
+            hiding: Box::new(alloc, Hiding::new(&expected.offsets))?,
         })
     }
 
-    /// Whether the events hide a byte, so that the tree is not that of the document.
-    pub fn hides(&self) -> bool
-        ensures none { result ≡ false → hidden self.now.document self.now.events ≡ [] }
+    /// Whether the events hide what they were expected to hide, so that the tree is that of the document.
+    pub fn hides_as_expected(&self) -> bool
+        ensures { result ≡ true → self.now.hidden ≡ hidden self.now.document self.now.events }
     {
-        self.hiding.hides()
+        self.hiding.is_as_expected()
     }
 
     /// Takes the enter of a span.
@@ -96,10 +103,10 @@ impl<'d> TreeSink<'d> {
         self.builder.token(name, start, end);
     }
 
-    /// Returns the tree of the events, as if no byte were hidden.
+    /// Returns the tree of the events, where those bytes are hidden that were expected to be.
     pub fn finish(self) -> Result<Node, Fault>
-        ensures found { IfOk result (λ tree. IsMeaning tree self.entry.events (source_hiding [] self.entry.document html)) }
-        ensures refused { IfErr result (λ fault. FailsRightly fault self.entry.events (source_hiding [] self.entry.document html)) }
+        ensures found { IfOk result (λ tree. IsMeaning tree self.entry.events (source_hiding self.entry.hidden self.entry.document html)) }
+        ensures refused { IfErr result (λ fault. FailsRightly fault self.entry.events (source_hiding self.entry.hidden self.entry.document html)) }
         ensures ordered { IfOk result (λ tree. NeverGoesBack self.entry.events → IsOrdered (only (view tree))) }
     {
         let TreeSink { builder, .. } = self;

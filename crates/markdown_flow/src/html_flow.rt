@@ -12,7 +12,6 @@ use crate::output::Output;
 use commonmark_syntax::bytes::{count_while, has_byte, is_space_or_tab};
 use commonmark_syntax::html_block::Kind;
 use markdown_events::event::Name;
-use markdown_events::search::first_equal;
 use std::alloc::AllocError;
 
 /// An HTML block.
@@ -75,27 +74,12 @@ impl Html {
         Ok(true)
     }
 
-    /// Whether a line contains its end. Few lines contain the byte that each end has, so that is
+    /// Whether a line contains its end. Each end has the byte `>`, which few lines contain, so that is
     /// searched for first.
     fn ends_in(self, text: &[u8]) -> bool
         ensures yes { result ≡ true → HasEnd self.kind text.now }
         ensures no { result ≡ false → HasEnd self.kind text.now → ⊥ }
     {
-        has_end_byte(text) && self.kind.ends_in(text)
+        has_byte(text, b'>') && self.kind.ends_in(text)
     }
-}
-
-/// Whether a text contains the byte `>`, which each end of an HTML block has. It is searched for in
-/// 16 bytes at a time.
-fn has_end_byte(text: &[u8]) -> bool
-    ensures { result ≡ false → (k : ℕ) → k < length text.now → slice_index text.now k ≢ 62 }
-{
-    let mut at = 0;
-    while text.len() - at >= 16 {
-        if first_equal(&text[at..], b'>') < 16 {
-            return true;
-        }
-        at += 16;
-    }
-    has_byte(&text[at..], b'>')
 }

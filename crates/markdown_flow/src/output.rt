@@ -585,6 +585,7 @@ impl<'d> Output<'d> {
     }
 
     /// Adds a span of the white space that is next in the line, unless there is none.
+    #[inline(always)]
     pub fn white_space(&mut self) -> Result<(), AllocError>
         requires writes { Writes self.old }
         ensures writes { OnOk result (Writes self.new) }

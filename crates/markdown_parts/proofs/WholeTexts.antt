@@ -1,9 +1,8 @@
 -- Whole values, and texts that are whole as they stand.
-use Rattle.std.proofs.Common.{◌≡◌, ℕ, zero, suc, ◌+◌, ◌-◌, ◌<◌, Bool, true, false, cond, ◌&&◌, ◌||◌, List, [], ◌∷◌, ◌++◌, length, take, drop, get_or, append_assoc, ◌≢◌, Option, Some, None, Result, Ok, Err, refl, sym, ap, ◌∙◌, arith}
-use Rattle.std.specs.Prelude.{◌==◌, IfSome, OnOk, is_ok, is_some, nat_lt, slice_index, slice_range, replicate, unwrap_or}
+use Rattle.std.proofs.Common.{◌≡◌, ℕ, zero, suc, ◌+◌, ◌-◌, ◌<◌, Bool, true, false, cond, ◌&&◌, ◌||◌, List, [], ◌∷◌, ◌++◌, length, take, drop, get_or, append_assoc, ◌≢◌, ◌≤◌, Option, Some, None, Result, Ok, Err, refl, sym, ap, ◌∙◌, arith}
+use Rattle.std.specs.Prelude.{◌==◌, IfSome, if◌then◌else◌, OnOk, is_ok, is_some, nat_lt, slice_index, slice_range, replicate, unwrap_or}
 use Rattle.std.specs.Borrow.{Bor}
-use Rattle.std.proofs.lemmas.Bool.{lt-ltb, ne_eqb}
-use Rattle.std.proofs.lemmas.List.{replicate-append-replicate}
+use Rattle.std.proofs.lemmas.Bool.{ne_eqb}
 use Rattle.markdown_events.specs.Slices.{edge, slice, text_between}
 use Rattle.markdown_events.specs.declared.event.Point.{Point}
 use Rattle.markdown_events.specs.TextWalks.{before_last}
@@ -12,7 +11,7 @@ use Rattle.markdown_grammar.specs.Whole.{blanks, ended, left_of_tab, tab_width, 
 use Rattle.markdown_grammar.specs.declared.values.Values.{Values}
 use Rattle.markdown_grammar.specs.declared.values.Values.TheVariants.{AsInDocument, Whole}
 use Rattle.markdown_parts.specs.WholeValues.{has_nul, is_split, is_whole}
-use Rattle.markdown_grammar.specs.Hidden.{hides, visible}
+use Rattle.markdown_grammar.specs.Hidden.{visible}
 use Rattle.markdown_parts.proofs.HiddenWalk.{no_flags, visible_all}
 
 or-left : (a b : Bool) → (a || b) ≡ false → a ≡ false
@@ -91,30 +90,45 @@ unfolding slice
 part_read given start end from to None at is = tt
 part_read given start end from to (Some part) at is = ap is_some (sym (is ∙ ap (λ (e : ℕ × ℕ). text_between given.bytes e.0 e.1) at))
 
--- where nothing is hidden, all of a text is visible
-visible_as_it_stands : (flags : List Bool) (n : ℕ) (text : List ℕ) → flags ≡ [] → visible (drop n flags) text ≡ text
-visible_as_it_stands flags n text none = ap (λ (f : List Bool). visible (drop n f) text) none ∙ ap (λ (f : List Bool). visible f text) (no_flags n) ∙ visible_all text
+-- none of these flags is set
+abbrev pub none_set : List Bool → Bool
+none_set [] = true
+none_set (set ∷ flags) = if set then false else none_set flags
 
-none_hidden : (flags : List Bool) → hides flags ≡ false → flags ≡ []
-none_hidden [] h = refl
-none_hidden (flag ∷ flags) h = let z : true ≡ false = sym (lt-ltb 0 (length (flag ∷ flags)) (omega arith)) ∙ h in absurd cc
+pub none_in_empty : (flags : List Bool) → length flags ≡ 0 → none_set flags ≡ true
+none_in_empty [] size = refl
+none_in_empty (set ∷ flags) size = absurd (omega (arith, size))
 
--- where nothing is hidden, a slice is its visible bytes
-pub slice_visible : (given : Given) (start end : Point) (text : List ℕ) → Some text ≡ slice given.bytes start end → hides given.hidden ≡ false
+-- where none of the first flags is set, all of a text that is no longer is visible
+pub all_visible : (flags : List Bool) (count : ℕ) (text : List ℕ) → none_set (take count flags) ≡ true → length text ≤ count → visible flags text ≡ text
+all_visible flags count [] none size = refl
+all_visible [] count (b ∷ text) none size = refl
+all_visible (set ∷ flags) zero (b ∷ text) none size = absurd (omega (arith, size))
+all_visible (true ∷ flags) (suc count) (b ∷ text) none size = absurd cc
+all_visible (false ∷ flags) (suc count) (b ∷ text) none size = ap (λ (t : List ℕ). b ∷ t) (all_visible flags count text none (omega (arith, size)))
+
+-- where there are no flags, all of a text is visible
+pub all_visible_without : (flags : List Bool) (n : ℕ) (text : List ℕ) → length flags ≡ 0 → visible (drop n flags) text ≡ text
+all_visible_without [] n text size = ap (λ (f : List Bool). visible f text) (no_flags n) ∙ visible_all text
+all_visible_without (set ∷ flags) n text size = absurd (omega (arith, size))
+
+-- a slice all of whose bytes are visible is its visible bytes
+pub slice_visible : (given : Given) (start end : Point) (text : List ℕ) → Some text ≡ slice given.bytes start end → visible (drop (edge start) given.hidden) text ≡ text
     → (is_some (slice given.bytes start end) ≡ true) × (text ≡ visible_between given start end)
-slice_visible given start end text is h = (
+slice_visible given start end text is shown = (
   ap is_some (sym is),
-  sym (visible_as_it_stands given.hidden (edge start) text (none_hidden given.hidden h)) ∙ ap (λ (o : Option (List ℕ)). visible (drop (edge start) given.hidden) (unwrap_or o [])) is,
+  sym shown ∙ ap (λ (o : Option (List ℕ)). visible (drop (edge start) given.hidden) (unwrap_or o [])) is,
 )
 
 -- and is the value
 pub part_taken : (given : Given) (start end : Point) (from to : ℕ) (r : Option (Bor (List ℕ))) → ◌≡◌ {A = ℕ × ℕ} (from, to) (edge start, edge end) → is_split given start end ≡ false → IfSome r (λ (p : Bor (List ℕ)). Some p.now ≡ text_between given.bytes from to)
-    → IfSome r (λ (p : Bor (List ℕ)). is_whole given.values ≡ true → without_nul p.now ≡ p.now) → IfSome r (λ (p : Bor (List ℕ)). given.hidden ≡ []) → IfSome r (λ (p : Bor (List ℕ)). p.now ≡ value_between given start end)
+    → IfSome r (λ (p : Bor (List ℕ)). length p.now + from ≡ to) → IfSome r (λ (p : Bor (List ℕ)). is_whole given.values ≡ true → without_nul p.now ≡ p.now)
+    → ((text : List ℕ) → length text ≤ to - from → visible (drop (edge start) given.hidden) text ≡ text) → IfSome r (λ (p : Bor (List ℕ)). p.now ≡ value_between given start end)
 unfolding slice
-part_taken given start end from to None at split is same shown = tt
-part_taken given start end from to (Some part) at split is same shown =
+part_taken given start end from to None at split is size same shown = tt
+part_taken given start end from to (Some part) at split is size same shown =
     sym (ap (λ (o : Option (List ℕ)). value_as given.values (visible (drop (edge start) given.hidden) (unwrap_or o [])) start end) (sym (is ∙ ap (λ (e : ℕ × ℕ). text_between given.bytes e.0 e.1) at))
-    ∙ ap (λ (text : List ℕ). value_as given.values text start end) (visible_as_it_stands given.hidden (edge start) part.now shown)
+    ∙ ap (λ (text : List ℕ). value_as given.values text start end) (shown part.now (omega (arith, size)))
     ∙ value_as_it_stands given.values part.now start end split same)
 
 -- ---- How a whole value is written

@@ -1,5 +1,5 @@
 -- The conditions under which the code uses a part of a document as a value.
-use Rattle.std.specs.Prelude.{◌≡◌, ℕ, ◌==◌, Bool, true, false, List, [], ◌&&◌, ◌||◌, nat_lt, string_bytes}
+use Rattle.std.specs.Prelude.{◌≡◌, ℕ, ◌==◌, Bool, true, false, List, ◌&&◌, ◌||◌, nat_lt, string_bytes}
 use Rattle.std.specs.List.{list_any}
 use Rattle.markdown_events.specs.declared.event.Point.{Point}
 use Rattle.markdown_grammar.specs.Document.{Given}
@@ -17,11 +17,10 @@ is_whole Whole = true
 abbrev pub has_nul : List ℕ → Bool
 has_nul text = list_any (λ b. b == 0) text
 
--- a text is the bytes of the document, with nothing hidden, and with whole values it contains no NUL
-pub record IsTextOf (values : Values) (hidden : List Bool) (bytes text : List ℕ) : Type 0 where
+-- a text is the bytes of the document, and with whole values it contains no NUL
+pub record IsTextOf (values : Values) (bytes text : List ℕ) : Type 0 where
   pub is : text ≡ bytes
   pub no_nul : is_whole values ≡ true → has_nul bytes ≡ false
-  pub shown : hidden ≡ []
 
 -- the text of a value
 abbrev pub value_text : Value → List ℕ

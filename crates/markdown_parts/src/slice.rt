@@ -1,10 +1,10 @@
 //! A document, its text between two points, and the position from one to the other.
 
-ghost use Rattle.std.specs.Prelude.{◌≡◌, ◌&&◌, ◌^◌, ◌<◌, ◌≤◌, [], IfErr, false, Some, SomeIff, IfSome, drop, length, option_copied, true};
+ghost use Rattle.std.specs.Prelude.{◌≡◌, ◌&&◌, ◌+◌, ◌^◌, ◌<◌, ◌≤◌, ℕ, [], IfErr, List, false, Some, SomeIff, IfSome, drop, length, option_copied, take, true};
 ghost use Rattle.std.specs.Result.{result_ok};
 ghost use Rattle.markdown_events.specs.Slices.{between, edge, slice, text_between};
 ghost use Rattle.markdown_grammar.specs.Document.{byte_at, length_between};
-ghost use Rattle.markdown_grammar.specs.Hidden.{hides};
+ghost use Rattle.markdown_grammar.specs.Hidden.{hides, visible};
 ghost use Rattle.markdown_grammar.specs.Whole.{without_nul};
 ghost use Rattle.markdown_grammar.specs.declared.values.Values.TheVariants.{Whole};
 ghost use Rattle.markdown_parts.specs.WholeValues.{IsTextOf, has_nul, is_whole};
@@ -34,8 +34,8 @@ fn edge_of(point: Point) -> Option<usize>
 /// if all of them are UTF-8.
 ///
 /// With that text, a span is a part of it, and only its ends are checked. In a document that is not
-/// all UTF-8, each span is tested by itself. The same is done if there are hidden bytes, or a NUL
-/// in whole values: then values are not parts of the document as it is.
+/// all UTF-8, each span is tested by itself. The same is done if there is a NUL in whole values:
+/// then values are not parts of the document as it is.
 #[derive(Drop)]
 pub struct Document<'a> {
     bytes: &'a [u8],
@@ -54,7 +54,7 @@ impl<'a> Model for Document<'a> {
 
     ghost view = { λ d. record { bytes = d.bytes.now; values = d.values; hidden = d.hidden.now } };
 
-    ghost invariant = { λ d. IfSome d.text (λ text. IsTextOf d.values d.hidden.now d.bytes.now text.now) };
+    ghost invariant = { λ d. IfSome d.text (λ text. IsTextOf d.values d.bytes.now text.now) };
 }
 
 impl<'a> Document<'a> {
@@ -66,7 +66,7 @@ impl<'a> Document<'a> {
             bytes,
             values,
             hidden: &[],
-            text: text_as_it_stands(bytes, values, &[]),
+            text: text_as_it_stands(bytes, values),
         }
     }
 
@@ -79,7 +79,7 @@ impl<'a> Document<'a> {
             bytes,
             values: Values::Whole,
             hidden,
-            text: text_as_it_stands(bytes, Values::Whole, hidden),
+            text: text_as_it_stands(bytes, Values::Whole),
         }
     }
 
@@ -91,12 +91,11 @@ impl<'a> Document<'a> {
         ensures { result ≡ record { bytes = text.now; values = Whole; hidden = hidden.now } }
     {
         let bytes = text.as_bytes();
-        let stands_as_it_is = hidden.is_empty() && !has_nul(bytes);
         Document {
             bytes,
             values: Values::Whole,
             hidden,
-            text: if stands_as_it_is { Some(text) } else { None },
+            text: if has_nul(bytes) { None } else { Some(text) },
         }
     }
 
@@ -137,6 +136,14 @@ impl<'a> Document<'a> {
         !self.hidden.is_empty()
     }
 
+    /// Whether none of this many bytes after a point is hidden.
+    #[inline(always)]
+    pub(crate) fn shows(&self, start: Point, count: usize) -> bool
+        ensures { result ≡ true → (text : List ℕ) → length text ≤ count → visible (drop (edge start) self.now.hidden) text ≡ text }
+    {
+        self.hidden.is_empty() || none_is_set(self.hidden_from(start), count)
+    }
+
     /// Returns the flags of hidden bytes from the index of a point on, or after the tab that the
     /// point is in.
     pub(crate) fn hidden_from(&self, point: Point) -> &'a [bool]
@@ -155,8 +162,8 @@ impl<'a> Document<'a> {
     /// or inside a character.
     pub(crate) fn part(&self, from: usize, to: usize) -> Option<&'a str>
         ensures part { IfSome result (λ part. Some part.now ≡ text_between self.now.bytes from to) }
+        ensures size { IfSome result (λ part. length part.now + from ≡ to) }
         ensures no_nul { IfSome result (λ part. is_whole self.now.values ≡ true → without_nul part.now ≡ part.now) }
-        ensures shown { IfSome result (λ part. self.now.hidden ≡ []) }
     {
         let part = self.text?.get(from..to)?;
         // For the proof: a text is UTF-8.
@@ -212,12 +219,12 @@ fn slice_of<'a>(document: &Document<'a>, start: Point, end: Point) -> Option<&'a
     document.tested(from, to)
 }
 
-/// Returns the text of a document, if values are parts of it as it is: all of it is UTF-8, none of
-/// it is hidden, and it has no NUL if values are whole.
-fn text_as_it_stands<'a>(bytes: &'a [u8], values: Values, hidden: &[bool]) -> Option<&'a str>
-    ensures { IfSome result (λ text. IsTextOf values hidden.now bytes.now text.now) }
+/// Returns the text of a document, if values are parts of it as it is: all of it is UTF-8, and it
+/// has no NUL if values are whole.
+fn text_as_it_stands(bytes: &[u8], values: Values) -> Option<&str>
+    ensures { IfSome result (λ text. IsTextOf values bytes.now text.now) }
 {
-    if !hidden.is_empty() || replaces_nul(bytes, values) {
+    if replaces_nul(bytes, values) {
         return None;
     }
     str::from_utf8(bytes).ok()
@@ -242,6 +249,27 @@ fn has_nul(bytes: &[u8]) -> bool
         at += 16;
     }
     bytes[at..].contains(&0)
+}
+
+/// Whether none of the first `count` flags is set.
+fn none_is_set(flags: &[bool], count: usize) -> bool
+    ensures { result ≡ true → (text : List ℕ) → length text ≤ count → visible flags.now text ≡ text }
+{
+    let mut rest = first_flags(flags, count);
+    'flags: while let Some((is_set, later)) = rest.split_first() {
+        if *is_set {
+            return false;
+        }
+        rest = later;
+    }
+    true
+}
+
+/// Returns the first `count` flags, or all if there are fewer.
+fn first_flags(flags: &[bool], count: usize) -> &[bool]
+    ensures { result.now ≡ take count flags.now }
+{
+    flags.get(..count).unwrap_or(flags)
 }
 
 /// Returns the flags after the first `count`.

@@ -56,6 +56,9 @@ pub fn value_as_it_stands<'a>(document: &Document<'a>, start: Point, end: Point)
         return None;
     }
     let (from, to) = range_of(document, start, end)?;
+    if !document.shows(start, to - from) {
+        return None;
+    }
     document.part(from, to)
 }
 
@@ -98,10 +101,9 @@ pub fn visible_of<'a>(
         (λ value. value_text value ≡ visible_between document.now start end) }
 {
     let text = text_of(document, start, end)?;
-    if document.hides() {
-        let visible = visible_text(alloc, text, document.hidden_from(start))?;
-        Ok(Value::Made(visible))
-    } else {
-        Ok(Value::Part(text))
+    if document.shows(start, text.len()) {
+        return Ok(Value::Part(text));
     }
+    let visible = visible_text(alloc, text, document.hidden_from(start))?;
+    Ok(Value::Made(visible))
 }

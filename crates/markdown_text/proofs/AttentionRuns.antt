@@ -10,7 +10,7 @@ use Rattle.std.proofs.lemmas.List.{append-nil, drop-drop, get_or-drop}
 use Rattle.std.proofs.lemmas.Option.{same_Some}
 use Rattle.markdown_attention.specs.Flanking.{Flanked}
 use Rattle.markdown_attention.proofs.Sequences.{none_of_none}
-use Rattle.markdown_attention.specs.Emphasis.{DelimiterRun, Pair, Resolves}
+use Rattle.markdown_attention.specs.Emphasis.{DelimiterRun, Pair, Resolves, done}
 use Rattle.markdown_attention.specs.Runs.{AreResolved, IsWhole, marked, view, views}
 use Rattle.markdown_attention.specs.declared.delimiter.Delimiter.{Delimiter}
 use Rattle.markdown_attention.specs.declared.delimiter.Delimiter.TheVariants.{Data}
@@ -209,6 +209,19 @@ pairs_of options content ts old delimiters waiting resolved = record {
         ap (λ ds. get_or ds at Data) (are ∙ ap (λ ps. marked ps old.delimiters.items) none ∙ waiting.untouched) ∙ sym (ap (λ ps. get_or (marked ps (replicate (length content) Data)) at Data) none ∙ all_data (length content) at)
     by (r ∷ runs) pairs resolves are at =
         ap (λ ds. get_or ds at Data) (are ∙ ap (λ ds. marked pairs (begun (length content) ds)) waiting.untouched)
+
+-- Without markers there is none.
+pub no_pairs : (options : ParseOptions) (content : List ℕ) (ts : List Token) (delimiters : List Delimiter) → ts ≡ [] → delimiters ≡ [] → ((k : ℕ) → k < length content → IsMarker (slice_index content k) → ⊥) → ArePairsOf options content ts delimiters
+no_pairs options content ts delimiters no_tokens no_delimiters none =
+    subst (λ (tokens : List Token). ArePairsOf options content tokens delimiters) (sym no_tokens) (record {
+      no_labels = All-nil (λ (t : Token). IsNoLabel t.kind);
+      runs = [];
+      are = tt;
+      all = record { counted = All-nil (λ (t : Token). is_delimiters t.kind ≡ true → counts options (slice_index content t.start) (t.end - t.start) ≡ true); others = λ k less marker. absurd (none k less marker) };
+      pairs = [];
+      resolves = done [] tt;
+      delimiters_are = λ at. ap (λ ds. get_or ds at Data) no_delimiters ∙ sym (all_data (length content) at);
+    })
 
 -- ---- What is found
 

@@ -1,7 +1,6 @@
 pub mod Contents
 pub mod Found
 pub mod Labels
-pub mod Lanes
 pub mod PlainBytes
 pub mod PlainData
 pub mod PlainLiterals
@@ -27,3 +26,4 @@ pub mod AttentionRuns
 pub mod AttentionWalk
 pub mod AttentionTokens
 pub mod AttentionBegun
+pub mod Parted

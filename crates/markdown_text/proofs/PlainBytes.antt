@@ -1,5 +1,5 @@
 -- Plain bytes of a text, from those of its parts.
-use Rattle.std.proofs.Common.{◌≡◌, ℕ, ◌+◌, ◌-◌, ◌<◌, Bool, cond, false, true, ◌&&◌, ◌||◌, List, drop, length, slice_index, subst, take, inl, inr, ap, ◌∙◌, arith, refl, max, min}
+use Rattle.std.proofs.Common.{◌≡◌, ℕ, suc, zero, ◌+◌, ◌-◌, ◌<◌, Bool, cond, false, true, ◌&&◌, ◌||◌, List, drop, length, slice_index, subst, take, inl, inr, ap, ◌∙◌, arith, refl, max, min}
 use Rattle.std.proofs.lemmas.Bool.{cases_lt}
 use Rattle.std.proofs.lemmas.List.{get_or-drop, length-drop}
 use Rattle.std.proofs.Math.Seq.{take-length}
@@ -63,3 +63,11 @@ one_more P n below here k less =
       | inl earlier ↦ below k earlier
       | inr later ↦ let same : n ≡ k = omega (arith, less, later) in subst P same here
     ]
+
+-- what is true of the first byte after some other, and of all neighbours, is true of each byte after some other
+pub each : (P : ℕ → ℕ → Type 0) (bytes : List ℕ) (before count : ℕ) → P before (slice_index bytes 0) → ((k : ℕ) → k < count → P (slice_index bytes k) (slice_index bytes (k + 1))) → count + 1 ≡ length bytes
+    → (k : ℕ) → k < length bytes → (other : ℕ) × P other (slice_index bytes k)
+each P bytes before count first next all zero less = (before, first)
+each P bytes before count first next all (suc k) less =
+    let place : k + 1 ≡ suc k = omega arith in
+    (slice_index bytes k, subst (λ n. P (slice_index bytes k) (slice_index bytes n)) place (next k (omega (arith, less, all))))

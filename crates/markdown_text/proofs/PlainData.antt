@@ -7,7 +7,7 @@ use Rattle.commonmark_syntax.specs.Cuts.{IsCut}
 use Rattle.markdown_text.specs.Constructs.{IsMarker}
 use Rattle.markdown_text.specs.Contents.{IsPart}
 use Rattle.markdown_text.specs.Plain.{may_begin}
-use Rattle.markdown_text.proofs.Parts.{cut_where}
+use Rattle.markdown_text.proofs.Parts.{cut_end, cut_start, cut_where}
 use Rattle.markdown_text.proofs.PlainBytes.{byte_of}
 
 -- a plain byte is no line feed
@@ -22,6 +22,20 @@ no_marker literals before byte plain marker =
       | inr (inl underscore) ↦ both_ways _ plain (ap (may_begin literals before) underscore)
       | inr (inr tilde) ↦ both_ways _ plain (ap (may_begin literals before) tilde)
     ]
+
+-- a text of plain bytes is one part, and has no markers
+module _ (bytes : List ℕ) (literals : Bool) (plain : (k : ℕ) → k < length bytes → (before : ℕ) × (may_begin literals before (slice_index bytes k) ≡ false)) where
+  pub all_plain : IsPart bytes 0 (length bytes)
+  all_plain = record {
+    order = omega arith;
+    within = omega arith;
+    line = λ k from less. let byte = plain k less in no_feed literals byte.0 (slice_index bytes k) byte.1;
+    start = cut_start bytes;
+    end = cut_end bytes;
+  }
+
+  pub none_marks : (k : ℕ) → k < length bytes → IsMarker (slice_index bytes k) → ⊥
+  none_marks k less = let byte = plain k less in no_marker literals byte.0 (slice_index bytes k) byte.1
 
 module _ (bytes rest : List ℕ) (literals : Bool) (at count : ℕ) (is : rest ≡ drop at bytes)
     (plain : (k : ℕ) → k < count → may_begin literals (slice_index rest k) (slice_index rest (k + 1)) ≡ false) where

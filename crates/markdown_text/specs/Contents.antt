@@ -1,5 +1,5 @@
 -- Contents: texts, one in each line, separated by line endings and what comes before the next text.
-use Rattle.std.specs.Prelude.{List, [], length, slice_index, slice_range, ℕ, ◌++◌, ◌<◌, ◌∷◌, ◌≡◌, ◌≢◌, ◌≤◌}
+use Rattle.std.specs.Prelude.{Bool, List, [], false, length, slice_index, slice_range, true, ℕ, ◌++◌, ◌<◌, ◌∷◌, ◌≡◌, ◌≢◌, ◌≤◌}
 use Rattle.commonmark_syntax.specs.Cuts.{IsCut}
 use Rattle.event_writer.specs.Calls.{CanReach}
 use Rattle.markdown_events.specs.declared.event.Name.TheVariants.{SpaceOrTab}
@@ -7,7 +7,7 @@ use Rattle.markdown_events.specs.declared.event.Point.{Point}
 use Rattle.markdown_pieces.specs.Tilings.{Spot, Tiles, end_from, point}
 use Rattle.markdown_pieces.specs.declared.piece.Piece.{Piece}
 use Rattle.markdown_pieces.specs.declared.piece.PieceKind.{PieceKind}
-use Rattle.markdown_pieces.specs.declared.piece.PieceKind.TheVariants.{BlockQuotePrefix, LineEnding, Text, Token}
+use Rattle.markdown_pieces.specs.declared.piece.PieceKind.TheVariants.{BlockQuotePrefix, Enter, LineEnding, Text, Token}
 use Rattle.markdown_text.specs.declared.content.Place.{Place}
 use Rattle.markdown_text.specs.declared.content.Place.TheVariants.{AfterText, BeforeText, Outside}
 
@@ -32,6 +32,16 @@ AreLines ps = place_after AfterText ps ≡ AfterText
 -- the pieces of a content: a text, with any white space and prefixes before it, and what may come after it
 abbrev pub IsContent : List Piece → Type 0
 IsContent ps = place_after BeforeText ps ≡ AfterText
+
+-- a span begins with a piece of this kind
+abbrev pub begins_span : PieceKind → Bool
+begins_span (Enter name) = true
+begins_span _ = false
+
+-- the pieces begin with a span, so no content goes on in them
+abbrev pub BeginWithSpan : List Piece → Type 0
+BeginWithSpan [] = Unit {0}
+BeginWithSpan (p ∷ ps) = begins_span p.kind ≡ true
 
 -- the bytes that a piece of this kind adds to its content
 abbrev pub piece_bytes : List ℕ → PieceKind → ℕ → ℕ → List ℕ

@@ -3,7 +3,8 @@ use Rattle.std.specs.Prelude.{Bool, List, false, ◌≡◌, ◌⊎◌}
 use Rattle.event_writer.specs.Stages.{Enclosing, inlines, item, task}
 use Rattle.event_writer.specs.Written.{Written}
 use Rattle.markdown_events.specs.declared.event.Name.TheVariants.{ListItemPrefix, Paragraph, SpaceOrTab}
-use Rattle.markdown_pieces.specs.Walks.{State}
+use Rattle.markdown_pieces.specs.Walks.{State, Walks}
+use Rattle.markdown_pieces.specs.declared.piece.Piece.{Piece}
 use Rattle.markdown_pieces.specs.declared.piece.PieceKind.{PieceKind}
 use Rattle.markdown_pieces.specs.declared.piece.PieceKind.TheVariants.{BlankLineEnding, Enter, Exit, Token}
 use Rattle.markdown_text.specs.Standings.{IsAt}
@@ -23,6 +24,17 @@ abbrev pub IsTaskPlace : {R : Type 0} → Written R → TaskPlace → State → 
 IsTaskPlace w Nowhere s = Unit {0}
 IsTaskPlace w InItem s = (n : Bool) × IsAt w (item n) s.outer
 IsTaskPlace w InParagraph s = ((s.stage ≡ task) ⊎ (s.stage ≡ inlines false)) × IsAt w task s.outer
+
+-- the writer is at a state, and there at this place
+abbrev pub IsAtPlace : {R : Type 0} → Written R → TaskPlace → State → Type 0
+IsAtPlace w place s = IsAt w s.stage s.outer × IsTaskPlace w place s
+
+-- pieces may be written from this place on
+pub record MayWalk {R : Type 0} (w : Written R) (place : TaskPlace) (pieces : List Piece) : Type 0 where
+  pub before : State
+  pub after : State
+  pub at : IsAtPlace w place before
+  pub walks : Walks before pieces after
 
 -- the writer, where inlines may come, is at this place
 abbrev pub IsTask : {R : Type 0} → Written R → TaskPlace → Bool → List Enclosing → Type 0

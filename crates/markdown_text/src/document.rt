@@ -6,11 +6,11 @@ ghost use Rattle.event_writer.specs.Stages.{Enclosing, flow, inlines};
 ghost use Rattle.markdown_options.specs.Spans.{AreOn};
 ghost use Rattle.markdown_pieces.specs.Spans.{AreOn as ArePiecesOn};
 ghost use Rattle.markdown_pieces.specs.Tilings.{Tiles, end_from};
-ghost use Rattle.markdown_pieces.specs.Walks.{Walks, start};
+ghost use Rattle.markdown_pieces.specs.Walks.{State, Walks, start};
 ghost use Rattle.markdown_text.specs.Contents.{IsContent, joined, spot};
 ghost use Rattle.markdown_text.specs.Spans.{IsWithin};
 ghost use Rattle.markdown_text.specs.Standings.{IsAt};
-ghost use Rattle.markdown_text.specs.Tasks.{BeginsContent, IsAtContent, next_task_place};
+ghost use Rattle.markdown_text.specs.Tasks.{BeginsContent, IsAtContent, IsAtPlace, MayWalk, next_task_place};
 ghost use Rattle.markdown_text.specs.declared.document.TaskPlace.TheVariants.{InParagraph};
 
 use crate::content::{between, content_size, join, range_end};
@@ -18,6 +18,7 @@ use crate::output::ContentKind;
 use crate::pieces::{is_text, write_piece};
 use crate::source::Source;
 use crate::spare_lists::SpareLists;
+use crate::stretches::cut_later;
 use crate::{string, text};
 use character_references::references::References;
 use event_writer::recorder::Recorder;
@@ -50,36 +51,67 @@ pub struct Reading<'r, R> {
 ///
 /// A text, and the texts of the next lines if a line ending comes after it, are one content. In a
 /// paragraph, a heading or the cell of a table it is a text. Elsewhere it is a string, which has
-/// only escapes and character references.
+/// only escapes and character references. The memory of the pieces is given back as they are
+/// written.
 ///
 /// The pieces of `a` are `Enter(Paragraph)`, `Text` up to 1, and `Exit(Paragraph)`. The writer gets
 /// the enter of a `Name::Paragraph`, a `Name::Data` up to offset 1, and the exit.
 pub fn write<'c, 'd, R: References, S: Sink>(
     reading: &'c Reading<'c, R>,
-    pieces: &'c [Piece],
+    pieces: Vec<Piece>,
     writer: Recorder<'d, R, S>,
 ) -> Result<Recorder<'d, R, S>, AllocError>
     requires document { writer.given.bytes ≡ reading.now.document.now }
     requires references { writer.given.references ≡ reading.now.references.now }
-    requires tiles { Tiles reading.now.document.now (spot writer.cursor) pieces.now (end_from (spot writer.cursor) pieces.now) }
-    requires nest { Walks start pieces.now start }
+    requires tiles { Tiles reading.now.document.now (spot writer.cursor) pieces.items (end_from (spot writer.cursor) pieces.items) }
+    requires nest { Walks start pieces.items start }
     requires root { IsAt writer (flow false) [] }
-    requires on { ArePiecesOn reading.now.options.constructs pieces.now }
+    requires on { ArePiecesOn reading.now.options.constructs pieces.items }
     requires events { AreOn reading.now.options.constructs writer.events }
     ensures given { IfOk result (λ written. written.given ≡ writer.entry.given) }
-    ensures end { IfOk result (λ written. spot written.cursor ≡ end_from (spot writer.entry.cursor) pieces.now) }
+    ensures end { IfOk result (λ written. spot written.cursor ≡ end_from (spot writer.entry.cursor) pieces.items) }
     ensures root { IfOk result (λ written. IsAt written (flow false) []) }
     ensures options { IfOk result (λ written. AreOn reading.now.options.constructs written.events) }
 {
     let mut writer = writer;
-    let mut lists = SpareLists::new(reading.alloc);
-    let mut rest = pieces;
-    let mut name = None;
     let mut place = TaskPlace::Nowhere;
+    let mut lists = SpareLists::new(reading.alloc);
+    let mut stretch = pieces;
+    'stretches: while !stretch.is_empty() {
+        let later = cut_later(reading.alloc, &mut stretch)?;
+        (writer, place) = write_stretch(&*reading, stretch.as_slice(), writer, place, &mut lists)?;
+        stretch = later;
+    }
+    Ok(writer)
+}
+
+/// Writes a stretch of pieces that begins at a place, and returns the place after it.
+fn write_stretch<'c, 'd, R: References, S: Sink>(
+    reading: &'c Reading<'c, R>,
+    pieces: &'c [Piece],
+    writer: Recorder<'d, R, S>,
+    place: TaskPlace,
+    lists: &mut SpareLists,
+) -> Result<(Recorder<'d, R, S>, TaskPlace), AllocError>
+    requires document { writer.given.bytes ≡ reading.now.document.now }
+    requires references { writer.given.references ≡ reading.now.references.now }
+    requires tiles { Tiles reading.now.document.now (spot writer.cursor) pieces.now (end_from (spot writer.cursor) pieces.now) }
+    requires nest { MayWalk writer place pieces.now }
+    requires on { ArePiecesOn reading.now.options.constructs pieces.now }
+    requires within { IsWithin reading.now.options.constructs writer }
+    ensures given { IfOk result (λ written. written.0.given ≡ writer.entry.given) }
+    ensures end { IfOk result (λ written. spot written.0.cursor ≡ end_from (spot writer.entry.cursor) pieces.now) }
+    ensures nest { (s t : State) → IsAtPlace writer.entry place s → Walks s pieces.now t → IfOk result (λ written. IsAtPlace written.0 written.1 t) }
+    ensures within { IfOk result (λ written. IsWithin reading.now.options.constructs written.0) }
+{
+    let mut writer = writer;
+    let mut place = place;
+    let mut name = None;
+    let mut rest = pieces;
     'pieces: while let Some((piece, later)) = rest.split_first() {
         if is_text(piece.kind) {
             let (content, later) = rest.split_at(content_size(rest));
-            writer = inlines(reading, writer, content, name, place, &mut lists)?;
+            writer = inlines(reading, writer, content, name, place, lists)?;
             place = TaskPlace::Nowhere;
             rest = later;
             continue;
@@ -89,7 +121,7 @@ pub fn write<'c, 'd, R: References, S: Sink>(
         write_piece(&mut writer, piece)?;
         rest = later;
     }
-    Ok(writer)
+    Ok((writer, place))
 }
 
 /// Where the mark of a task may come: at the start of the first block of an item, if that is a

@@ -37,6 +37,7 @@ mod reference;
 mod resource;
 mod source;
 mod spare_lists;
+mod stretches;
 mod string;
 mod text;
 mod title;

@@ -6,6 +6,7 @@ ghost use Rattle.markdown_attention.specs.ExtendedAddresses.{may_come_before};
 ghost use Rattle.markdown_text.specs.Plain.{is_first_letter, is_mark, may_begin};
 
 use crate::gfm_autolink_literal::may_come_before;
+use byte_masks::first_of;
 use std::simd::prelude::*;
 
 /// Returns how many bytes of a text, after the first, are plain: no construct may begin at them. With
@@ -30,6 +31,21 @@ pub fn plain_length(text: &[u8], literals: bool) -> usize
     size + plain_length_of_few(&text[size..], literals)
 }
 
+/// Whether a text has bytes and all of them are plain: no construct may begin at any of them. With
+/// `literals`, extended autolinks are among the constructs.
+///
+/// `a b` is plain, and `a *b` is not.
+pub fn is_plain(text: &[u8], literals: bool) -> bool
+    ensures { result ≡ true → (k : ℕ) → k < length text.now → (before : ℕ) × (may_begin literals before (slice_index text.now k) ≡ false) }
+{
+    match text.first() {
+        Some(first) if !may_begin(literals, b' ', *first) => {
+            plain_length(text, literals) + 1 == text.len()
+        }
+        _ => false,
+    }
+}
+
 /// Does what `plain_length` does, byte by byte.
 fn plain_length_of_few(text: &[u8], literals: bool) -> usize
     requires { 0 < length text.now }
@@ -45,6 +61,7 @@ fn plain_length_of_few(text: &[u8], literals: bool) -> usize
 }
 
 /// Whether a construct may begin at a byte, after another byte.
+#[inline(always)]
 fn may_begin(literals: bool, before: u8, byte: u8) -> bool
     ensures { result ≡ may_begin literals before byte }
 {
@@ -91,20 +108,6 @@ fn places(text: &[u8], literals: bool) -> u64
         marks(bytes) | (first_letters(bytes) & may_follow(text))
     } else {
         marks(bytes)
-    }
-}
-
-/// Returns the place of the lowest of 16 bits that is set, or 16.
-#[inline(always)]
-fn first_of(bits: u64) -> usize
-    ensures most { result ≤ 16 }
-    ensures before { (k : ℕ) → k < result → bit_at bits k ≡ 0 }
-    ensures at { result < 16 → bit_at bits result ≡ 1 }
-{
-    if bits == 0 {
-        16
-    } else {
-        (bits.trailing_zeros() as usize).min(16)
     }
 }
 

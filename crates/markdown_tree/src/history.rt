@@ -1,4 +1,4 @@
-//! The events that a builder has taken.
+//! The events that a builder or a sink has taken.
 
 ghost use Rattle.std.specs.Prelude.{◌≡◌, ◌<◌, ◌^◌, List, Some, [], ◌∷◌, ◌++◌};
 ghost use Rattle.std.specs.Option.{option_or};
@@ -13,8 +13,15 @@ use markdown_nodes::unist::Position;
 use markdown_parts::slice::position_of;
 use std::marker::Model;
 
-/// The events so far, for proofs alone. A clause reads them as `events`. It takes no memory, and its
-/// methods do nothing at run time.
+/// The events so far, for proofs alone (ours). A clause reads them as `events`. A value takes no
+/// memory, and its methods do nothing at run time.
+///
+/// ```text
+/// let mut history = History::none();
+/// for event in &events {
+///     history = history.and(event);
+/// }
+/// ```
 #[derive(Drop)]
 pub struct History {
     pub ghost events: { List Event },
@@ -26,7 +33,7 @@ impl Model for History {
 
 impl History {
     /// Returns the history without events.
-    pub(crate) fn none() -> History
+    pub fn none() -> History
         ensures { result.events ≡ [] }
     {
         History {}
@@ -34,7 +41,7 @@ impl History {
 
     /// Returns the history with one more event.
     #[inline(always)]
-    pub(crate) fn and(&self, _event: &Event) -> History
+    pub fn and(&self, _event: &Event) -> History
         ensures { result.events ≡ self.now.events ++ _event.now ∷ [] }
     {
         History {}

@@ -1,7 +1,7 @@
 //! What is printed of a document, and how.
 
 ghost use Rattle.std.specs.Prelude.{◌≢◌};
-ghost use Rattle.mdast.specs.declared.form.Form.TheVariants.{Events};
+ghost use Rattle.mdast.specs.declared.form.Form.TheVariants.{Events, Outline, Text};
 
 use crate::arguments::Request;
 use crate::error::{DocumentError, PrintError};
@@ -10,7 +10,7 @@ use crate::progress::Progress;
 use crate::source::Source;
 use event_lines::lines::events;
 use event_lines::written::lines_of;
-use markdown::{compile_events, to_events, to_mdast};
+use markdown::{compile_events, to_events, to_mdast, to_outline, to_text};
 use markdown_events::event::Event;
 use markdown_html::{HtmlOptions, UnsafeHtmlOptions, to_html, to_unsafe_html};
 use markdown_json::JsonPieces;
@@ -99,8 +99,15 @@ pub fn print_form(
         Form::Events => {
             let events = events_of(rt, request, text)?;
             let lines = lines_of(rt.alloc(), &events)?;
-            progress.clear(rt);
-            Output::Text(lines).print(rt)
+            print_output(rt, Output::Text(lines), progress)
+        }
+        Form::Outline => {
+            let lines = outline_of(rt, request, text)?;
+            print_output(rt, Output::Text(lines), progress)
+        }
+        Form::Text => {
+            let words = text_of(rt, request, text)?;
+            print_output(rt, Output::Text(words), progress)
         }
         _ => {
             let tree = tree_of(rt, request, text)?;
@@ -122,9 +129,20 @@ fn print_tree(
     tree: &Node,
     progress: &mut Progress,
 ) -> Result<u8, PrintError>
-    requires { request.now.form ≢ Events }
+    requires events { request.now.form ≢ Events }
+    requires outline { request.now.form ≢ Outline }
+    requires text { request.now.form ≢ Text }
 {
     let output = render_tree(rt.alloc(), request, source, text, tree)?;
+    print_output(rt, output, progress)
+}
+
+/// Prints an output, in place of the line that shows the progress, and returns the status.
+fn print_output(
+    rt: &HostRuntime,
+    output: Output<'_>,
+    progress: &mut Progress,
+) -> Result<u8, PrintError> {
     progress.clear(rt);
     output.print(rt)
 }
@@ -152,18 +170,40 @@ fn render_tree<'a>(
     text: &str,
     tree: &'a Node,
 ) -> Result<Output<'a>, AllocError>
-    requires { request.now.form ≢ Events }
+    requires events { request.now.form ≢ Events }
+    requires outline { request.now.form ≢ Outline }
+    requires text { request.now.form ≢ Text }
 {
     match request.form {
         Form::Json => Ok(Output::Json(JsonPieces::new(alloc, tree))),
         Form::JsonUtf16 => Ok(Output::Json(JsonPieces::utf16(alloc, text.as_bytes(), tree)?)),
         Form::Tree => Ok(Output::Text(inspect(alloc, tree, request.width)?)),
         Form::Debug => Output::line(tree.to_debug_string(alloc)?),
-        Form::Outline => Ok(Output::Text(outline(alloc, tree)?)),
-        Form::Text => Ok(Output::Text(plain_text(alloc, tree)?)),
         Form::Html => Ok(Output::Text(page(alloc, request, tree)?)),
         Form::Check => Ok(Output::Warnings(checked(alloc, source, tree)?)),
-        Form::Events => unreachable!(),
+        Form::Events | Form::Outline | Form::Text => unreachable!(),
+    }
+}
+
+/// Returns the headings of a document, one on each line. If the events come from a file, they are
+/// those of their tree.
+pub fn outline_of(
+    rt: &HostRuntime,
+    request: &Request,
+    text: &str,
+) -> Result<String, DocumentError> {
+    match &request.events {
+        Some(_) => Ok(outline(rt.alloc(), &tree_of(rt, request, text)?)?),
+        None => Ok(to_outline(rt.alloc(), text, &request.options)?),
+    }
+}
+
+/// Returns the text of a document without its markup. If the events come from a file, it is that of
+/// their tree.
+pub fn text_of(rt: &HostRuntime, request: &Request, text: &str) -> Result<String, DocumentError> {
+    match &request.events {
+        Some(_) => Ok(plain_text(rt.alloc(), &tree_of(rt, request, text)?)?),
+        None => Ok(to_text(rt.alloc(), text, &request.options)?),
     }
 }
 

@@ -3,7 +3,7 @@
 
 use crate::arguments::{Request, read_arguments, status};
 use crate::constructs::{NAMES, Switches};
-use crate::form::Form;
+use crate::form::{Form, outline_of, text_of};
 use crate::inspect::inspect;
 use crate::source::Source;
 use markdown::{Constructs, ParseOptions, to_mdast};
@@ -139,6 +139,65 @@ fn asks_for_a_form(rt: HostRuntime) {
         match asked(&rt, arguments) {
             Ok(request) => assert_eq!(rt; request.form, *want, "{arguments:?}"),
             Err(found) => assert!(rt; false, "{arguments:?} ends with {found}"),
+        }
+    }
+}
+
+/// Arguments, a document, and its outline. A byte of the last document is hidden.
+static OUTLINES: [(&[&str], &str, &str); 4] = [
+    (
+        &["--outline"],
+        "# Use\n\n> - ## Events\n",
+        "Use (1:1)\n  Events (3:5)\n",
+    ),
+    (&["--outline"], "a\n\n<div>\n# b\n</div>", ""),
+    (
+        &["--outline", "--without", "heading_atx"],
+        "# a\n\n*b*\n===",
+        "b (3:1)\n",
+    ),
+    (&["--outline"], "|a|\n|-|\n|`\\|`|\n\n# b", "b (5:1)\n"),
+];
+
+#[test]
+fn outlines_documents(rt: HostRuntime) {
+    for (arguments, document, want) in &OUTLINES {
+        let Ok(request) = asked(&rt, arguments) else {
+            return assert!(rt; false, "{arguments:?} is no request");
+        };
+        match outline_of(&rt, &request, document) {
+            Ok(text) => assert_eq!(rt; text.as_str(), *want),
+            Err(error) => assert!(rt; false, "{error}"),
+        }
+    }
+}
+
+/// Arguments, a document, and its text. A byte of the last two documents is hidden.
+static TEXTS: [(&[&str], &str, &str); 5] = [
+    (
+        &["--text"],
+        "# Hi *Earth*!\n\nNext\\\nline &amp; `x  y` ![an *image*](u)\n",
+        "Hi Earth!\nNext\nline & x  y an image\n",
+    ),
+    (&["--text"], "```js\na\n\nb\n```\n\n<b>\n", "a\n\nb\n"),
+    (
+        &["--text"],
+        "- [x] done\n- <http://a.b>",
+        "done\nhttp://a.b\n",
+    ),
+    (&["--text"], "|a|\n|-|\n|`\\|`|\n\nb", "a\n|\nb\n"),
+    (&["--text"], "> [a\n> b]: u\n\n[a b]", "a b\n"),
+];
+
+#[test]
+fn says_the_text_of_documents(rt: HostRuntime) {
+    for (arguments, document, want) in &TEXTS {
+        let Ok(request) = asked(&rt, arguments) else {
+            return assert!(rt; false, "{arguments:?} is no request");
+        };
+        match text_of(&rt, &request, document) {
+            Ok(text) => assert_eq!(rt; text.as_str(), *want),
+            Err(error) => assert!(rt; false, "{error}"),
         }
     }
 }

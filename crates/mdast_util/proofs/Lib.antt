@@ -4,3 +4,4 @@ pub mod Reaching
 pub mod Defining
 pub mod Outlining
 pub mod Wording
+pub mod BareTexts

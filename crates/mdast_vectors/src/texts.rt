@@ -1,6 +1,7 @@
 //! The results of the calls on texts.
 
 use crate::expect::{same, says};
+use byte_masks::{first_of, places};
 use markdown_nodes::decimal::{push_decimal, put_decimal, put_text};
 use markdown_nodes::search::{find_control, first_below, first_equal};
 use markdown_nodes::text::{line_endings_to_spaces, normalize_identifier, raw_text, trim_eol};
@@ -141,4 +142,14 @@ fn sixteen_bytes_are_searched_at_once(rt: HostRuntime) {
     same(&rt, first_below(text, b' '), 2);
     same(&rt, first_equal(text, b'"'), 13);
     same(&rt, first_equal(text, b'x'), 16);
+}
+
+#[test]
+fn sixteen_bytes_have_a_mask(rt: HostRuntime) {
+    same(&rt, places(b"a-b-............", b'-'), 10);
+    same(&rt, places(b"...............-", b'-'), 1 << 15);
+    same(&rt, places(b"a-b-............", b'x'), 0);
+    same(&rt, first_of(10), 1);
+    same(&rt, first_of(1 << 15), 15);
+    same(&rt, first_of(0), 16);
 }

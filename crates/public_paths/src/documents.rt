@@ -5,7 +5,7 @@ use character_references::html::HtmlReferences;
 use markdown::mdast::Node;
 use markdown::{
     Constructs, JsonPieces, ParseOptions, Walk, compile_events, definition_of, hidden_bytes,
-    node_at, to_events, to_json, to_mdast,
+    node_at, to_events, to_json, to_mdast, to_outline, to_text,
 };
 use markdown_nodes::message::Fault;
 use markdown_tree::to_mdast::{Document, Steps, compile_document};
@@ -21,6 +21,24 @@ fn a_document_is_read(rt: HostRuntime) -> Result<(), AllocError> {
     holds(&rt, events.len() == 4);
     let tree = to_mdast(rt.alloc(), "Hi", &options)?;
     holds(&rt, matches!(&tree, Node::Root(_)));
+    Ok(())
+}
+
+#[test]
+fn a_document_has_an_outline(rt: HostRuntime) -> Result<(), AllocError> {
+    let text = to_outline(rt.alloc(), "# Use\n\n## Events", &ParseOptions::default())?;
+    holds(&rt, text.as_str() == "Use (1:1)\n  Events (3:1)\n");
+    Ok(())
+}
+
+#[test]
+fn a_document_has_a_text(rt: HostRuntime) -> Result<(), AllocError> {
+    let text = to_text(
+        rt.alloc(),
+        "# Hi *Earth*!\n\nNext",
+        &ParseOptions::default(),
+    )?;
+    holds(&rt, text.as_str() == "Hi Earth!\nNext\n");
     Ok(())
 }
 
@@ -62,6 +80,31 @@ fn events_give_the_tree_of_their_document(rt: HostRuntime) -> Result<(), Fault> 
     let events = to_events(rt.alloc(), QUOTE, &options)?;
     let tree = compile_events(rt.alloc(), QUOTE, &events)?;
     holds(&rt, tree == to_mdast(rt.alloc(), QUOTE, &options)?);
+    Ok(())
+}
+
+/// The backslash before the pipe is hidden, and so is the second marker of the quote.
+#[test]
+fn a_text_is_made_without_hidden_bytes(rt: HostRuntime) -> Result<(), AllocError> {
+    let text = to_text(rt.alloc(), "|a|\n|-|\n|\\||", &ParseOptions::gfm())?;
+    holds(&rt, text.as_str() == "a\n|\n");
+    let text = to_text(rt.alloc(), QUOTE, &ParseOptions::default())?;
+    holds(&rt, text.as_str() == "a\nb\n");
+    Ok(())
+}
+
+/// The backslash before the pipe is hidden, and so is the second marker of the quote.
+#[test]
+fn an_outline_is_made_without_hidden_bytes(rt: HostRuntime) -> Result<(), AllocError> {
+    let document = "|a|\n|-|\n|\\||\n\n# b";
+    let text = to_outline(rt.alloc(), document, &ParseOptions::gfm())?;
+    holds(&rt, text.as_str() == "b (5:1)\n");
+    let text = to_outline(
+        rt.alloc(),
+        "> # [a\n> b]\n\n> [a\n> b]\n> -\n\n[a b]: c",
+        &ParseOptions::default(),
+    )?;
+    holds(&rt, text.as_str() == "[a (1:3)\n  a b (4:3)\n");
     Ok(())
 }
 

@@ -3,6 +3,8 @@
 use crate::expect::holds;
 use markdown_nodes::event::{Event, Kind, Name, Point, span_begins};
 use markdown_nodes::unist;
+use markdown_outline::heading_filter::HeadingFilter;
+use markdown_words::words::Words;
 use std::alloc::AllocError;
 
 /// The point at the start of a document.
@@ -21,6 +23,36 @@ fn a_span_begins_at_its_enter(rt: HostRuntime) -> Result<(), AllocError> {
         point: START,
     });
     holds(&rt, span_begins(rt.alloc(), &events, 0)? == Some(1));
+    Ok(())
+}
+
+#[test]
+fn a_filter_passes_on_headings(rt: HostRuntime) {
+    let mut filter = HeadingFilter::new();
+    holds(&rt, !filter.enter(Name::Paragraph));
+    holds(&rt, !filter.token(Name::Data));
+    holds(&rt, !filter.exit(Name::Paragraph));
+    holds(&rt, filter.enter(Name::HeadingAtx));
+    holds(&rt, filter.token(Name::HeadingAtxSequence));
+    holds(&rt, filter.exit(Name::HeadingAtx));
+    holds(&rt, !filter.loses());
+}
+
+#[test]
+fn words_are_said(rt: HostRuntime) -> Result<(), AllocError> {
+    let end = Point {
+        column: 3,
+        index: 2,
+        ..START
+    };
+    let mut words = Words::new(rt.alloc(), "Hi");
+    words.enter(Name::Paragraph)?;
+    words.token(Name::Data, &START, &end)?;
+    words.exit(Name::Paragraph, &end)?;
+    holds(&rt, !words.is_strange());
+    words.give_up();
+    holds(&rt, words.is_strange());
+    holds(&rt, words.into_text()?.as_str() == "Hi\n");
     Ok(())
 }
 

@@ -4,6 +4,7 @@ use crate::expect::holds;
 use markdown_nodes::event::{Event, Kind, Name, Point};
 use markdown_nodes::mdast::Node;
 use markdown_nodes::message::Fault;
+use markdown_tree::History;
 use markdown_tree::builder::TreeBuilder;
 use markdown_tree::to_mdast::{Document, References, Steps, Values, compile, compile_counted};
 use std::alloc::{AllocError, Global};
@@ -53,6 +54,13 @@ fn steps_read_events(rt: HostRuntime) {
     steps.descents.tick();
     holds(&rt, steps.read(0) == Some(ENTER));
     holds(&rt, steps.read(1).is_none());
+}
+
+/// At run time there is nothing to ask of a history.
+#[test]
+fn a_history_has_one_more_event(_rt: HostRuntime) {
+    let history = History::none();
+    let _longer = history.and(&ENTER);
 }
 
 #[test]

@@ -12,3 +12,5 @@ mod inlines;
 mod labels;
 #[cfg(test)]
 mod reading;
+#[cfg(test)]
+mod stretches;

@@ -5,8 +5,8 @@ use Rattle.character_references.specs.Named.{text_of}
 use Rattle.character_references.proofs.named.text_of.Given as goal
 
 -- what is left gives the name the text that the table gives it
-abbrev pub invariant-loop-line : goal.invariant-loop-line
-invariant-loop-line l = shadow (Utf8 l.rest) × (text_of l.fn.name l.rest ≡ text_of l.fn.name l.fn.table)
+abbrev pub invariant-loop-text : goal.invariant-loop-text
+invariant-loop-text l = shadow (Utf8 l.rest) × (text_of l.fn.name l.rest ≡ text_of l.fn.name l.fn.table)
 
-abbrev pub decreases-loop-line : goal.decreases-loop-line
-decreases-loop-line l = length l.rest
+abbrev pub decreases-loop-text : goal.decreases-loop-text
+decreases-loop-text l = length l.rest

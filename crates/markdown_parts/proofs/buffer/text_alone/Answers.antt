@@ -1,4 +1,4 @@
-use Rattle.std.proofs.Common.{rules, arith}
+use Rattle.std.proofs.Common.{rules}
 use Rattle.markdown_parts.proofs.Readings.{alone_counts, alone_reads}
 use Rattle.markdown_parts.proofs.buffer.text_alone.Goals as goal
 

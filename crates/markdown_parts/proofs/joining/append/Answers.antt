@@ -1,4 +1,3 @@
-use Rattle.std.proofs.Common.{arith}
 use Rattle.std.specs.Vec.{vec_len}
 use Rattle.markdown_parts.proofs.Joins.{appended}
 use Rattle.markdown_parts.proofs.joining.append.Goals as goal

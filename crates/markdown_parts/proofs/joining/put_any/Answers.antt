@@ -1,4 +1,4 @@
-use Rattle.std.proofs.Common.{List, [], ◌∷◌, ◌++◌, ap, refl, sym, ◌∙◌, ◌<◌, arith}
+use Rattle.std.proofs.Common.{List, [], ◌∷◌, ◌++◌, ap, refl, sym, ◌∙◌, ◌<◌}
 use Rattle.std.specs.Vec.{vec_len}
 use Rattle.markdown_nodes.specs.declared.mdast.Node.{Node}
 use Rattle.markdown_nodes.specs.Tree.{Tree, join, only}

@@ -1,4 +1,4 @@
-use Rattle.std.proofs.Common.{ap, refl, ◌<◌, ◌∙◌, arith}
+use Rattle.std.proofs.Common.{ap, refl, ◌<◌, ◌∙◌}
 use Rattle.std.specs.Vec.{vec_len}
 use Rattle.markdown_parts.proofs.Joins.{first_begun, text_begun, text_grown}
 use Rattle.markdown_parts.proofs.Views.{no_text}

@@ -1,125 +1,59 @@
-use Rattle.std.proofs.Common.{◌∙◌, List, ap, drop, false, refl, subst, sym, take, ℕ}
-use Rattle.std.proofs.lemmas.List.{take-append-drop}
-use Rattle.event_writer.specs.Stages.{Stage, flow, inlines}
-use Rattle.event_writer.specs.Written.{Given}
+use Rattle.std.proofs.Common.{◌∙◌, List, ap, subst, sym}
+use Rattle.markdown_pieces.proofs.Tilings.{parted}
 use Rattle.markdown_pieces.specs.Spans.{AreOn as ArePiecesOn}
 use Rattle.markdown_pieces.specs.Tilings.{Spot, Tiles, end_from}
+use Rattle.markdown_pieces.specs.Walks.{Walks, start}
 use Rattle.markdown_pieces.specs.declared.piece.Piece.{Piece}
-use Rattle.markdown_pieces.specs.Walks.{State, Steps, Walks, same, start}
-use Rattle.markdown_pieces.specs.Walks.{at as state}
-use Rattle.markdown_pieces.specs.declared.piece.PieceKind.{PieceKind}
-use Rattle.markdown_pieces.specs.declared.piece.PieceKind.TheVariants.{Text}
-use Rattle.markdown_text.proofs.Contents.{content_taken, tiles_parted}
+use Rattle.markdown_text.proofs.Parted.{none_left, on_parted, walks_parted}
 use Rattle.markdown_text.proofs.Steps.{says_at}
-use Rattle.markdown_text.proofs.Switches.{dropped_on, started_on}
-use Rattle.markdown_text.proofs.Tasks.{content_walks, place_after_piece, task_begins, text_inlines, walked}
+use Rattle.markdown_text.proofs.Tasks.{walked}
 use Rattle.markdown_text.specs.Contents.{spot}
-use Rattle.markdown_text.specs.Standings.{IsAt}
-use Rattle.markdown_text.specs.Tasks.{IsTaskPlace}
-use Rattle.markdown_text.specs.declared.content.Place.TheVariants.{BeforeText}
-use Rattle.markdown_text.specs.declared.document.TaskPlace.{TaskPlace}
 use Rattle.markdown_text.proofs.document.write.Goals as goal
 
-pub inlines-requires-clause-tiles : goal.inlines-requires-clause-tiles
-inlines-requires-clause-tiles g c =
-    let i = c.pieces.invariant in
-    let from = spot c.pieces.writer.cursor in
+pub write_stretch-requires-clause-tiles : goal.write_stretch-requires-clause-tiles
+write_stretch-requires-clause-tiles g c =
     let document = c.args.reading.now.document.now in
-    let parts = tiles_parted document from (end_from (spot c.args.writer.cursor) c.args.pieces.now) c.pieces.rest.now c.content_size.result i.tiles in
-    subst (λ (bs : List ℕ). Tiles bs from c.split_at.result.0.now (end_from from c.split_at.result.0.now)) (sym (ap (λ (g : Given _). g.bytes) i.given ∙ c.requires.document))
-    (subst (λ (ps : List Piece). Tiles document from ps (end_from from ps)) (sym c.split_at.ensures.front) parts.0)
+    let from = spot c.stretches.writer.cursor in
+    let end = end_from (spot c.args.writer.cursor) c.args.pieces.items in
+    let tiles = subst (λ (ps : List Piece). Tiles document from ps end) (sym c.in_ok-later.ensures.all) c.stretches.invariant.tiles in
+    subst (λ (ps : List Piece). Tiles document from ps (end_from from ps)) (sym c.as_slice.ensures.value) (parted document from end c.cut_later.new.pieces.items c.in_ok-later.later.items tiles).0
 
-pub inlines-requires-clause-begins : goal.inlines-requires-clause-begins
-inlines-requires-clause-begins g c =
-    let w = c.pieces.writer in
-    let n = c.pieces.invariant.nest in
-    let k = subst (λ (ps : List Piece). Walks n.0 ps start) c.in-Some.ensures.cases.0 n.3 in
-    let step : Steps Text k.0 k.1 = subst (λ (kind : PieceKind). Steps kind k.0 k.1) (c.is_text.ensures.yes c.if-is_text.true) k.3 in
-    let h = text_inlines k.0.stage step.0 in
-    record { in_heading = h.0; outer = k.0.outer; at = (subst (λ (a : Stage). IsAt w a k.0.outer) h.1 (says_at w k.0 n.0 k.2 n.1), task_begins w c.pieces.place k.0 n.0 h.0 k.2 h.1 n.2) }
+pub write_stretch-requires-clause-nest : goal.write_stretch-requires-clause-nest
+write_stretch-requires-clause-nest g c =
+    let n = c.stretches.invariant.nest in
+    let k = walks_parted n.0 start c.cut_later.new.pieces.items c.in_ok-later.later.items (subst (λ (ps : List Piece). Walks n.0 ps start) (sym c.in_ok-later.ensures.all) n.2) in
+    record { before = n.0; after = k.0; at = n.1; walks = subst (λ (ps : List Piece). Walks n.0 ps k.0) (sym c.as_slice.ensures.value) k.1 }
 
-pub write_piece-requires-clause-kind : goal.write_piece-requires-clause-kind
-write_piece-requires-clause-kind g c = λ h. absurd (cc (c.if-is_text.false, c.is_text.ensures.no h))
-
-pub write_piece-requires-clause-step : goal.write_piece-requires-clause-step
-write_piece-requires-clause-step g c =
-    let n = c.pieces.invariant.nest in
-    let k = subst (λ (ps : List Piece). Walks n.0 ps start) c.in-Some.ensures.cases.0 n.3 in
-    record { before = k.0; after = k.1; at = says_at c.pieces.writer k.0 n.0 k.2 n.1; steps = k.3 }
-
-pub pieces-preserved : goal.pieces-preserved
-pieces-preserved g c =
-    let i = c.pieces.invariant in
-    let n = i.nest in
-    let p = c.in-Some.piece.now in
-    let ps = c.in-Some.later.now in
-    let is = c.in-Some.ensures.cases.0 in
-    let document = c.args.reading.now.document.now in
-    let end = end_from (spot c.args.writer.cursor) c.args.pieces.now in
-    let k = subst (λ (ps : List Piece). Walks n.0 ps start) is n.3 in
-    let wrote = c.in_ok-write_piece.ensures in
+pub write_stretch-requires-clause-on : goal.write_stretch-requires-clause-on
+write_stretch-requires-clause-on g c =
     let constructs = c.args.reading.now.options.constructs in
-    let on = subst (ArePiecesOn constructs) is i.on in
-    let here = wrote.at k.0 k.1 k.3 (says_at c.pieces.writer k.0 n.0 k.2 n.1) in
-    record {
-      given = c.write_piece.ensures.given ∙ i.given;
-      tiles = subst (λ (s : Spot). Tiles document s ps end) (sym wrote.spot) (subst (λ (qs : List Piece). Tiles document (spot c.pieces.writer.cursor) qs end) is i.tiles).1;
-      nest = (
-        k.1,
-        here,
-        subst (λ (place : TaskPlace). IsTaskPlace c.write_piece.new.writer place k.1) (sym c.after-place.ensures) (place_after_piece c.pieces.writer c.write_piece.new.writer c.pieces.place p.kind k.0 n.0 k.1 k.2 k.3 here wrote.at n.2),
-        k.4,
-      );
-      within = wrote.within constructs on.0 i.within;
-      on = on.1;
-    }
+    let on = subst (ArePiecesOn constructs) (sym c.in_ok-later.ensures.all) c.stretches.invariant.on in
+    subst (ArePiecesOn constructs) (sym c.as_slice.ensures.value) (on_parted constructs c.cut_later.new.pieces.items c.in_ok-later.later.items on).0
 
-pub pieces-preserved-then-is_text : goal.pieces-preserved-then-is_text
-pieces-preserved-then-is_text g c =
-    let i = c.pieces.invariant in
-    let from = spot c.pieces.writer.cursor in
-    let document = c.args.reading.now.document.now in
-    let end = end_from (spot c.args.writer.cursor) c.args.pieces.now in
-    let parts = tiles_parted document from end c.pieces.rest.now c.content_size.result i.tiles in
-    let w = c.pieces.writer in
+pub stretches-preserved : goal.stretches-preserved
+stretches-preserved g c =
+    let i = c.stretches.invariant in
     let n = i.nest in
-    let rest = c.pieces.rest.now in
-    let size = c.content_size.result in
-    let is = c.in-Some.ensures.cases.0 in
-    let text = c.is_text.ensures.yes c.if-is_text.true in
-    let k = subst (λ (ps : List Piece). Walks n.0 ps start) is n.3 in
-    let step : Steps Text k.0 k.1 = subst (λ (kind : PieceKind). Steps kind k.0 k.1) text k.3 in
-    let h = text_inlines k.0.stage step.0 in
+    let ps = c.cut_later.new.pieces.items in
+    let qs = c.in_ok-later.later.items in
+    let all = sym c.in_ok-later.ensures.all in
+    let wrote = c.in_ok-writer.ensures in
+    let document = c.args.reading.now.document.now in
+    let from = spot c.stretches.writer.cursor in
+    let end = end_from (spot c.args.writer.cursor) c.args.pieces.items in
+    let constructs = c.args.reading.now.options.constructs in
+    let tiles = parted document from end ps qs (subst (λ (rs : List Piece). Tiles document from rs end) all i.tiles) in
+    let k = walks_parted n.0 start ps qs (subst (λ (rs : List Piece). Walks n.0 rs start) all n.2) in
     record {
-      given = c.in_ok-writer.ensures.given ∙ i.given;
-      tiles = subst (λ (s : Spot). Tiles document s c.split_at.result.1.now end) (sym (c.in_ok-writer.ensures.end ∙ ap (λ (ps : List Piece). end_from from ps) c.split_at.ensures.front))
-          (subst (λ (ps : List Piece). Tiles document (end_from from (take c.content_size.result c.pieces.rest.now)) ps end) (sym c.split_at.ensures.back) parts.1);
-      nest = (
-        state (inlines h.0) k.0.outer,
-        c.in_ok-writer.ensures.at h.0 k.0.outer (subst (λ (a : Stage). IsAt w a k.0.outer) h.1 (says_at w k.0 n.0 k.2 n.1), task_begins w c.pieces.place k.0 n.0 h.0 k.2 h.1 n.2),
-        tt,
-        subst (λ (ps : List Piece). Walks (state (inlines h.0) k.0.outer) ps start) (sym c.split_at.ensures.back)
-            (content_walks BeforeText (take size rest) (drop size rest) h.0 k.0.outer start (content_taken rest c.in-Some.piece.now c.in-Some.later.now size is text c.content_size.ensures.least c.content_size.ensures.lines)
-            (subst (λ (ps : List Piece). Walks (state (inlines h.0) k.0.outer) ps start) (sym (take-append-drop size rest)) (subst (λ (s : State). Walks s rest start) (λ i. record { stage = h.1 i; outer = k.0.outer })
-            (subst (λ (ps : List Piece). Walks k.0 ps start) (sym is) (k.0, k.1, same k.0 refl, k.3, k.4))))),
-      );
-      within = c.in_ok-writer.ensures.within;
-      on = subst (ArePiecesOn c.args.reading.now.options.constructs) (sym c.split_at.ensures.back) (dropped_on c.args.reading.now.options.constructs size rest i.on);
+      given = wrote.given ∙ i.given;
+      tiles = subst (λ (s : Spot). Tiles document s qs end) (sym (wrote.end ∙ ap (λ (rs : List Piece). end_from from rs) c.as_slice.ensures.value)) tiles.1;
+      nest = (k.0, wrote.nest n.0 k.0 n.1 (subst (λ (rs : List Piece). Walks n.0 rs k.0) (sym c.as_slice.ensures.value) k.1), k.2);
+      within = wrote.within;
+      on = (on_parted constructs ps qs (subst (ArePiecesOn constructs) all i.on)).1;
     }
 
 pub returns-clause-root : goal.returns-clause-root
 returns-clause-root g c =
-    let n = c.pieces.invariant.nest in
-    says_at c.pieces.writer start n.0 (walked n.0 start c.pieces.rest.now c.in_default.ensures.cases n.3) n.1
-
-pub pieces-init : goal.pieces-init
-pieces-init g c = record {
-  given = refl;
-  tiles = c.requires.tiles;
-  nest = (start, c.requires.root, tt, c.requires.nest);
-  within = started_on c.args.reading.now.options.constructs c.args.writer (flow false) c.requires.root c.requires.events;
-  on = c.requires.on;
-}
-
-pub returns-clause-options : goal.returns-clause-options
-returns-clause-options g c = c.pieces.invariant.within.events
+    let n = c.stretches.invariant.nest in
+    let none = none_left c.stretches.stretch c.is_empty.result c.stretches-test.false c.is_empty.ensures in
+    says_at c.stretches.writer start n.0 (walked n.0 start c.stretches.stretch.items none n.2) n.1.0

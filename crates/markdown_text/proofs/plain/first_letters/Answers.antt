@@ -2,7 +2,7 @@ use Rattle.std.proofs.Common.{bit_or, map, refl, replicate, ◌≡◌, ℕ}
 use Rattle.std.proofs.lemmas.Simd.{zip2_splat}
 use lib.Lanes.{zip2}
 use Rattle.markdown_text.specs.Plain.{is_first_letter}
-use Rattle.markdown_text.proofs.Lanes.{bit_is, either, lanes_of, same, sixteen, with_splat}
+use Rattle.byte_masks.proofs.Lanes.{bit_is, either, lanes_of, same, sixteen, with_splat}
 use Rattle.markdown_text.proofs.plain.first_letters.Goals as goal
 
 pub returns : goal.returns

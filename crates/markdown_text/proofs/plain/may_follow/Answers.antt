@@ -2,7 +2,7 @@ use Rattle.std.proofs.Common.{map, refl, replicate, ◌≡◌, ℕ}
 use Rattle.std.proofs.lemmas.Simd.{zip2_splat}
 use lib.Lanes.{zip2}
 use Rattle.markdown_attention.specs.ExtendedAddresses.{may_come_before}
-use Rattle.markdown_text.proofs.Lanes.{below, bit_is, either, lanes_of, same, sixteen, with_splat}
+use Rattle.byte_masks.proofs.Lanes.{below, bit_is, either, lanes_of, same, sixteen, with_splat}
 use Rattle.markdown_text.proofs.plain.may_follow.Goals as goal
 
 pub returns : goal.returns

@@ -1,6 +1,6 @@
 use Rattle.std.proofs.Common.{refl}
 use Rattle.commonmark_syntax.specs.Syntax.{in_angle_brackets}
-use Rattle.commonmark_syntax.proofs.Lanes.{either, equal, lanes_of, others_bit}
+use Rattle.byte_masks.proofs.Lanes.{either, equal, lanes_of, others_bit}
 use Rattle.commonmark_syntax.proofs.class.InAngleBracketsPlainClass.others.Goals as goal
 
 pub returns : goal.returns

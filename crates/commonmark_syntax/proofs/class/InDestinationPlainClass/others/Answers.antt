@@ -1,7 +1,7 @@
 use Rattle.std.proofs.Common.{refl}
 use Rattle.std.proofs.lemmas.Simd.{zip2_splat}
 use Rattle.commonmark_syntax.specs.Parentheses.{is_plain}
-use Rattle.commonmark_syntax.proofs.Lanes.{below, either, equal, lanes_of, others_bit, sixteen, with_splat}
+use Rattle.byte_masks.proofs.Lanes.{below, either, equal, lanes_of, others_bit, sixteen, with_splat}
 use Rattle.commonmark_syntax.proofs.class.InDestinationPlainClass.others.Goals as goal
 
 pub returns : goal.returns

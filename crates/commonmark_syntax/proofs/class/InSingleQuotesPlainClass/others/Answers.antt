@@ -1,6 +1,6 @@
 use Rattle.std.proofs.Common.{refl}
 use Rattle.commonmark_syntax.specs.Syntax.{in_single_quotes}
-use Rattle.commonmark_syntax.proofs.Lanes.{either, equal, lanes_of, others_bit}
+use Rattle.byte_masks.proofs.Lanes.{either, equal, lanes_of, others_bit}
 use Rattle.commonmark_syntax.proofs.class.InSingleQuotesPlainClass.others.Goals as goal
 
 pub returns : goal.returns

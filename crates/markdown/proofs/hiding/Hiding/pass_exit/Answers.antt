@@ -1,11 +1,10 @@
 use Rattle.std.proofs.Common.{refl}
-use Rattle.markdown.proofs.HiddenSoFar.{or-left, or-right}
 use Rattle.markdown.proofs.hiding.Hiding.pass_exit.Goals as goal
 
-pub returns : goal.returns
-returns c = record {
+pub returns-in-Some : goal.returns-in-Some
+returns-in-Some c = record {
   cell = refl;
-  before = λ shown. or-left c.args.self.now.hides c.ends_escaped.result shown;
-  labels = λ shown. c.labels_left-self.ensures;
-  none = λ shown. c.ends_escaped.ensures (or-right c.args.self.now.hides c.ends_escaped.result shown) c.args.self.now.labels;
+  before = λ same. same;
+  labels = λ same. c.labels_left-self.ensures;
+  expected = λ same. c.in-Some.ensures c.args.self.now.labels;
 }

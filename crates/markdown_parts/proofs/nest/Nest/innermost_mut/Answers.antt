@@ -1,4 +1,4 @@
-use Rattle.std.proofs.Common.{◌<◌, length, refl, sym, ◌∙◌, arith}
+use Rattle.std.proofs.Common.{◌<◌, length, refl, sym, ◌∙◌}
 use Rattle.markdown_parts.proofs.Nesting.{last_read, last_written, some_within}
 use Rattle.markdown_parts.proofs.nest.Nest.innermost_mut.Goals as goal
 

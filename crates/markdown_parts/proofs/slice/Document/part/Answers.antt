@@ -1,4 +1,4 @@
-use Rattle.std.proofs.Common.{◌≡◌, ◌≤◌, List, ℕ, length, subst, sym, ap, ◌∙◌}
+use Rattle.std.proofs.Common.{◌≡◌, ◌≤◌, List, ℕ, length, subst, ap, ◌∙◌}
 use Rattle.std.specs.Prelude.{IfSome, slice_range}
 use Rattle.std.specs.Str.{IsUtf8}
 use Rattle.markdown_grammar.specs.Document.{Given}
@@ -9,7 +9,7 @@ use Rattle.markdown_parts.proofs.slice.Document.part.Goals as goal
 
 pub returns-clause-part : goal.returns-clause-part
 returns-clause-part c =
-    let text = subst (λ o. IfSome o (λ text. IsTextOf c.self.inside.values c.self.inside.hidden.now c.self.inside.bytes.now text.now)) c.in_ok-self.was c.self.invariant in
+    let text = subst (λ o. IfSome o (λ text. IsTextOf c.self.inside.values c.self.inside.bytes.now text.now)) c.in_ok-self.was c.self.invariant in
     let whole : c.in_ok-self.field-0.now ≡ c.args.self.now.bytes = text.is ∙ ap (λ (given : Given). given.bytes) c.self.view_is in
     part_is c.args.self.now.bytes c.args.from c.args.to c.in_ok-part.part.now
     (c.in_ok-part.ensures.cases.0 ∙ ap (λ (b : List ℕ). slice_range b c.args.from c.args.to) whole)
@@ -19,12 +19,7 @@ returns-clause-part c =
 
 pub returns-clause-no_nul : goal.returns-clause-no_nul
 returns-clause-no_nul c whole =
-    let text = subst (λ o. IfSome o (λ text. IsTextOf c.self.inside.values c.self.inside.hidden.now c.self.inside.bytes.now text.now)) c.in_ok-self.was c.self.invariant in
+    let text = subst (λ o. IfSome o (λ text. IsTextOf c.self.inside.values c.self.inside.bytes.now text.now)) c.in_ok-self.was c.self.invariant in
     part_without_nul c.self.inside.bytes.now c.args.from c.args.to c.in_ok-part.part.now
     (c.in_ok-part.ensures.cases.0 ∙ ap (λ (b : List ℕ). slice_range b c.args.from c.args.to) text.is)
     (text.no_nul (ap (λ (given : Given). is_whole given.values) c.self.view_is ∙ whole))
-
-pub returns-clause-shown : goal.returns-clause-shown
-returns-clause-shown c =
-    let text = subst (λ o. IfSome o (λ text. IsTextOf c.self.inside.values c.self.inside.hidden.now c.self.inside.bytes.now text.now)) c.in_ok-self.was c.self.invariant in
-    sym (ap (λ (given : Given). given.hidden) c.self.view_is) ∙ text.shown

@@ -1,0 +1,4 @@
+pub mod Headings
+pub mod HeadingFilter
+pub mod HeadingStandings
+pub mod Outlines

@@ -1,0 +1,5 @@
+pub mod Settings
+pub mod Saying
+pub mod Standings
+pub mod Shown
+pub mod Texts

@@ -1,0 +1,8 @@
+//! The words of a document, without its tree.
+#![tactic(auto)]
+
+mod closing;
+pub mod laws;
+mod setting;
+mod speech;
+pub mod words;
