@@ -43,6 +43,7 @@ pub(crate) fn settled(children: Vec<Node>) -> Vec<Node>
 }
 
 /// Returns the node of a span whose node has children and no other fields.
+#[inline(always)]
 pub fn parent(content: Content, children: Vec<Node>, position: Position) -> Node
     requires { is_parent content ≡ true }
     ensures { view result ≡ placed (parent_label content) (views children.items) position }

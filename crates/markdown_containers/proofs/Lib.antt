@@ -4,4 +4,3 @@ pub mod LeafEnds
 pub mod PartEnds
 pub mod Stopping
 pub mod Kept
-pub mod Removed

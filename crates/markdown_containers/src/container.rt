@@ -209,6 +209,33 @@ impl<'a> Container<'a> {
         }
     }
 
+    /// Whether a span is an item of an unordered list in this container.
+    pub fn opens_list_item(&self, what: ItemKind) -> bool
+        ensures yes { result ≡ true → models.model_of (current_model_of self.now) what ≡ models.list_item }
+        ensures no { result ≡ false → models.model_of (current_model_of self.now) what ≢ models.list_item }
+    {
+        match (self, what) {
+            (Container::ListOrdered(_), _) => false,
+            (_, ItemKind::Content(Content::ListItem)) => true,
+            _ => false,
+        }
+    }
+
+    /// Whether a span is a paragraph of an item that has no mark yet in this container.
+    pub fn opens_task_paragraph(&self, what: ItemKind) -> bool
+        ensures yes { result ≡ true → models.model_of (current_model_of self.now) what ≡ models.task_paragraph }
+        ensures no { result ≡ false → models.model_of (current_model_of self.now) what ≢ models.task_paragraph }
+    {
+        match (self, what) {
+            (
+                Container::ListItem(ListItemParts { mark: None })
+                | Container::NumberedItem(NumberedItemParts { mark: None, .. }),
+                ItemKind::Content(Content::Paragraph),
+            ) => true,
+            _ => false,
+        }
+    }
+
     /// Whether it is an item of a list.
     fn is_item(&self) -> bool
         ensures { result ≡ false → models.content_model (current_model_of self.now) contents.Paragraph ≡ models.any_content }

@@ -67,7 +67,6 @@ use markdown_parts::marks::Marks;
 use markdown_parts::nest::Nest;
 use markdown_parts::slice::{Document, byte_at, position_of};
 use std::alloc::{AllocError, Global};
-use std::mem;
 
 /// An open significant span that is not a leaf, or the root, with the nodes made in it so far.
 #[derive(Drop)]
@@ -324,16 +323,16 @@ pub fn innermost_nodes(containers: Nest<OpenContainer<'_>>) -> Vec<Node>
     containers.into_innermost().into_nodes()
 }
 
-/// Removes the last of containers, and returns the nodes made in it. Nothing else of it is moved.
+/// Removes the last of containers, and returns the nodes made in it.
 #[inline(always)]
-pub fn remove_last(alloc: Global, containers: &mut Vec<OpenContainer<'_>>) -> Vec<Node>
+pub fn remove_last(containers: &mut Vec<OpenContainer<'_>>) -> Vec<Node>
     requires { containers.old.items ≢ [] }
     ensures { (own : OpenContainer) × (containers.old.items ≡ containers.new.items ++ own ∷ []) × (result ≡ own.nodes) }
 {
-    let count = containers.len() - 1;
-    let nodes = mem::replace(&mut containers[count].nodes, Vec::new(alloc));
-    containers.truncate(count);
-    nodes
+    match containers.pop() {
+        Some(last) => last.into_nodes(),
+        None => unreachable!(),
+    }
 }
 
 impl<'a> OpenContainer<'a> {

@@ -122,7 +122,7 @@ pub fn count(row: &[u8]) -> usize {
     let mut rest = row;
     let mut count = 0;
     'cells: while !rest.is_empty() {
-        rest = Cell::first(rest).next;
+        rest = next_cell(after(rest, cell_size(rest)));
         count += 1;
     }
     count

@@ -47,10 +47,10 @@ inner bytes first p long within is =
     let all : take (length (point p)) (point p ++ codes "}}") ≡ point p = grind (arith, common_steps) in
     ap (λ (n : ℕ). drop (first + 7) (take n bytes)) size ∙ drop-take (first + 7) (length (point p)) bytes ∙ ap (λ (s : List ℕ). take (length (point p)) s) after ∙ all
 
-regroup : (old a b c d e f : List ℕ) → ((old ++ a) ++ b) ++ (c ++ (d ++ (e ++ f))) ≡ old ++ ((a ++ ((b ++ (c ++ d)) ++ e)) ++ f)
-regroup old a b c d e f = simp append_assoc refl
+regroup : (before a b c d e f : List ℕ) → (before ++ a) ++ (b ++ (c ++ (d ++ (e ++ f)))) ≡ (before ++ (a ++ ((b ++ (c ++ d)) ++ e))) ++ f
+regroup before a b c d e f = simp append_assoc refl
 
-pub position-is : (start end : Point) (old v w : List ℕ) → v ≡ old ++ codes ",\"position\":{\"start\":" → w ≡ v ++ point start → w ++ position_end end ≡ old ++ (field (codes "position") (position_between start end) ++ codes "}")
+-- the field of a position, and the brace that closes its node
+pub position-is : (start end : Point) (before : List ℕ) → (before ++ codes ",\"position\":{\"start\":") ++ (point start ++ position_end end) ≡ (before ++ field (codes "position") (position_between start end)) ++ codes "}"
 unfolding field key position_between
-position-is start end old v w v-is w-is =
-    rw (w-is, v-is) (regroup old (codes ",\"position\":{\"start\":") (point start) (codes ",\"end\":") (point end) (codes "}") (codes "}"))
+position-is start end before = regroup before (codes ",\"position\":{\"start\":") (point start) (codes ",\"end\":") (point end) (codes "}") (codes "}")

@@ -1,9 +1,8 @@
 //! The fields of each kind of node, in the terms of mdast.
 #![tactic(auto, unfolding(crate::specs::Fields::kind, crate::specs::Fields::key, crate::specs::Fields::field, crate::specs::Fields::children, crate::specs::Strings::string))]
 
-ghost use Rattle.std.specs.Prelude.{◌≡◌, ◌++◌, OnOk, codes, string_bytes};
+ghost use Rattle.std.specs.Prelude.{◌≡◌, ◌++◌, [], None, OnOk, codes, false, string_bytes, true};
 ghost use Rattle.markdown_json.specs.Counting.{counted_as};
-ghost use Rattle.markdown_json.specs.Fields.{position_field};
 ghost use Rattle.markdown_nodes.specs.Access.{label_of, position_of};
 ghost use Rattle.markdown_nodes.specs.Labels.{
   code_label,
@@ -18,7 +17,7 @@ ghost use Rattle.markdown_nodes.specs.Labels.{
   list_label,
   math_label,
 };
-ghost use Rattle.markdown_nodes.specs.Tree.{heading, table};
+ghost use Rattle.markdown_nodes.specs.Tree.{heading, list, list_item, table};
 ghost use Rattle.markdown_json.specs.Json.{children_end, closing, opening};
 
 use crate::fields::{
@@ -89,49 +88,62 @@ pub fn push_closing(
     ensures { OnOk result (string_bytes out.new
         ≡ string_bytes out.old ++ closing (counted_as points.now) (label_of node.now) (position_of node.now)) }
 {
-    push_children_end(out, node)?;
-    push_node_end(out, points, last, node)
-}
-
-/// Appends the end of the children of a parent, and nothing for any other node.
-fn push_children_end(out: &mut String, node: &Node) -> Result<(), AllocError>
-    ensures { OnOk result (string_bytes out.new ≡ string_bytes out.old ++ children_end (label_of node.now)) }
-{
-    match node {
-        Node::Toml(_) => Ok(()),
-        Node::Yaml(_) => Ok(()),
-        Node::Break(_) => Ok(()),
-        Node::InlineCode(_) => Ok(()),
-        Node::InlineMath(_) => Ok(()),
-        Node::FootnoteReference(_) => Ok(()),
-        Node::Html(_) => Ok(()),
-        Node::Image(_) => Ok(()),
-        Node::ImageReference(_) => Ok(()),
-        Node::Text(_) => Ok(()),
-        Node::Code(_) => Ok(()),
-        Node::Math(_) => Ok(()),
-        Node::ThematicBreak(_) => Ok(()),
-        Node::Definition(_) => Ok(()),
-        _ => push(out, "]"),
-    }
-}
-
-/// Appends the position of a node, if it has one, and the brace after it.
-fn push_node_end(
-    out: &mut String,
-    points: &Points,
-    last: &mut LastPosition,
-    node: &Node,
-) -> Result<(), AllocError>
-    ensures { OnOk result (string_bytes out.new ≡ string_bytes out.old ++ (position_field (counted_as points.now) (position_of node.now) ++ codes "}")) }
-{
     match node.position() {
         Some(position) => {
+            push_position_keys(out, node)?;
             let start = points.counted(position.start);
             let end = points.counted(position.end);
             last.push(out, start, end)
         }
-        None => push(out, "}"),
+        None => push_end_without_position(out, node),
+    }
+}
+
+/// Appends the text after the children of a node, up to where its position starts.
+#[inline(always)]
+fn push_position_keys(out: &mut String, node: &Node) -> Result<(), AllocError>
+    ensures { OnOk result (string_bytes out.new
+        ≡ string_bytes out.old ++ (children_end (label_of node.now) ++ codes ",\"position\":{\"start\":")) }
+{
+    if has_children(node) {
+        push(out, r#"],"position":{"start":"#)
+    } else {
+        push(out, r#","position":{"start":"#)
+    }
+}
+
+/// Appends the text after the children of a node without a position.
+fn push_end_without_position(out: &mut String, node: &Node) -> Result<(), AllocError>
+    ensures { OnOk result (string_bytes out.new ≡ string_bytes out.old ++ (children_end (label_of node.now) ++ codes "}")) }
+{
+    if has_children(node) {
+        push(out, "]}")
+    } else {
+        push(out, "}")
+    }
+}
+
+/// Whether a node may have children.
+fn has_children(node: &Node) -> bool
+    ensures yes { result ≡ true → children_end (label_of node.now) ≡ codes "]" }
+    ensures no { result ≡ false → children_end (label_of node.now) ≡ [] }
+{
+    match node {
+        Node::Toml(_) => false,
+        Node::Yaml(_) => false,
+        Node::Break(_) => false,
+        Node::InlineCode(_) => false,
+        Node::InlineMath(_) => false,
+        Node::FootnoteReference(_) => false,
+        Node::Html(_) => false,
+        Node::Image(_) => false,
+        Node::ImageReference(_) => false,
+        Node::Text(_) => false,
+        Node::Code(_) => false,
+        Node::Math(_) => false,
+        Node::ThematicBreak(_) => false,
+        Node::Definition(_) => false,
+        _ => true,
     }
 }
 
@@ -147,6 +159,33 @@ fn push_heading(out: &mut String, node: &Heading) -> Result<(), AllocError>
 fn push_list(out: &mut String, node: &List) -> Result<(), AllocError>
     ensures { OnOk result (string_bytes out.new ≡ string_bytes out.old ++ opening (list_label node.now)) }
 {
+    match (node.ordered, node.start) {
+        (false, None) => push_unordered_list(out, node.spread),
+        _ => push_ordered_list(out, node),
+    }
+}
+
+/// Appends a list that is not ordered, up to its children. It has one of two texts.
+fn push_unordered_list(out: &mut String, spread: bool) -> Result<(), AllocError>
+    ensures { OnOk result (string_bytes out.new ≡ string_bytes out.old ++ opening (list false None spread)) }
+{
+    if spread {
+        push(
+            out,
+            r#"{"type":"list","ordered":false,"start":null,"spread":true,"children":["#,
+        )
+    } else {
+        push(
+            out,
+            r#"{"type":"list","ordered":false,"start":null,"spread":false,"children":["#,
+        )
+    }
+}
+
+/// Appends any list, up to its children.
+fn push_ordered_list(out: &mut String, node: &List) -> Result<(), AllocError>
+    ensures { OnOk result (string_bytes out.new ≡ string_bytes out.old ++ opening (list_label node.now)) }
+{
     push_flag(out, r#"{"type":"list","ordered":"#, node.ordered)?;
     push_start(out, node.start)?;
     push_flag(out, r#","spread":"#, node.spread)?;
@@ -155,6 +194,33 @@ fn push_list(out: &mut String, node: &List) -> Result<(), AllocError>
 
 /// Appends a list item, up to its children.
 fn push_list_item(out: &mut String, node: &ListItem) -> Result<(), AllocError>
+    ensures { OnOk result (string_bytes out.new ≡ string_bytes out.old ++ opening (list_item_label node.now)) }
+{
+    match node.checked {
+        None => push_plain_item(out, node.spread),
+        Some(_) => push_task_item(out, node),
+    }
+}
+
+/// Appends a list item that is no task, up to its children. It has one of two texts.
+fn push_plain_item(out: &mut String, spread: bool) -> Result<(), AllocError>
+    ensures { OnOk result (string_bytes out.new ≡ string_bytes out.old ++ opening (list_item spread None)) }
+{
+    if spread {
+        push(
+            out,
+            r#"{"type":"listItem","spread":true,"checked":null,"children":["#,
+        )
+    } else {
+        push(
+            out,
+            r#"{"type":"listItem","spread":false,"checked":null,"children":["#,
+        )
+    }
+}
+
+/// Appends any list item, up to its children.
+fn push_task_item(out: &mut String, node: &ListItem) -> Result<(), AllocError>
     ensures { OnOk result (string_bytes out.new ≡ string_bytes out.old ++ opening (list_item_label node.now)) }
 {
     push_flag(out, r#"{"type":"listItem","spread":"#, node.spread)?;

@@ -2,7 +2,7 @@
 
 ghost use Rattle.std.specs.Prelude.{◌≡◌, ◌+◌, ◌++◌, ◌≤◌, ◌<◌, IsFalse, IsTrue, OnOk, codes, drop, length, string_bytes};
 ghost use Rattle.std.specs.Str.{IsUtf8};
-ghost use Rattle.markdown_json.specs.Fields.{field, point, position_between, position_end};
+ghost use Rattle.markdown_json.specs.Fields.{point, position_end};
 
 use crate::strings::push;
 use markdown_events::decimal::{put_decimal, put_text, text};
@@ -37,15 +37,14 @@ impl LastPosition {
         }
     }
 
-    /// Appends the field of a position from one point to another, which is the last one then, and
-    /// the brace that closes its node.
+    /// Appends a position from one point to another, which is the last one then, from its start on,
+    /// and the brace that closes its node.
     ///
     /// For the first character of a document they are
-    /// `,"position":{"start":{"line":1,"column":1,"offset":0},"end":{"line":1,"column":2,"offset":1}}}`.
+    /// `{"line":1,"column":1,"offset":0},"end":{"line":1,"column":2,"offset":1}}}`.
     pub fn push(&mut self, out: &mut String, start: Point, end: Point) -> Result<(), AllocError>
-        ensures { OnOk result (string_bytes out.new ≡ string_bytes out.old ++ (field (codes "position") (position_between start end) ++ codes "}")) }
+        ensures { OnOk result (string_bytes out.new ≡ string_bytes out.old ++ (point start ++ position_end end)) }
     {
-        push(out, r#","position":{"start":"#)?;
         self.push_start(out, start)?;
         self.end.set(end);
         self.end.push_end(out)

@@ -115,7 +115,7 @@ token_other name is = absurd (cc is)
 -- ---- Spots
 
 -- the next event of a content stands where what is left of it begins
-pub at_spot : {R S : Type 0} (old new : Output R S) (offset : ℕ) → WritesTo old new offset → IsSpotOf (document_of old) (bytes_of old) (content_end old) offset (spot new.writer.cursor)
+pub at_spot : {R S : Type 0} (old new : Output R S) (offset : ℕ) → WritesTo old new offset → IsSpotOf (document_of old) (bytes_of old) (content_end old) offset (spot new.writer.value.cursor)
 at_spot old new offset w =
     let s = w.goes_on.stands in
     let end = new.lines.end in
@@ -124,8 +124,8 @@ at_spot old new offset w =
     record {
       end = end;
       later = later;
-      rest = subst (λ (d : List ℕ). IsLeft d (spot new.writer.cursor) end later) document s.rest;
-      same = ap (λ (n : ℕ). drop n (bytes_of old)) (sym w.at) ∙ ap (λ (bs : List ℕ). drop new.at bs) (sym w.goes_on.bytes) ∙ s.bytes ∙ ap (λ (d : List ℕ). left d new.writer.cursor.index end later) document;
+      rest = subst (λ (d : List ℕ). IsLeft d (spot new.writer.value.cursor) end later) document s.rest;
+      same = ap (λ (n : ℕ). drop n (bytes_of old)) (sym w.at) ∙ ap (λ (bs : List ℕ). drop new.at bs) (sym w.goes_on.bytes) ∙ s.bytes ∙ ap (λ (d : List ℕ). left d new.writer.value.cursor.index end later) document;
       stops = w.goes_on.end;
     }
 

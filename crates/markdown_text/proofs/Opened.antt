@@ -174,7 +174,7 @@ named_entered new name known a b outer is begins h =
     at_some (λ c. IsAt new c (inside known a outer)) (entered a (role_of known)) b begins (subst (λ (n : Name). IfSome (entered a (role_of n)) (λ c. IsAt new c (inside n a outer))) is h)
 
 -- a token may be written, where its name is one that may
-pub named_may_put : {R S : Type 0} (o : Output R S) (name known : Name) (a b : Stage) (outer : List Enclosing) → name ≡ known → after_plain a known ≡ Some b → IsAt o.writer a outer → MayPut o name
+pub named_may_put : {R S : Type 0} (o : Output R S) (name known : Name) (a b : Stage) (outer : List Enclosing) → name ≡ known → after_plain a known ≡ Some b → IsAt o.writer.value a outer → MayPut o name
 named_may_put o name known a b outer is stands at = subst (MayPut o) (sym is) (record { stage = a; outer = outer; at = at; may = ap is_some stands })
 
 -- where it is written
@@ -192,16 +192,16 @@ has_exited new own a b name outer ends h = at_some (λ c. IsAt new c outer) (exi
 -- ---- What is open
 
 -- in the innermost construct
-pub has_innermost : {R S : Type 0} (o : Output R S) (items os : List Open) (last : Open) (h : Bool) (outer : List Enclosing) → items ≡ os ++ last ∷ [] → HasOpen o items h outer → IsAt o.writer (inlines false) (opened last (flag_of os h) (outer_of os h outer))
+pub has_innermost : {R S : Type 0} (o : Output R S) (items os : List Open) (last : Open) (h : Bool) (outer : List Enclosing) → items ≡ os ++ last ∷ [] → HasOpen o items h outer → IsAt o.writer.value (inlines false) (opened last (flag_of os h) (outer_of os h outer))
 has_innermost o items os last h outer is at =
     let these = subst (λ (xs : List Open). HasOpen o xs h outer) is at in
-    subst (λ (es : List Enclosing). IsAt o.writer (inlines false) es) (outer_more os last h outer) (subst (λ (b : Bool). IsAt o.writer (inlines b) (outer_of (os ++ last ∷ []) h outer)) (flag_more os last h) these)
+    subst (λ (es : List Enclosing). IsAt o.writer.value (inlines false) es) (outer_more os last h outer) (subst (λ (b : Bool). IsAt o.writer.value (inlines b) (outer_of (os ++ last ∷ []) h outer)) (flag_more os last h) these)
 
 -- and the other way round
-pub opens_innermost : {R S : Type 0} (o : Output R S) (items os : List Open) (last : Open) (h : Bool) (outer : List Enclosing) → items ≡ os ++ last ∷ [] → IsAt o.writer (inlines false) (opened last (flag_of os h) (outer_of os h outer)) → HasOpen o items h outer
+pub opens_innermost : {R S : Type 0} (o : Output R S) (items os : List Open) (last : Open) (h : Bool) (outer : List Enclosing) → items ≡ os ++ last ∷ [] → IsAt o.writer.value (inlines false) (opened last (flag_of os h) (outer_of os h outer)) → HasOpen o items h outer
 opens_innermost o items os last h outer is at =
-    let these = subst (λ (es : List Enclosing). IsAt o.writer (inlines false) es) (sym (outer_more os last h outer)) at in
-    subst (λ (xs : List Open). HasOpen o xs h outer) (sym is) (subst (λ (b : Bool). IsAt o.writer (inlines b) (outer_of (os ++ last ∷ []) h outer)) (sym (flag_more os last h)) these)
+    let these = subst (λ (es : List Enclosing). IsAt o.writer.value (inlines false) es) (sym (outer_more os last h outer)) at in
+    subst (λ (xs : List Open). HasOpen o xs h outer) (sym is) (subst (λ (b : Bool). IsAt o.writer.value (inlines b) (outer_of (os ++ last ∷ []) h outer)) (sym (flag_more os last h)) these)
 
 -- where as much is open as before
 pub same_open : {R S : Type 0} (o : Output R S) (items os : List Open) (h : Bool) (outer : List Enclosing) → items ≡ os → HasOpen o os h outer → HasOpen o items h outer

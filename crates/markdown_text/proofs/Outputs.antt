@@ -227,37 +227,37 @@ all_written document bytes from end at (p ∷ ps) rest same ended =
 
 -- ---- A content that is written
 
-pub put_fits : {R S : Type 0} (o : Output R S) (end : ℕ) → Stands o → IsPart (bytes_of o) o.at end → o.writer.cursor.index + (end - o.at) ≤ o.lines.end
-put_fits o end s part = fits (document_of o) (bytes_of o) (spot o.writer.cursor) o.lines.end o.at end o.lines.later.now s.rest s.bytes part
+pub put_fits : {R S : Type 0} (o : Output R S) (end : ℕ) → Stands o → IsPart (bytes_of o) o.at end → o.writer.value.cursor.index + (end - o.at) ≤ o.lines.end
+put_fits o end s part = fits (document_of o) (bytes_of o) (spot o.writer.value.cursor) o.lines.end o.at end o.lines.later.now s.rest s.bytes part
 
-pub put_reach : {R S : Type 0} (o : Output R S) (end to : ℕ) → Stands o → IsPart (bytes_of o) o.at end → o.at < end → to ≡ o.writer.cursor.index + (end - o.at) → CanReach o.writer.given.bytes (point (spot o.writer.cursor)) to 0
+pub put_reach : {R S : Type 0} (o : Output R S) (end to : ℕ) → Stands o → IsPart (bytes_of o) o.at end → o.at < end → to ≡ o.writer.value.cursor.index + (end - o.at) → CanReach o.writer.value.given.bytes (point (spot o.writer.value.cursor)) to 0
 put_reach o end to s part less is =
-    subst (λ (bs : List ℕ). CanReach bs (point (spot o.writer.cursor)) to 0) (sym s.document)
-    (subst (λ (n : ℕ). CanReach (document_of o) (point (spot o.writer.cursor)) n 0) (sym is) (token_reach (document_of o) (bytes_of o) (spot o.writer.cursor) o.lines.end o.at end o.lines.later.now s.rest s.bytes part less))
+    subst (λ (bs : List ℕ). CanReach bs (point (spot o.writer.value.cursor)) to 0) (sym s.document)
+    (subst (λ (n : ℕ). CanReach (document_of o) (point (spot o.writer.value.cursor)) n 0) (sym is) (token_reach (document_of o) (bytes_of o) (spot o.writer.value.cursor) o.lines.end o.at end o.lines.later.now s.rest s.bytes part less))
 
 -- where a token ends
-pub put_cut : {R S : Type 0} (o : Output R S) (end to : ℕ) → Stands o → IsPart (bytes_of o) o.at end → o.at < end → to ≡ o.writer.cursor.index + (end - o.at) → is_utf8 o.writer.given.bytes ≡ true → IsCharBoundary o.writer.given.bytes to
+pub put_cut : {R S : Type 0} (o : Output R S) (end to : ℕ) → Stands o → IsPart (bytes_of o) o.at end → o.at < end → to ≡ o.writer.value.cursor.index + (end - o.at) → is_utf8 o.writer.value.given.bytes ≡ true → IsCharBoundary o.writer.value.given.bytes to
 put_cut o end to s part less is valid =
     let within = (s.rest).reach.within in
-    let most = fits (document_of o) (bytes_of o) (spot o.writer.cursor) o.lines.end o.at end o.lines.later.now s.rest s.bytes part in
-    let cut = token_cut (document_of o) (bytes_of o) (spot o.writer.cursor) o.lines.end o.at end o.lines.later.now s.rest s.bytes part less in
+    let most = fits (document_of o) (bytes_of o) (spot o.writer.value.cursor) o.lines.end o.at end o.lines.later.now s.rest s.bytes part in
+    let cut = token_cut (document_of o) (bytes_of o) (spot o.writer.value.cursor) o.lines.end o.at end o.lines.later.now s.rest s.bytes part less in
     subst (λ (bs : List ℕ). IsCharBoundary bs to) (sym s.document)
     (cut_boundary (document_of o) to (IsUtf8-from_is_utf8 (document_of o) (subst (λ (bs : List ℕ). is_utf8 bs ≡ true) s.document valid)) (omega (arith, is, most, within)) (subst (IsCut (document_of o)) (sym is) cut))
 
-pub put_writes : {R S : Type 0} (old new : Output R S) (end to : ℕ) → Stands old → IsPart (bytes_of old) old.at end → to ≡ old.writer.cursor.index + (end - old.at) → document_of new ≡ document_of old → references_of new ≡ references_of old → constructs_of new ≡ constructs_of old → bytes_of new ≡ bytes_of old → new.writer.given ≡ old.writer.given
-    → spot new.writer.cursor ≡ whole to → new.lines ≡ old.lines → new.at ≡ end → new.«data» ≡ end → IsWithin (constructs_of old) new.writer → WritesTo old new end
+pub put_writes : {R S : Type 0} (old new : Output R S) (end to : ℕ) → Stands old → IsPart (bytes_of old) old.at end → to ≡ old.writer.value.cursor.index + (end - old.at) → document_of new ≡ document_of old → references_of new ≡ references_of old → constructs_of new ≡ constructs_of old → bytes_of new ≡ bytes_of old → new.writer.value.given ≡ old.writer.value.given
+    → spot new.writer.value.cursor ≡ whole to → new.lines ≡ old.lines → new.at ≡ end → new.«data» ≡ end → IsWithin (constructs_of old) new.writer.value → WritesTo old new end
 put_writes old new end to s part is document references constructs bytes given cursor lines at stop within =
-    let l = token_left (document_of old) (bytes_of old) (spot old.writer.cursor) old.lines.end old.at end old.lines.later.now s.rest s.bytes part in
-    let here : whole (old.writer.cursor.index + (end - old.at)) ≡ spot new.writer.cursor = ap whole (sym is) ∙ sym cursor in
+    let l = token_left (document_of old) (bytes_of old) (spot old.writer.value.cursor) old.lines.end old.at end old.lines.later.now s.rest s.bytes part in
+    let here : whole (old.writer.value.cursor.index + (end - old.at)) ≡ spot new.writer.value.cursor = ap whole (sym is) ∙ sym cursor in
     record {
       goes_on = record {
         stands = record {
           document = ap (λ g. g.bytes) given ∙ s.document ∙ sym document;
           references = ap (λ g. g.references) given ∙ s.references ∙ sym references;
-          rest = at_new (spot new.writer.cursor) new.lines.end new.lines.later.now here l.0;
+          rest = at_new (spot new.writer.value.cursor) new.lines.end new.lines.later.now here l.0;
           bytes = left_new l.1;
           waits = stays;
-          within = subst (λ (c : Constructs). IsWithin c new.writer) (sym constructs) within;
+          within = subst (λ (c : Constructs). IsWithin c new.writer.value) (sym constructs) within;
         };
         document = document;
         references = references;
@@ -269,39 +269,39 @@ put_writes old new end to s part is document references constructs bytes given c
       data_end = stop;
     }
   where
-    at_new : (s : Spot) (e : ℕ) (ps : List Piece) → whole (old.writer.cursor.index + (end - old.at)) ≡ s → IsLeft (document_of old) (whole (old.writer.cursor.index + (end - old.at))) old.lines.end old.lines.later.now → IsLeft (document_of new) (spot new.writer.cursor) new.lines.end new.lines.later.now
+    at_new : (s : Spot) (e : ℕ) (ps : List Piece) → whole (old.writer.value.cursor.index + (end - old.at)) ≡ s → IsLeft (document_of old) (whole (old.writer.value.cursor.index + (end - old.at))) old.lines.end old.lines.later.now → IsLeft (document_of new) (spot new.writer.value.cursor) new.lines.end new.lines.later.now
     at_new s e ps here l =
-        subst (λ (bs : List ℕ). IsLeft bs (spot new.writer.cursor) new.lines.end new.lines.later.now) (sym document)
-        (subst (λ ls. IsLeft (document_of old) (spot new.writer.cursor) ls.end ls.later.now) (sym lines)
+        subst (λ (bs : List ℕ). IsLeft bs (spot new.writer.value.cursor) new.lines.end new.lines.later.now) (sym document)
+        (subst (λ ls. IsLeft (document_of old) (spot new.writer.value.cursor) ls.end ls.later.now) (sym lines)
         (subst (λ (s : Spot). IsLeft (document_of old) s old.lines.end old.lines.later.now) (ap whole (sym is) ∙ sym cursor) l))
 
-    left_new : drop end (bytes_of old) ≡ left (document_of old) (old.writer.cursor.index + (end - old.at)) old.lines.end old.lines.later.now → drop new.at (bytes_of new) ≡ left (document_of new) new.writer.cursor.index new.lines.end new.lines.later.now
+    left_new : drop end (bytes_of old) ≡ left (document_of old) (old.writer.value.cursor.index + (end - old.at)) old.lines.end old.lines.later.now → drop new.at (bytes_of new) ≡ left (document_of new) new.writer.value.cursor.index new.lines.end new.lines.later.now
     left_new l = ap (λ (n : ℕ). drop n (bytes_of new)) at ∙ ap (λ (bs : List ℕ). drop end bs) bytes ∙ l
         ∙ ap (λ (n : ℕ). left (document_of old) n old.lines.end old.lines.later.now) (sym is ∙ sym (ap (λ (s : Spot). s.offset) cursor))
-        ∙ ap (λ ls. left (document_of old) new.writer.cursor.index ls.end ls.later.now) (sym lines)
-        ∙ ap (λ (bs : List ℕ). left bs new.writer.cursor.index new.lines.end new.lines.later.now) (sym document)
+        ∙ ap (λ ls. left (document_of old) new.writer.value.cursor.index ls.end ls.later.now) (sym lines)
+        ∙ ap (λ (bs : List ℕ). left bs new.writer.value.cursor.index new.lines.end new.lines.later.now) (sym document)
 
     stays : IsPart (bytes_of new) new.at new.«data»
     stays = subst (λ (n : ℕ). IsPart (bytes_of new) n new.«data») (sym at) (subst (λ (n : ℕ). IsPart (bytes_of new) end n) (sym stop) (subst (λ (bs : List ℕ). IsPart bs end end) (sym bytes) (part_none (bytes_of old) end part.within part.end)))
 
 -- where a line feed comes next
-pub feed_ends : {R S : Type 0} (o : Output R S) (p : Piece) (ps : List Piece) → Stands o → slice_get (bytes_of o) o.at ≡ Some 10 → o.lines.later.now ≡ p ∷ ps → EndsWith (document_of o) (bytes_of o) (spot o.writer.cursor) o.at p ps
+pub feed_ends : {R S : Type 0} (o : Output R S) (p : Piece) (ps : List Piece) → Stands o → slice_get (bytes_of o) o.at ≡ Some 10 → o.lines.later.now ≡ p ∷ ps → EndsWith (document_of o) (bytes_of o) (spot o.writer.value.cursor) o.at p ps
 feed_ends o p ps s feed is =
-    line_ends (document_of o) (bytes_of o) (spot o.writer.cursor) o.lines.end o.at p ps (subst (λ (qs : List Piece). IsLeft (document_of o) (spot o.writer.cursor) o.lines.end qs) is s.rest)
-    (subst (λ (qs : List Piece). drop o.at (bytes_of o) ≡ left (document_of o) o.writer.cursor.index o.lines.end qs) is s.bytes) feed
+    line_ends (document_of o) (bytes_of o) (spot o.writer.value.cursor) o.lines.end o.at p ps (subst (λ (qs : List Piece). IsLeft (document_of o) (spot o.writer.value.cursor) o.lines.end qs) is s.rest)
+    (subst (λ (qs : List Piece). drop o.at (bytes_of o) ≡ left (document_of o) o.writer.value.cursor.index o.lines.end qs) is s.bytes) feed
 
 pub no_feed_at_end : {R S : Type 0} (o : Output R S) → Stands o → slice_get (bytes_of o) o.at ≡ Some 10 → o.lines.later.now ≡ [] → ⊥
 no_feed_at_end o s feed is =
-    no_end (document_of o) (bytes_of o) (spot o.writer.cursor) o.lines.end o.at (subst (λ (qs : List Piece). IsLeft (document_of o) (spot o.writer.cursor) o.lines.end qs) is s.rest)
-    (subst (λ (qs : List Piece). drop o.at (bytes_of o) ≡ left (document_of o) o.writer.cursor.index o.lines.end qs) is s.bytes) feed
+    no_end (document_of o) (bytes_of o) (spot o.writer.value.cursor) o.lines.end o.at (subst (λ (qs : List Piece). IsLeft (document_of o) (spot o.writer.value.cursor) o.lines.end qs) is s.rest)
+    (subst (λ (qs : List Piece). drop o.at (bytes_of o) ≡ left (document_of o) o.writer.value.cursor.index o.lines.end qs) is s.bytes) feed
 
 pub feed_within : {R S : Type 0} (o : Output R S) → slice_get (bytes_of o) o.at ≡ Some 10 → o.at + 1 ≤ length (bytes_of o)
 feed_within o feed = let h = slice_get_within (bytes_of o) o.at 10 feed in omega (arith, h)
 
 pub ending_writes : {R S : Type 0} (o new : Output R S) (p : Piece) (ps : List Piece) (mid : Spot) (between : Given R) → Stands o → slice_get (bytes_of o) o.at ≡ Some 10 → o.lines.later.now ≡ p ∷ ps → mid ≡ end_of p
-    → between ≡ o.writer.given → new.writer.given ≡ between → IsLeft between.bytes (spot new.writer.cursor) new.lines.end new.lines.later.now
-    → left between.bytes new.writer.cursor.index new.lines.end new.lines.later.now ≡ joined between.bytes mid.offset ps → content_end new ≡ end_from mid ps
-    → document_of new ≡ document_of o → references_of new ≡ references_of o → constructs_of new ≡ constructs_of o → bytes_of new ≡ bytes_of o → new.at ≡ o.at + 1 → new.«data» ≡ o.at + 1 → IsWithin (constructs_of o) new.writer → WritesTo o new (o.at + 1)
+    → between ≡ o.writer.value.given → new.writer.value.given ≡ between → IsLeft between.bytes (spot new.writer.value.cursor) new.lines.end new.lines.later.now
+    → left between.bytes new.writer.value.cursor.index new.lines.end new.lines.later.now ≡ joined between.bytes mid.offset ps → content_end new ≡ end_from mid ps
+    → document_of new ≡ document_of o → references_of new ≡ references_of o → constructs_of new ≡ constructs_of o → bytes_of new ≡ bytes_of o → new.at ≡ o.at + 1 → new.«data» ≡ o.at + 1 → IsWithin (constructs_of o) new.writer.value → WritesTo o new (o.at + 1)
 ending_writes {R} o new p ps mid between s feed is here given later rest same end document references constructs bytes at stop within =
     let e = feed_ends o p ps s feed is in
     let first : between.bytes ≡ document_of o = ap (λ (g : Given R). g.bytes) given ∙ s.document in
@@ -311,11 +311,11 @@ ending_writes {R} o new p ps mid between s feed is here given later rest same en
         stands = record {
           document = ap (λ (g : Given R). g.bytes) later ∙ doc;
           references = ap (λ (g : Given R). g.references) (later ∙ given) ∙ s.references ∙ sym references;
-          rest = subst (λ (bs : List ℕ). IsLeft bs (spot new.writer.cursor) new.lines.end new.lines.later.now) doc rest;
+          rest = subst (λ (bs : List ℕ). IsLeft bs (spot new.writer.value.cursor) new.lines.end new.lines.later.now) doc rest;
           bytes = ap (λ (n : ℕ). drop n (bytes_of new)) at ∙ ap (λ (bs : List ℕ). drop (o.at + 1) bs) bytes ∙ e.after ∙ ap (λ (bs : List ℕ). joined bs p.end ps) (sym first) ∙ ap (λ (s : Spot). joined between.bytes s.offset ps) (sym here)
-              ∙ sym same ∙ ap (λ (bs : List ℕ). left bs new.writer.cursor.index new.lines.end new.lines.later.now) doc;
+              ∙ sym same ∙ ap (λ (bs : List ℕ). left bs new.writer.value.cursor.index new.lines.end new.lines.later.now) doc;
           waits = subst (λ (n : ℕ). IsPart (bytes_of new) n new.«data») (sym at) (subst (λ (n : ℕ). IsPart (bytes_of new) (o.at + 1) n) (sym stop) (subst (λ (bs : List ℕ). IsPart bs (o.at + 1) (o.at + 1)) (sym bytes) (part_none (bytes_of o) (o.at + 1) (feed_within o feed) (cut_feed (bytes_of o) o.at feed).1)));
-          within = subst (λ (c : Constructs). IsWithin c new.writer) (sym constructs) within;
+          within = subst (λ (c : Constructs). IsWithin c new.writer.value) (sym constructs) within;
         };
         document = document;
         references = references;
@@ -333,18 +333,18 @@ none_left [] h = refl
 none_left (p ∷ ps) h = absurd (omega (arith, h))
 
 -- the end
-pub finished : {R S : Type 0} (old o : Output R S) → WritesTo old o old.«data» → old.«data» ≡ length (bytes_of old) → spot o.writer.cursor ≡ content_end old
+pub finished : {R S : Type 0} (old o : Output R S) → WritesTo old o old.«data» → old.«data» ≡ length (bytes_of old) → spot o.writer.value.cursor ≡ content_end old
 finished old o w ended =
     let s = w.goes_on.stands in
-    all_written (document_of o) (bytes_of o) (spot o.writer.cursor) o.lines.end o.at o.lines.later.now s.rest s.bytes (w.at ∙ ended ∙ sym (ap (λ (bs : List ℕ). length bs) w.goes_on.bytes)) ∙ w.goes_on.end
+    all_written (document_of o) (bytes_of o) (spot o.writer.value.cursor) o.lines.end o.at o.lines.later.now s.rest s.bytes (w.at ∙ ended ∙ sym (ap (λ (bs : List ℕ). length bs) w.goes_on.bytes)) ∙ w.goes_on.end
 
 pub next_spot : {R S : Type 0} (o : Output R S) (p : Piece) (ps : List Piece) (mid : Spot) → Stands o → slice_get (bytes_of o) o.at ≡ Some 10 → o.lines.later.now ≡ p ∷ ps
-    → mid ≡ whole (o.writer.cursor.index + line_ending_length o.writer.given.bytes o.writer.cursor.index) → mid ≡ end_of p
+    → mid ≡ whole (o.writer.value.cursor.index + line_ending_length o.writer.value.given.bytes o.writer.value.cursor.index) → mid ≡ end_of p
 next_spot o p ps mid s feed is here =
-    here ∙ ap (λ (bs : List ℕ). whole (o.writer.cursor.index + line_ending_length bs o.writer.cursor.index)) s.document ∙ sym (feed_ends o p ps s feed is).next
+    here ∙ ap (λ (bs : List ℕ). whole (o.writer.value.cursor.index + line_ending_length bs o.writer.value.cursor.index)) s.document ∙ sym (feed_ends o p ps s feed is).next
 
-pub next_tiles : {R S : Type 0} (o : Output R S) (p : Piece) (ps : List Piece) (given : Given R) (mid : Spot) → Stands o → slice_get (bytes_of o) o.at ≡ Some 10 → o.lines.later.now ≡ p ∷ ps → given ≡ o.writer.given
-    → mid ≡ whole (o.writer.cursor.index + line_ending_length o.writer.given.bytes o.writer.cursor.index) → Tiles given.bytes mid ps (end_from mid ps)
+pub next_tiles : {R S : Type 0} (o : Output R S) (p : Piece) (ps : List Piece) (given : Given R) (mid : Spot) → Stands o → slice_get (bytes_of o) o.at ≡ Some 10 → o.lines.later.now ≡ p ∷ ps → given ≡ o.writer.value.given
+    → mid ≡ whole (o.writer.value.cursor.index + line_ending_length o.writer.value.given.bytes o.writer.value.cursor.index) → Tiles given.bytes mid ps (end_from mid ps)
 next_tiles {R} o p ps given mid s feed is same here =
     let e = feed_ends o p ps s feed is in
     subst (λ (bs : List ℕ). Tiles bs mid ps (end_from mid ps)) (sym (ap (λ (g : Given R). g.bytes) same ∙ s.document))
@@ -359,7 +359,7 @@ pub stays : {R S : Type 0} (a : Output R S) → Stands a → GoesOn a a
 stays a s = record { stands = s; document = refl; references = refl; constructs = refl; bytes = refl; end = refl }
 
 -- the same where a span begins or ends
-pub call_writes : {R S : Type 0} (old : Output R S) (w : Written R) → Stands old → old.«data» ≡ old.at → w.given ≡ old.writer.given → w.cursor ≡ old.writer.cursor → IsWithin (constructs_of old) w → WritesTo old (record old { writer = w; is_line_start = false }) old.at
+pub call_writes : {R S : Type 0} (old : Output R S) (w : Written R) → Stands old → old.«data» ≡ old.at → w.given ≡ old.writer.value.given → w.cursor ≡ old.writer.value.cursor → IsWithin (constructs_of old) w → WritesTo old (record old { writer = record old.writer { value = w }; is_line_start = false }) old.at
 call_writes {R} old w s none given cursor within = record {
   goes_on = record {
     stands = record {
@@ -382,25 +382,29 @@ call_writes {R} old w s none given cursor within = record {
 
 -- ---- A token, after the cursor of the content has moved
 
-pub moved_reach : {R S : Type 0} (old mid : Output R S) (end to : ℕ) → Stands old → IsPart (bytes_of old) old.at end → old.at < end → to ≡ old.writer.cursor.index + (end - old.at) → mid.writer ≡ old.writer → CanReach mid.writer.given.bytes (point (spot mid.writer.cursor)) to 0
-moved_reach {R} old mid end to s part less is writer = subst (λ (w : Written R). CanReach w.given.bytes (point (spot w.cursor)) to 0) (sym writer) (put_reach old end to s part less is)
+pub moved_reach : {R S : Type 0} (old : Output R S) (w : Written R) (end to : ℕ) → Stands old → IsPart (bytes_of old) old.at end → old.at < end → to ≡ old.writer.value.cursor.index + (end - old.at) → w ≡ old.writer.value → CanReach w.given.bytes (point (spot w.cursor)) to 0
+moved_reach {R} old w end to s part less is writer = subst (λ (w : Written R). CanReach w.given.bytes (point (spot w.cursor)) to 0) (sym writer) (put_reach old end to s part less is)
 
-pub moved_cut : {R S : Type 0} (old mid : Output R S) (end to : ℕ) (a : Stage) (outer : List Enclosing) → Stands old → IsPart (bytes_of old) old.at end → old.at < end → to ≡ old.writer.cursor.index + (end - old.at) → mid.writer ≡ old.writer → IsAt old.writer a outer → IsCharBoundary mid.writer.given.bytes to
-moved_cut {R} old mid end to a outer s part less is writer at = subst (λ (w : Written R). IsCharBoundary w.given.bytes to) (sym writer) (put_cut old end to s part less is at.valid)
+pub moved_cut : {R S : Type 0} (old : Output R S) (w : Written R) (end to : ℕ) (a : Stage) (outer : List Enclosing) → Stands old → IsPart (bytes_of old) old.at end → old.at < end → to ≡ old.writer.value.cursor.index + (end - old.at) → w ≡ old.writer.value → IsAt old.writer.value a outer → IsCharBoundary w.given.bytes to
+moved_cut {R} old w end to a outer s part less is writer at = subst (λ (w : Written R). IsCharBoundary w.given.bytes to) (sym writer) (put_cut old end to s part less is at.valid)
 
-pub moved_writes : {R S : Type 0} (old mid new : Output R S) (end to : ℕ) → Stands old → IsPart (bytes_of old) old.at end → to ≡ old.writer.cursor.index + (end - old.at) → mid.writer ≡ old.writer → mid.source ≡ old.source → mid.lines ≡ old.lines → mid.at ≡ end → mid.«data» ≡ end
-    → new.source ≡ mid.source → new.lines ≡ mid.lines → new.at ≡ mid.at → new.«data» ≡ mid.«data» → new.writer.given ≡ mid.writer.given → spot new.writer.cursor ≡ whole to → IsWithin (constructs_of old) new.writer → WritesTo old new end
-moved_writes {R} old mid new end to s part is writer source lines at stop source' lines' at' stop' given cursor within =
+pub moved_writes : {R S : Type 0} (old mid new : Output R S) (w : Written R) (end to : ℕ) → Stands old → IsPart (bytes_of old) old.at end → to ≡ old.writer.value.cursor.index + (end - old.at) → w ≡ old.writer.value → mid.source ≡ old.source → mid.lines ≡ old.lines → mid.at ≡ end → mid.«data» ≡ end
+    → new.source ≡ mid.source → new.lines ≡ mid.lines → new.at ≡ mid.at → new.«data» ≡ mid.«data» → new.writer.value.given ≡ w.given → spot new.writer.value.cursor ≡ whole to → IsWithin (constructs_of old) new.writer.value → WritesTo old new end
+moved_writes {R} old mid new w end to s part is writer source lines at stop source' lines' at' stop' given cursor within =
     put_writes old new end to s part is (ap (λ s. s.now.reading.now.document.now) (source' ∙ source)) (ap (λ s. s.now.reading.now.references.now) (source' ∙ source)) (ap (λ s. s.now.reading.now.options.constructs) (source' ∙ source)) (ap (λ s. s.now.bytes.now) (source' ∙ source))
     (given ∙ ap (λ (w : Written R). w.given) writer) cursor (lines' ∙ lines) (at' ∙ at) (stop' ∙ stop) within
 
 -- what is written is of constructs that are on, as it was
-pub moved_within : {R S : Type 0} (old mid : Output R S) → mid.writer ≡ old.writer → Stands old → IsWithin (constructs_of old) mid.writer
-moved_within {R} old mid writer s = subst (λ (w : Written R). IsWithin (constructs_of old) w) (sym writer) s.within
+pub moved_within : {R S : Type 0} (old : Output R S) (w : Written R) → w ≡ old.writer.value → Stands old → IsWithin (constructs_of old) w
+moved_within {R} old w writer s = subst (λ (w : Written R). IsWithin (constructs_of old) w) (sym writer) s.within
 
 -- it stands at the stage at which it stood
-pub moved_at : {R S : Type 0} (old mid : Output R S) (a : Stage) (outer : List Enclosing) → mid.writer ≡ old.writer → IsAt old.writer a outer → IsAt mid.writer a outer
-moved_at {R} old mid a outer writer at = subst (λ (w : Written R). IsAt w a outer) (sym writer) at
+pub moved_at : {R : Type 0} (old w : Written R) (a : Stage) (outer : List Enclosing) → w ≡ old → IsAt old a outer → IsAt w a outer
+moved_at {R} old w a outer writer at = subst (λ (w : Written R). IsAt w a outer) (sym writer) at
+
+-- the place after its line ending is the same
+pub spot_after : {R : Type 0} (old w : Written R) (s : Spot) → w ≡ old → s ≡ whole (w.cursor.index + line_ending_length w.given.bytes w.cursor.index) → s ≡ whole (old.cursor.index + line_ending_length old.given.bytes old.cursor.index)
+spot_after {R} old w s writer is = is ∙ ap (λ (w : Written R). whole (w.cursor.index + line_ending_length w.given.bytes w.cursor.index)) writer
 
 -- the stage after a token of which nothing is read but its text
 pub plain_after : (P : Stage → Type 0) (a : Stage) (name : Name) → IfSome (written a (role_of name)) P → IfSome (after_plain a name) P
@@ -428,15 +432,15 @@ same_slice document bytes from end at to later rest same part =
     ∙ taken_twice (to - at) (end - from.offset) (drop from.offset document) (omega (arith, f)) ∙ sym (ap (λ (n : ℕ). take n (drop from.offset document)) e)
 
 -- the decoder knows a value in the document that it knows in the content
-pub known_value : {R S : Type 0} (decode : R → List ℕ → ℕ → Option (List ℕ)) (old mid : Output R S) (end to m : ℕ) → Stands old → IsPart (bytes_of old) old.at end → to ≡ old.writer.cursor.index + (end - old.at) → mid.writer ≡ old.writer → old.writer.cursor.vs ≡ 0
-    → is_some (decode (references_of old) (slice_range (bytes_of old) old.at end) m) ≡ true → is_some (decode mid.writer.given.references (slice_range mid.writer.given.bytes (edge mid.writer.cursor) (edge (point (whole to)))) m) ≡ true
-known_value {R} decode old mid end to m s part is writer none known =
-    let text : slice_range (bytes_of old) old.at end ≡ slice_range old.writer.given.bytes (edge old.writer.cursor) (edge (point (whole to))) =
-    same_slice (document_of old) (bytes_of old) (spot old.writer.cursor) old.lines.end old.at end old.lines.later.now s.rest s.bytes part
-    ∙ ap (λ (n : ℕ). slice_range (document_of old) old.writer.cursor.index n) (sym is) ∙ ap (λ (bs : List ℕ). slice_range bs old.writer.cursor.index to) (sym s.document)
-    ∙ ap (λ (n : ℕ). slice_range old.writer.given.bytes n to) (sym (edge_whole old.writer.cursor none)) ∙ ap (λ (n : ℕ). slice_range old.writer.given.bytes (edge old.writer.cursor) n) (sym (edge_whole (point (whole to)) refl)) in
+pub known_value : {R S : Type 0} (decode : R → List ℕ → ℕ → Option (List ℕ)) (old : Output R S) (w : Written R) (end to m : ℕ) → Stands old → IsPart (bytes_of old) old.at end → to ≡ old.writer.value.cursor.index + (end - old.at) → w ≡ old.writer.value → old.writer.value.cursor.vs ≡ 0
+    → is_some (decode (references_of old) (slice_range (bytes_of old) old.at end) m) ≡ true → is_some (decode w.given.references (slice_range w.given.bytes (edge w.cursor) (edge (point (whole to)))) m) ≡ true
+known_value {R} decode old w end to m s part is writer none known =
+    let text : slice_range (bytes_of old) old.at end ≡ slice_range old.writer.value.given.bytes (edge old.writer.value.cursor) (edge (point (whole to))) =
+    same_slice (document_of old) (bytes_of old) (spot old.writer.value.cursor) old.lines.end old.at end old.lines.later.now s.rest s.bytes part
+    ∙ ap (λ (n : ℕ). slice_range (document_of old) old.writer.value.cursor.index n) (sym is) ∙ ap (λ (bs : List ℕ). slice_range bs old.writer.value.cursor.index to) (sym s.document)
+    ∙ ap (λ (n : ℕ). slice_range old.writer.value.given.bytes n to) (sym (edge_whole old.writer.value.cursor none)) ∙ ap (λ (n : ℕ). slice_range old.writer.value.given.bytes (edge old.writer.value.cursor) n) (sym (edge_whole (point (whole to)) refl)) in
     subst (λ (w : Written R). is_some (decode w.given.references (slice_range w.given.bytes (edge w.cursor) (edge (point (whole to)))) m) ≡ true) (sym writer)
-    (subst (λ (bs : List ℕ). is_some (decode old.writer.given.references bs m) ≡ true) text (subst (λ (r : R). is_some (decode r (slice_range (bytes_of old) old.at end) m) ≡ true) (sym s.references) known))
+    (subst (λ (bs : List ℕ). is_some (decode old.writer.value.given.references bs m) ≡ true) text (subst (λ (r : R). is_some (decode r (slice_range (bytes_of old) old.at end) m) ≡ true) (sym s.references) known))
 
 -- ---- What is left of a range
 

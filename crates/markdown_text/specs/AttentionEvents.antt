@@ -28,7 +28,7 @@ attention_events (e ∷ es) = if is_attention e.name then e ∷ attention_events
 
 -- these events among those that are written for a content
 abbrev pub attention_of : {R S : Type 0} → Output R S → List Event
-attention_of output = attention_events output.writer.events
+attention_of output = attention_events output.writer.value.events
 
 -- the kinds of the pieces between the texts of a content: line endings, and after them white space and block quote prefixes
 abbrev pub is_between_texts : PieceKind → Bool

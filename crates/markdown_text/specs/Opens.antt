@@ -74,7 +74,7 @@ flag_of (o ∷ os) h = false
 
 -- a content is being written with these constructs open, inside inlines with this flag and these spans
 abbrev pub HasOpen : {R S : Type 0} → Output R S → List Open → Bool → List Enclosing → Type 0
-HasOpen output os h outer = IsAt output.writer (inlines (flag_of os h)) (outer_of os h outer)
+HasOpen output os h outer = IsAt output.writer.value (inlines (flag_of os h)) (outer_of os h outer)
 
 -- a content is being written with these constructs open
 pub record AtOpen {R S : Type 0} (output : Output R S) (os : List Open) : Type 0 where
@@ -90,11 +90,11 @@ KeepsOpen result old new before after = (h : Bool) → (outer : List Enclosing) 
 pub record AtOpened {R S : Type 0} (output : Output R S) (o : Open) : Type 0 where
   pub in_heading : Bool
   pub outer : List Enclosing
-  pub at : IsAt output.writer (inlines false) (opened o in_heading outer)
+  pub at : IsAt output.writer.value (inlines false) (opened o in_heading outer)
 
 -- a call among inlines begins a label, unless it fails
 abbrev pub BeginsLabel : {R S V E : Type 0} → Result V E → Labelled → Output R S → Output R S → Type 0
-BeginsLabel result labelled old new = (h : Bool) → (outer : List Enclosing) → IsAt old.writer (inlines h) outer → OnOk result (IsAt new.writer (label_stage labelled) (in_label labelled h outer))
+BeginsLabel result labelled old new = (h : Bool) → (outer : List Enclosing) → IsAt old.writer.value (inlines h) outer → OnOk result (IsAt new.writer.value (label_stage labelled) (in_label labelled h outer))
 
 -- the stage after the text of a label
 abbrev pub label_end_stage : Labelled → Stage
@@ -104,7 +104,7 @@ label_end_stage FootnoteCall = nothing
 
 -- the text of a label has ended
 abbrev pub IsAtLabelEnd : {R S : Type 0} → Output R S → Labelled → Bool → List Enclosing → Type 0
-IsAtLabelEnd output labelled h outer = IsAt output.writer (label_end_stage labelled) (in_label labelled h outer)
+IsAtLabelEnd output labelled h outer = IsAt output.writer.value (label_end_stage labelled) (in_label labelled h outer)
 
 -- the text of a label has ended, inside inlines with some flag and some spans
 pub record AtLabelEnd {R S : Type 0} (output : Output R S) (labelled : Labelled) : Type 0 where
@@ -114,7 +114,7 @@ pub record AtLabelEnd {R S : Type 0} (output : Output R S) (labelled : Labelled)
 
 -- a call ends the label, and in the second definition also what the label belongs to, unless it fails
 abbrev pub LeavesLabel : {R S V E : Type 0} → Result V E → Labelled → Output R S → Output R S → Type 0
-LeavesLabel result labelled old new = (h : Bool) → (outer : List Enclosing) → IsAtLabelEnd old labelled h outer → OnOk result (IsAt new.writer (label_end_stage labelled) (inside (labelled_name labelled) (inlines h) outer))
+LeavesLabel result labelled old new = (h : Bool) → (outer : List Enclosing) → IsAtLabelEnd old labelled h outer → OnOk result (IsAt new.writer.value (label_end_stage labelled) (inside (labelled_name labelled) (inlines h) outer))
 
 abbrev pub EndsLabel : {R S V E : Type 0} → Result V E → Labelled → Output R S → Output R S → Type 0
-EndsLabel result labelled old new = (h : Bool) → (outer : List Enclosing) → IsAtLabelEnd old labelled h outer → OnOk result (IsAt new.writer (inlines h) outer)
+EndsLabel result labelled old new = (h : Bool) → (outer : List Enclosing) → IsAtLabelEnd old labelled h outer → OnOk result (IsAt new.writer.value (inlines h) outer)

@@ -46,12 +46,12 @@ content_end output = end_from (whole output.lines.end) output.lines.later.now
 
 -- the unwritten bytes are those of the remaining pieces, the pending data is within a line, and the constructs of the output are on
 pub record Stands {R S : Type 0} (output : Output R S) : Type 0 where
-  pub document : output.writer.given.bytes ≡ document_of output
-  pub references : output.writer.given.references ≡ references_of output
-  pub rest : IsLeft (document_of output) (spot output.writer.cursor) output.lines.end output.lines.later.now
-  pub bytes : drop output.at (bytes_of output) ≡ left (document_of output) output.writer.cursor.index output.lines.end output.lines.later.now
+  pub document : output.writer.value.given.bytes ≡ document_of output
+  pub references : output.writer.value.given.references ≡ references_of output
+  pub rest : IsLeft (document_of output) (spot output.writer.value.cursor) output.lines.end output.lines.later.now
+  pub bytes : drop output.at (bytes_of output) ≡ left (document_of output) output.writer.value.cursor.index output.lines.end output.lines.later.now
   pub waits : IsPart (bytes_of output) output.at output.data
-  pub within : IsWithin (constructs_of output) output.writer
+  pub within : IsWithin (constructs_of output) output.writer.value
 
 -- the same content is still being written
 pub record GoesOn {R S : Type 0} (old new : Output R S) : Type 0 where
@@ -74,7 +74,7 @@ pub record WritesTo {R S : Type 0} (old new : Output R S) (to : ℕ) : Type 0 wh
 pub record AtInlines {R S : Type 0} (output : Output R S) : Type 0 where
   pub in_heading : Bool
   pub outer : List Enclosing
-  pub at : IsAt output.writer (inlines in_heading) outer
+  pub at : IsAt output.writer.value (inlines in_heading) outer
 
 -- a content begins; the first flag says whether a task mark may come there
 abbrev pub IsAtText : {R : Type 0} → Bool → Written R → Bool → List Enclosing → Type 0
@@ -89,22 +89,22 @@ pub record BeginsText {R : Type 0} (is_task : Bool) (w : Written R) : Type 0 whe
 
 -- a call among inlines keeps their stage, unless it fails
 abbrev pub KeepsInlines : {R S V E : Type 0} → Result V E → Output R S → Output R S → Type 0
-KeepsInlines result old new = (h : Bool) → (outer : List Enclosing) → IsAt old.writer (inlines h) outer → OnOk result (IsAt new.writer (inlines h) outer)
+KeepsInlines result old new = (h : Bool) → (outer : List Enclosing) → IsAt old.writer.value (inlines h) outer → OnOk result (IsAt new.writer.value (inlines h) outer)
 
 -- pending data is written before what comes next; before a line ending, a break may then be pending
 abbrev pub IsFlushed : {R S : Type 0} → Next → Output R S → Stage → List Enclosing → Type 0
-IsFlushed next.LineEnding output a outer = (waits : Bool) × StandsIn waits output.writer a outer
-IsFlushed next.Span output a outer = IsAt output.writer a outer
-IsFlushed next.End output a outer = IsAt output.writer a outer
+IsFlushed next.LineEnding output a outer = (waits : Bool) × StandsIn waits output.writer.value a outer
+IsFlushed next.Span output a outer = IsAt output.writer.value a outer
+IsFlushed next.End output a outer = IsAt output.writer.value a outer
 
 -- a content is being written at this stage
 pub record AtStage {R S : Type 0} (output : Output R S) (a : Stage) : Type 0 where
   pub outer : List Enclosing
-  pub at : IsAt output.writer a outer
+  pub at : IsAt output.writer.value a outer
 
 -- a call leads from one stage to another, unless it fails
 abbrev pub Leads : {R S V E : Type 0} → Result V E → Stage → Stage → Output R S → Output R S → Type 0
-Leads result a b old new = (outer : List Enclosing) → IsAt old.writer a outer → OnOk result (IsAt new.writer b outer)
+Leads result a b old new = (outer : List Enclosing) → IsAt old.writer.value a outer → OnOk result (IsAt new.writer.value b outer)
 
 -- ---- Tokens and strings
 
@@ -124,21 +124,21 @@ after_plain a name = if is_plain (role_of name) then written a (role_of name) el
 pub record MayPut {R S : Type 0} (output : Output R S) (name : Name) : Type 0 where
   pub stage : Stage
   pub outer : List Enclosing
-  pub at : IsAt output.writer stage outer
+  pub at : IsAt output.writer.value stage outer
   pub may : is_some (after_plain stage name) ≡ true
 
 -- such tokens may be written one after another
 pub record MayFill {R S : Type 0} (output : Output R S) (name : Name) : Type 0 where
   pub stage : Stage
   pub outer : List Enclosing
-  pub at : IsAt output.writer stage outer
+  pub at : IsAt output.writer.value stage outer
   pub keeps : after_plain stage name ≡ Some stage
 
 -- such tokens may be written one after another, with line endings between them
 pub record MayFillLines {R S : Type 0} (output : Output R S) (name : Name) : Type 0 where
   pub stage : Stage
   pub outer : List Enclosing
-  pub at : IsAt output.writer stage outer
+  pub at : IsAt output.writer.value stage outer
   pub keeps : after_plain stage name ≡ Some stage
   pub ends : takes_line_endings stage ≡ true
 
@@ -146,7 +146,7 @@ pub record MayFillLines {R S : Type 0} (output : Output R S) (name : Name) : Typ
 pub record MayDecode {R S : Type 0} (decode : List ℕ → ℕ → Option (List ℕ)) (output : Output R S) (end : ℕ) : Type 0 where
   pub marker : ℕ
   pub outer : List Enclosing
-  pub at : IsAt output.writer (character_reference_value marker) outer
+  pub at : IsAt output.writer.value (character_reference_value marker) outer
   pub known : is_some (decode (slice_range (bytes_of output) output.at end) marker) ≡ true
 
 -- the stage after a part with a string in it, if the part may also be left out
@@ -169,5 +169,5 @@ after_string a name = after_string_in a (role_of name)
 pub record MayWriteString {R S : Type 0} (output : Output R S) (name : Name) : Type 0 where
   pub stage : Stage
   pub outer : List Enclosing
-  pub at : IsAt output.writer stage outer
+  pub at : IsAt output.writer.value stage outer
   pub may : is_some (after_string stage name) ≡ true

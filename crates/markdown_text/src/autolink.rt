@@ -42,7 +42,7 @@ pub fn write<R: References, S: Sink>(
     requires autolink { IsAutolink (bytes_of output.old) address output.old.data end }
     requires inlines { AtInlines output.old }
     requires on { (constructs_of output.old).autolink ≡ true }
-    ensures given { output.new.writer.given ≡ output.old.writer.given }
+    ensures given { output.new.writer.value.given ≡ output.old.writer.value.given }
     ensures writes { OnOk result (WritesTo output.old output.new end) }
     ensures at { KeepsInlines result output.old output.new }
     ensures attention { OnOk result (attention_of output.new ≡ attention_of output.old) }

@@ -30,7 +30,7 @@ pub fn write<R: References, S: Sink>(output: &mut Output<'_, '_, R, S>) -> Resul
     requires ascii { IsAsciiPart (bytes_of output.old) output.old.data (output.old.data + 2) }
     requires inlines { AtInlines output.old }
     requires on { (constructs_of output.old).character_escape ≡ true }
-    ensures given { output.new.writer.given ≡ output.old.writer.given }
+    ensures given { output.new.writer.value.given ≡ output.old.writer.value.given }
     ensures writes { OnOk result (WritesTo output.old output.new (output.old.data + 2)) }
     ensures at { KeepsInlines result output.old output.new }
     ensures attention { OnOk result (attention_of output.new ≡ attention_of output.old) }

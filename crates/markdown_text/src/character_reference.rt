@@ -137,7 +137,7 @@ pub fn write<R: References, S: Sink>(
     requires reference { IsReference (as_text output.old (R.text (references_of output.old)) false) kind output.old.data end }
     requires inlines { AtInlines output.old }
     requires on { (constructs_of output.old).character_reference ≡ true }
-    ensures given { output.new.writer.given ≡ output.old.writer.given }
+    ensures given { output.new.writer.value.given ≡ output.old.writer.value.given }
     ensures writes { OnOk result (WritesTo output.old output.new end) }
     ensures at { KeepsInlines result output.old output.new }
     ensures attention { OnOk result (attention_of output.new ≡ attention_of output.old) }
@@ -158,10 +158,10 @@ fn write_markers<R: References, S: Sink>(
     requires stands { Stands output.old }
     requires ascii { IsAsciiPart (bytes_of output.old) output.old.at (output.old.at + markers kind) }
     requires at { AtStage output.old character_reference }
-    ensures given { output.new.writer.given ≡ output.old.writer.given }
+    ensures given { output.new.writer.value.given ≡ output.old.writer.value.given }
     ensures writes { OnOk result (WritesTo output.old output.new (output.old.at + markers kind)) }
-    ensures whole { OnOk result (output.new.writer.cursor.vs ≡ 0) }
-    ensures at { (outer : List Enclosing) → IsAt output.old.writer character_reference outer → OnOk result (IsAt output.new.writer (character_reference_value (marker kind)) outer) }
+    ensures whole { OnOk result (output.new.writer.value.cursor.vs ≡ 0) }
+    ensures at { (outer : List Enclosing) → IsAt output.old.writer.value character_reference outer → OnOk result (IsAt output.new.writer.value (character_reference_value (marker kind)) outer) }
     ensures attention { OnOk result (attention_of output.new ≡ attention_of output.old) }
 {
     output.token(Name::CharacterReferenceMarker, 1)?;

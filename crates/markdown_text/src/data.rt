@@ -26,9 +26,9 @@ pub fn write<R: References, S: Sink>(
     requires stands { Stands output.old }
     requires data_end { end ≡ output.old.data }
     requires inlines { AtInlines output.old }
-    ensures given { output.new.writer.given ≡ output.old.writer.given }
+    ensures given { output.new.writer.value.given ≡ output.old.writer.value.given }
     ensures writes { OnOk result (WritesTo output.old output.new end) }
-    ensures at { (h : Bool) → (outer : List Enclosing) → IsAt output.old.writer (inlines h) outer → OnOk result (IsFlushed next output.new (inlines h) outer) }
+    ensures at { (h : Bool) → (outer : List Enclosing) → IsAt output.old.writer.value (inlines h) outer → OnOk result (IsFlushed next output.new (inlines h) outer) }
     ensures attention { OnOk result (attention_of output.new ≡ attention_of output.old) }
 {
     let constructs = &output.source().reading.options.constructs;
@@ -57,9 +57,9 @@ fn write_break<R: References, S: Sink>(
     requires next { output.old.at < end → next ≡ LineEnding }
     requires inlines { AtInlines output.old }
     requires on { output.old.at < end → (constructs_of output.old).hard_break_trailing ≡ true }
-    ensures given { output.new.writer.given ≡ output.old.writer.given }
+    ensures given { output.new.writer.value.given ≡ output.old.writer.value.given }
     ensures writes { OnOk result (WritesTo output.old output.new end) }
-    ensures at { (h : Bool) → (outer : List Enclosing) → IsAt output.old.writer (inlines h) outer → OnOk result (IsFlushed next output.new (inlines h) outer) }
+    ensures at { (h : Bool) → (outer : List Enclosing) → IsAt output.old.writer.value (inlines h) outer → OnOk result (IsFlushed next output.new (inlines h) outer) }
     ensures attention { OnOk result (attention_of output.new ≡ attention_of output.old) }
 {
     match next {
@@ -76,7 +76,7 @@ fn write_text<R: References, S: Sink>(
     requires stands { Stands output.old }
     requires part { IsPart (bytes_of output.old) output.old.at end }
     requires inlines { AtInlines output.old }
-    ensures given { output.new.writer.given ≡ output.old.writer.given }
+    ensures given { output.new.writer.value.given ≡ output.old.writer.value.given }
     ensures writes { OnOk result (WritesTo output.old output.new end) }
     ensures at { KeepsInlines result output.old output.new }
     ensures attention { OnOk result (attention_of output.new ≡ attention_of output.old) }

@@ -21,7 +21,7 @@ pub fn write<R: References, S: Sink>(
     requires filled { 0 < size }
     requires destination { IsDestination (bytes_of output.old) output.old.at (output.old.at + size) }
     requires at { AtStage output.old resource }
-    ensures given { output.new.writer.given ≡ output.old.writer.given }
+    ensures given { output.new.writer.value.given ≡ output.old.writer.value.given }
     ensures writes { OnOk result (WritesTo output.old output.new (output.old.at + size)) }
     ensures at { Leads result resource resource_title output.old output.new }
 {
@@ -41,7 +41,7 @@ fn write_inside<R: References, S: Sink>(
     requires filled { output.old.at < end }
     requires destination { IsDestination (bytes_of output.old) output.old.at end }
     requires at { AtStage output.old resource }
-    ensures given { output.new.writer.given ≡ output.old.writer.given }
+    ensures given { output.new.writer.value.given ≡ output.old.writer.value.given }
     ensures writes { OnOk result (WritesTo output.old output.new end) }
     ensures at { Leads result resource resource_title output.old output.new }
 {
@@ -62,7 +62,7 @@ fn write_enclosed<R: References, S: Sink>(
     requires none_waits { output.old.data ≡ output.old.at }
     requires enclosed { IsEnclosed (bytes_of output.old) 1 output.old.at end }
     requires at { AtStage output.old resource }
-    ensures given { output.new.writer.given ≡ output.old.writer.given }
+    ensures given { output.new.writer.value.given ≡ output.old.writer.value.given }
     ensures writes { OnOk result (WritesTo output.old output.new end) }
     ensures at { Leads result resource resource_title output.old output.new }
 {

@@ -73,7 +73,7 @@ pub fn write<'c, 'd, R: References, S: Sink>(
     ensures root { IfOk result (λ written. IsAt written (flow false) []) }
     ensures options { IfOk result (λ written. AreOn reading.now.options.constructs written.events) }
 {
-    let mut writer = writer;
+    let mut writer = Box::new(reading.alloc, writer)?;
     let mut place = TaskPlace::Nowhere;
     let mut lists = SpareLists::new(reading.alloc);
     let mut stretch = pieces;
@@ -82,27 +82,27 @@ pub fn write<'c, 'd, R: References, S: Sink>(
         (writer, place) = write_stretch(&*reading, stretch.as_slice(), writer, place, &mut lists)?;
         stretch = later;
     }
-    Ok(writer)
+    Ok(Box::into_inner(writer))
 }
 
 /// Writes a stretch of pieces that begins at a place, and returns the place after it.
 fn write_stretch<'c, 'd, R: References, S: Sink>(
     reading: &'c Reading<'c, R>,
     pieces: &'c [Piece],
-    writer: Recorder<'d, R, S>,
+    writer: Box<Recorder<'d, R, S>>,
     place: TaskPlace,
     lists: &mut SpareLists,
-) -> Result<(Recorder<'d, R, S>, TaskPlace), AllocError>
-    requires document { writer.given.bytes ≡ reading.now.document.now }
-    requires references { writer.given.references ≡ reading.now.references.now }
-    requires tiles { Tiles reading.now.document.now (spot writer.cursor) pieces.now (end_from (spot writer.cursor) pieces.now) }
-    requires nest { MayWalk writer place pieces.now }
+) -> Result<(Box<Recorder<'d, R, S>>, TaskPlace), AllocError>
+    requires document { writer.value.given.bytes ≡ reading.now.document.now }
+    requires references { writer.value.given.references ≡ reading.now.references.now }
+    requires tiles { Tiles reading.now.document.now (spot writer.value.cursor) pieces.now (end_from (spot writer.value.cursor) pieces.now) }
+    requires nest { MayWalk writer.value place pieces.now }
     requires on { ArePiecesOn reading.now.options.constructs pieces.now }
-    requires within { IsWithin reading.now.options.constructs writer }
-    ensures given { IfOk result (λ written. written.0.given ≡ writer.entry.given) }
-    ensures end { IfOk result (λ written. spot written.0.cursor ≡ end_from (spot writer.entry.cursor) pieces.now) }
-    ensures nest { (s t : State) → IsAtPlace writer.entry place s → Walks s pieces.now t → IfOk result (λ written. IsAtPlace written.0 written.1 t) }
-    ensures within { IfOk result (λ written. IsWithin reading.now.options.constructs written.0) }
+    requires within { IsWithin reading.now.options.constructs writer.value }
+    ensures given { IfOk result (λ written. written.0.value.given ≡ writer.entry.value.given) }
+    ensures end { IfOk result (λ written. spot written.0.value.cursor ≡ end_from (spot writer.entry.value.cursor) pieces.now) }
+    ensures nest { (s t : State) → IsAtPlace writer.entry.value place s → Walks s pieces.now t → IfOk result (λ written. IsAtPlace written.0.value written.1 t) }
+    ensures within { IfOk result (λ written. IsWithin reading.now.options.constructs written.0.value) }
 {
     let mut writer = writer;
     let mut place = place;
@@ -118,7 +118,7 @@ fn write_stretch<'c, 'd, R: References, S: Sink>(
         }
         name = name_after(piece.kind, name);
         place = place.after(piece.kind);
-        write_piece(&mut writer, piece)?;
+        write_piece(&mut *writer, piece)?;
         rest = later;
     }
     Ok((writer, place))
@@ -167,6 +167,7 @@ fn name_after(kind: PieceKind, before: Option<Name>) -> Option<Name> {
 }
 
 /// Returns the kind of a content in a span of this name.
+#[inline(always)]
 fn content_kind(name: Option<Name>) -> ContentKind {
     match name {
         Some(
@@ -183,22 +184,22 @@ fn content_kind(name: Option<Name>) -> ContentKind {
 #[inline(always)]
 fn inlines<'c, 'd, R: References, S: Sink>(
     reading: &'c Reading<'c, R>,
-    writer: Recorder<'d, R, S>,
+    writer: Box<Recorder<'d, R, S>>,
     pieces: &'c [Piece],
     name: Option<Name>,
     place: TaskPlace,
     lists: &mut SpareLists,
-) -> Result<Recorder<'d, R, S>, AllocError>
-    requires document { writer.given.bytes ≡ reading.now.document.now }
-    requires references { writer.given.references ≡ reading.now.references.now }
+) -> Result<Box<Recorder<'d, R, S>>, AllocError>
+    requires document { writer.value.given.bytes ≡ reading.now.document.now }
+    requires references { writer.value.given.references ≡ reading.now.references.now }
     requires content { IsContent pieces.now }
-    requires tiles { Tiles writer.given.bytes (spot writer.cursor) pieces.now (end_from (spot writer.cursor) pieces.now) }
-    requires begins { BeginsContent place writer }
-    requires within { IsWithin reading.now.options.constructs writer }
-    ensures given { IfOk result (λ written. written.given ≡ writer.entry.given) }
-    ensures end { IfOk result (λ written. spot written.cursor ≡ end_from (spot writer.entry.cursor) pieces.now) }
-    ensures at { (h : Bool) → (outer : List Enclosing) → IsAtContent place writer.entry h outer → IfOk result (λ written. IsAt written (inlines h) outer) }
-    ensures within { IfOk result (λ written. IsWithin reading.now.options.constructs written) }
+    requires tiles { Tiles writer.value.given.bytes (spot writer.value.cursor) pieces.now (end_from (spot writer.value.cursor) pieces.now) }
+    requires begins { BeginsContent place writer.value }
+    requires within { IsWithin reading.now.options.constructs writer.value }
+    ensures given { IfOk result (λ written. written.value.given ≡ writer.entry.value.given) }
+    ensures end { IfOk result (λ written. spot written.value.cursor ≡ end_from (spot writer.entry.value.cursor) pieces.now) }
+    ensures at { (h : Bool) → (outer : List Enclosing) → IsAtContent place writer.entry.value h outer → IfOk result (λ written. IsAt written.value (inlines h) outer) }
+    ensures within { IfOk result (λ written. IsWithin reading.now.options.constructs written.value) }
 {
     let document = reading.document;
     let start = writer.cursor().index;
@@ -221,25 +222,25 @@ fn inlines<'c, 'd, R: References, S: Sink>(
 #[inline(always)]
 fn inlines_of<'c, 'd, R: References, S: Sink>(
     reading: &'c Reading<'c, R>,
-    writer: Recorder<'d, R, S>,
+    writer: Box<Recorder<'d, R, S>>,
     bytes: &'c [u8],
     pieces: &'c [Piece],
     name: Option<Name>,
     place: TaskPlace,
     lists: &mut SpareLists,
-) -> Result<Recorder<'d, R, S>, AllocError>
-    requires document { writer.given.bytes ≡ reading.now.document.now }
-    requires references { writer.given.references ≡ reading.now.references.now }
+) -> Result<Box<Recorder<'d, R, S>>, AllocError>
+    requires document { writer.value.given.bytes ≡ reading.now.document.now }
+    requires references { writer.value.given.references ≡ reading.now.references.now }
     requires content { IsContent pieces.now }
-    requires tiles { Tiles writer.given.bytes (spot writer.cursor) pieces.now (end_from (spot writer.cursor) pieces.now) }
-    requires bytes { bytes.now ≡ joined writer.given.bytes writer.cursor.index pieces.now }
+    requires tiles { Tiles writer.value.given.bytes (spot writer.value.cursor) pieces.now (end_from (spot writer.value.cursor) pieces.now) }
+    requires bytes { bytes.now ≡ joined writer.value.given.bytes writer.value.cursor.index pieces.now }
     requires utf8 { is_utf8 bytes.now ≡ true }
-    requires begins { BeginsContent place writer }
-    requires within { IsWithin reading.now.options.constructs writer }
-    ensures given { IfOk result (λ written. written.given ≡ writer.entry.given) }
-    ensures end { IfOk result (λ written. spot written.cursor ≡ end_from (spot writer.entry.cursor) pieces.now) }
-    ensures at { (h : Bool) → (outer : List Enclosing) → IsAtContent place writer.entry h outer → IfOk result (λ written. IsAt written (inlines h) outer) }
-    ensures within { IfOk result (λ written. IsWithin reading.now.options.constructs written) }
+    requires begins { BeginsContent place writer.value }
+    requires within { IsWithin reading.now.options.constructs writer.value }
+    ensures given { IfOk result (λ written. written.value.given ≡ writer.entry.value.given) }
+    ensures end { IfOk result (λ written. spot written.value.cursor ≡ end_from (spot writer.entry.value.cursor) pieces.now) }
+    ensures at { (h : Bool) → (outer : List Enclosing) → IsAtContent place writer.entry.value h outer → IfOk result (λ written. IsAt written.value (inlines h) outer) }
+    ensures within { IfOk result (λ written. IsWithin reading.now.options.constructs written.value) }
 {
     let source = Source {
         reading,

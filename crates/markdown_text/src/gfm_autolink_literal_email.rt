@@ -34,7 +34,7 @@ pub fn write<R: References, S: Sink>(
     requires part { IsPart (bytes_of output.old) output.old.at end }
     requires inlines { AtInlines output.old }
     requires on { (constructs_of output.old).gfm_autolink_literal ≡ true }
-    ensures given { output.new.writer.given ≡ output.old.writer.given }
+    ensures given { output.new.writer.value.given ≡ output.old.writer.value.given }
     ensures writes { OnOk result (WritesTo output.old output.new end) }
     ensures at { KeepsInlines result output.old output.new }
     ensures attention { OnOk result (attention_of output.new ≡ attention_of output.old) }
@@ -57,7 +57,7 @@ fn write_address<R: References, S: Sink>(
     requires address { (end : ℕ) × IsPart (bytes_of output.old) output.old.at end × IsAddress (slice_range (bytes_of output.old) output.old.at end) address.now }
     requires inlines { AtInlines output.old }
     requires on { (constructs_of output.old).gfm_autolink_literal ≡ true }
-    ensures given { output.new.writer.given ≡ output.old.writer.given }
+    ensures given { output.new.writer.value.given ≡ output.old.writer.value.given }
     ensures goes_on { OnOk result (GoesOn output.old output.new) }
     ensures left { (end : ℕ) → IsPart (bytes_of output.old) output.old.at end → IsAddress (slice_range (bytes_of output.old) output.old.at end) address.now → OnOk result (IsPart (bytes_of output.new) output.new.at end) }
     ensures at { KeepsInlines result output.old output.new }

@@ -46,7 +46,7 @@ pub fn write<R: References, S: Sink>(
     requires enclosed { IsEnclosed (bytes_of output.old) 1 0 3 }
     requires at { AtStage output.old task }
     requires on { (constructs_of output.old).gfm_task_list_item ≡ true }
-    ensures given { output.new.writer.given ≡ output.old.writer.given }
+    ensures given { output.new.writer.value.given ≡ output.old.writer.value.given }
     ensures writes { OnOk result (WritesTo output.old output.new 3) }
     ensures at { Leads result task (inlines false) output.old output.new }
     ensures attention { OnOk result (attention_of output.new ≡ attention_of output.old) }
@@ -79,7 +79,7 @@ fn write_value<R: References, S: Sink>(
     requires range { IsRange (bytes_of output.old) output.old.at (output.old.at + 1) }
     requires value { (value ≡ GfmTaskListItemValueChecked) ⊎ (value ≡ GfmTaskListItemValueUnchecked) }
     requires at { AtStage output.old task }
-    ensures given { output.new.writer.given ≡ output.old.writer.given }
+    ensures given { output.new.writer.value.given ≡ output.old.writer.value.given }
     ensures writes { OnOk result (WritesTo output.old output.new (output.old.at + 1)) }
     ensures at { Leads result task (inlines false) output.old output.new }
     ensures attention { OnOk result (attention_of output.new ≡ attention_of output.old) }

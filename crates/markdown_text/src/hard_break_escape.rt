@@ -31,7 +31,7 @@ pub fn write<R: References, S: Sink>(output: &mut Output<'_, '_, R, S>) -> Resul
     requires feed { slice_get (bytes_of output.old) (output.old.data + 1) ≡ Some 10 }
     requires inlines { AtInlines output.old }
     requires on { (constructs_of output.old).hard_break_escape ≡ true }
-    ensures given { output.new.writer.given ≡ output.old.writer.given }
+    ensures given { output.new.writer.value.given ≡ output.old.writer.value.given }
     ensures writes { OnOk result (WritesTo output.old output.new (output.old.data + 2)) }
     ensures at { KeepsInlines result output.old output.new }
     ensures attention { OnOk result (attention_of output.new ≡ attention_of output.old) }

@@ -37,7 +37,7 @@ pub fn write<R: References, S: Sink>(
     requires range { IsRange (bytes_of output.old) output.old.data end }
     requires inlines { AtInlines output.old }
     requires on { (constructs_of output.old).html_text ≡ true }
-    ensures given { output.new.writer.given ≡ output.old.writer.given }
+    ensures given { output.new.writer.value.given ≡ output.old.writer.value.given }
     ensures writes { OnOk result (WritesTo output.old output.new end) }
     ensures at { KeepsInlines result output.old output.new }
     ensures attention { OnOk result (attention_of output.new ≡ attention_of output.old) }

@@ -175,7 +175,7 @@ pub fn write<R: References, S: Sink>(
     requires part { IsPart (bytes_of output.old) output.old.at (output.old.at + 1) }
     requires target { IsAfterLabel (bytes_of output.old) labelled target.now (output.old.at + 1) end }
     requires at { AtLabelEnd output.old labelled }
-    ensures given { output.new.writer.given ≡ output.old.writer.given }
+    ensures given { output.new.writer.value.given ≡ output.old.writer.value.given }
     ensures writes { OnOk result (WritesTo output.old output.new end) }
     ensures at { EndsLabel result labelled output.old output.new }
 {
@@ -193,7 +193,7 @@ fn write_mark<R: References, S: Sink>(output: &mut Output<'_, '_, R, S>) -> Resu
     requires none_waits { output.old.data ≡ output.old.at }
     requires part { IsPart (bytes_of output.old) output.old.at (output.old.at + 1) }
     requires at { (labelled : Labelled) × AtLabelEnd output.old labelled }
-    ensures given { output.new.writer.given ≡ output.old.writer.given }
+    ensures given { output.new.writer.value.given ≡ output.old.writer.value.given }
     ensures writes { OnOk result (WritesTo output.old output.new (output.old.at + 1)) }
     ensures at { (labelled : Labelled) → LeavesLabel result labelled output.old output.new }
 {
@@ -213,7 +213,7 @@ fn write_target<R: References, S: Sink>(
     requires none_waits { output.old.data ≡ output.old.at }
     requires target { IsTarget (bytes_of output.old) target.now output.old.at end }
     requires at { AtStage output.old media_target }
-    ensures given { output.new.writer.given ≡ output.old.writer.given }
+    ensures given { output.new.writer.value.given ≡ output.old.writer.value.given }
     ensures writes { OnOk result (WritesTo output.old output.new end) }
     ensures at { Leads result media_target endings output.old output.new }
 {

@@ -25,7 +25,7 @@ pub fn write<R: References, S: Sink>(
     requires ascii { IsAsciiPart (bytes_of output.old) output.old.data (output.old.data + label_start labelled) }
     requires inlines { AtInlines output.old }
     requires on { is_label_on (constructs_of output.old) labelled ≡ true }
-    ensures given { output.new.writer.given ≡ output.old.writer.given }
+    ensures given { output.new.writer.value.given ≡ output.old.writer.value.given }
     ensures writes { OnOk result (WritesTo output.old output.new (output.old.data + label_start labelled)) }
     ensures at { BeginsLabel result labelled output.old output.new }
 {
@@ -42,9 +42,9 @@ fn enter_start<R: References, S: Sink>(
     requires stands { Stands output.old }
     requires inlines { AtInlines output.old }
     requires on { is_label_on (constructs_of output.old) labelled ≡ true }
-    ensures given { output.new.writer.given ≡ output.old.writer.given }
+    ensures given { output.new.writer.value.given ≡ output.old.writer.value.given }
     ensures writes { OnOk result (WritesTo output.old output.new output.old.data) }
-    ensures at { (h : Bool) → (outer : List Enclosing) → IsAt output.old.writer (inlines h) outer → OnOk result (IsAt output.new.writer (label_stage labelled) (in_label_start labelled h outer)) }
+    ensures at { (h : Bool) → (outer : List Enclosing) → IsAt output.old.writer.value (inlines h) outer → OnOk result (IsAt output.new.writer.value (label_stage labelled) (in_label_start labelled h outer)) }
 {
     output.flush(Next::Span)?;
     output.enter(labelled.name())?;
@@ -61,7 +61,7 @@ fn write_signs<R: References, S: Sink>(
     requires none_waits { output.old.data ≡ output.old.at }
     requires ascii { IsAsciiPart (bytes_of output.old) output.old.at (output.old.at + label_start labelled) }
     requires at { AtStage output.old (label_stage labelled) }
-    ensures given { output.new.writer.given ≡ output.old.writer.given }
+    ensures given { output.new.writer.value.given ≡ output.old.writer.value.given }
     ensures writes { OnOk result (WritesTo output.old output.new (output.old.at + label_start labelled)) }
     ensures at { Leads result (label_stage labelled) (label_stage labelled) output.old output.new }
 {

@@ -54,8 +54,8 @@ pub enum Next {
 pub struct Output<'c, 'd, R: References, S: Sink> {
     /// The content.
     source: &'c Source<'c, R>,
-    /// The writer of the spans.
-    writer: Recorder<'d, R, S>,
+    /// The writer of the spans. It stays in place while it is handed on.
+    writer: Box<Recorder<'d, R, S>>,
     /// The remaining pieces of the block structure.
     lines: Lines<'c>,
     /// The offset up to which everything is written.
@@ -80,31 +80,31 @@ impl<'c, 'd, R: References, S: Sink> Output<'c, 'd, R, S> {
     #[inline(always)]
     pub fn new(
         source: &'c Source<'c, R>,
-        writer: Recorder<'d, R, S>,
+        writer: Box<Recorder<'d, R, S>>,
         pieces: &'c [Piece],
         kind: ContentKind,
     ) -> Result<Self, AllocError>
-        requires document { writer.given.bytes ≡ source.now.reading.now.document.now }
-        requires references { writer.given.references ≡ source.now.reading.now.references.now }
+        requires document { writer.value.given.bytes ≡ source.now.reading.now.document.now }
+        requires references { writer.value.given.references ≡ source.now.reading.now.references.now }
         requires content { IsContent pieces.now }
-        requires tiles { Tiles writer.given.bytes (spot writer.cursor) pieces.now (end_from (spot writer.cursor) pieces.now) }
-        requires bytes { source.now.bytes.now ≡ joined writer.given.bytes writer.cursor.index pieces.now }
-        requires stage { IsSomewhere writer }
-        requires within { IsWithin source.now.reading.now.options.constructs writer }
-        ensures given { IfOk result (λ output. output.writer.given ≡ writer.entry.given) }
+        requires tiles { Tiles writer.value.given.bytes (spot writer.value.cursor) pieces.now (end_from (spot writer.value.cursor) pieces.now) }
+        requires bytes { source.now.bytes.now ≡ joined writer.value.given.bytes writer.value.cursor.index pieces.now }
+        requires stage { IsSomewhere writer.value }
+        requires within { IsWithin source.now.reading.now.options.constructs writer.value }
+        ensures given { IfOk result (λ output. output.writer.value.given ≡ writer.entry.value.given) }
         ensures stands { IfOk result (λ output. Stands output) }
         ensures document { IfOk result (λ output. document_of output ≡ source.now.reading.now.document.now) }
         ensures references { IfOk result (λ output. references_of output ≡ source.now.reading.now.references.now) }
         ensures constructs { IfOk result (λ output. constructs_of output ≡ source.now.reading.now.options.constructs) }
         ensures bytes { IfOk result (λ output. bytes_of output ≡ source.now.bytes.now) }
-        ensures end { IfOk result (λ output. content_end output ≡ end_from (spot writer.entry.cursor) pieces.now) }
+        ensures end { IfOk result (λ output. content_end output ≡ end_from (spot writer.entry.value.cursor) pieces.now) }
         ensures at { IfOk result (λ output. output.at ≡ 0) }
         ensures data_end { IfOk result (λ output. output.data ≡ 0) }
-        ensures stage { (a : Stage) → (outer : List Enclosing) → IsAt writer.entry a outer → IfOk result (λ output. IsAt output.writer a outer) }
-        ensures attention { IfOk result (λ output. attention_of output ≡ attention_events writer.entry.events) }
+        ensures stage { (a : Stage) → (outer : List Enclosing) → IsAt writer.entry.value a outer → IfOk result (λ output. IsAt output.writer.value a outer) }
+        ensures attention { IfOk result (λ output. attention_of output ≡ attention_events writer.entry.value.events) }
     {
         let mut writer = writer;
-        let lines = write_to_text(&mut writer, pieces)?;
+        let lines = write_to_text(&mut *writer, pieces)?;
         Ok(Output {
             source,
             writer,
@@ -172,7 +172,7 @@ impl<'c, 'd, R: References, S: Sink> Output<'c, 'd, R, S> {
     /// Records that a link begins.
     pub fn enter_link(&mut self)
         requires { Stands self.old }
-        ensures writer { self.new.writer ≡ self.old.writer }
+        ensures writer { self.new.writer.value ≡ self.old.writer.value }
         ensures goes_on { GoesOn self.old self.new }
         ensures at { self.new.at ≡ self.old.at }
         ensures data_end { self.new.data ≡ self.old.data }
@@ -183,7 +183,7 @@ impl<'c, 'd, R: References, S: Sink> Output<'c, 'd, R, S> {
     /// Records that a link ends.
     pub fn exit_link(&mut self)
         requires { Stands self.old }
-        ensures writer { self.new.writer ≡ self.old.writer }
+        ensures writer { self.new.writer.value ≡ self.old.writer.value }
         ensures goes_on { GoesOn self.old self.new }
         ensures at { self.new.at ≡ self.old.at }
         ensures data_end { self.new.data ≡ self.old.data }
@@ -195,7 +195,7 @@ impl<'c, 'd, R: References, S: Sink> Output<'c, 'd, R, S> {
     pub fn data(&mut self, end: usize)
         requires stands { Stands self.old }
         requires part { IsPart (bytes_of self.old) self.old.data end }
-        ensures writer { self.new.writer ≡ self.old.writer }
+        ensures writer { self.new.writer.value ≡ self.old.writer.value }
         ensures goes_on { GoesOn self.old self.new }
         ensures at { self.new.at ≡ self.old.at }
         ensures data_end { self.new.data ≡ end }
@@ -207,31 +207,31 @@ impl<'c, 'd, R: References, S: Sink> Output<'c, 'd, R, S> {
     pub fn enter(&mut self, name: Name) -> Result<(), AllocError>
         requires stands { Stands self.old }
         requires none_waits { self.old.data ≡ self.old.at }
-        requires may { MayEnter self.old.writer name }
+        requires may { MayEnter self.old.writer.value name }
         requires on { is_on (constructs_of self.old) name ≡ true }
-        ensures given { self.new.writer.given ≡ self.old.writer.given }
+        ensures given { self.new.writer.value.given ≡ self.old.writer.value.given }
         ensures writes { OnOk result (WritesTo self.old self.new self.old.at) }
-        ensures stage { (a : Stage) → (outer : List Enclosing) → IsAt self.old.writer a outer → OnOk result (IfSome (entered a (role_of name)) (λ b. IsAt self.new.writer b (inside name a outer))) }
+        ensures stage { (a : Stage) → (outer : List Enclosing) → IsAt self.old.writer.value a outer → OnOk result (IfSome (entered a (role_of name)) (λ b. IsAt self.new.writer.value b (inside name a outer))) }
         ensures others { is_attention name ≡ false → OnOk result (attention_of self.new ≡ attention_of self.old) }
-        ensures attention { is_attention name ≡ true → OnOk result (attention_of self.new ≡ attention_of self.old ++ enter name self.old.writer.cursor ∷ []) }
+        ensures attention { is_attention name ≡ true → OnOk result (attention_of self.new ≡ attention_of self.old ++ enter name self.old.writer.value.cursor ∷ []) }
     {
         self.is_line_start = false;
-        calls::enter(&mut self.writer, name)
+        calls::enter(&mut *self.writer, name)
     }
 
     /// Closes the innermost span. No data waits.
     pub fn exit(&mut self) -> Result<(), AllocError>
         requires stands { Stands self.old }
         requires none_waits { self.old.data ≡ self.old.at }
-        requires may { MayExit self.old.writer }
-        ensures given { self.new.writer.given ≡ self.old.writer.given }
+        requires may { MayExit self.old.writer.value }
+        ensures given { self.new.writer.value.given ≡ self.old.writer.value.given }
         ensures writes { OnOk result (WritesTo self.old self.new self.old.at) }
-        ensures stage { (own a : Stage) → (name : Name) → (outer : List Enclosing) → IsAt self.old.writer own (inside name a outer) → OnOk result (IfSome (exited own a (role_of name)) (λ b. IsAt self.new.writer b outer)) }
-        ensures others { (own a : Stage) → (name : Name) → (outer : List Enclosing) → IsAt self.old.writer own (inside name a outer) → is_attention name ≡ false → OnOk result (attention_of self.new ≡ attention_of self.old) }
-        ensures attention { (own a : Stage) → (name : Name) → (outer : List Enclosing) → IsAt self.old.writer own (inside name a outer) → is_attention name ≡ true → OnOk result (attention_of self.new ≡ attention_of self.old ++ exit name self.old.writer.cursor ∷ []) }
+        ensures stage { (own a : Stage) → (name : Name) → (outer : List Enclosing) → IsAt self.old.writer.value own (inside name a outer) → OnOk result (IfSome (exited own a (role_of name)) (λ b. IsAt self.new.writer.value b outer)) }
+        ensures others { (own a : Stage) → (name : Name) → (outer : List Enclosing) → IsAt self.old.writer.value own (inside name a outer) → is_attention name ≡ false → OnOk result (attention_of self.new ≡ attention_of self.old) }
+        ensures attention { (own a : Stage) → (name : Name) → (outer : List Enclosing) → IsAt self.old.writer.value own (inside name a outer) → is_attention name ≡ true → OnOk result (attention_of self.new ≡ attention_of self.old ++ exit name self.old.writer.value.cursor ∷ []) }
     {
         self.is_line_start = false;
-        calls::exit(&mut self.writer)
+        calls::exit(&mut *self.writer)
     }
 
     /// Writes a token of `size` bytes.
@@ -241,10 +241,10 @@ impl<'c, 'd, R: References, S: Sink> Output<'c, 'd, R, S> {
         requires part { IsPart (bytes_of self.old) self.old.at (self.old.at + size) }
         requires may { MayPut self.old name }
         requires on { is_on (constructs_of self.old) name ≡ true }
-        ensures given { self.new.writer.given ≡ self.old.writer.given }
+        ensures given { self.new.writer.value.given ≡ self.old.writer.value.given }
         ensures writes { OnOk result (WritesTo self.old self.new (self.old.at + size)) }
-        ensures whole { OnOk result (self.new.writer.cursor.vs ≡ 0) }
-        ensures stage { (a : Stage) → (outer : List Enclosing) → IsAt self.old.writer a outer → OnOk result (IfSome (after_plain a name) (λ b. IsAt self.new.writer b outer)) }
+        ensures whole { OnOk result (self.new.writer.value.cursor.vs ≡ 0) }
+        ensures stage { (a : Stage) → (outer : List Enclosing) → IsAt self.old.writer.value a outer → OnOk result (IfSome (after_plain a name) (λ b. IsAt self.new.writer.value b outer)) }
         ensures attention { is_attention name ≡ false → OnOk result (attention_of self.new ≡ attention_of self.old) }
     {
         self.token_to(name, later(self.at, size, self.source.bytes.len()))
@@ -257,14 +257,14 @@ impl<'c, 'd, R: References, S: Sink> Output<'c, 'd, R, S> {
         requires part { IsPart (bytes_of self.old) self.old.at end }
         requires may { MayPut self.old name }
         requires on { is_on (constructs_of self.old) name ≡ true }
-        ensures given { self.new.writer.given ≡ self.old.writer.given }
+        ensures given { self.new.writer.value.given ≡ self.old.writer.value.given }
         ensures writes { OnOk result (WritesTo self.old self.new end) }
-        ensures whole { OnOk result (self.new.writer.cursor.vs ≡ 0) }
-        ensures stage { (a : Stage) → (outer : List Enclosing) → IsAt self.old.writer a outer → OnOk result (IfSome (after_plain a name) (λ b. IsAt self.new.writer b outer)) }
+        ensures whole { OnOk result (self.new.writer.value.cursor.vs ≡ 0) }
+        ensures stage { (a : Stage) → (outer : List Enclosing) → IsAt self.old.writer.value a outer → OnOk result (IfSome (after_plain a name) (λ b. IsAt self.new.writer.value b outer)) }
         ensures attention { is_attention name ≡ false → OnOk result (attention_of self.new ≡ attention_of self.old) }
     {
         let to = self.move_to(end);
-        calls::token(&mut self.writer, name, to, 0)?;
+        calls::token(&mut *self.writer, name, to, 0)?;
         Ok(())
     }
 
@@ -273,15 +273,15 @@ impl<'c, 'd, R: References, S: Sink> Output<'c, 'd, R, S> {
         requires stands { Stands self.old }
         requires filled { self.old.at < end }
         requires part { IsPart (bytes_of self.old) self.old.at end }
-        requires whole { self.old.writer.cursor.vs ≡ 0 }
+        requires whole { self.old.writer.value.cursor.vs ≡ 0 }
         requires may { MayDecode (R.text (references_of self.old)) self.old end }
-        ensures given { self.new.writer.given ≡ self.old.writer.given }
+        ensures given { self.new.writer.value.given ≡ self.old.writer.value.given }
         ensures writes { OnOk result (WritesTo self.old self.new end) }
-        ensures stage { (m : ℕ) → (outer : List Enclosing) → IsAt self.old.writer (character_reference_value m) outer → OnOk result (IsAt self.new.writer nothing outer) }
+        ensures stage { (m : ℕ) → (outer : List Enclosing) → IsAt self.old.writer.value (character_reference_value m) outer → OnOk result (IsAt self.new.writer.value nothing outer) }
         ensures attention { OnOk result (attention_of self.new ≡ attention_of self.old) }
     {
         let to = self.move_to(end);
-        calls::token(&mut self.writer, Name::CharacterReferenceValue, to, 0)?;
+        calls::token(&mut *self.writer, Name::CharacterReferenceValue, to, 0)?;
         Ok(())
     }
 
@@ -291,9 +291,9 @@ impl<'c, 'd, R: References, S: Sink> Output<'c, 'd, R, S> {
         requires part { IsPart (bytes_of self.old) self.old.at end }
         requires may { MayFill self.old name }
         requires on { is_on (constructs_of self.old) name ≡ true }
-        ensures given { self.new.writer.given ≡ self.old.writer.given }
+        ensures given { self.new.writer.value.given ≡ self.old.writer.value.given }
         ensures writes { OnOk result (WritesTo self.old self.new end) }
-        ensures stage { (a : Stage) → (outer : List Enclosing) → after_plain a name ≡ Some a → IsAt self.old.writer a outer → OnOk result (IsAt self.new.writer a outer) }
+        ensures stage { (a : Stage) → (outer : List Enclosing) → after_plain a name ≡ Some a → IsAt self.old.writer.value a outer → OnOk result (IsAt self.new.writer.value a outer) }
         ensures attention { is_attention name ≡ false → OnOk result (attention_of self.new ≡ attention_of self.old) }
     {
         if end <= self.at {
@@ -311,9 +311,9 @@ impl<'c, 'd, R: References, S: Sink> Output<'c, 'd, R, S> {
         requires name { is_hard_break (role_of name) ≡ true }
         requires inlines { AtInlines self.old }
         requires on { self.old.at < end → is_on (constructs_of self.old) name ≡ true }
-        ensures given { self.new.writer.given ≡ self.old.writer.given }
+        ensures given { self.new.writer.value.given ≡ self.old.writer.value.given }
         ensures writes { OnOk result (WritesTo self.old self.new end) }
-        ensures stage { (h : Bool) → (outer : List Enclosing) → IsAt self.old.writer (inlines h) outer → OnOk result (IsFlushed LineEnding self.new (inlines h) outer) }
+        ensures stage { (h : Bool) → (outer : List Enclosing) → IsAt self.old.writer.value (inlines h) outer → OnOk result (IsFlushed LineEnding self.new (inlines h) outer) }
         ensures attention { is_attention name ≡ false → OnOk result (attention_of self.new ≡ attention_of self.old) }
     {
         if end <= self.at {
@@ -321,7 +321,7 @@ impl<'c, 'd, R: References, S: Sink> Output<'c, 'd, R, S> {
             return Ok(());
         }
         let to = self.move_to(end);
-        calls::hard_break(&mut self.writer, name, to)?;
+        calls::hard_break(&mut *self.writer, name, to)?;
         Ok(())
     }
 
@@ -329,8 +329,8 @@ impl<'c, 'd, R: References, S: Sink> Output<'c, 'd, R, S> {
     fn move_to(&mut self, end: usize) -> usize
         requires stands { Stands self.old }
         requires part { IsPart (bytes_of self.old) self.old.at end }
-        ensures to { result ≡ self.old.writer.cursor.index + (end - self.old.at) }
-        ensures writer { self.new.writer ≡ self.old.writer }
+        ensures to { result ≡ self.old.writer.value.cursor.index + (end - self.old.at) }
+        ensures writer { self.new.writer.value ≡ self.old.writer.value }
         ensures source { self.new.source ≡ self.old.source }
         ensures lines { self.new.lines ≡ self.old.lines }
         ensures at { self.new.at ≡ end }
@@ -348,7 +348,7 @@ impl<'c, 'd, R: References, S: Sink> Output<'c, 'd, R, S> {
         requires stands { Stands self.old }
         requires feed { slice_get (bytes_of self.old) self.old.data ≡ Some 10 }
         requires inlines { AtInlines self.old }
-        ensures given { self.new.writer.given ≡ self.old.writer.given }
+        ensures given { self.new.writer.value.given ≡ self.old.writer.value.given }
         ensures writes { OnOk result (WritesTo self.old self.new (self.old.data + 1)) }
         ensures stage { KeepsInlines result self.old self.new }
         ensures attention { OnOk result (attention_of self.new ≡ attention_of self.old) }
@@ -364,18 +364,18 @@ impl<'c, 'd, R: References, S: Sink> Output<'c, 'd, R, S> {
         requires stands { Stands self.old }
         requires none_waits { self.old.data ≡ self.old.at }
         requires feed { slice_get (bytes_of self.old) self.old.at ≡ Some 10 }
-        requires may { MayEndLine (R.text self.old.writer.given.references) self.old.writer name }
+        requires may { MayEndLine (R.text self.old.writer.value.given.references) self.old.writer.value name }
         requires on { is_on (constructs_of self.old) name ≡ true }
-        ensures given { self.new.writer.given ≡ self.old.writer.given }
+        ensures given { self.new.writer.value.given ≡ self.old.writer.value.given }
         ensures writes { OnOk result (WritesTo self.old self.new (self.old.at + 1)) }
-        ensures stage { (waits : Bool) → (a : Stage) → (outer : List Enclosing) → StandsIn waits self.old.writer a outer → OnOk result (IfSome (after_line waits a (role_of name)) (λ b. IsAt self.new.writer b outer)) }
+        ensures stage { (waits : Bool) → (a : Stage) → (outer : List Enclosing) → StandsIn waits self.old.writer.value a outer → OnOk result (IfSome (after_line waits a (role_of name)) (λ b. IsAt self.new.writer.value b outer)) }
         ensures attention { is_attention name ≡ false → OnOk result (attention_of self.new ≡ attention_of self.old) }
     {
         let Some((_, next)) = self.lines.later.split_first() else {
             unreachable!()
         };
-        calls::line_ending(&mut self.writer, name)?;
-        self.lines = write_to_text(&mut self.writer, next)?;
+        calls::line_ending(&mut *self.writer, name)?;
+        self.lines = write_to_text(&mut *self.writer, next)?;
         self.at = later(self.at, 1, self.source.bytes.len());
         self.data = self.at;
         self.is_line_start = true;
@@ -390,9 +390,9 @@ impl<'c, 'd, R: References, S: Sink> Output<'c, 'd, R, S> {
         requires range { IsRange (bytes_of self.old) self.old.at end }
         requires may { MayFillLines self.old name }
         requires on { is_on (constructs_of self.old) name ≡ true }
-        ensures given { self.new.writer.given ≡ self.old.writer.given }
+        ensures given { self.new.writer.value.given ≡ self.old.writer.value.given }
         ensures writes { OnOk result (WritesTo self.old self.new end) }
-        ensures stage { (a : Stage) → (outer : List Enclosing) → after_plain a name ≡ Some a → takes_line_endings a ≡ true → IsAt self.old.writer a outer → OnOk result (IsAt self.new.writer a outer) }
+        ensures stage { (a : Stage) → (outer : List Enclosing) → after_plain a name ≡ Some a → takes_line_endings a ≡ true → IsAt self.old.writer.value a outer → OnOk result (IsAt self.new.writer.value a outer) }
         ensures attention { is_attention name ≡ false → OnOk result (attention_of self.new ≡ attention_of self.old) }
     {
         'lines: while self.at < end {
@@ -410,8 +410,8 @@ impl<'c, 'd, R: References, S: Sink> Output<'c, 'd, R, S> {
         requires filled { self.old.at < end }
         requires may { MayFillLines self.old name }
         requires on { is_on (constructs_of self.old) name ≡ true }
-        ensures given { self.new.writer.given ≡ self.old.writer.given }
-        ensures stage { (a : Stage) → (outer : List Enclosing) → after_plain a name ≡ Some a → takes_line_endings a ≡ true → IsAt self.old.writer a outer → OnOk result (IsAt self.new.writer a outer) }
+        ensures given { self.new.writer.value.given ≡ self.old.writer.value.given }
+        ensures stage { (a : Stage) → (outer : List Enclosing) → after_plain a name ≡ Some a → takes_line_endings a ≡ true → IsAt self.old.writer.value a outer → OnOk result (IsAt self.new.writer.value a outer) }
         ensures goes_on { OnOk result (GoesOn self.old self.new) }
         ensures none_waits { OnOk result (self.new.data ≡ self.new.at) }
         ensures least { OnOk result (self.old.at < self.new.at) }
@@ -433,8 +433,8 @@ impl<'c, 'd, R: References, S: Sink> Output<'c, 'd, R, S> {
         requires range { IsRange (bytes_of self.old) self.old.at end }
         requires filled { self.old.at < end }
         requires may { MayFillLines self.old SpaceOrTab }
-        ensures given { self.new.writer.given ≡ self.old.writer.given }
-        ensures stage { (a : Stage) → (outer : List Enclosing) → after_plain a SpaceOrTab ≡ Some a → takes_line_endings a ≡ true → IsAt self.old.writer a outer → OnOk result (IsAt self.new.writer a outer) }
+        ensures given { self.new.writer.value.given ≡ self.old.writer.value.given }
+        ensures stage { (a : Stage) → (outer : List Enclosing) → after_plain a SpaceOrTab ≡ Some a → takes_line_endings a ≡ true → IsAt self.old.writer.value a outer → OnOk result (IsAt self.new.writer.value a outer) }
         ensures goes_on { OnOk result (GoesOn self.old self.new) }
         ensures none_waits { OnOk result (self.new.data ≡ self.new.at) }
         ensures least { OnOk result (self.old.at < self.new.at) }
@@ -453,9 +453,9 @@ impl<'c, 'd, R: References, S: Sink> Output<'c, 'd, R, S> {
         requires none_waits { self.old.data ≡ self.old.at }
         requires range { IsRange (bytes_of self.old) self.old.at (self.old.at + size) }
         requires may { MayFillLines self.old SpaceOrTab }
-        ensures given { self.new.writer.given ≡ self.old.writer.given }
+        ensures given { self.new.writer.value.given ≡ self.old.writer.value.given }
         ensures writes { OnOk result (WritesTo self.old self.new (self.old.at + size)) }
-        ensures stage { (a : Stage) → (outer : List Enclosing) → after_plain a SpaceOrTab ≡ Some a → takes_line_endings a ≡ true → IsAt self.old.writer a outer → OnOk result (IsAt self.new.writer a outer) }
+        ensures stage { (a : Stage) → (outer : List Enclosing) → after_plain a SpaceOrTab ≡ Some a → takes_line_endings a ≡ true → IsAt self.old.writer.value a outer → OnOk result (IsAt self.new.writer.value a outer) }
         ensures attention { OnOk result (attention_of self.new ≡ attention_of self.old) }
     {
         let end = later(self.at, size, self.source.bytes.len());
@@ -469,9 +469,9 @@ impl<'c, 'd, R: References, S: Sink> Output<'c, 'd, R, S> {
         requires range { IsRange (bytes_of self.old) self.old.at end }
         requires may { MayWriteString self.old name }
         requires on { is_on (constructs_of self.old) name ≡ true }
-        ensures given { self.new.writer.given ≡ self.old.writer.given }
+        ensures given { self.new.writer.value.given ≡ self.old.writer.value.given }
         ensures writes { OnOk result (WritesTo self.old self.new end) }
-        ensures stage { (a : Stage) → (outer : List Enclosing) → IsAt self.old.writer a outer → OnOk result (IfSome (after_string a name) (λ b. IsAt self.new.writer b outer)) }
+        ensures stage { (a : Stage) → (outer : List Enclosing) → IsAt self.old.writer.value a outer → OnOk result (IfSome (after_string a name) (λ b. IsAt self.new.writer.value b outer)) }
     {
         if self.at >= end {
             return Ok(());
@@ -489,9 +489,9 @@ impl<'c, 'd, R: References, S: Sink> Output<'c, 'd, R, S> {
     pub fn flush(&mut self, next: Next) -> Result<(), AllocError>
         requires stands { Stands self.old }
         requires inlines { AtInlines self.old }
-        ensures given { self.new.writer.given ≡ self.old.writer.given }
+        ensures given { self.new.writer.value.given ≡ self.old.writer.value.given }
         ensures writes { OnOk result (WritesTo self.old self.new self.old.data) }
-        ensures stage { (h : Bool) → (outer : List Enclosing) → IsAt self.old.writer (inlines h) outer → OnOk result (IsFlushed next self.new (inlines h) outer) }
+        ensures stage { (h : Bool) → (outer : List Enclosing) → IsAt self.old.writer.value (inlines h) outer → OnOk result (IsFlushed next self.new (inlines h) outer) }
         ensures attention { OnOk result (attention_of self.new ≡ attention_of self.old) }
     {
         let end = self.data;
@@ -503,15 +503,15 @@ impl<'c, 'd, R: References, S: Sink> Output<'c, 'd, R, S> {
 
     /// Writes the waiting data at the end of the content, and returns the writer.
     #[inline(always)]
-    pub fn finish(mut self) -> Result<Recorder<'d, R, S>, AllocError>
+    pub fn finish(mut self) -> Result<Box<Recorder<'d, R, S>>, AllocError>
         requires stands { Stands self }
         requires ended { self.data ≡ length (bytes_of self) }
         requires inlines { AtInlines self }
-        ensures given { IfOk result (λ writer. writer.given ≡ self.entry.writer.given) }
-        ensures end { IfOk result (λ writer. spot writer.cursor ≡ content_end self.entry) }
-        ensures within { IfOk result (λ writer. IsWithin (constructs_of self.entry) writer) }
-        ensures stage { (h : Bool) → (outer : List Enclosing) → IsAt self.entry.writer (inlines h) outer → IfOk result (λ writer. IsAt writer (inlines h) outer) }
-        ensures attention { IfOk result (λ writer. attention_events writer.events ≡ attention_of self.entry) }
+        ensures given { IfOk result (λ writer. writer.value.given ≡ self.entry.writer.value.given) }
+        ensures end { IfOk result (λ writer. spot writer.value.cursor ≡ content_end self.entry) }
+        ensures within { IfOk result (λ writer. IsWithin (constructs_of self.entry) writer.value) }
+        ensures stage { (h : Bool) → (outer : List Enclosing) → IsAt self.entry.writer.value (inlines h) outer → IfOk result (λ writer. IsAt writer.value (inlines h) outer) }
+        ensures attention { IfOk result (λ writer. attention_events writer.value.events ≡ attention_of self.entry) }
     {
         self.flush(Next::End)?;
         let Output { writer, .. } = self;

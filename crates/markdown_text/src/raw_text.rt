@@ -104,7 +104,7 @@ pub fn write<R: References, S: Sink>(
     requires enclosed { IsEnclosed (bytes_of output.old) sequence output.old.data end }
     requires inlines { AtInlines output.old }
     requires on { is_on (constructs_of output.old) (raw_text_name kind) ≡ true }
-    ensures given { output.new.writer.given ≡ output.old.writer.given }
+    ensures given { output.new.writer.value.given ≡ output.old.writer.value.given }
     ensures writes { OnOk result (WritesTo output.old output.new end) }
     ensures at { KeepsInlines result output.old output.new }
     ensures attention { OnOk result (attention_of output.new ≡ attention_of output.old) }
@@ -127,7 +127,7 @@ fn write_enclosed<R: References, S: Sink>(
     requires filled { 0 < sequence }
     requires enclosed { IsEnclosed (bytes_of output.old) sequence output.old.at end }
     requires at { AtStage output.old (inlines false) }
-    ensures given { output.new.writer.given ≡ output.old.writer.given }
+    ensures given { output.new.writer.value.given ≡ output.old.writer.value.given }
     ensures writes { OnOk result (WritesTo output.old output.new end) }
     ensures at { Leads result (inlines false) (inlines false) output.old output.new }
     ensures attention { OnOk result (attention_of output.new ≡ attention_of output.old) }

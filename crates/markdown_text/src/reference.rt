@@ -20,7 +20,7 @@ pub fn write<R: References, S: Sink>(
     requires none_waits { output.old.data ≡ output.old.at }
     requires enclosed { IsEnclosed (bytes_of output.old) 1 output.old.at end }
     requires at { AtStage output.old media_target }
-    ensures given { output.new.writer.given ≡ output.old.writer.given }
+    ensures given { output.new.writer.value.given ≡ output.old.writer.value.given }
     ensures writes { OnOk result (WritesTo output.old output.new end) }
     ensures at { Leads result media_target endings output.old output.new }
 {

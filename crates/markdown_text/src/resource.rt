@@ -117,7 +117,7 @@ pub fn write<R: References, S: Sink>(
     requires none_waits { output.old.data ≡ output.old.at }
     requires resource { IsResource (bytes_of output.old) resource.now output.old.at (output.old.at + resource.now.size) }
     requires at { AtStage output.old media_target }
-    ensures given { output.new.writer.given ≡ output.old.writer.given }
+    ensures given { output.new.writer.value.given ≡ output.old.writer.value.given }
     ensures writes { OnOk result (WritesTo output.old output.new (output.old.at + resource.now.size)) }
     ensures at { Leads result media_target endings output.old output.new }
 {
@@ -141,7 +141,7 @@ fn write_destination<R: References, S: Sink>(
     requires none_waits { output.old.data ≡ output.old.at }
     requires destination { IsDestination (bytes_of output.old) output.old.at (output.old.at + size) }
     requires at { AtStage output.old resource }
-    ensures given { output.new.writer.given ≡ output.old.writer.given }
+    ensures given { output.new.writer.value.given ≡ output.old.writer.value.given }
     ensures writes { OnOk result (WritesTo output.old output.new (output.old.at + size)) }
     ensures at { Leads result resource resource_title output.old output.new }
 {
@@ -160,7 +160,7 @@ fn write_title<R: References, S: Sink>(
     requires none_waits { output.old.data ≡ output.old.at }
     requires enclosed { 0 < size → IsEnclosed (bytes_of output.old) 1 output.old.at (output.old.at + size) }
     requires at { AtStage output.old resource_title }
-    ensures given { output.new.writer.given ≡ output.old.writer.given }
+    ensures given { output.new.writer.value.given ≡ output.old.writer.value.given }
     ensures writes { OnOk result (WritesTo output.old output.new (output.old.at + size)) }
     ensures at { Leads result resource_title endings output.old output.new }
 {

@@ -29,20 +29,20 @@ use std::alloc::AllocError;
 #[inline(always)]
 pub fn inlines<'c, 'd, R: References, S: Sink>(
     source: &'c Source<'c, R>,
-    writer: Recorder<'d, R, S>,
+    writer: Box<Recorder<'d, R, S>>,
     pieces: &'c [Piece],
-) -> Result<Recorder<'d, R, S>, AllocError>
-    requires document { writer.given.bytes ≡ source.now.reading.now.document.now }
+) -> Result<Box<Recorder<'d, R, S>>, AllocError>
+    requires document { writer.value.given.bytes ≡ source.now.reading.now.document.now }
     requires content { IsContent pieces.now }
-    requires tiles { Tiles writer.given.bytes (spot writer.cursor) pieces.now (end_from (spot writer.cursor) pieces.now) }
-    requires bytes { source.now.bytes.now ≡ joined writer.given.bytes writer.cursor.index pieces.now }
-    requires references { writer.given.references ≡ source.now.reading.now.references.now }
-    requires begins { BeginsText false writer }
-    requires within { IsWithin source.now.reading.now.options.constructs writer }
-    ensures given { IfOk result (λ written. written.given ≡ writer.entry.given) }
-    ensures end { IfOk result (λ written. spot written.cursor ≡ end_from (spot writer.entry.cursor) pieces.now) }
-    ensures at { (h : Bool) → (outer : List Enclosing) → IsAt writer.entry (inlines h) outer → IfOk result (λ written. IsAt written (inlines h) outer) }
-    ensures within { IfOk result (λ written. IsWithin source.now.reading.now.options.constructs written) }
+    requires tiles { Tiles writer.value.given.bytes (spot writer.value.cursor) pieces.now (end_from (spot writer.value.cursor) pieces.now) }
+    requires bytes { source.now.bytes.now ≡ joined writer.value.given.bytes writer.value.cursor.index pieces.now }
+    requires references { writer.value.given.references ≡ source.now.reading.now.references.now }
+    requires begins { BeginsText false writer.value }
+    requires within { IsWithin source.now.reading.now.options.constructs writer.value }
+    ensures given { IfOk result (λ written. written.value.given ≡ writer.entry.value.given) }
+    ensures end { IfOk result (λ written. spot written.value.cursor ≡ end_from (spot writer.entry.value.cursor) pieces.now) }
+    ensures at { (h : Bool) → (outer : List Enclosing) → IsAt writer.entry.value (inlines h) outer → IfOk result (λ written. IsAt written.value (inlines h) outer) }
+    ensures within { IfOk result (λ written. IsWithin source.now.reading.now.options.constructs written.value) }
 {
     let mut output = Output::new(source, writer, pieces, ContentKind::String)?;
     write(&mut output, source.bytes.len())?;
@@ -58,7 +58,7 @@ pub fn write<R: References, S: Sink>(
     requires none_waits { output.old.data ≡ output.old.at }
     requires range { IsRange (bytes_of output.old) output.old.at end }
     requires inlines { AtInlines output.old }
-    ensures given { output.new.writer.given ≡ output.old.writer.given }
+    ensures given { output.new.writer.value.given ≡ output.old.writer.value.given }
     ensures goes_on { OnOk result (GoesOn output.old output.new) }
     ensures data_end { OnOk result (output.new.data ≡ end) }
     ensures at { KeepsInlines result output.old output.new }
@@ -137,7 +137,7 @@ fn write_found<R: References, S: Sink>(
     requires kind { IsOfString found.kind }
     requires inlines { AtInlines output.old }
     requires on { is_found_on (constructs_of output.old) found.kind ≡ true }
-    ensures given { output.new.writer.given ≡ output.old.writer.given }
+    ensures given { output.new.writer.value.given ≡ output.old.writer.value.given }
     ensures goes_on { OnOk result (GoesOn output.old output.new) }
     ensures data_end { OnOk result (output.new.data ≡ end) }
     ensures at { KeepsInlines result output.old output.new }

@@ -30,11 +30,12 @@ ghost use Rattle.markdown_text.specs.declared.token.TokenKind.TheVariants.{Label
 
 use crate::attention_names::{group_name, sequence_name, text_name};
 use crate::output::{ContentKind, Next, Output};
+use crate::plain::is_plain;
 use crate::raw_text::{self, RawText};
 use crate::source::Source;
 use crate::spare_lists::SpareLists;
 use crate::token::{Labelled, Target, Token, TokenKind};
-use crate::tokenizer::{Tokens, tokenize};
+use crate::tokenizer::tokenize;
 use crate::{
     autolink, character_escape, character_reference, gfm_task_list_item_check, hard_break_escape,
     html_text, label_end, label_start,
@@ -60,24 +61,59 @@ pub enum Open {
 #[inline(always)]
 pub fn inlines<'c, 'd, R: References, S: Sink>(
     source: &'c Source<'c, R>,
-    writer: Recorder<'d, R, S>,
+    writer: Box<Recorder<'d, R, S>>,
     pieces: &'c [Piece],
     is_task: bool,
     lists: &mut SpareLists,
-) -> Result<Recorder<'d, R, S>, AllocError>
-    requires document { writer.given.bytes ≡ source.now.reading.now.document.now }
-    requires references { writer.given.references ≡ source.now.reading.now.references.now }
+) -> Result<Box<Recorder<'d, R, S>>, AllocError>
+    requires document { writer.value.given.bytes ≡ source.now.reading.now.document.now }
+    requires references { writer.value.given.references ≡ source.now.reading.now.references.now }
     requires content { IsContent pieces.now }
-    requires tiles { Tiles writer.given.bytes (spot writer.cursor) pieces.now (end_from (spot writer.cursor) pieces.now) }
-    requires bytes { source.now.bytes.now ≡ joined writer.given.bytes writer.cursor.index pieces.now }
-    requires begins { BeginsText is_task writer }
+    requires tiles { Tiles writer.value.given.bytes (spot writer.value.cursor) pieces.now (end_from (spot writer.value.cursor) pieces.now) }
+    requires bytes { source.now.bytes.now ≡ joined writer.value.given.bytes writer.value.cursor.index pieces.now }
+    requires begins { BeginsText is_task writer.value }
     requires task { is_task ≡ true → source.now.reading.now.options.constructs.gfm_task_list_item ≡ true }
-    requires within { IsWithin source.now.reading.now.options.constructs writer }
-    ensures given { IfOk result (λ written. written.given ≡ writer.entry.given) }
-    ensures end { IfOk result (λ written. spot written.cursor ≡ end_from (spot writer.entry.cursor) pieces.now) }
-    ensures at { (h : Bool) → (outer : List Enclosing) → IsAtText is_task writer.entry h outer → IfOk result (λ written. IsAt written (inlines h) outer) }
-    ensures within { IfOk result (λ written. IsWithin source.now.reading.now.options.constructs written) }
-    ensures spans { HasNoClosing source.now.bytes.now → IfOk result (λ written. WritesSpans source.now.reading.now.options (place_at writer.entry pieces.now source.now.bytes.now) (text_of source.now.bytes.now (R.text source.now.reading.now.references.now) is_task) writer.entry written) }
+    requires within { IsWithin source.now.reading.now.options.constructs writer.value }
+    ensures given { IfOk result (λ written. written.value.given ≡ writer.entry.value.given) }
+    ensures end { IfOk result (λ written. spot written.value.cursor ≡ end_from (spot writer.entry.value.cursor) pieces.now) }
+    ensures at { (h : Bool) → (outer : List Enclosing) → IsAtText is_task writer.entry.value h outer → IfOk result (λ written. IsAt written.value (inlines h) outer) }
+    ensures within { IfOk result (λ written. IsWithin source.now.reading.now.options.constructs written.value) }
+    ensures spans { HasNoClosing source.now.bytes.now → IfOk result (λ written. WritesSpans source.now.reading.now.options (place_at writer.entry.value pieces.now source.now.bytes.now) (text_of source.now.bytes.now (R.text source.now.reading.now.references.now) is_task) writer.entry.value written.value) }
+{
+    let literals = source.reading.options.constructs.gfm_autolink_literal;
+    if !is_plain(source.bytes, literals) {
+        return write_constructs(source, writer, pieces, is_task, lists);
+    }
+    let size = source.bytes.len();
+    let mut output = Output::new(source, writer, pieces, ContentKind::Text)?;
+    output.data(size);
+    output.finish()
+}
+
+/// Does what `inlines` does, construct by construct.
+///
+/// Not inlined: a text without constructs needs no lists of them.
+#[inline(never)]
+fn write_constructs<'c, 'd, R: References, S: Sink>(
+    source: &'c Source<'c, R>,
+    writer: Box<Recorder<'d, R, S>>,
+    pieces: &'c [Piece],
+    is_task: bool,
+    lists: &mut SpareLists,
+) -> Result<Box<Recorder<'d, R, S>>, AllocError>
+    requires document { writer.value.given.bytes ≡ source.now.reading.now.document.now }
+    requires references { writer.value.given.references ≡ source.now.reading.now.references.now }
+    requires content { IsContent pieces.now }
+    requires tiles { Tiles writer.value.given.bytes (spot writer.value.cursor) pieces.now (end_from (spot writer.value.cursor) pieces.now) }
+    requires bytes { source.now.bytes.now ≡ joined writer.value.given.bytes writer.value.cursor.index pieces.now }
+    requires begins { BeginsText is_task writer.value }
+    requires task { is_task ≡ true → source.now.reading.now.options.constructs.gfm_task_list_item ≡ true }
+    requires within { IsWithin source.now.reading.now.options.constructs writer.value }
+    ensures given { IfOk result (λ written. written.value.given ≡ writer.entry.value.given) }
+    ensures end { IfOk result (λ written. spot written.value.cursor ≡ end_from (spot writer.entry.value.cursor) pieces.now) }
+    ensures at { (h : Bool) → (outer : List Enclosing) → IsAtText is_task writer.entry.value h outer → IfOk result (λ written. IsAt written.value (inlines h) outer) }
+    ensures within { IfOk result (λ written. IsWithin source.now.reading.now.options.constructs written.value) }
+    ensures spans { HasNoClosing source.now.bytes.now → IfOk result (λ written. WritesSpans source.now.reading.now.options (place_at writer.entry.value pieces.now source.now.bytes.now) (text_of source.now.bytes.now (R.text source.now.reading.now.references.now) is_task) writer.entry.value written.value) }
 {
     let found = tokenize(source, is_task, lists)?;
     let mut output = Output::new(source, writer, pieces, ContentKind::Text)?;
@@ -93,6 +129,7 @@ pub fn inlines<'c, 'd, R: References, S: Sink>(
 }
 
 /// Writes the mark of a task, if the first token is one, and returns the remaining tokens.
+#[inline(always)]
 fn write_task<'t, R: References, S: Sink>(
     output: &mut Output<'_, '_, R, S>,
     tokens: &'t [Token],
@@ -102,12 +139,12 @@ fn write_task<'t, R: References, S: Sink>(
     requires start { output.old.data ≡ 0 }
     requires none_waits { output.old.at ≡ 0 }
     requires tokens { AreTokens (as_text output.old (R.text (references_of output.old)) is_task) 0 tokens.now }
-    requires begins { BeginsText is_task output.old.writer }
+    requires begins { BeginsText is_task output.old.writer.value }
     requires on { AreTokensOn (constructs_of output.old) tokens.now }
-    ensures given { output.new.writer.given ≡ output.old.writer.given }
+    ensures given { output.new.writer.value.given ≡ output.old.writer.value.given }
     ensures goes_on { OnOk result (GoesOn output.old output.new) }
     ensures left { IfOk result (λ rest. AreTokens (as_text output.new (R.text (references_of output.new)) false) output.new.data rest.now) }
-    ensures at { (h : Bool) → (outer : List Enclosing) → IsAtText is_task output.old.writer h outer → OnOk result (IsAt output.new.writer (inlines h) outer) }
+    ensures at { (h : Bool) → (outer : List Enclosing) → IsAtText is_task output.old.writer.value h outer → OnOk result (IsAt output.new.writer.value (inlines h) outer) }
     ensures on { IfOk result (λ rest. AreTokensOn (constructs_of output.old) rest.now) }
     ensures walks { (walk : Walk) → (constructs : List Open) → length walk.delimiters ≡ length walk.place.content → WalksOn walk output.old constructs tokens.now → IfOk result (λ rest. WalksOn walk output.new constructs rest.now) }
 {
@@ -136,7 +173,7 @@ fn write_tokens<R: References, S: Sink>(
     requires at { AtOpen output.old open.old.items }
     requires on { AreTokensOn (constructs_of output.old) tokens.now }
     requires delimiters { AreDelimitersOn (constructs_of output.old) delimiters.now }
-    ensures given { output.new.writer.given ≡ output.old.writer.given }
+    ensures given { output.new.writer.value.given ≡ output.old.writer.value.given }
     ensures goes_on { OnOk result (GoesOn output.old output.new) }
     ensures rest { OnOk result (IsPart (bytes_of output.new) output.new.data (length (bytes_of output.new))) }
     ensures at { KeepsOpen result output.old output.new open.old.items open.new.items }
@@ -166,7 +203,7 @@ fn write_next<'t, R: References, S: Sink>(
     requires delimiters { AreDelimitersOn (constructs_of output.old) delimiters.now }
     requires on { is_kind_on (constructs_of output.old) token.now.kind ≡ true }
     requires later_on { AreTokensOn (constructs_of output.old) later.now }
-    ensures given { output.new.writer.given ≡ output.old.writer.given }
+    ensures given { output.new.writer.value.given ≡ output.old.writer.value.given }
     ensures goes_on { OnOk result (GoesOn output.old output.new) }
     ensures left { IfOk result (λ rest. AreTokens (as_text output.new (R.text (references_of output.new)) false) output.new.data rest.now) }
     ensures shorter { IfOk result (λ rest. length rest.now ≤ length later.now) }
@@ -223,7 +260,7 @@ fn write_empty_label<R: References, S: Sink>(
     requires token { IsToken (as_text output.old (R.text (references_of output.old)) false) (LabelEnd label.now.labelled label.now.target) (output.old.data + label_start label.now.labelled) end }
     requires inlines { AtInlines output.old }
     requires on { is_label_on (constructs_of output.old) label.now.labelled ≡ true }
-    ensures given { output.new.writer.given ≡ output.old.writer.given }
+    ensures given { output.new.writer.value.given ≡ output.old.writer.value.given }
     ensures goes_on { OnOk result (GoesOn output.old output.new) }
     ensures data_end { OnOk result (output.new.data ≡ end) }
     ensures at { KeepsInlines result output.old output.new }
@@ -245,7 +282,7 @@ fn write_token<R: References, S: Sink>(
     requires at { AtOpen output.old open.old.items }
     requires delimiters { AreDelimitersOn (constructs_of output.old) delimiters.now }
     requires on { is_kind_on (constructs_of output.old) token.now.kind ≡ true }
-    ensures given { output.new.writer.given ≡ output.old.writer.given }
+    ensures given { output.new.writer.value.given ≡ output.old.writer.value.given }
     ensures goes_on { OnOk result (GoesOn output.old output.new) }
     ensures data_end { OnOk result (output.new.data ≡ token.now.end) }
     ensures at { KeepsOpen result output.old output.new open.old.items open.new.items }
@@ -283,7 +320,7 @@ fn write_autolink_literal<R: References, S: Sink>(
     requires name { (name ≡ GfmAutolinkLiteralProtocol) ⊎ (name ≡ GfmAutolinkLiteralWww) }
     requires inlines { AtInlines output.old }
     requires on { (constructs_of output.old).gfm_autolink_literal ≡ true }
-    ensures given { output.new.writer.given ≡ output.old.writer.given }
+    ensures given { output.new.writer.value.given ≡ output.old.writer.value.given }
     ensures goes_on { OnOk result (GoesOn output.old output.new) }
     ensures data_end { OnOk result (output.new.data ≡ end) }
     ensures at { KeepsInlines result output.old output.new }
@@ -309,7 +346,7 @@ fn write_run<R: References, S: Sink>(
     requires start { output.old.data ≡ token.now.start }
     requires at { AtOpen output.old open.old.items }
     requires delimiters { AreDelimitersOn (constructs_of output.old) delimiters.now }
-    ensures given { output.new.writer.given ≡ output.old.writer.given }
+    ensures given { output.new.writer.value.given ≡ output.old.writer.value.given }
     ensures goes_on { OnOk result (GoesOn output.old output.new) }
     ensures data_end { OnOk result (output.new.data ≡ token.now.end) }
     ensures at { KeepsOpen result output.old output.new open.old.items open.new.items }
@@ -340,7 +377,7 @@ fn write_delimiter<R: References, S: Sink>(
     requires on { is_delimiter_on (constructs_of output.old) delimiter ≡ true }
     ensures least { IfOk result (λ size. 1 ≤ size) }
     ensures most { IfOk result (λ size. size ≤ most) }
-    ensures given { output.new.writer.given ≡ output.old.writer.given }
+    ensures given { output.new.writer.value.given ≡ output.old.writer.value.given }
     ensures goes_on { OnOk result (GoesOn output.old output.new) }
     ensures rest { IfOk result (λ size. IsPart (bytes_of output.new) output.new.data (output.old.data + size)) }
     ensures at { KeepsOpen result output.old output.new open.old.items open.new.items }
@@ -376,7 +413,7 @@ fn open_attention<R: References, S: Sink>(
     requires at { AtOpen output.old open.old.items }
     requires on { is_on (constructs_of output.old) (group_name kind) ≡ true }
     ensures size { IfOk result (λ size. size ≡ kind_size kind) }
-    ensures given { output.new.writer.given ≡ output.old.writer.given }
+    ensures given { output.new.writer.value.given ≡ output.old.writer.value.given }
     ensures goes_on { OnOk result (GoesOn output.old output.new) }
     ensures data_end { OnOk result (output.new.data ≡ output.old.data + kind_size kind) }
     ensures at { KeepsOpen result output.old output.new open.old.items open.new.items }
@@ -402,7 +439,7 @@ fn close_attention<R: References, S: Sink>(
     requires at { AtOpen output.old open.old.items }
     requires last { (os : List Open) × (open.old.items ≡ os ++ Attention kind ∷ []) }
     ensures size { IfOk result (λ size. size ≡ kind_size kind) }
-    ensures given { output.new.writer.given ≡ output.old.writer.given }
+    ensures given { output.new.writer.value.given ≡ output.old.writer.value.given }
     ensures goes_on { OnOk result (GoesOn output.old output.new) }
     ensures data_end { OnOk result (output.new.data ≡ output.old.data + kind_size kind) }
     ensures at { KeepsOpen result output.old output.new open.old.items open.new.items }
@@ -428,7 +465,7 @@ fn write_label_start<R: References, S: Sink>(
     requires token { IsToken (as_text output.old (R.text (references_of output.old)) false) (LabelStart labelled) output.old.data end }
     requires at { AtOpen output.old open.old.items }
     requires on { is_kind_on (constructs_of output.old) (LabelStart labelled) ≡ true }
-    ensures given { output.new.writer.given ≡ output.old.writer.given }
+    ensures given { output.new.writer.value.given ≡ output.old.writer.value.given }
     ensures goes_on { OnOk result (GoesOn output.old output.new) }
     ensures data_end { OnOk result (output.new.data ≡ end) }
     ensures at { KeepsOpen result output.old output.new open.old.items open.new.items }
@@ -449,7 +486,7 @@ fn write_label_start<R: References, S: Sink>(
 /// Records that a link begins, if the label belongs to one.
 fn enter_labelled<R: References, S: Sink>(output: &mut Output<'_, '_, R, S>, labelled: Labelled)
     requires { Stands output.old }
-    ensures writer { output.new.writer ≡ output.old.writer }
+    ensures writer { output.new.writer.value ≡ output.old.writer.value }
     ensures goes_on { GoesOn output.old output.new }
     ensures data_end { output.new.data ≡ output.old.data }
 {
@@ -469,7 +506,7 @@ fn write_label_end<R: References, S: Sink>(
     requires stands { Stands output.old }
     requires token { IsToken (as_text output.old (R.text (references_of output.old)) false) (LabelEnd labelled target.now) output.old.data end }
     requires at { AtOpen output.old open.old.items }
-    ensures given { output.new.writer.given ≡ output.old.writer.given }
+    ensures given { output.new.writer.value.given ≡ output.old.writer.value.given }
     ensures goes_on { OnOk result (GoesOn output.old output.new) }
     ensures data_end { OnOk result (output.new.data ≡ end) }
     ensures at { KeepsOpen result output.old output.new open.old.items open.new.items }
@@ -496,9 +533,9 @@ fn end_label<R: References, S: Sink>(
     requires none_waits { output.old.data ≡ output.old.at }
     requires token { IsToken (as_text output.old (R.text (references_of output.old)) false) (LabelEnd labelled target.now) output.old.at end }
     requires at { AtOpened output.old (Label labelled) }
-    ensures given { output.new.writer.given ≡ output.old.writer.given }
+    ensures given { output.new.writer.value.given ≡ output.old.writer.value.given }
     ensures writes { OnOk result (WritesTo output.old output.new end) }
-    ensures at { (h : Bool) → (outer : List Enclosing) → IsAt output.old.writer (inlines false) (opened (Label labelled) h outer) → OnOk result (IsAt output.new.writer (inlines h) outer) }
+    ensures at { (h : Bool) → (outer : List Enclosing) → IsAt output.old.writer.value (inlines false) (opened (Label labelled) h outer) → OnOk result (IsAt output.new.writer.value (inlines h) outer) }
 {
     output.exit()?;
     label_end::write(output, labelled, target, end)
@@ -507,7 +544,7 @@ fn end_label<R: References, S: Sink>(
 /// Records that a link ends, if the label belongs to one.
 fn exit_labelled<R: References, S: Sink>(output: &mut Output<'_, '_, R, S>, labelled: Labelled)
     requires { Stands output.old }
-    ensures writer { output.new.writer ≡ output.old.writer }
+    ensures writer { output.new.writer.value ≡ output.old.writer.value }
     ensures goes_on { GoesOn output.old output.new }
     ensures data_end { output.new.data ≡ output.old.data }
 {
@@ -533,10 +570,10 @@ fn close<R: References, S: Sink>(
 ) -> Result<(), AllocError>
     requires stands { Stands output.old }
     requires at { AtOpened output.old last }
-    ensures given { output.new.writer.given ≡ output.old.writer.given }
+    ensures given { output.new.writer.value.given ≡ output.old.writer.value.given }
     ensures goes_on { OnOk result (GoesOn output.old output.new) }
     ensures data_end { OnOk result (output.new.data ≡ output.old.data) }
-    ensures at { (h : Bool) → (outer : List Enclosing) → IsAt output.old.writer (inlines false) (opened last h outer) → OnOk result (IsAt output.new.writer (inlines h) outer) }
+    ensures at { (h : Bool) → (outer : List Enclosing) → IsAt output.old.writer.value (inlines false) (opened last h outer) → OnOk result (IsAt output.new.writer.value (inlines h) outer) }
 {
     output.flush(Next::Span)?;
     match last {
@@ -550,9 +587,9 @@ fn close_text<R: References, S: Sink>(output: &mut Output<'_, '_, R, S>) -> Resu
     requires stands { Stands output.old }
     requires none_waits { output.old.data ≡ output.old.at }
     requires at { (kind : AttentionKind) × AtOpened output.old (Attention kind) }
-    ensures given { output.new.writer.given ≡ output.old.writer.given }
+    ensures given { output.new.writer.value.given ≡ output.old.writer.value.given }
     ensures writes { OnOk result (WritesTo output.old output.new output.old.data) }
-    ensures at { (kind : AttentionKind) → (h : Bool) → (outer : List Enclosing) → IsAt output.old.writer (inlines false) (opened (Attention kind) h outer) → OnOk result (IsAt output.new.writer (inlines h) outer) }
+    ensures at { (kind : AttentionKind) → (h : Bool) → (outer : List Enclosing) → IsAt output.old.writer.value (inlines false) (opened (Attention kind) h outer) → OnOk result (IsAt output.new.writer.value (inlines h) outer) }
 {
     output.exit()?;
     output.exit()
@@ -563,9 +600,9 @@ fn close_label<R: References, S: Sink>(output: &mut Output<'_, '_, R, S>) -> Res
     requires stands { Stands output.old }
     requires none_waits { output.old.data ≡ output.old.at }
     requires at { (labelled : Labelled) × AtOpened output.old (Label labelled) }
-    ensures given { output.new.writer.given ≡ output.old.writer.given }
+    ensures given { output.new.writer.value.given ≡ output.old.writer.value.given }
     ensures writes { OnOk result (WritesTo output.old output.new output.old.data) }
-    ensures at { (labelled : Labelled) → (h : Bool) → (outer : List Enclosing) → IsAt output.old.writer (inlines false) (opened (Label labelled) h outer) → OnOk result (IsAt output.new.writer (inlines h) outer) }
+    ensures at { (labelled : Labelled) → (h : Bool) → (outer : List Enclosing) → IsAt output.old.writer.value (inlines false) (opened (Label labelled) h outer) → OnOk result (IsAt output.new.writer.value (inlines h) outer) }
 {
     output.exit()?;
     output.exit()?;

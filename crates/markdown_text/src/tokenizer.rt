@@ -22,7 +22,7 @@ use crate::brackets::{Bracket, Brackets, LabelForm};
 use crate::cursor::Cursor;
 use crate::delimiter_run::{is_delimiter_run, run_at};
 use crate::label_end::{self, Match};
-use crate::plain::{is_plain, plain_length};
+use crate::plain::plain_length;
 use crate::source::Source;
 use crate::spare_lists::{SpareLists, take_cleared};
 use crate::token::{Found, Labelled, Token, TokenKind};
@@ -50,17 +50,6 @@ pub struct Tokens {
 }
 
 impl Tokens {
-    /// Returns no tokens, with lists that are spare.
-    fn none(lists: &mut SpareLists, alloc: Global) -> Tokens
-        ensures tokens { result.tokens.items ≡ [] }
-        ensures delimiters { result.delimiters.items ≡ [] }
-    {
-        Tokens {
-            tokens: take_cleared(&mut lists.tokens, alloc),
-            delimiters: take_cleared(&mut lists.delimiters, alloc),
-        }
-    }
-
     /// Makes the lists spare.
     #[inline(always)]
     pub fn keep_lists(self, lists: &mut SpareLists) {
@@ -72,31 +61,6 @@ impl Tokens {
 /// Returns the constructs in a text. With `is_task` it may begin with the mark of a task. The only
 /// error is that memory ran out.
 pub fn tokenize<R: References>(
-    source: &Source<'_, R>,
-    is_task: bool,
-    lists: &mut SpareLists,
-) -> Result<Tokens, AllocError>
-    requires task { is_task ≡ true → source.now.reading.now.options.constructs.gfm_task_list_item ≡ true }
-    ensures found { IfOk result (λ found. AreTokens (text_of source.now.bytes.now (R.text source.now.reading.now.references.now) is_task) 0 found.tokens.items) }
-    ensures on { IfOk result (λ found. AreTokensOn source.now.reading.now.options.constructs found.tokens.items) }
-    ensures delimiters { IfOk result (λ found. AreDelimitersOn source.now.reading.now.options.constructs found.delimiters.items) }
-    ensures pairs { HasNoClosing source.now.bytes.now → IfOk result (λ found. ArePairsOf source.now.reading.now.options source.now.bytes.now found.tokens.items found.delimiters.items) }
-{
-    let reading = source.reading;
-    if is_plain(
-        source.bytes,
-        reading.options.constructs.gfm_autolink_literal,
-    ) {
-        return Ok(Tokens::none(lists, reading.alloc));
-    }
-    find_tokens(source, is_task, lists)
-}
-
-/// Does what `tokenize` does, construct by construct.
-///
-/// Not inlined: a text without constructs needs no tokenizer, which is large.
-#[inline(never)]
-fn find_tokens<R: References>(
     source: &Source<'_, R>,
     is_task: bool,
     lists: &mut SpareLists,

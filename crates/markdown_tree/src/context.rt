@@ -13,7 +13,7 @@ ghost use Rattle.markdown_parts.specs.PartsSoFar.{first_failing};
 ghost use Rattle.markdown_containers.specs.declared.container.Container.TheVariants as containers;
 ghost use Rattle.markdown_containers.specs.Containers.{current_model_of, misfit_of};
 ghost use Rattle.markdown_events.specs.declared.event.Point.{Point};
-ghost use Rattle.markdown_grammar.specs.Grammar.{leaf, model_of};
+ghost use Rattle.markdown_grammar.specs.Grammar.{leaf, list_item, model_of, task_paragraph};
 ghost use Rattle.markdown_parts.specs.Nest.{innermost};
 ghost use Rattle.markdown_grammar.specs.Items as Kinds;
 ghost use Rattle.markdown_grammar.specs.Document as Documents;
@@ -46,6 +46,7 @@ ghost use Rattle.markdown_steps.specs.Well.{Well, is_transparent};
 
 use crate::spare_lists::SpareLists;
 use character_references::references::References;
+use markdown_blocks::list::{ListItemParts, TaskParagraphParts};
 use markdown_blocks::parent::is_parent;
 use markdown_blocks::table::Columns;
 use markdown_containers::container::Container;
@@ -233,16 +234,40 @@ impl<'a> Context<'a> {
         ensures { OnOk result ((s : Source) → (point : Point) → first_failing (enter_checks s (top_of self.old) what point) ≡ None
             → OpenedContainer s what point self.old self.new) }
     {
-        if self
-            .containers
-            .innermost()
-            .container
-            .opens_any_content(what)
-        {
+        let around = &self.containers.innermost().container;
+        if around.opens_any_content(what) {
             let nodes = self.spare.take(alloc);
             return self.put(what, Container::AnyContent, nodes);
         }
+        if around.opens_list_item(what) {
+            return self.open_list_item(alloc, what);
+        }
+        if around.opens_task_paragraph(what) {
+            return self.open_task_paragraph(alloc, what);
+        }
         self.open_with_parts(alloc, what)
+    }
+
+    /// Opens an item of an unordered list. Also not inlined.
+    #[inline(never)]
+    fn open_list_item(&mut self, alloc: Global, what: ItemKind) -> Result<(), AllocError>
+        requires { model_of (current_model_of (innermost self.old.containers).container) what ≡ list_item }
+        ensures { OnOk result ((s : Source) → (point : Point) → first_failing (enter_checks s (top_of self.old) what point) ≡ None
+            → OpenedContainer s what point self.old self.new) }
+    {
+        let container = Container::ListItem(ListItemParts::new());
+        self.put(what, container, Vec::new(alloc))
+    }
+
+    /// Opens a paragraph of an item that has no mark yet. Also not inlined.
+    #[inline(never)]
+    fn open_task_paragraph(&mut self, alloc: Global, what: ItemKind) -> Result<(), AllocError>
+        requires { model_of (current_model_of (innermost self.old.containers).container) what ≡ task_paragraph }
+        ensures { OnOk result ((s : Source) → (point : Point) → first_failing (enter_checks s (top_of self.old) what point) ≡ None
+            → OpenedContainer s what point self.old self.new) }
+    {
+        let container = Container::TaskParagraph(TaskParagraphParts::new());
+        self.put(what, container, Vec::new(alloc))
     }
 
     /// Does the same for a container that may keep parts. Also not inlined.
@@ -728,7 +753,7 @@ impl<'a> Context<'a> {
             item_left s (item_kinds.Content content) frame end.now self.old ≡ Ok (top_of self.new)) }
         ensures closed { OnOk result (Closed (roles.Significant (item_kinds.Content content)) self.old self.new) }
     {
-        let mut nodes = remove_last(alloc, &mut self.containers.inner);
+        let mut nodes = remove_last(&mut self.containers.inner);
         let children = drained(alloc, &mut nodes)?;
         self.spare.keep(nodes);
         self.in_table = frame.in_table;
@@ -766,7 +791,7 @@ impl<'a> Context<'a> {
             in_table: frame.in_table,
             marks: self.interior.marks,
         };
-        let mut nodes = remove_last(alloc, &mut self.containers.inner);
+        let mut nodes = remove_last(&mut self.containers.inner);
         self.in_table = frame.in_table;
         let top = self.containers.innermost_mut();
         match what {

@@ -43,7 +43,7 @@ token-requires-2-clause-may g c =
     let flushed = c.in_ok-flush.ensures.stage h outer c.requires.inlines.at in
     let begun = c.in_ok-enter.ensures.stage (inlines h) outer flushed in
     let put = c.in_ok-token.ensures.stage autolink inner begun in
-    let put2 = at_some (λ b. IsAt c.token_to.new.self.writer b inner) (after_plain autolink c.args.address) nothing (address_stage c.args.address c.requires.autolink.named) (c.in_ok-token_to.ensures.stage autolink inner put) in
+    let put2 = at_some (λ b. IsAt c.token_to.new.self.writer.value b inner) (after_plain autolink c.args.address) nothing (address_stage c.args.address c.requires.autolink.named) (c.in_ok-token_to.ensures.stage autolink inner put) in
     record { stage = nothing; outer = inner; at = put2; may = refl }
 
 pub exit-requires-clause-may : goal.exit-requires-clause-may
@@ -54,7 +54,7 @@ exit-requires-clause-may g c =
     let flushed = c.in_ok-flush.ensures.stage h outer c.requires.inlines.at in
     let begun = c.in_ok-enter.ensures.stage (inlines h) outer flushed in
     let put = c.in_ok-token.ensures.stage autolink inner begun in
-    let put2 = at_some (λ b. IsAt c.token_to.new.self.writer b inner) (after_plain autolink c.args.address) nothing (address_stage c.args.address c.requires.autolink.named) (c.in_ok-token_to.ensures.stage autolink inner put) in
+    let put2 = at_some (λ b. IsAt c.token_to.new.self.writer.value b inner) (after_plain autolink c.args.address) nothing (address_stage c.args.address c.requires.autolink.named) (c.in_ok-token_to.ensures.stage autolink inner put) in
     let put3 = c.in_ok-token-2.ensures.stage nothing inner put2 in
     record { stage = nothing; outer = inner; at = put3; may = refl }
 
@@ -64,7 +64,7 @@ returns-clause-at g c = λ h outer at.
     let flushed = c.in_ok-flush.ensures.stage h outer at in
     let begun = c.in_ok-enter.ensures.stage (inlines h) outer flushed in
     let put = c.in_ok-token.ensures.stage autolink inner begun in
-    let put2 = at_some (λ b. IsAt c.token_to.new.self.writer b inner) (after_plain autolink c.args.address) nothing (address_stage c.args.address c.requires.autolink.named) (c.in_ok-token_to.ensures.stage autolink inner put) in
+    let put2 = at_some (λ b. IsAt c.token_to.new.self.writer.value b inner) (after_plain autolink c.args.address) nothing (address_stage c.args.address c.requires.autolink.named) (c.in_ok-token_to.ensures.stage autolink inner put) in
     let put3 = c.in_ok-token-2.ensures.stage nothing inner put2 in
     c.exit.ensures.stage nothing (inlines h) Autolink outer put3
 
@@ -76,7 +76,7 @@ returns-clause-attention g c =
     let flushed = c.in_ok-flush.ensures.stage h outer c.requires.inlines.at in
     let begun = c.in_ok-enter.ensures.stage (inlines h) outer flushed in
     let put = c.in_ok-token.ensures.stage autolink inner begun in
-    let put2 = at_some (λ b. IsAt c.token_to.new.self.writer b inner) (after_plain autolink c.args.address) nothing (address_stage c.args.address c.requires.autolink.named) (c.in_ok-token_to.ensures.stage autolink inner put) in
+    let put2 = at_some (λ b. IsAt c.token_to.new.self.writer.value b inner) (after_plain autolink c.args.address) nothing (address_stage c.args.address c.requires.autolink.named) (c.in_ok-token_to.ensures.stage autolink inner put) in
     let put3 = c.in_ok-token-2.ensures.stage nothing inner put2 in
     let before = c.in_ok-token-2.ensures.attention refl ∙ c.in_ok-token_to.ensures.attention (autolink_other c.args.address c.requires.autolink.named) ∙ c.in_ok-token.ensures.attention refl ∙ c.in_ok-enter.ensures.others refl ∙ c.in_ok-flush.ensures.attention in
     on_ok c.exit.result (λ last. last ∙ before) (c.exit.ensures.others nothing (inlines h) Autolink outer put3 refl)

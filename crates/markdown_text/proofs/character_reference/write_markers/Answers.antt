@@ -22,15 +22,15 @@ token-requires-in-Hexadecimal-2-clause-may g c =
     record { stage = character_reference_value 35; outer = outer; at = c.in_ok-token-in-Hexadecimal.ensures.stage (character_reference_value 38) outer put; may = refl }
 
 pub returns-in-Named-clause-at : goal.returns-in-Named-clause-at
-returns-in-Named-clause-at g c = λ outer at. subst (λ (k : ReferenceKind). IsAt c.token.new.self.writer (character_reference_value (marker k)) outer) (sym c.in-Named.is) (c.in_ok-token.ensures.stage character_reference outer at)
+returns-in-Named-clause-at g c = λ outer at. subst (λ (k : ReferenceKind). IsAt c.token.new.self.writer.value (character_reference_value (marker k)) outer) (sym c.in-Named.is) (c.in_ok-token.ensures.stage character_reference outer at)
 
 pub returns-in-Decimal-clause-at : goal.returns-in-Decimal-clause-at
 returns-in-Decimal-clause-at g c = λ outer at.
     let put = c.in_ok-token.ensures.stage character_reference outer at in
-    subst (λ (k : ReferenceKind). OnOk c.token-in-Decimal.result (IsAt c.token-in-Decimal.new.self.writer (character_reference_value (marker k)) outer)) (sym c.in-Decimal.is) (c.token-in-Decimal.ensures.stage (character_reference_value 38) outer put)
+    subst (λ (k : ReferenceKind). OnOk c.token-in-Decimal.result (IsAt c.token-in-Decimal.new.self.writer.value (character_reference_value (marker k)) outer)) (sym c.in-Decimal.is) (c.token-in-Decimal.ensures.stage (character_reference_value 38) outer put)
 
 pub returns-in_ok-token-in-Hexadecimal-clause-at : goal.returns-in_ok-token-in-Hexadecimal-clause-at
 returns-in_ok-token-in-Hexadecimal-clause-at g c = λ outer at.
     let put = c.in_ok-token.ensures.stage character_reference outer at in
     let put2 = c.in_ok-token-in-Hexadecimal.ensures.stage (character_reference_value 38) outer put in
-    subst (λ (k : ReferenceKind). OnOk c.token-in-Hexadecimal-2.result (IsAt c.token-in-Hexadecimal-2.new.self.writer (character_reference_value (marker k)) outer)) (sym c.in-Hexadecimal.is) (c.token-in-Hexadecimal-2.ensures.stage (character_reference_value 35) outer put2)
+    subst (λ (k : ReferenceKind). OnOk c.token-in-Hexadecimal-2.result (IsAt c.token-in-Hexadecimal-2.new.self.writer.value (character_reference_value (marker k)) outer)) (sym c.in-Hexadecimal.is) (c.token-in-Hexadecimal-2.ensures.stage (character_reference_value 35) outer put2)

@@ -7,5 +7,5 @@ inlines-requires-clause-begins g c =
     record {
       in_heading = begins.in_heading;
       outer = begins.outer;
-      at = text_begins c.args.writer c.may_be_task-is_task.result c.args.place begins.in_heading begins.outer c.may_be_task-is_task.ensures.place begins.at;
+      at = text_begins c.args.writer.value c.may_be_task-is_task.result c.args.place begins.in_heading begins.outer c.may_be_task-is_task.ensures.place begins.at;
     }

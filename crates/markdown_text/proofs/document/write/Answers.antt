@@ -1,4 +1,5 @@
 use Rattle.std.proofs.Common.{◌∙◌, List, ap, subst, sym}
+use Rattle.event_writer.specs.Written.{Written}
 use Rattle.markdown_pieces.proofs.Tilings.{parted}
 use Rattle.markdown_pieces.specs.Spans.{AreOn as ArePiecesOn}
 use Rattle.markdown_pieces.specs.Tilings.{Spot, Tiles, end_from}
@@ -8,13 +9,14 @@ use Rattle.markdown_text.proofs.Parted.{none_left, on_parted, walks_parted}
 use Rattle.markdown_text.proofs.Steps.{says_at}
 use Rattle.markdown_text.proofs.Tasks.{walked}
 use Rattle.markdown_text.specs.Contents.{spot}
+use Rattle.markdown_text.specs.Standings.{IsAt}
 use Rattle.markdown_text.proofs.document.write.Goals as goal
 
 pub write_stretch-requires-clause-tiles : goal.write_stretch-requires-clause-tiles
 write_stretch-requires-clause-tiles g c =
     let document = c.args.reading.now.document.now in
-    let from = spot c.stretches.writer.cursor in
-    let end = end_from (spot c.args.writer.cursor) c.args.pieces.items in
+    let from = spot c.stretches.writer.value.cursor in
+    let end = end_from (spot c.in_ok-writer.writer.value.cursor) c.args.pieces.items in
     let tiles = subst (λ (ps : List Piece). Tiles document from ps end) (sym c.in_ok-later.ensures.all) c.stretches.invariant.tiles in
     subst (λ (ps : List Piece). Tiles document from ps (end_from from ps)) (sym c.as_slice.ensures.value) (parted document from end c.cut_later.new.pieces.items c.in_ok-later.later.items tiles).0
 
@@ -37,10 +39,10 @@ stretches-preserved g c =
     let ps = c.cut_later.new.pieces.items in
     let qs = c.in_ok-later.later.items in
     let all = sym c.in_ok-later.ensures.all in
-    let wrote = c.in_ok-writer.ensures in
+    let wrote = c.in_ok-writer-2.ensures in
     let document = c.args.reading.now.document.now in
-    let from = spot c.stretches.writer.cursor in
-    let end = end_from (spot c.args.writer.cursor) c.args.pieces.items in
+    let from = spot c.stretches.writer.value.cursor in
+    let end = end_from (spot c.in_ok-writer.writer.value.cursor) c.args.pieces.items in
     let constructs = c.args.reading.now.options.constructs in
     let tiles = parted document from end ps qs (subst (λ (rs : List Piece). Tiles document from rs end) all i.tiles) in
     let k = walks_parted n.0 start ps qs (subst (λ (rs : List Piece). Walks n.0 rs start) all n.2) in
@@ -56,4 +58,5 @@ pub returns-clause-root : goal.returns-clause-root
 returns-clause-root g c =
     let n = c.stretches.invariant.nest in
     let none = none_left c.stretches.stretch c.is_empty.result c.stretches-test.false c.is_empty.ensures in
-    says_at c.stretches.writer start n.0 (walked n.0 start c.stretches.stretch.items none n.2) n.1.0
+    let at = says_at c.stretches.writer.value start n.0 (walked n.0 start c.stretches.stretch.items none n.2) n.1.0 in
+    subst (λ (w : Written _). IsAt w start.stage start.outer) (sym c.into_inner.ensures) at

@@ -10,10 +10,10 @@ use Rattle.markdown_text.proofs.document.write.Given as goal
 -- what is left begins at the cursor, and leads from the state of the writer to the start
 abbrev pub invariant-stretches : goal.invariant-stretches
 invariant-stretches g l = record {
-  given : l.writer.given ≡ l.initial.writer.given;
-  tiles : Tiles l.reading.document.now (spot l.writer.cursor) l.stretch.items (end_from (spot l.initial.writer.cursor) l.fn.pieces.items);
-  nest : (s : State) × IsAtPlace l.writer l.place s × Walks s l.stretch.items start;
-  within : IsWithin l.reading.options.constructs l.writer;
+  given : l.writer.value.given ≡ l.initial.writer.value.given;
+  tiles : Tiles l.reading.document.now (spot l.writer.value.cursor) l.stretch.items (end_from (spot l.initial.writer.value.cursor) l.fn.pieces.items);
+  nest : (s : State) × IsAtPlace l.writer.value l.place s × Walks s l.stretch.items start;
+  within : IsWithin l.reading.options.constructs l.writer.value;
   on : ArePiecesOn l.reading.options.constructs l.stretch.items;
 }
 

@@ -1,7 +1,7 @@
 use Rattle.std.proofs.Common.{◌∙◌, List, ap, drop, refl, subst, sym, take, ℕ}
 use Rattle.std.proofs.lemmas.List.{take-append-drop}
 use Rattle.event_writer.specs.Stages.{Stage, inlines}
-use Rattle.event_writer.specs.Written.{Given}
+use Rattle.event_writer.specs.Written.{Given, Written}
 use Rattle.markdown_pieces.specs.Spans.{AreOn as ArePiecesOn}
 use Rattle.markdown_pieces.specs.Tilings.{Spot, Tiles, end_from}
 use Rattle.markdown_pieces.specs.declared.piece.Piece.{Piece}
@@ -16,7 +16,8 @@ use Rattle.markdown_text.proofs.Switches.{dropped_on}
 use Rattle.markdown_text.proofs.Tasks.{content_walks, place_after_piece, task_begins, text_inlines, walked}
 use Rattle.markdown_text.specs.Contents.{spot}
 use Rattle.markdown_text.specs.Standings.{IsAt}
-use Rattle.markdown_text.specs.Tasks.{IsTaskPlace}
+use Rattle.markdown_text.specs.Spans.{IsWithin}
+use Rattle.markdown_text.specs.Tasks.{IsAtPlace, IsTaskPlace}
 use Rattle.markdown_text.specs.declared.content.Place.TheVariants.{BeforeText}
 use Rattle.markdown_text.specs.declared.document.TaskPlace.{TaskPlace}
 use Rattle.markdown_text.proofs.document.write_stretch.Goals as goal
@@ -24,15 +25,15 @@ use Rattle.markdown_text.proofs.document.write_stretch.Goals as goal
 pub inlines-requires-clause-tiles : goal.inlines-requires-clause-tiles
 inlines-requires-clause-tiles g c =
     let i = c.pieces.invariant in
-    let from = spot c.pieces.writer.cursor in
+    let from = spot c.pieces.writer.value.cursor in
     let document = c.args.reading.now.document.now in
-    let parts = tiles_parted document from (end_from (spot c.args.writer.cursor) c.args.pieces.now) c.pieces.rest.now c.content_size.result i.tiles in
+    let parts = tiles_parted document from (end_from (spot c.args.writer.value.cursor) c.args.pieces.now) c.pieces.rest.now c.content_size.result i.tiles in
     subst (λ (bs : List ℕ). Tiles bs from c.split_at.result.0.now (end_from from c.split_at.result.0.now)) (sym (ap (λ (g : Given _). g.bytes) i.given ∙ c.requires.document))
     (subst (λ (ps : List Piece). Tiles document from ps (end_from from ps)) (sym c.split_at.ensures.front) parts.0)
 
 pub inlines-requires-clause-begins : goal.inlines-requires-clause-begins
 inlines-requires-clause-begins g c =
-    let w = c.pieces.writer in
+    let w = c.pieces.writer.value in
     let may = c.requires.nest in
     let n = c.pieces.invariant.nest may.before may.after may.at may.walks in
     let k = subst (λ (ps : List Piece). Walks n.0 ps may.after) c.in-Some.ensures.cases.0 n.2 in
@@ -48,7 +49,8 @@ write_piece-requires-clause-step g c =
     let may = c.requires.nest in
     let n = c.pieces.invariant.nest may.before may.after may.at may.walks in
     let k = subst (λ (ps : List Piece). Walks n.0 ps may.after) c.in-Some.ensures.cases.0 n.2 in
-    record { before = k.0; after = k.1; at = says_at c.pieces.writer k.0 n.0 k.2 n.1.0; steps = k.3 }
+    let here = subst (λ (w : Written _). IsAtPlace w c.pieces.place n.0) (sym c.deref_mut.ensures.value) n.1 in
+    record { before = k.0; after = k.1; at = says_at c.deref_mut.result.now k.0 n.0 k.2 here.0; steps = k.3 }
 
 pub pieces-preserved : goal.pieces-preserved
 pieces-preserved g c =
@@ -56,36 +58,38 @@ pieces-preserved g c =
     let p = c.in-Some.piece.now in
     let is = c.in-Some.ensures.cases.0 in
     let document = c.args.reading.now.document.now in
-    let end = end_from (spot c.args.writer.cursor) c.args.pieces.now in
+    let end = end_from (spot c.args.writer.value.cursor) c.args.pieces.now in
     let wrote = c.in_ok-write_piece.ensures in
+    let same = c.deref_mut.ensures.value in
     let constructs = c.args.reading.now.options.constructs in
     let on = subst (ArePiecesOn constructs) is i.on in
     record {
-      given = c.write_piece.ensures.given ∙ i.given;
-      tiles = subst (λ (s : Spot). Tiles document s c.in-Some.later.now end) (sym wrote.spot) (subst (λ (qs : List Piece). Tiles document (spot c.pieces.writer.cursor) qs end) is i.tiles).1;
+      given = c.write_piece.ensures.given ∙ ap (λ (w : Written _). w.given) same ∙ i.given;
+      tiles = subst (λ (s : Spot). Tiles document s c.in-Some.later.now end) (sym wrote.spot) (subst (λ (qs : List Piece). Tiles document (spot c.pieces.writer.value.cursor) qs end) is i.tiles).1;
       nest = λ s t at walks.
           let n = i.nest s t at walks in
           let k = subst (λ (ps : List Piece). Walks n.0 ps t) is n.2 in
-          let here = wrote.at k.0 k.1 k.3 (says_at c.pieces.writer k.0 n.0 k.2 n.1.0) in (
+          let before = subst (λ (w : Written _). IsAtPlace w c.pieces.place n.0) (sym same) n.1 in
+          let here = wrote.at k.0 k.1 k.3 (says_at c.deref_mut.result.now k.0 n.0 k.2 before.0) in (
             k.1,
             (
               here,
-              subst (λ (place : TaskPlace). IsTaskPlace c.write_piece.new.writer place k.1) (sym c.after-place.ensures) (place_after_piece c.pieces.writer c.write_piece.new.writer c.pieces.place p.kind k.0 n.0 k.1 k.2 k.3 here wrote.at n.1.1),
+              subst (λ (place : TaskPlace). IsTaskPlace c.write_piece.new.writer place k.1) (sym c.after-place.ensures) (place_after_piece c.deref_mut.result.now c.write_piece.new.writer c.pieces.place p.kind k.0 n.0 k.1 k.2 k.3 here wrote.at before.1),
             ),
             k.4,
           );
-      within = wrote.within constructs on.0 i.within;
+      within = wrote.within constructs on.0 (subst (λ (w : Written _). IsWithin constructs w) (sym same) i.within);
       on = on.1;
     }
 
 pub pieces-preserved-then-is_text : goal.pieces-preserved-then-is_text
 pieces-preserved-then-is_text g c =
     let i = c.pieces.invariant in
-    let from = spot c.pieces.writer.cursor in
+    let from = spot c.pieces.writer.value.cursor in
     let document = c.args.reading.now.document.now in
-    let end = end_from (spot c.args.writer.cursor) c.args.pieces.now in
+    let end = end_from (spot c.args.writer.value.cursor) c.args.pieces.now in
     let parts = tiles_parted document from end c.pieces.rest.now c.content_size.result i.tiles in
-    let w = c.pieces.writer in
+    let w = c.pieces.writer.value in
     let rest = c.pieces.rest.now in
     let size = c.content_size.result in
     let is = c.in-Some.ensures.cases.0 in
@@ -125,4 +129,4 @@ pieces-init g c = record {
 pub returns-clause-nest : goal.returns-clause-nest
 returns-clause-nest g c = λ s t at walks.
     let n = c.pieces.invariant.nest s t at walks in
-    less_at_place c.pieces.writer c.pieces.place t n.0 (walked n.0 t c.pieces.rest.now c.in_default.ensures.cases n.2) n.1
+    less_at_place c.pieces.writer.value c.pieces.place t n.0 (walked n.0 t c.pieces.rest.now c.in_default.ensures.cases n.2) n.1

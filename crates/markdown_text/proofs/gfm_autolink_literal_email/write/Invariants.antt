@@ -9,9 +9,9 @@ use Rattle.markdown_text.proofs.gfm_autolink_literal_email.write.Given as goal
 -- what is left of the data stands in a line
 abbrev pub invariant-loop : goal.invariant-loop
 invariant-loop g l = record {
-  given : l.output.writer.given ≡ l.fn.output.writer.given;
+  given : l.output.writer.value.given ≡ l.fn.output.writer.value.given;
   goes_on : GoesOn l.fn.output l.output;
   part : IsPart (bytes_of l.output) l.output.at l.end;
-  at : (h : Bool) → (outer : List Enclosing) → IsAt l.fn.output.writer (inlines h) outer → IsAt l.output.writer (inlines h) outer;
+  at : (h : Bool) → (outer : List Enclosing) → IsAt l.fn.output.writer.value (inlines h) outer → IsAt l.output.writer.value (inlines h) outer;
   attention : attention_of l.output ≡ attention_of l.fn.output;
 }

@@ -37,7 +37,7 @@ returns-clause-left g c = λ end part address.
 
 pub returns-clause-at : goal.returns-clause-at
 returns-clause-at g c = λ h outer at.
-    at_some (λ b. IsAt c.token_to.new.self.writer b outer) (after_plain (inlines h) c.args.address.now.name) (inlines h) (address_plain c.args.address.now.name h c.requires.address.2.named) (c.in_ok-token_to.ensures.stage (inlines h) outer (c.in_ok-fill_to.ensures.stage (inlines h) outer refl at))
+    at_some (λ b. IsAt c.token_to.new.self.writer.value b outer) (after_plain (inlines h) c.args.address.now.name) (inlines h) (address_plain c.args.address.now.name h c.requires.address.2.named) (c.in_ok-token_to.ensures.stage (inlines h) outer (c.in_ok-fill_to.ensures.stage (inlines h) outer refl at))
 
 pub returns-clause-attention : goal.returns-clause-attention
 returns-clause-attention g c = c.in_ok-token_to.ensures.attention (address_other c.args.address.now.name c.requires.address.2.named) ∙ c.in_ok-fill_to.ensures.attention refl

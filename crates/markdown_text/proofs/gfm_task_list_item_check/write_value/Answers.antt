@@ -15,11 +15,11 @@ token-requires-clause-part g c =
 
 pub returns-then-rest-eq10-clause-at : goal.returns-then-rest-eq10-clause-at
 returns-then-rest-eq10-clause-at g c = λ outer at.
-    on_ok c.line_ending_as.result (at_some (λ b. IsAt c.line_ending_as.new.self.writer b outer) (after_line false task (role_of c.args.value)) (inlines false) (value_line c.args.value c.requires.value)) (c.line_ending_as.ensures.stage false task outer at)
+    on_ok c.line_ending_as.result (at_some (λ b. IsAt c.line_ending_as.new.self.writer.value b outer) (after_line false task (role_of c.args.value)) (inlines false) (value_line c.args.value c.requires.value)) (c.line_ending_as.ensures.stage false task outer at)
 
 pub returns-clause-at : goal.returns-clause-at
 returns-clause-at g c = λ outer at.
-    on_ok c.token.result (at_some (λ b. IsAt c.token.new.self.writer b outer) (after_plain task c.args.value) (inlines false) (value_stage c.args.value c.requires.value)) (c.token.ensures.stage task outer at)
+    on_ok c.token.result (at_some (λ b. IsAt c.token.new.self.writer.value b outer) (after_plain task c.args.value) (inlines false) (value_stage c.args.value c.requires.value)) (c.token.ensures.stage task outer at)
 
 pub returns-then-rest-eq10-clause-attention : goal.returns-then-rest-eq10-clause-attention
 returns-then-rest-eq10-clause-attention g c = c.line_ending_as.ensures.attention (value_other c.args.value c.requires.value)

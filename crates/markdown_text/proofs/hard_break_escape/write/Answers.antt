@@ -26,7 +26,7 @@ pub returns-clause-at : goal.returns-clause-at
 returns-clause-at g c = λ h outer at.
     let flushed = c.in_ok-flush.ensures.stage h outer at in
     let broken = c.in_ok-hard_break_to.ensures.stage h outer flushed in
-    on_ok c.line_ending_as.result (at_some (λ b. IsAt c.line_ending_as.new.self.writer b outer) (after_line broken.0 (inlines h) (role_of LineEnding)) (inlines h) (ending_in_inlines broken.0 h)) (c.line_ending_as.ensures.stage broken.0 (inlines h) outer broken.1)
+    on_ok c.line_ending_as.result (at_some (λ b. IsAt c.line_ending_as.new.self.writer.value b outer) (after_line broken.0 (inlines h) (role_of LineEnding)) (inlines h) (ending_in_inlines broken.0 h)) (c.line_ending_as.ensures.stage broken.0 (inlines h) outer broken.1)
 
 pub returns-clause-attention : goal.returns-clause-attention
 returns-clause-attention g c = on_ok c.line_ending_as.result (λ last. last ∙ c.in_ok-hard_break_to.ensures.attention refl ∙ c.in_ok-flush.ensures.attention) (c.line_ending_as.ensures.attention refl)

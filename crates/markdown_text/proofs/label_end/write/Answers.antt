@@ -22,7 +22,7 @@ exit-requires-clause-may g c =
 pub returns-then-not-has_target-clause-at : goal.returns-then-not-has_target-clause-at
 returns-then-not-has_target-clause-at g c = λ h outer at.
     let l = c.args.labelled in
-    on_ok c.exit.result (at_some (λ b. IsAt c.exit.new.self.writer b outer) (exited (label_end_stage l) (inlines h) (role_of (labelled_name l))) (inlines h) (labelled_exits l h)) (c.exit.ensures.stage (label_end_stage l) (inlines h) (labelled_name l) outer (c.in_ok-write_mark.ensures.at l h outer at))
+    on_ok c.exit.result (at_some (λ b. IsAt c.exit.new.self.writer.value b outer) (exited (label_end_stage l) (inlines h) (role_of (labelled_name l))) (inlines h) (labelled_exits l h)) (c.exit.ensures.stage (label_end_stage l) (inlines h) (labelled_name l) outer (c.in_ok-write_mark.ensures.at l h outer at))
 
 pub write_target-requires-clause-at : goal.write_target-requires-clause-at
 write_target-requires-clause-at g c =
@@ -30,7 +30,7 @@ write_target-requires-clause-at g c =
     let h = c.requires.at.in_heading in
     let outer = c.requires.at.outer in
     let group = inside (labelled_name l) (inlines h) outer in
-    record { outer = group; at = subst (λ (a : Stage). IsAt c.write_mark.new.output.writer a group) (target_stage l (sym c.has_target.ensures ∙ c.if-not-has_target.false)) (c.in_ok-write_mark.ensures.at l h outer c.requires.at.at) }
+    record { outer = group; at = subst (λ (a : Stage). IsAt c.write_mark.new.output.writer.value a group) (target_stage l (sym c.has_target.ensures ∙ c.if-not-has_target.false)) (c.in_ok-write_mark.ensures.at l h outer c.requires.at.at) }
 
 pub exit-requires-2-clause-may : goal.exit-requires-2-clause-may
 exit-requires-2-clause-may g c =
@@ -38,12 +38,12 @@ exit-requires-2-clause-may g c =
     let h = c.requires.at.in_heading in
     let outer = c.requires.at.outer in
     let group = inside (labelled_name l) (inlines h) outer in
-    let marked = subst (λ (a : Stage). IsAt c.write_mark.new.output.writer a group) (target_stage l (sym c.has_target.ensures ∙ c.if-not-has_target.false)) (c.in_ok-write_mark.ensures.at l h outer c.requires.at.at) in
+    let marked = subst (λ (a : Stage). IsAt c.write_mark.new.output.writer.value a group) (target_stage l (sym c.has_target.ensures ∙ c.if-not-has_target.false)) (c.in_ok-write_mark.ensures.at l h outer c.requires.at.at) in
     record { stage = endings; outer = group; at = c.in_ok-write_target.ensures.at group marked; may = ap is_some (target_ends l h) }
 
 pub returns-clause-at : goal.returns-clause-at
 returns-clause-at g c = λ h outer at.
     let l = c.args.labelled in
     let group = inside (labelled_name l) (inlines h) outer in
-    let marked = subst (λ (a : Stage). IsAt c.write_mark.new.output.writer a group) (target_stage l (sym c.has_target.ensures ∙ c.if-not-has_target.false)) (c.in_ok-write_mark.ensures.at l h outer at) in
-    on_ok c.exit-2.result (at_some (λ b. IsAt c.exit-2.new.self.writer b outer) (exited endings (inlines h) (role_of (labelled_name l))) (inlines h) (target_ends l h)) (c.exit-2.ensures.stage endings (inlines h) (labelled_name l) outer (c.in_ok-write_target.ensures.at group marked))
+    let marked = subst (λ (a : Stage). IsAt c.write_mark.new.output.writer.value a group) (target_stage l (sym c.has_target.ensures ∙ c.if-not-has_target.false)) (c.in_ok-write_mark.ensures.at l h outer at) in
+    on_ok c.exit-2.result (at_some (λ b. IsAt c.exit-2.new.self.writer.value b outer) (exited endings (inlines h) (role_of (labelled_name l))) (inlines h) (target_ends l h)) (c.exit-2.ensures.stage endings (inlines h) (labelled_name l) outer (c.in_ok-write_target.ensures.at group marked))

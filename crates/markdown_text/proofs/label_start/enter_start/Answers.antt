@@ -14,7 +14,7 @@ enter-requires-clause-may g c =
     let l = c.args.labelled in
     let h = c.requires.inlines.in_heading in
     let outer = c.requires.inlines.outer in
-    let w = c.flush.new.self.writer in
+    let w = c.flush.new.self.writer.value in
     named_may_enter w c.name.result (labelled_name l) (inlines h) (label_stage l) outer c.name.ensures (labelled_enters l h) (labelled_front l w.given.bytes w.cursor) (c.in_ok-flush.ensures.stage h outer c.requires.inlines.at)
 
 pub enter-requires-2-clause-may : goal.enter-requires-2-clause-may
@@ -23,7 +23,7 @@ enter-requires-2-clause-may g c =
     let h = c.requires.inlines.in_heading in
     let outer = c.requires.inlines.outer in
     let flushed = c.in_ok-flush.ensures.stage h outer c.requires.inlines.at in
-    let begun = named_entered c.enter.new.self.writer c.name.result (labelled_name l) (inlines h) (label_stage l) outer c.name.ensures (labelled_enters l h) (c.in_ok-enter.ensures.stage (inlines h) outer flushed) in
+    let begun = named_entered c.enter.new.self.writer.value c.name.result (labelled_name l) (inlines h) (label_stage l) outer c.name.ensures (labelled_enters l h) (c.in_ok-enter.ensures.stage (inlines h) outer flushed) in
     record { stage = label_stage l; outer = inside (labelled_name l) (inlines h) outer; at = begun; may = ap is_some (label_enters l); front = tt }
 
 pub enter-requires-3-clause-may : goal.enter-requires-3-clause-may
@@ -34,8 +34,8 @@ enter-requires-3-clause-may g c =
     let a = label_stage l in
     let label = in_label l h outer in
     let flushed = c.in_ok-flush.ensures.stage h outer c.requires.inlines.at in
-    let begun = named_entered c.enter.new.self.writer c.name.result (labelled_name l) (inlines h) a outer c.name.ensures (labelled_enters l h) (c.in_ok-enter.ensures.stage (inlines h) outer flushed) in
-    let w = c.enter-2.new.self.writer in
+    let begun = named_entered c.enter.new.self.writer.value c.name.result (labelled_name l) (inlines h) a outer c.name.ensures (labelled_enters l h) (c.in_ok-enter.ensures.stage (inlines h) outer flushed) in
+    let w = c.enter-2.new.self.writer.value in
     let inner = at_some (λ b. IsAt w b label) (entered a (role_of Label)) a (label_enters l) (c.in_ok-enter-2.ensures.stage a (inside (labelled_name l) (inlines h) outer) begun) in
     named_may_enter w c.start_name.result (label_start_name l) a a label c.start_name.ensures (start_enters l) (start_front l w.given.bytes w.cursor) inner
 
@@ -45,6 +45,6 @@ returns-clause-at g c = λ h outer at.
     let a = label_stage l in
     let label = in_label l h outer in
     let flushed = c.in_ok-flush.ensures.stage h outer at in
-    let begun = named_entered c.enter.new.self.writer c.name.result (labelled_name l) (inlines h) a outer c.name.ensures (labelled_enters l h) (c.in_ok-enter.ensures.stage (inlines h) outer flushed) in
-    let inner = at_some (λ b. IsAt c.enter-2.new.self.writer b label) (entered a (role_of Label)) a (label_enters l) (c.in_ok-enter-2.ensures.stage a (inside (labelled_name l) (inlines h) outer) begun) in
-    on_ok c.enter-3.result (named_entered c.enter-3.new.self.writer c.start_name.result (label_start_name l) a a label c.start_name.ensures (start_enters l)) (c.enter-3.ensures.stage a label inner)
+    let begun = named_entered c.enter.new.self.writer.value c.name.result (labelled_name l) (inlines h) a outer c.name.ensures (labelled_enters l h) (c.in_ok-enter.ensures.stage (inlines h) outer flushed) in
+    let inner = at_some (λ b. IsAt c.enter-2.new.self.writer.value b label) (entered a (role_of Label)) a (label_enters l) (c.in_ok-enter-2.ensures.stage a (inside (labelled_name l) (inlines h) outer) begun) in
+    on_ok c.enter-3.result (named_entered c.enter-3.new.self.writer.value c.start_name.result (label_start_name l) a a label c.start_name.ensures (start_enters l)) (c.enter-3.ensures.stage a label inner)

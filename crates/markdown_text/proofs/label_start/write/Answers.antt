@@ -15,7 +15,7 @@ exit-requires-clause-may g c =
     let h = c.requires.inlines.in_heading in
     let outer = c.requires.inlines.outer in
     let signs = c.in_ok-write_signs.ensures.at (in_label_start l h outer) (c.in_ok-enter_start.ensures.at h outer c.requires.inlines.at) in
-    may_exit c.write_signs.new.output.writer (label_stage l) (label_stage l) (label_stage l) (label_start_name l) (in_label l h outer) (start_exits l) signs
+    may_exit c.write_signs.new.output.writer.value (label_stage l) (label_stage l) (label_stage l) (label_start_name l) (in_label l h outer) (start_exits l) signs
 
 pub returns-clause-at : goal.returns-clause-at
 returns-clause-at g c = λ h outer at.
@@ -23,4 +23,4 @@ returns-clause-at g c = λ h outer at.
     let a = label_stage l in
     let label = in_label l h outer in
     let signs = c.in_ok-write_signs.ensures.at (in_label_start l h outer) (c.in_ok-enter_start.ensures.at h outer at) in
-    on_ok c.exit.result (has_exited c.exit.new.self.writer a a a (label_start_name l) label (start_exits l)) (c.exit.ensures.stage a a (label_start_name l) label signs)
+    on_ok c.exit.result (has_exited c.exit.new.self.writer.value a a a (label_start_name l) label (start_exits l)) (c.exit.ensures.stage a a (label_start_name l) label signs)

@@ -10,7 +10,7 @@ token-requires-in-Image-2-clause-may g c =
     let a = label_stage l in
     let label = c.requires.at.outer in
     let o = c.token-in-Image.new.self in
-    named_may_put o LabelMarker LabelMarker a a label refl (sign_put l) (named_put o.writer LabelImageMarker LabelImageMarker a a label refl (sign_put l) (c.in_ok-token-in-Image.ensures.stage a label c.requires.at.at))
+    named_may_put o LabelMarker LabelMarker a a label refl (sign_put l) (named_put o.writer.value LabelImageMarker LabelImageMarker a a label refl (sign_put l) (c.in_ok-token-in-Image.ensures.stage a label c.requires.at.at))
 
 pub token-requires-in-FootnoteCall-2-clause-may : goal.token-requires-in-FootnoteCall-2-clause-may
 token-requires-in-FootnoteCall-2-clause-may g c =
@@ -18,4 +18,4 @@ token-requires-in-FootnoteCall-2-clause-may g c =
     let a = label_stage l in
     let label = c.requires.at.outer in
     let o = c.token-in-FootnoteCall.new.self in
-    named_may_put o GfmFootnoteCallMarker GfmFootnoteCallMarker a a label refl (sign_put l) (named_put o.writer LabelMarker LabelMarker a a label refl (sign_put l) (c.in_ok-token-in-FootnoteCall.ensures.stage a label c.requires.at.at))
+    named_may_put o GfmFootnoteCallMarker GfmFootnoteCallMarker a a label refl (sign_put l) (named_put o.writer.value LabelMarker LabelMarker a a label refl (sign_put l) (c.in_ok-token-in-FootnoteCall.ensures.stage a label c.requires.at.at))

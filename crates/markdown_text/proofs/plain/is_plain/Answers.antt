@@ -1,4 +1,4 @@
-use Rattle.std.proofs.Common.{ap, arith, eqb-true, false, sym, ◌≡◌, ◌∙◌}
+use Rattle.std.proofs.Common.{ap, eqb-true, false, sym, ◌≡◌, ◌∙◌}
 use Rattle.markdown_text.specs.Plain.{may_begin}
 use Rattle.markdown_text.proofs.PlainBytes.{each}
 use Rattle.markdown_text.proofs.plain.is_plain.Goals as goal

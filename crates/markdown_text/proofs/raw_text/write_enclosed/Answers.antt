@@ -16,23 +16,23 @@ pub lines-requires-clause-may : goal.lines-requires-clause-may
 lines-requires-clause-may g c =
     let r = c.args.kind in
     let outer = c.requires.at.outer in
-    let put = named_put c.token.new.self.writer c.sequence.result (raw_sequence_name r) (inlines false) (inlines false) outer c.sequence.ensures (sequence_put r) (c.in_ok-token.ensures.stage (inlines false) outer c.requires.at.at) in
+    let put = named_put c.token.new.self.writer.value c.sequence.result (raw_sequence_name r) (inlines false) (inlines false) outer c.sequence.ensures (sequence_put r) (c.in_ok-token.ensures.stage (inlines false) outer c.requires.at.at) in
     record { stage = inlines false; outer = outer; at = put; keeps = data_put r c.data.result c.data.ensures; ends = refl }
 
 pub token-requires-2-clause-may : goal.token-requires-2-clause-may
 token-requires-2-clause-may g c =
     let r = c.args.kind in
     let outer = c.requires.at.outer in
-    let put = named_put c.token.new.self.writer c.sequence.result (raw_sequence_name r) (inlines false) (inlines false) outer c.sequence.ensures (sequence_put r) (c.in_ok-token.ensures.stage (inlines false) outer c.requires.at.at) in
+    let put = named_put c.token.new.self.writer.value c.sequence.result (raw_sequence_name r) (inlines false) (inlines false) outer c.sequence.ensures (sequence_put r) (c.in_ok-token.ensures.stage (inlines false) outer c.requires.at.at) in
     let filled = c.in_ok-lines.ensures.stage (inlines false) outer (data_put r c.data.result c.data.ensures) refl put in
     named_may_put c.lines.new.self c.sequence-2.result (raw_sequence_name r) (inlines false) (inlines false) outer c.sequence-2.ensures (sequence_put r) filled
 
 pub returns-clause-at : goal.returns-clause-at
 returns-clause-at g c = λ outer at.
     let r = c.args.kind in
-    let put = named_put c.token.new.self.writer c.sequence.result (raw_sequence_name r) (inlines false) (inlines false) outer c.sequence.ensures (sequence_put r) (c.in_ok-token.ensures.stage (inlines false) outer at) in
+    let put = named_put c.token.new.self.writer.value c.sequence.result (raw_sequence_name r) (inlines false) (inlines false) outer c.sequence.ensures (sequence_put r) (c.in_ok-token.ensures.stage (inlines false) outer at) in
     let filled = c.in_ok-lines.ensures.stage (inlines false) outer (data_put r c.data.result c.data.ensures) refl put in
-    on_ok c.token-2.result (named_put c.token-2.new.self.writer c.sequence-2.result (raw_sequence_name r) (inlines false) (inlines false) outer c.sequence-2.ensures (sequence_put r)) (c.token-2.ensures.stage (inlines false) outer filled)
+    on_ok c.token-2.result (named_put c.token-2.new.self.writer.value c.sequence-2.result (raw_sequence_name r) (inlines false) (inlines false) outer c.sequence-2.ensures (sequence_put r)) (c.token-2.ensures.stage (inlines false) outer filled)
 
 pub returns-clause-attention : goal.returns-clause-attention
 returns-clause-attention g c =

@@ -20,7 +20,7 @@ exit-requires-clause-may g c =
     let group = inside (group_name k) (inlines h) outer in
     let text = inside (text_name k) (inlines false) group in
     let within = has_innermost c.args.output.now c.args.«open».now.items os (Attention k) c.requires.at.in_heading c.requires.at.outer c.requires.last.1 c.requires.at.at in
-    may_exit c.flush.new.self.writer (inlines false) (inlines false) (inlines false) (text_name k) group (text_exits k) (c.in_ok-flush.ensures.stage false text within)
+    may_exit c.flush.new.self.writer.value (inlines false) (inlines false) (inlines false) (text_name k) group (text_exits k) (c.in_ok-flush.ensures.stage false text within)
 
 pub token-requires-clause-may : goal.token-requires-clause-may
 token-requires-clause-may g c =
@@ -32,7 +32,7 @@ token-requires-clause-may g c =
     let text = inside (text_name k) (inlines false) group in
     let within = has_innermost c.args.output.now c.args.«open».now.items os (Attention k) c.requires.at.in_heading c.requires.at.outer c.requires.last.1 c.requires.at.at in
     let flushed = c.in_ok-flush.ensures.stage false text within in
-    let ended = has_exited c.exit.new.self.writer (inlines false) (inlines false) (inlines false) (text_name k) group (text_exits k) (c.in_ok-exit.ensures.stage (inlines false) (inlines false) (text_name k) group flushed) in
+    let ended = has_exited c.exit.new.self.writer.value (inlines false) (inlines false) (inlines false) (text_name k) group (text_exits k) (c.in_ok-exit.ensures.stage (inlines false) (inlines false) (text_name k) group flushed) in
     named_may_put c.exit.new.self c.sequence_name.result (sequence_name k) (inlines false) (inlines false) group c.sequence_name.ensures (sequence_stands k) ended
 
 pub exit-requires-2-clause-may : goal.exit-requires-2-clause-may
@@ -45,9 +45,9 @@ exit-requires-2-clause-may g c =
     let text = inside (text_name k) (inlines false) group in
     let within = has_innermost c.args.output.now c.args.«open».now.items os (Attention k) c.requires.at.in_heading c.requires.at.outer c.requires.last.1 c.requires.at.at in
     let flushed = c.in_ok-flush.ensures.stage false text within in
-    let ended = has_exited c.exit.new.self.writer (inlines false) (inlines false) (inlines false) (text_name k) group (text_exits k) (c.in_ok-exit.ensures.stage (inlines false) (inlines false) (text_name k) group flushed) in
-    let put = named_put c.token.new.self.writer c.sequence_name.result (sequence_name k) (inlines false) (inlines false) group c.sequence_name.ensures (sequence_stands k) (c.in_ok-token.ensures.stage (inlines false) group ended) in
-    may_exit c.token.new.self.writer (inlines false) (inlines h) (inlines h) (group_name k) outer (group_exits k h) put
+    let ended = has_exited c.exit.new.self.writer.value (inlines false) (inlines false) (inlines false) (text_name k) group (text_exits k) (c.in_ok-exit.ensures.stage (inlines false) (inlines false) (text_name k) group flushed) in
+    let put = named_put c.token.new.self.writer.value c.sequence_name.result (sequence_name k) (inlines false) (inlines false) group c.sequence_name.ensures (sequence_stands k) (c.in_ok-token.ensures.stage (inlines false) group ended) in
+    may_exit c.token.new.self.writer.value (inlines false) (inlines h) (inlines h) (group_name k) outer (group_exits k h) put
 
 pub returns-clause-at : goal.returns-clause-at
 returns-clause-at g c = λ in_heading around at.
@@ -59,9 +59,9 @@ returns-clause-at g c = λ in_heading around at.
     let text = inside (text_name k) (inlines false) group in
     let within = has_innermost c.args.output.now c.args.«open».now.items os (Attention k) in_heading around c.requires.last.1 at in
     let flushed = c.in_ok-flush.ensures.stage false text within in
-    let ended = has_exited c.exit.new.self.writer (inlines false) (inlines false) (inlines false) (text_name k) group (text_exits k) (c.in_ok-exit.ensures.stage (inlines false) (inlines false) (text_name k) group flushed) in
-    let put = named_put c.token.new.self.writer c.sequence_name.result (sequence_name k) (inlines false) (inlines false) group c.sequence_name.ensures (sequence_stands k) (c.in_ok-token.ensures.stage (inlines false) group ended) in
-    let out = has_exited c.exit-2.new.self.writer (inlines false) (inlines h) (inlines h) (group_name k) outer (group_exits k h) (c.in_ok-exit-2.ensures.stage (inlines false) (inlines h) (group_name k) outer put) in
+    let ended = has_exited c.exit.new.self.writer.value (inlines false) (inlines false) (inlines false) (text_name k) group (text_exits k) (c.in_ok-exit.ensures.stage (inlines false) (inlines false) (text_name k) group flushed) in
+    let put = named_put c.token.new.self.writer.value c.sequence_name.result (sequence_name k) (inlines false) (inlines false) group c.sequence_name.ensures (sequence_stands k) (c.in_ok-token.ensures.stage (inlines false) group ended) in
+    let out = has_exited c.exit-2.new.self.writer.value (inlines false) (inlines h) (inlines h) (group_name k) outer (group_exits k h) (c.in_ok-exit-2.ensures.stage (inlines false) (inlines h) (group_name k) outer put) in
     same_open c.exit-2.new.self c.pop.new.self.items os in_heading around (without_innermost c.args.«open».now.items os c.pop.new.self.items (Attention k) (vec_len c.args.«open».now) c.requires.last.1 (omega (arith, c.args.«open».now.ok.0)) c.pop.ensures.rest) out
 
 pub returns-clause-attention : goal.returns-clause-attention
@@ -74,10 +74,10 @@ returns-clause-attention g c =
     let text = inside (text_name k) (inlines false) group in
     let within = has_innermost c.args.output.now c.args.«open».now.items os (Attention k) c.requires.at.in_heading c.requires.at.outer c.requires.last.1 c.requires.at.at in
     let flushed = c.in_ok-flush.ensures.stage false text within in
-    let ended = has_exited c.exit.new.self.writer (inlines false) (inlines false) (inlines false) (text_name k) group (text_exits k) (c.in_ok-exit.ensures.stage (inlines false) (inlines false) (text_name k) group flushed) in
-    let put = named_put c.token.new.self.writer c.sequence_name.result (sequence_name k) (inlines false) (inlines false) group c.sequence_name.ensures (sequence_stands k) (c.in_ok-token.ensures.stage (inlines false) group ended) in
+    let ended = has_exited c.exit.new.self.writer.value (inlines false) (inlines false) (inlines false) (text_name k) group (text_exits k) (c.in_ok-exit.ensures.stage (inlines false) (inlines false) (text_name k) group flushed) in
+    let put = named_put c.token.new.self.writer.value c.sequence_name.result (sequence_name k) (inlines false) (inlines false) group c.sequence_name.ensures (sequence_stands k) (c.in_ok-token.ensures.stage (inlines false) group ended) in
     let before = c.in_ok-token.ensures.attention (as_named c.sequence_name.result (sequence_name k) false c.sequence_name.ensures (sequence_other k)) ∙ c.in_ok-exit.ensures.others (inlines false) (inlines false) (text_name k) group flushed (text_other k) ∙ c.in_ok-flush.ensures.attention in
-    let point = c.token.new.self.writer.cursor in
+    let point = c.token.new.self.writer.value.cursor in
     let first = c.in_ok-flush.ensures.writes in
     let second = c.in_ok-exit.ensures.writes in
     record {

@@ -12,11 +12,11 @@ exit-requires-2-clause-may g c =
     let h = c.requires.at.1.in_heading in
     let outer = c.requires.at.1.outer in
     let group = inside (group_name k) (inlines h) outer in
-    let text = has_exited c.exit.new.self.writer (inlines false) (inlines false) (inlines false) (text_name k) group (text_exits k) (c.in_ok-exit.ensures.stage (inlines false) (inlines false) (text_name k) group c.requires.at.1.at) in
-    may_exit c.exit.new.self.writer (inlines false) (inlines h) (inlines h) (group_name k) outer (group_exits k h) text
+    let text = has_exited c.exit.new.self.writer.value (inlines false) (inlines false) (inlines false) (text_name k) group (text_exits k) (c.in_ok-exit.ensures.stage (inlines false) (inlines false) (text_name k) group c.requires.at.1.at) in
+    may_exit c.exit.new.self.writer.value (inlines false) (inlines h) (inlines h) (group_name k) outer (group_exits k h) text
 
 pub returns-clause-at : goal.returns-clause-at
 returns-clause-at g c = λ k h outer at.
     let group = inside (group_name k) (inlines h) outer in
-    let text = has_exited c.exit.new.self.writer (inlines false) (inlines false) (inlines false) (text_name k) group (text_exits k) (c.in_ok-exit.ensures.stage (inlines false) (inlines false) (text_name k) group at) in
-    on_ok c.exit-2.result (has_exited c.exit-2.new.self.writer (inlines false) (inlines h) (inlines h) (group_name k) outer (group_exits k h)) (c.exit-2.ensures.stage (inlines false) (inlines h) (group_name k) outer text)
+    let text = has_exited c.exit.new.self.writer.value (inlines false) (inlines false) (inlines false) (text_name k) group (text_exits k) (c.in_ok-exit.ensures.stage (inlines false) (inlines false) (text_name k) group at) in
+    on_ok c.exit-2.result (has_exited c.exit-2.new.self.writer.value (inlines false) (inlines h) (inlines h) (group_name k) outer (group_exits k h)) (c.exit-2.ensures.stage (inlines false) (inlines h) (group_name k) outer text)

@@ -18,7 +18,7 @@ enter-requires-clause-may g c =
     let h = flag_of os c.requires.at.in_heading in
     let outer = outer_of os c.requires.at.in_heading c.requires.at.outer in
     let flushed = c.in_ok-flush.ensures.stage h outer c.requires.at.at in
-    let w = c.flush.new.self.writer in
+    let w = c.flush.new.self.writer.value in
     named_may_enter w c.group_name.result (group_name k) (inlines h) (inlines false) outer c.group_name.ensures (group_enters k h) (group_front k w.given.bytes w.cursor) flushed
 
 pub token-requires-clause-may : goal.token-requires-clause-may
@@ -29,7 +29,7 @@ token-requires-clause-may g c =
     let outer = outer_of os c.requires.at.in_heading c.requires.at.outer in
     let inner = inside (group_name k) (inlines h) outer in
     let flushed = c.in_ok-flush.ensures.stage h outer c.requires.at.at in
-    let begun = named_entered c.enter.new.self.writer c.group_name.result (group_name k) (inlines h) (inlines false) outer c.group_name.ensures (group_enters k h) (c.in_ok-enter.ensures.stage (inlines h) outer flushed) in
+    let begun = named_entered c.enter.new.self.writer.value c.group_name.result (group_name k) (inlines h) (inlines false) outer c.group_name.ensures (group_enters k h) (c.in_ok-enter.ensures.stage (inlines h) outer flushed) in
     named_may_put c.enter.new.self c.sequence_name.result (sequence_name k) (inlines false) (inlines false) inner c.sequence_name.ensures (sequence_stands k) begun
 
 pub enter-requires-2-clause-may : goal.enter-requires-2-clause-may
@@ -40,9 +40,9 @@ enter-requires-2-clause-may g c =
     let outer = outer_of os c.requires.at.in_heading c.requires.at.outer in
     let inner = inside (group_name k) (inlines h) outer in
     let flushed = c.in_ok-flush.ensures.stage h outer c.requires.at.at in
-    let begun = named_entered c.enter.new.self.writer c.group_name.result (group_name k) (inlines h) (inlines false) outer c.group_name.ensures (group_enters k h) (c.in_ok-enter.ensures.stage (inlines h) outer flushed) in
-    let put = named_put c.token.new.self.writer c.sequence_name.result (sequence_name k) (inlines false) (inlines false) inner c.sequence_name.ensures (sequence_stands k) (c.in_ok-token.ensures.stage (inlines false) inner begun) in
-    let w = c.token.new.self.writer in
+    let begun = named_entered c.enter.new.self.writer.value c.group_name.result (group_name k) (inlines h) (inlines false) outer c.group_name.ensures (group_enters k h) (c.in_ok-enter.ensures.stage (inlines h) outer flushed) in
+    let put = named_put c.token.new.self.writer.value c.sequence_name.result (sequence_name k) (inlines false) (inlines false) inner c.sequence_name.ensures (sequence_stands k) (c.in_ok-token.ensures.stage (inlines false) inner begun) in
+    let w = c.token.new.self.writer.value in
     named_may_enter w c.text_name.result (text_name k) (inlines false) (inlines false) inner c.text_name.ensures (text_enters k) (text_front k w.given.bytes w.cursor) put
 
 pub returns-clause-at : goal.returns-clause-at
@@ -53,9 +53,9 @@ returns-clause-at g c = λ in_heading around at.
     let outer = outer_of os in_heading around in
     let inner = inside (group_name k) (inlines h) outer in
     let flushed = c.in_ok-flush.ensures.stage h outer at in
-    let begun = named_entered c.enter.new.self.writer c.group_name.result (group_name k) (inlines h) (inlines false) outer c.group_name.ensures (group_enters k h) (c.in_ok-enter.ensures.stage (inlines h) outer flushed) in
-    let put = named_put c.token.new.self.writer c.sequence_name.result (sequence_name k) (inlines false) (inlines false) inner c.sequence_name.ensures (sequence_stands k) (c.in_ok-token.ensures.stage (inlines false) inner begun) in
-    let text = named_entered c.enter-2.new.self.writer c.text_name.result (text_name k) (inlines false) (inlines false) inner c.text_name.ensures (text_enters k) (c.in_ok-enter-2.ensures.stage (inlines false) inner put) in
+    let begun = named_entered c.enter.new.self.writer.value c.group_name.result (group_name k) (inlines h) (inlines false) outer c.group_name.ensures (group_enters k h) (c.in_ok-enter.ensures.stage (inlines h) outer flushed) in
+    let put = named_put c.token.new.self.writer.value c.sequence_name.result (sequence_name k) (inlines false) (inlines false) inner c.sequence_name.ensures (sequence_stands k) (c.in_ok-token.ensures.stage (inlines false) inner begun) in
+    let text = named_entered c.enter-2.new.self.writer.value c.text_name.result (text_name k) (inlines false) (inlines false) inner c.text_name.ensures (text_enters k) (c.in_ok-enter-2.ensures.stage (inlines false) inner put) in
     opens_innermost c.enter-2.new.self c.push.new.self.items os (Attention k) in_heading around c.in_ok-push.ensures.items text
 
 pub returns-clause-attention : goal.returns-clause-attention
@@ -63,7 +63,7 @@ returns-clause-attention g c =
     let k = c.args.kind in
     let old = c.args.output.now in
     let name = c.group_name.result in
-    let point = c.flush.new.self.writer.cursor in
+    let point = c.flush.new.self.writer.value.cursor in
     let group = c.in_ok-enter.ensures.attention (as_named name (group_name k) true c.group_name.ensures (group_is k)) in
     let sequence = c.in_ok-token.ensures.attention (as_named c.sequence_name.result (sequence_name k) false c.sequence_name.ensures (sequence_other k)) in
     let text = c.in_ok-enter-2.ensures.others (as_named c.text_name.result (text_name k) false c.text_name.ensures (text_other k)) in

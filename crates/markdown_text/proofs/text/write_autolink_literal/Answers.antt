@@ -15,7 +15,7 @@ token_to-requires-clause-may g c =
 
 pub returns-clause-at : goal.returns-clause-at
 returns-clause-at g c = λ h outer at.
-    on_ok c.token_to.result (at_some (λ b. IsAt c.token_to.new.self.writer b outer) (after_plain (inlines h) c.args.name) (inlines h) (literal_stands c.args.name h c.requires.name))
+    on_ok c.token_to.result (at_some (λ b. IsAt c.token_to.new.self.writer.value b outer) (after_plain (inlines h) c.args.name) (inlines h) (literal_stands c.args.name h c.requires.name))
     (c.token_to.ensures.stage (inlines h) outer (c.in_ok-flush.ensures.stage h outer at))
 
 pub returns-clause-attention : goal.returns-clause-attention

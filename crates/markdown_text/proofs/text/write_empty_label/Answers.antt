@@ -9,4 +9,4 @@ write-requires-2-clause-at g c =
     let h = c.requires.inlines.in_heading in
     let outer = c.requires.inlines.outer in
     let label = in_label l h outer in
-    record { in_heading = h; outer = outer; at = weakened c.write.new.output.writer (label_stage l) (label_end_stage l) label (label_skips l) (c.in_ok-write.ensures.at h outer c.requires.inlines.at) }
+    record { in_heading = h; outer = outer; at = weakened c.write.new.output.writer.value (label_stage l) (label_end_stage l) label (label_skips l) (c.in_ok-write.ensures.at h outer c.requires.inlines.at) }

@@ -40,5 +40,5 @@ returns-clause-at g c = λ in_heading around at.
     let h = flag_of os in_heading in
     let outer = outer_of os in_heading around in
     let flushed = c.in_ok-flush.ensures.stage false (opened label h outer) (has_innermost c.args.output.now items os label in_heading around is at) in
-    let out = moved_at c.end_label.new.output c.exit_labelled.new.output (inlines h) outer c.exit_labelled.ensures.writer (c.in_ok-end_label.ensures.at h outer flushed) in
+    let out = moved_at c.end_label.new.output.writer.value c.exit_labelled.new.output.writer.value (inlines h) outer c.exit_labelled.ensures.writer (c.in_ok-end_label.ensures.at h outer flushed) in
     same_open c.exit_labelled.new.output c.pop.new.self.items os in_heading around (without_innermost items os c.pop.new.self.items label (vec_len c.args.«open».now) is (omega (arith, c.args.«open».now.ok.0)) c.pop.ensures.rest) out

@@ -28,6 +28,6 @@ returns-clause-at g c = λ in_heading around at.
     let outer = outer_of os in_heading around in
     let label = in_label l h outer in
     let text = inside LabelText (label_stage l) label in
-    let begun = at_some (λ b. IsAt c.enter.new.self.writer b text) (entered (label_stage l) (role_of LabelText)) (inlines false) (label_text_enters l) (c.in_ok-enter.ensures.stage (label_stage l) label (c.in_ok-write.ensures.at h outer at)) in
-    let more = moved_at c.enter.new.self c.data-2.new.self (inlines false) text c.data-2.ensures.writer begun in
-    opens_innermost c.enter_labelled.new.output c.push.new.self.items os (Label l) in_heading around c.in_ok-push.ensures.items (moved_at c.data-2.new.self c.enter_labelled.new.output (inlines false) text c.enter_labelled.ensures.writer more)
+    let begun = at_some (λ b. IsAt c.enter.new.self.writer.value b text) (entered (label_stage l) (role_of LabelText)) (inlines false) (label_text_enters l) (c.in_ok-enter.ensures.stage (label_stage l) label (c.in_ok-write.ensures.at h outer at)) in
+    let more = moved_at c.enter.new.self.writer.value c.data-2.new.self.writer.value (inlines false) text c.data-2.ensures.writer begun in
+    opens_innermost c.enter_labelled.new.output c.push.new.self.items os (Label l) in_heading around c.in_ok-push.ensures.items (moved_at c.data-2.new.self.writer.value c.enter_labelled.new.output.writer.value (inlines false) text c.enter_labelled.ensures.writer more)

@@ -17,7 +17,7 @@ returns-clause-at g c = λ in_heading around at.
     let os = c.args.«open».now.items in
     let h = flag_of os in_heading in
     let outer = outer_of os in_heading around in
-    c.in_ok-write_empty_label.ensures.at h outer (moved_at c.args.output.now c.data.new.self (inlines h) outer c.data.ensures.writer at)
+    c.in_ok-write_empty_label.ensures.at h outer (moved_at c.args.output.now.writer.value c.data.new.self.writer.value (inlines h) outer c.data.ensures.writer at)
 
 pub returns-clause-goes_on : goal.returns-clause-goes_on
 returns-clause-goes_on g c = goes_on_then c.args.output.now c.data.new.self c.write_empty_label.new.output c.data.ensures.goes_on c.in_ok-write_empty_label.ensures.goes_on

@@ -39,5 +39,5 @@ markers-preserved g c =
           subst (HasWalked walk c.data.new.self os) (ap (λ n. n + size) i.at) (walked_on walk o c.data.new.self os (mid.«data» + size) c.data.ensures.goes_on (ap (λ w. attention_events w.events) c.data.ensures.writer) there);
       stage = λ in_heading around at.
           let os = c.write_delimiter.new.«open».items in
-          moved_at o c.data.new.self (inlines (flag_of os in_heading)) (outer_of os in_heading around) c.data.ensures.writer (wrote.at in_heading around (i.stage in_heading around at));
+          moved_at o.writer.value c.data.new.self.writer.value (inlines (flag_of os in_heading)) (outer_of os in_heading around) c.data.ensures.writer (wrote.at in_heading around (i.stage in_heading around at));
     }

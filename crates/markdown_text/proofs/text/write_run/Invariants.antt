@@ -9,7 +9,7 @@ use Rattle.markdown_text.proofs.text.write_run.Given as goal
 -- what is left of the run
 abbrev pub invariant-markers : goal.invariant-markers
 invariant-markers g l = record {
-  given : l.output.writer.given ≡ l.fn.output.writer.given;
+  given : l.output.writer.value.given ≡ l.fn.output.writer.value.given;
   goes_on : GoesOn l.fn.output l.output;
   at : l.output.data ≡ l.at;
   ascii : IsAsciiPart (bytes_of l.output) l.at l.token.end;

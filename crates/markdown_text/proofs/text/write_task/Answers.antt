@@ -12,7 +12,7 @@ returns-in_default-kind g c =
       given = refl;
       goes_on = stays o c.requires.stands;
       left = tokens_other (bytes_of o) (g.R.References.text (references_of o)) c.args.is_task 0 o.«data» c.args.tokens.now c.in-Some.later.now c.in-Some.token.now c.in-Some.ensures.cases.0 c.in_default-kind.not-TaskListItemCheck c.requires.start c.requires.tokens;
-      at = λ h outer at. text_begins c.args.is_task o.writer h outer at;
+      at = λ h outer at. text_begins c.args.is_task o.writer.value h outer at;
       on = c.requires.on;
       walks = λ walk constructs size walks. walks;
     }

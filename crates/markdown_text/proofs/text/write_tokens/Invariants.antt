@@ -10,7 +10,7 @@ use Rattle.markdown_text.proofs.text.write_tokens.Given as goal
 -- the tokens that are left come after the data that waits
 abbrev pub invariant-tokens : goal.invariant-tokens
 invariant-tokens g l = record {
-  given : l.output.writer.given ≡ l.fn.output.writer.given;
+  given : l.output.writer.value.given ≡ l.fn.output.writer.value.given;
   goes_on : GoesOn l.fn.output l.output;
   tokens : AreTokens (as_text l.output (g.R.References.text (references_of l.output)) false) l.output.data l.rest;
   stage : (h : Bool) → (outer : List Enclosing) → HasOpen l.fn.output l.fn.open.items h outer → HasOpen l.output l.open.items h outer;

@@ -16,7 +16,7 @@ token_to-requires-clause-part g c =
     (omega (arith, length_in (bytes_of c.args.self.now) c.rest_to.result.now c.args.self.now.at c.args.end c.rest_to.ensures c.requires.range, c.requires.range.order)) c.in-None.ensures.none
 
 pub returns-in-Some-clause-stage : goal.returns-in-Some-clause-stage
-returns-in-Some-clause-stage g c = λ a outer keeps ends at. on_ok c.token.result (at_some (λ b. IsAt c.token.new.self.writer b outer) (after_plain a c.args.name) a keeps) (c.token.ensures.stage a outer at)
+returns-in-Some-clause-stage g c = λ a outer keeps ends at. on_ok c.token.result (at_some (λ b. IsAt c.token.new.self.writer.value b outer) (after_plain a c.args.name) a keeps) (c.token.ensures.stage a outer at)
 
 pub returns-in-Some-clause-range : goal.returns-in-Some-clause-range
 returns-in-Some-clause-range g c =
@@ -28,4 +28,4 @@ returns-in-Some-clause-range g c =
     on_ok c.token.result (λ w. range_after c.args.self.now c.token.new.self (c.args.self.now.at + c.in-Some.size) c.args.end w c.requires.range (omega (arith, most, size, order)) part.end) c.token.ensures.writes
 
 pub returns-in-None-clause-stage : goal.returns-in-None-clause-stage
-returns-in-None-clause-stage g c = λ a outer keeps ends at. on_ok c.token_to.result (at_some (λ b. IsAt c.token_to.new.self.writer b outer) (after_plain a c.args.name) a keeps) (c.token_to.ensures.stage a outer at)
+returns-in-None-clause-stage g c = λ a outer keeps ends at. on_ok c.token_to.result (at_some (λ b. IsAt c.token_to.new.self.writer.value b outer) (after_plain a c.args.name) a keeps) (c.token_to.ensures.stage a outer at)

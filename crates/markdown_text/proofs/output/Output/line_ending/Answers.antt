@@ -13,4 +13,4 @@ line_ending_as-requires-clause-may g c =
 pub returns-clause-stage : goal.returns-clause-stage
 returns-clause-stage g c = λ h outer at.
     let f = c.in_ok-flush.ensures.stage h outer at in
-    at_some (λ b. IsAt c.line_ending_as.new.self.writer b outer) _ (inlines h) (after_inline_ending f.0 h) (c.in_ok-line_ending_as.ensures.stage f.0 (inlines h) outer f.1)
+    at_some (λ b. IsAt c.line_ending_as.new.self.writer.value b outer) _ (inlines h) (after_inline_ending f.0 h) (c.in_ok-line_ending_as.ensures.stage f.0 (inlines h) outer f.1)

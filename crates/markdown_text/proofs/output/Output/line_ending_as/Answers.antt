@@ -1,18 +1,25 @@
-use Rattle.std.proofs.Common.{List, sym, subst, ℕ, refl}
+use Rattle.std.proofs.Common.{List, ap, sym, subst, ℕ, refl, ◌∙◌}
 use Rattle.event_writer.specs.Calls.{EndsLine}
-use Rattle.markdown_text.proofs.Outputs.{ending_writes, feed_ends, feed_within, next_spot, next_tiles, no_feed_at_end, none_left}
+use Rattle.event_writer.specs.Written.{Written}
+use Rattle.markdown_pieces.specs.Tilings.{Tiles, end_from}
+use Rattle.markdown_text.proofs.Outputs.{ending_writes, feed_ends, feed_within, moved_at, moved_within, next_spot, next_tiles, no_feed_at_end, none_left, spot_after}
 use Rattle.markdown_events.specs.Names.{role_of}
 use Rattle.markdown_text.proofs.Standings.{some_value}
 use Rattle.markdown_text.proofs.Steps.{at_some, some_then}
 use Rattle.markdown_text.specs.Contents.{spot}
 use Rattle.markdown_text.specs.Outputs.{constructs_of}
-use Rattle.markdown_text.specs.Standings.{IsAt, after_line}
+use Rattle.markdown_text.specs.Spans.{IsWithin}
+use Rattle.markdown_text.specs.Standings.{IsAt, MayEndLine, StandsIn, after_line}
 use Rattle.markdown_text.proofs.output.Output.line_ending_as.Goals as goal
 
 pub line_ending-requires-clause-ends : goal.line_ending-requires-clause-ends
 line_ending-requires-clause-ends g c =
     let e = feed_ends c.args.self.now _ _ c.requires.stands c.requires.feed c.in-Some.ensures.cases.0 in
-    subst (λ (bs : List ℕ). EndsLine bs c.args.self.now.writer.cursor.index) (sym c.requires.stands.document) e.ends
+    subst (λ (w : Written _). EndsLine w.given.bytes w.cursor.index) (sym c.deref_mut.ensures.value)
+    (subst (λ (bs : List ℕ). EndsLine bs c.args.self.now.writer.value.cursor.index) (sym c.requires.stands.document) e.ends)
+
+pub line_ending-requires-clause-may : goal.line_ending-requires-clause-may
+line_ending-requires-clause-may g c = subst (λ (w : Written _). MayEndLine (g.R.References.text w.given.references) w c.args.name) (sym c.deref_mut.ensures.value) c.requires.may
 
 pub write_to_text-requires-clause-content : goal.write_to_text-requires-clause-content
 write_to_text-requires-clause-content g c =
@@ -20,7 +27,10 @@ write_to_text-requires-clause-content g c =
 
 pub write_to_text-requires-clause-tiles : goal.write_to_text-requires-clause-tiles
 write_to_text-requires-clause-tiles g c =
-    next_tiles c.args.self.now _ _ c.line_ending.new.writer.given (spot c.line_ending.new.writer.cursor) c.requires.stands c.requires.feed c.in-Some.ensures.cases.0 c.line_ending.ensures.given c.in_ok-line_ending.ensures.spot
+    let w = c.line_ending.new.writer in
+    subst (λ (w : Written _). Tiles w.given.bytes (spot w.cursor) c.in-Some.next.now (end_from (spot w.cursor) c.in-Some.next.now)) (sym c.deref_mut-2.ensures.value)
+    (next_tiles c.args.self.now _ _ w.given (spot w.cursor) c.requires.stands c.requires.feed c.in-Some.ensures.cases.0 (c.line_ending.ensures.given ∙ ap (λ (w : Written _). w.given) c.deref_mut.ensures.value)
+    (spot_after c.args.self.now.writer.value c.deref_mut.result.now (spot w.cursor) c.deref_mut.ensures.value c.in_ok-line_ending.ensures.spot))
 
 pub later-self-requires : goal.later-self-requires
 later-self-requires g c = feed_within c.args.self.now c.requires.feed
@@ -30,10 +40,13 @@ returns-clause-writes g c =
     let is = c.in-Some.ensures.cases.0 in
     let last = c.in_ok-self.ensures in
     let constructs = constructs_of c.args.self.now in
-    ending_writes c.args.self.now _ _ c.in-Some.next.now (spot c.line_ending.new.writer.cursor) c.line_ending.new.writer.given c.requires.stands c.requires.feed is
-    (next_spot c.args.self.now _ _ (spot c.line_ending.new.writer.cursor) c.requires.stands c.requires.feed is c.in_ok-line_ending.ensures.spot)
-    c.line_ending.ensures.given c.write_to_text.ensures.given last.left last.bytes last.end refl refl refl refl c.later-self.ensures c.later-self.ensures
-    (last.within constructs (c.in_ok-line_ending.ensures.within constructs c.requires.stands.within c.requires.on))
+    let first = c.deref_mut.ensures.value in
+    let second = c.deref_mut-2.ensures.value in
+    let mid = c.deref_mut-2.result.now in
+    ending_writes c.args.self.now _ _ c.in-Some.next.now (spot mid.cursor) mid.given c.requires.stands c.requires.feed is
+    (next_spot c.args.self.now _ _ (spot mid.cursor) c.requires.stands c.requires.feed is (ap (λ (w : Written _). spot w.cursor) second ∙ spot_after c.args.self.now.writer.value c.deref_mut.result.now _ first c.in_ok-line_ending.ensures.spot))
+    (ap (λ (w : Written _). w.given) second ∙ c.line_ending.ensures.given ∙ ap (λ (w : Written _). w.given) first) c.write_to_text.ensures.given last.left last.bytes last.end refl refl refl refl c.later-self.ensures c.later-self.ensures
+    (last.within constructs (subst (λ (w : Written _). IsWithin constructs w) (sym second) (c.in_ok-line_ending.ensures.within constructs (moved_within c.args.self.now c.deref_mut.result.now first c.requires.stands) c.requires.on)))
 
 pub unreachable-requires : goal.unreachable-requires
 unreachable-requires g c = no_feed_at_end c.args.self.now c.requires.stands c.requires.feed (none_left c.args.self.now.lines.later.now c.in_default.ensures.cases)
@@ -42,8 +55,13 @@ pub write_to_text-requires-clause-at : goal.write_to_text-requires-clause-at
 write_to_text-requires-clause-at g c =
     let m = c.requires.may in
     let b = some_value (after_line m.waits m.stage (role_of c.args.name)) m.may in
-    record { stage = b.0; outer = m.outer; at = at_some (λ x. IsAt c.line_ending.new.writer x m.outer) _ b.0 b.1 (c.in_ok-line_ending.ensures.at m.waits m.stage m.outer m.at) }
+    let w = c.line_ending.new.writer in
+    let stood = subst (λ (w : Written _). StandsIn m.waits w m.stage m.outer) (sym c.deref_mut.ensures.value) m.at in
+    let ended = at_some (λ x. IsAt w x m.outer) _ b.0 b.1 (c.in_ok-line_ending.ensures.at m.waits m.stage m.outer stood) in
+    record { stage = b.0; outer = m.outer; at = moved_at w c.deref_mut-2.result.now b.0 m.outer c.deref_mut-2.ensures.value ended }
 
 pub returns-clause-stage : goal.returns-clause-stage
 returns-clause-stage g c = λ waits a outer at.
-    some_then (λ b. IsAt c.line_ending.new.writer b outer) (λ b. IsAt c.write_to_text.new.writer b outer) (after_line waits a (role_of c.args.name)) (λ b h. c.in_ok-self.ensures.at b outer h) (c.in_ok-line_ending.ensures.at waits a outer at)
+    let w = c.line_ending.new.writer in
+    let stood = subst (λ (w : Written _). StandsIn waits w a outer) (sym c.deref_mut.ensures.value) at in
+    some_then (λ b. IsAt w b outer) (λ b. IsAt c.write_to_text.new.writer b outer) (after_line waits a (role_of c.args.name)) (λ b h. c.in_ok-self.ensures.at b outer (moved_at w c.deref_mut-2.result.now b outer c.deref_mut-2.ensures.value h)) (c.in_ok-line_ending.ensures.at waits a outer stood)

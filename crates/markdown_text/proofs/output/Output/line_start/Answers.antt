@@ -33,8 +33,8 @@ returns-clause-range g c =
 pub fill_to-requires-clause-may : goal.fill_to-requires-clause-may
 fill_to-requires-clause-may g c =
     let m = c.requires.may in
-    record { stage = m.stage; outer = m.outer; at = at_some (λ b. IsAt c.line_ending_as.new.self.writer b m.outer) _ m.stage (after_ending m.stage m.ends) (c.in_ok-line_ending_as.ensures.stage false m.stage m.outer m.at); keeps = refl }
+    record { stage = m.stage; outer = m.outer; at = at_some (λ b. IsAt c.line_ending_as.new.self.writer.value b m.outer) _ m.stage (after_ending m.stage m.ends) (c.in_ok-line_ending_as.ensures.stage false m.stage m.outer m.at); keeps = refl }
 
 pub returns-clause-stage : goal.returns-clause-stage
 returns-clause-stage g c = λ a outer keeps ends at.
-    c.in_ok-fill_to.ensures.stage a outer refl (at_some (λ b. IsAt c.line_ending_as.new.self.writer b outer) _ a (after_ending a ends) (c.in_ok-line_ending_as.ensures.stage false a outer at))
+    c.in_ok-fill_to.ensures.stage a outer refl (at_some (λ b. IsAt c.line_ending_as.new.self.writer.value b outer) _ a (after_ending a ends) (c.in_ok-line_ending_as.ensures.stage false a outer at))

@@ -9,11 +9,11 @@ use Rattle.markdown_text.proofs.output.Output.lines.Given as goal
 -- all is written up to the start of a line, or within it
 abbrev pub invariant-lines : goal.invariant-lines
 invariant-lines g l = record {
-  given : l.self.writer.given ≡ l.fn.self.writer.given;
+  given : l.self.writer.value.given ≡ l.fn.self.writer.value.given;
   goes_on : GoesOn l.fn.self l.self;
   none_waits : l.self.data ≡ l.self.at;
   range : IsRange (bytes_of l.self) l.self.at l.end;
-  stage : (a : Stage) → (outer : List Enclosing) → after_plain a l.name ≡ Some a → takes_line_endings a ≡ true → IsAt l.fn.self.writer a outer → IsAt l.self.writer a outer;
+  stage : (a : Stage) → (outer : List Enclosing) → after_plain a l.name ≡ Some a → takes_line_endings a ≡ true → IsAt l.fn.self.writer.value a outer → IsAt l.self.writer.value a outer;
   attention : is_attention l.name ≡ false → attention_of l.self ≡ attention_of l.fn.self;
 }
 

@@ -13,7 +13,7 @@ enter-requires-clause-may g c =
     let m = c.requires.may in
     let b = some_value (after_string m.stage c.args.name) m.may in
     let s = string_stands m.stage c.args.name b.0 b.1 in
-    record { stage = m.stage; outer = m.outer; at = m.at; may = ap is_some s.begins; front = s.front c.args.self.now.writer.given.bytes c.args.self.now.writer.cursor }
+    record { stage = m.stage; outer = m.outer; at = m.at; may = ap is_some s.begins; front = s.front c.args.self.now.writer.value.given.bytes c.args.self.now.writer.value.cursor }
 
 pub write-requires-clause-inlines : goal.write-requires-clause-inlines
 write-requires-clause-inlines g c =
@@ -21,7 +21,7 @@ write-requires-clause-inlines g c =
     let b = some_value (after_string m.stage c.args.name) m.may in
     let s = string_stands m.stage c.args.name b.0 b.1 in
     let around = inside c.args.name m.stage m.outer in
-    record { in_heading = false; outer = around; at = at_some (λ x. IsAt c.enter.new.self.writer x around) (entered m.stage (role_of c.args.name)) (inlines false) s.begins (c.in_ok-enter.ensures.stage m.stage m.outer m.at) }
+    record { in_heading = false; outer = around; at = at_some (λ x. IsAt c.enter.new.self.writer.value x around) (entered m.stage (role_of c.args.name)) (inlines false) s.begins (c.in_ok-enter.ensures.stage m.stage m.outer m.at) }
 
 pub flush-requires-clause-inlines : goal.flush-requires-clause-inlines
 flush-requires-clause-inlines g c =
@@ -29,7 +29,7 @@ flush-requires-clause-inlines g c =
     let b = some_value (after_string m.stage c.args.name) m.may in
     let s = string_stands m.stage c.args.name b.0 b.1 in
     let around = inside c.args.name m.stage m.outer in
-    record { in_heading = false; outer = around; at = c.in_ok-write.ensures.at false around (at_some (λ x. IsAt c.enter.new.self.writer x around) (entered m.stage (role_of c.args.name)) (inlines false) s.begins (c.in_ok-enter.ensures.stage m.stage m.outer m.at)) }
+    record { in_heading = false; outer = around; at = c.in_ok-write.ensures.at false around (at_some (λ x. IsAt c.enter.new.self.writer.value x around) (entered m.stage (role_of c.args.name)) (inlines false) s.begins (c.in_ok-enter.ensures.stage m.stage m.outer m.at)) }
 
 pub exit-requires-clause-may : goal.exit-requires-clause-may
 exit-requires-clause-may g c =
@@ -40,20 +40,20 @@ exit-requires-clause-may g c =
     record {
       stage = inlines false;
       outer = around;
-      at = c.in_ok-flush.ensures.stage false around (c.in_ok-write.ensures.at false around (at_some (λ x. IsAt c.enter.new.self.writer x around) (entered m.stage (role_of c.args.name)) (inlines false) s.begins (c.in_ok-enter.ensures.stage m.stage m.outer m.at)));
+      at = c.in_ok-flush.ensures.stage false around (c.in_ok-write.ensures.at false around (at_some (λ x. IsAt c.enter.new.self.writer.value x around) (entered m.stage (role_of c.args.name)) (inlines false) s.begins (c.in_ok-enter.ensures.stage m.stage m.outer m.at)));
       may = ap is_some s.ends;
     }
 
 pub returns-clause-stage : goal.returns-clause-stage
 returns-clause-stage g c = λ a outer at.
     let around = inside c.args.name a outer in
-    if_some (λ b. IsAt c.exit.new.self.writer b outer) (after_string a c.args.name) (λ b is.
+    if_some (λ b. IsAt c.exit.new.self.writer.value b outer) (after_string a c.args.name) (λ b is.
     let s = string_stands a c.args.name b is in
-    at_some (λ x. IsAt c.exit.new.self.writer x outer) (exited (inlines false) a (role_of c.args.name)) b s.ends
-    (c.in_ok-exit.ensures.stage (inlines false) a c.args.name outer (c.in_ok-flush.ensures.stage false around (c.in_ok-write.ensures.at false around (at_some (λ x. IsAt c.enter.new.self.writer x around) (entered a (role_of c.args.name)) (inlines false) s.begins (c.in_ok-enter.ensures.stage a outer at))))))
+    at_some (λ x. IsAt c.exit.new.self.writer.value x outer) (exited (inlines false) a (role_of c.args.name)) b s.ends
+    (c.in_ok-exit.ensures.stage (inlines false) a c.args.name outer (c.in_ok-flush.ensures.stage false around (c.in_ok-write.ensures.at false around (at_some (λ x. IsAt c.enter.new.self.writer.value x around) (entered a (role_of c.args.name)) (inlines false) s.begins (c.in_ok-enter.ensures.stage a outer at))))))
 
 pub returns-then-self-end-clause-stage : goal.returns-then-self-end-clause-stage
-returns-then-self-end-clause-stage g c = λ a outer at. if_some (λ b. IsAt c.args.self.now.writer b outer) (after_string a c.args.name) (λ b is. weakened c.args.self.now.writer a b outer (string_stands a c.args.name b is).skip at)
+returns-then-self-end-clause-stage g c = λ a outer at. if_some (λ b. IsAt c.args.self.now.writer.value b outer) (after_string a c.args.name) (λ b is. weakened c.args.self.now.writer.value a b outer (string_stands a c.args.name b is).skip at)
 
 pub returns-clause-writes : goal.returns-clause-writes
 returns-clause-writes g c =

@@ -1,7 +1,7 @@
 use Rattle.std.proofs.Common.{◌≡◌, List, ℕ, OnOk, subst, string_bytes}
 use Rattle.markdown_json.specs.Fields.{children, field, key, kind}
 use Rattle.markdown_json.proofs.NodeTexts.{four}
-use Rattle.markdown_json.proofs.kinds.push_list.Goals as goal
+use Rattle.markdown_json.proofs.kinds.push_ordered_list.Goals as goal
 
 pub returns : goal.returns
 unfolding kind key field children

@@ -1,7 +1,7 @@
 use Rattle.std.proofs.Common.{◌≡◌, List, ℕ, OnOk, subst, string_bytes}
 use Rattle.markdown_json.specs.Fields.{children, field, key, kind}
 use Rattle.markdown_json.proofs.NodeTexts.{three}
-use Rattle.markdown_json.proofs.kinds.push_list_item.Goals as goal
+use Rattle.markdown_json.proofs.kinds.push_task_item.Goals as goal
 
 pub returns : goal.returns
 unfolding kind key field children

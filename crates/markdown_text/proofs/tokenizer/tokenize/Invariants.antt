@@ -2,7 +2,7 @@ use Rattle.std.proofs.Common.{◌≡◌, ◌-◌, ◌≤◌, length}
 use Rattle.markdown_text.specs.AttentionWaiting.{Wait}
 use Rattle.markdown_text.specs.Reached.{AreOpen, Reach}
 use Rattle.markdown_text.specs.Texts.{text_of}
-use Rattle.markdown_text.proofs.tokenizer.find_tokens.Given as goal
+use Rattle.markdown_text.proofs.tokenizer.tokenize.Given as goal
 
 abbrev pub invariant-tokens : goal.invariant-tokens
 invariant-tokens g l = record {
