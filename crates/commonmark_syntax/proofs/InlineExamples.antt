@@ -304,7 +304,7 @@ marks_at_the_end = refl
 pub reference_at_the_end : trimmed (path false (codes "/a&b9;&c;. d")) ≡ codes "/a"
 reference_at_the_end = refl
 
-pub no_reference_at_the_end : trimmed (path false (codes "/a&#98;")) ≡ codes "/a&#98;"
+pub no_reference_at_the_end : trimmed (path false (codes "/a&#98;")) ≡ codes "/a&#98"
 no_reference_at_the_end = refl
 
 pub only_a_trail : is_trail (path false (codes "_.)&a;! b")) ≡ true

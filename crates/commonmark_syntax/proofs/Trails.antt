@@ -49,9 +49,8 @@ none_read c u e =
     ∙ ap (λ b. option_and_then (read (one is_alphanumeric then all is_alphanumeric then byte 59)) (cond b (Some u) None)) (no_ampersand c e))
 
 -- nor is the rest of a name a trail
-no_trail : (name u : List ℕ) → are_all is_alphanumeric name ≡ true → is_trail (name ++ 59 ∷ u) ≡ false
-no_trail [] u every = refl
-no_trail (c ∷ name) u every =
+no_trail : (c : ℕ) (name u : List ℕ) → are_all is_alphanumeric (c ∷ name) ≡ true → is_trail ((c ∷ name) ++ 59 ∷ u) ≡ false
+no_trail c name u every =
     let parts : (is_alphanumeric c ≡ true) × (are_all is_alphanumeric name ≡ true) = and_parts _ _ every in
     ap (λ x. is_whole (Some x)) (many_done trail_piece (c ∷ (name ++ 59 ∷ u)) (none_read c (name ++ 59 ∷ u) parts.0))
 
@@ -79,28 +78,34 @@ name_uncounted (c ∷ name) u every =
 
 -- ---- The end of a text from which nothing is taken
 
-pub record IsDone (unmatched : ℕ) (r : List ℕ) : Type 0 where
+-- no reference goes on from one part into the other, which is a semicolon and more
+abbrev pub IsApart : (r u : List ℕ) → Type 0
+IsApart r u = (t front : List ℕ) → u ≡ 59 ∷ t → EndsWithName r front → ⊥
+
+pub record IsDone (unmatched : ℕ) (r u : List ℕ) : Type 0 where
   pub mark : (front : List ℕ) (c : ℕ) → r ≡ front ++ c ∷ [] → is_trailing c ≡ false
   pub parenthesis : (front : List ℕ) → r ≡ front ++ 41 ∷ [] → unmatched ≡ 0
   pub reference : (front name : List ℕ) → r ≡ front ++ (38 ∷ (name ++ 59 ∷ [])) → 0 < length name → are_all is_alphanumeric name ≡ true → ⊥
+  pub semicolon : IsApart r u
 
-done_behind : (n : ℕ) (w r : List ℕ) → IsDone n (w ++ r) → IsDone n r
-done_behind n w r it = record {
+done_behind : (n : ℕ) (w r u : List ℕ) → IsDone n (w ++ r) u → IsDone n r u
+done_behind n w r u it = record {
   mark = λ front c e. it.mark (w ++ front) c (ap (λ (x : List ℕ). w ++ x) e ∙ sym (append_assoc w front (c ∷ [])));
   parenthesis = λ front e. it.parenthesis (w ++ front) (ap (λ (x : List ℕ). w ++ x) e ∙ sym (append_assoc w front (41 ∷ [])));
   reference = λ front name e some every. it.reference (w ++ front) name (ap (λ (x : List ℕ). w ++ x) e ∙ sym (append_assoc w front (38 ∷ (name ++ 59 ∷ [])))) some every;
+  semicolon = λ t front is named. it.semicolon t (w ++ front) is (named.0, ap (λ (x : List ℕ). w ++ x) named.1 ∙ sym (append_assoc w front (38 ∷ named.0)), named.2, named.3);
 }
 
 -- where a name and a semicolon end: in the first part, or in the second
 abbrev EndsIn : (name r u t : List ℕ) → Type 0
-EndsIn name r u t = ((v : List ℕ) × (r ≡ name ++ 59 ∷ v) × (t ≡ v ++ u)) ⊎ ((rest : List ℕ) × (u ≡ rest ++ 59 ∷ t) × (are_all is_alphanumeric rest ≡ true))
+EndsIn name r u t = ((v : List ℕ) × (r ≡ name ++ 59 ∷ v) × (t ≡ v ++ u)) ⊎ ((rest : List ℕ) × (u ≡ rest ++ 59 ∷ t) × (are_all is_alphanumeric rest ≡ true) × (name ≡ r ++ rest))
 
 one_longer : (c : ℕ) (name r u t : List ℕ) → EndsIn name r u t → EndsIn (c ∷ name) (c ∷ r) u t
 one_longer c name r u t (inl x) = inl (x.0, ap (λ (y : List ℕ). c ∷ y) x.1, x.2)
-one_longer c name r u t (inr x) = inr x
+one_longer c name r u t (inr x) = inr (x.0, x.1, x.2, ap (λ (y : List ℕ). c ∷ y) x.3)
 
 ends_in : (name r u t : List ℕ) → are_all is_alphanumeric name ≡ true → r ++ u ≡ name ++ 59 ∷ t → EndsIn name r u t
-ends_in name [] u t every e = inr (name, e, every)
+ends_in name [] u t every e = inr (name, e, every, refl)
 ends_in [] (y ∷ r) u t every e = (let first : y ≡ 59 = cc in let rest : r ++ u ≡ t = cc in inl (r, ap (λ z. z ∷ r) first, sym rest))
 ends_in (c ∷ name) (y ∷ r) u t every e =
     let parts : (is_alphanumeric c ≡ true) × (are_all is_alphanumeric name ≡ true) = and_parts _ _ every in
@@ -120,21 +125,21 @@ over_longer n w r u h = (let same = ap (how_many 41) (append_assoc w r u) in ome
 
 -- the same of fewer pieces
 abbrev Fewer : (m n : ℕ) (u : List ℕ) → Type 0
-Fewer m n u = (r : List ℕ) → 0 < length r → IsDone n r → Times (Reads trail_piece) m (r ++ u) [] → IsOver n r u
+Fewer m n u = (r : List ℕ) → 0 < length r → IsDone n r u → Times (Reads trail_piece) m (r ++ u) [] → IsOver n r u
 
-over_behind : (m n c : ℕ) (r u t : List ℕ) → Fewer m n u → IsDone n (c ∷ r) → t ≡ r ++ u → Times (Reads trail_piece) m t [] → (r ≡ [] → IsOver n (c ∷ r) u) → IsOver n (c ∷ r) u
+over_behind : (m n c : ℕ) (r u t : List ℕ) → Fewer m n u → IsDone n (c ∷ r) u → t ≡ r ++ u → Times (Reads trail_piece) m t [] → (r ≡ [] → IsOver n (c ∷ r) u) → IsOver n (c ∷ r) u
 over_behind m n c [] u t fewer done same more last = last refl
 over_behind m n c (d ∷ r) u t fewer done same more last =
-    over_more n c (d ∷ r) u (fewer (d ∷ r) (omega arith) (done_behind n (c ∷ []) (d ∷ r) done) (subst (λ x. Times (Reads trail_piece) m x []) same more))
+    over_more n c (d ∷ r) u (fewer (d ∷ r) (omega arith) (done_behind n (c ∷ []) (d ∷ r) u done) (subst (λ x. Times (Reads trail_piece) m x []) same more))
 
-over_mark : (m n c : ℕ) (r u t : List ℕ) → Fewer m n u → IsDone n (c ∷ r) → Reads (one is_trailing) (c ∷ (r ++ u)) t → Times (Reads trail_piece) m t [] → IsOver n (c ∷ r) u
+over_mark : (m n c : ℕ) (r u t : List ℕ) → Fewer m n u → IsDone n (c ∷ r) u → Reads (one is_trailing) (c ∷ (r ++ u)) t → Times (Reads trail_piece) m t [] → IsOver n (c ∷ r) u
 over_mark m n c r u t fewer done reads more =
     let first : c ≡ reads.0 = (let e = reads.2 in cc) in
     let rest : t ≡ r ++ u = (let e = reads.2 in cc) in
     let is : is_trailing c ≡ true = ap is_trailing first ∙ reads.1 in
     over_behind m n c r u t fewer done rest more (λ e. (let k : is_trailing c ≡ false = done.mark [] c (ap (λ x. c ∷ x) e) in cc))
 
-over_parenthesis : (m n c : ℕ) (r u t : List ℕ) → Fewer m n u → IsDone n (c ∷ r) → Reads (byte 41) (c ∷ (r ++ u)) t → Times (Reads trail_piece) m t [] → IsOver n (c ∷ r) u
+over_parenthesis : (m n c : ℕ) (r u t : List ℕ) → Fewer m n u → IsDone n (c ∷ r) u → Reads (byte 41) (c ∷ (r ++ u)) t → Times (Reads trail_piece) m t [] → IsOver n (c ∷ r) u
 over_parenthesis m n c r u t fewer done reads more =
     let first : c ≡ reads.0 = (let e = reads.2 in cc) in
     let rest : t ≡ r ++ u = (let e = reads.2 in cc) in
@@ -145,15 +150,22 @@ over_parenthesis m n c r u t fewer done reads more =
     let l : how_many 41 (r ++ u) ≡ how_many 41 u = ap (λ (x : List ℕ). how_many 41 (x ++ u)) e in
     omega (arith, none, k, l)))
 
-over_name : (m n : ℕ) (name v u t : List ℕ) → Fewer m n u → 0 < length name → are_all is_alphanumeric name ≡ true → IsDone n (38 ∷ (name ++ 59 ∷ v)) → t ≡ v ++ u → Times (Reads trail_piece) m t [] → IsOver n (38 ∷ (name ++ 59 ∷ v)) u
+over_name : (m n : ℕ) (name v u t : List ℕ) → Fewer m n u → 0 < length name → are_all is_alphanumeric name ≡ true → IsDone n (38 ∷ (name ++ 59 ∷ v)) u → t ≡ v ++ u → Times (Reads trail_piece) m t [] → IsOver n (38 ∷ (name ++ 59 ∷ v)) u
 over_name m n name [] u t fewer some every done same more = absurd (done.reference [] name refl some every)
 over_name m n name (d ∷ v) u t fewer some every done same more =
     let parts : (38 ∷ (name ++ 59 ∷ [])) ++ (d ∷ v) ≡ 38 ∷ (name ++ 59 ∷ (d ∷ v)) = ap (λ (x : List ℕ). 38 ∷ x) (append_assoc name (59 ∷ []) (d ∷ v)) in
-    let behind : IsDone n (d ∷ v) = done_behind n (38 ∷ (name ++ 59 ∷ [])) (d ∷ v) (subst (IsDone n) (sym parts) done) in
+    let behind : IsDone n (d ∷ v) u = done_behind n (38 ∷ (name ++ 59 ∷ [])) (d ∷ v) u (subst (λ x. IsDone n x u) (sym parts) done) in
     subst (λ x. IsOver n x u) parts
     (over_longer n (38 ∷ (name ++ 59 ∷ [])) (d ∷ v) u (fewer (d ∷ v) (omega arith) behind (subst (λ x. Times (Reads trail_piece) m x []) same more)))
 
-over_reference : (m n c : ℕ) (r u t : List ℕ) → Fewer m n u → is_trail u ≡ true → IsDone n (c ∷ r) → Reads reference_like (c ∷ (r ++ u)) t → Times (Reads trail_piece) m t [] → IsOver n (c ∷ r) u
+-- a name that would go on into the other part
+between : (n : ℕ) (r u t name rest : List ℕ) → is_trail u ≡ true → IsDone n (38 ∷ r) u → u ≡ rest ++ 59 ∷ t → are_all is_alphanumeric rest ≡ true → name ≡ r ++ rest → 0 < length name → are_all is_alphanumeric name ≡ true → ⊥
+between n r u t name [] trails done is every same some letters = done.semicolon t [] is (name, ap (λ (x : List ℕ). 38 ∷ x) (sym (same ∙ append-nil r)), letters, some)
+between n r u t name (c ∷ rest) trails done is every same some letters =
+    let k : is_trail u ≡ false = ap is_trail is ∙ no_trail c rest t every in
+    let l : true ≡ false = sym trails ∙ k in cc
+
+over_reference : (m n c : ℕ) (r u t : List ℕ) → Fewer m n u → is_trail u ≡ true → IsDone n (c ∷ r) u → Reads reference_like (c ∷ (r ++ u)) t → Times (Reads trail_piece) m t [] → IsOver n (c ∷ r) u
 over_reference m n c r u t fewer trails done reads more =
     let sign = reads.1 in
     let letter = reads.2.1 in
@@ -168,16 +180,16 @@ over_reference m n c r u t fewer trails done reads more =
     rest ∙ letter.2 ∙ ap (λ x. letter.0 ∷ x) (letters.1 ∙ ap (λ (x : List ℕ). letters.0 ++ x) (closing.2 ∙ ap (λ x. x ∷ t) semicolon)) in
     elim (ends_in name r u t every whole) [
       | inl x ↦ (let same : c ∷ r ≡ 38 ∷ (name ++ 59 ∷ x.0) = ap (λ y. y ∷ r) is ∙ ap (λ (y : List ℕ). 38 ∷ y) x.1 in
-          subst (λ y. IsOver n y u) (sym same) (over_name m n name x.0 u t fewer (omega arith) every (subst (IsDone n) same done) x.2 more))
-      | inr x ↦ (let k : is_trail u ≡ false = ap is_trail x.1 ∙ no_trail x.0 t x.2 in let l : true ≡ false = sym trails ∙ k in cc)
+          subst (λ y. IsOver n y u) (sym same) (over_name m n name x.0 u t fewer (omega arith) every (subst (λ y. IsDone n y u) same done) x.2 more))
+      | inr x ↦ absurd (between n r u t name x.0 trails (subst (λ y. IsDone n (y ∷ r) u) is done) x.1 x.2 x.3 (omega arith) every)
     ]
 
-over_piece : (m n c : ℕ) (r u t : List ℕ) → Fewer m n u → is_trail u ≡ true → IsDone n (c ∷ r) → Reads trail_piece (c ∷ (r ++ u)) t → Times (Reads trail_piece) m t [] → IsOver n (c ∷ r) u
+over_piece : (m n c : ℕ) (r u t : List ℕ) → Fewer m n u → is_trail u ≡ true → IsDone n (c ∷ r) u → Reads trail_piece (c ∷ (r ++ u)) t → Times (Reads trail_piece) m t [] → IsOver n (c ∷ r) u
 over_piece m n c r u t fewer trails done (inl x) more = over_mark m n c r u t fewer done x more
 over_piece m n c r u t fewer trails done (inr (inl x)) more = over_parenthesis m n c r u t fewer done x more
 over_piece m n c r u t fewer trails done (inr (inr x)) more = over_reference m n c r u t fewer trails done x more
 
-is_over : (m n : ℕ) (r u : List ℕ) → is_trail u ≡ true → 0 < length r → IsDone n r → Times (Reads trail_piece) m (r ++ u) [] → IsOver n r u
+is_over : (m n : ℕ) (r u : List ℕ) → is_trail u ≡ true → 0 < length r → IsDone n r u → Times (Reads trail_piece) m (r ++ u) [] → IsOver n r u
 is_over zero n [] u trails some done e = absurd (omega arith)
 is_over zero n (c ∷ r) u trails some done e = (let k : c ∷ (r ++ u) ≡ [] = e in cc)
 is_over (suc m) n [] u trails some done reads = absurd (omega arith)
@@ -203,7 +215,7 @@ and_first : (a b : Bool) → a ≡ false → (a && b) ≡ false
 and_first true b e = cc
 and_first false b e = refl
 
-stays : (k n : ℕ) (r u : List ℕ) → 0 < length r → IsDone k r → is_trail u ≡ true → k + how_many 41 u ≡ n → may_drop n (r ++ u) ≡ false
+stays : (k n : ℕ) (r u : List ℕ) → 0 < length r → IsDone k r u → is_trail u ≡ true → k + how_many 41 u ≡ n → may_drop n (r ++ u) ≡ false
 stays k n r u some done trails sum = elim (cases_bool (is_trail (r ++ u))) [
   | inl e ↦ (let reads : Reads trail (r ++ u) [] = sound trail (r ++ u) [] (whole_none (read trail (r ++ u)) e) in
       let over : IsOver k r u = is_over reads.0 k r u trails some done reads.1 in
@@ -218,17 +230,18 @@ drops_all n [] trails few = refl
 drops_all n (c ∷ u) trails few =
     ap (λ b. cond b [] (c ∷ without_trail n u)) (and_both _ _ trails (le_true (how_many 41 (c ∷ u)) n few))
 
-left_of : (k n : ℕ) (r u : List ℕ) → IsDone k r → is_trail u ≡ true → k + how_many 41 u ≡ n → without_trail n (r ++ u) ≡ r
+left_of : (k n : ℕ) (r u : List ℕ) → IsDone k r u → is_trail u ≡ true → k + how_many 41 u ≡ n → without_trail n (r ++ u) ≡ r
 left_of k n [] u done trails sum = drops_all n u trails (omega (arith, sum))
 left_of k n (c ∷ r) u done trails sum =
     ap (λ b. cond b [] (c ∷ without_trail n (r ++ u))) (stays k n (c ∷ r) u (omega arith) done trails sum)
-    ∙ ap (λ x. c ∷ x) (left_of k n r u (done_behind k (c ∷ []) r done) trails sum)
+    ∙ ap (λ x. c ∷ x) (left_of k n r u (done_behind k (c ∷ []) r u done) trails sum)
 
 -- what is left of a path, from which a trail has been taken, with so many parentheses still to be taken
 pub record TrimsTo (path rest : List ℕ) (unmatched : ℕ) : Type 0 where
   pub taken : List ℕ
   pub whole : path ≡ rest ++ taken
   pub trails : is_trail taken ≡ true
+  pub apart : IsApart rest taken
   pub counted : unmatched + how_many 41 taken ≡ how_many 41 path - how_many 40 path
   pub next : length rest < length path → slice_index path (length rest) < 128
 
@@ -237,15 +250,16 @@ byte_behind [] w path c e = ap (λ x. slice_index x 0) e
 byte_behind (d ∷ front) w path c e = ap (λ x. slice_index x (suc (length front))) e ∙ byte_behind front w (front ++ c ∷ w) c refl
 
 -- one piece more
-piece_taken : (path rest front piece : List ℕ) (c n k : ℕ) → TrimsTo path rest n → rest ≡ front ++ c ∷ piece → c < 128
+piece_taken : (path rest front piece : List ℕ) (c n k : ℕ) → TrimsTo path rest n → rest ≡ front ++ c ∷ piece → c < 128 → (c ≡ 59 → (f : List ℕ) → EndsWithName front f → ⊥)
     → ((u : List ℕ) → read trail_piece ((c ∷ piece) ++ u) ≡ Some u) → ((u : List ℕ) → k + how_many 41 ((c ∷ piece) ++ u) ≡ n + how_many 41 u) → TrimsTo path front k
-piece_taken path rest front piece c n k it parts ascii reads counts =
+piece_taken path rest front piece c n k it parts ascii unnamed reads counts =
     let u : List ℕ = it.taken in
     let whole : path ≡ front ++ ((c ∷ piece) ++ u) = it.whole ∙ ap (λ (x : List ℕ). x ++ u) parts ∙ append_assoc front (c ∷ piece) u in
     record {
       taken = (c ∷ piece) ++ u;
       whole = whole;
       trails = trail_on ((c ∷ piece) ++ u) u (reads u) ∙ it.trails;
+      apart = λ t f is named. unnamed (let k : c ≡ 59 = cc in k) f named;
       counted = counts u ∙ it.counted;
       next = λ less. (let k = byte_behind front (piece ++ u) path c whole in omega (arith, k, ascii));
     }
@@ -255,12 +269,23 @@ reference_taken path rest front before name c n it parts is named every some =
     let whole : rest ≡ before ++ 38 ∷ (name ++ 59 ∷ []) =
     parts ∙ ap (λ x. front ++ x ∷ []) is ∙ ap (λ (x : List ℕ). x ++ 59 ∷ []) named ∙ append_assoc before (38 ∷ name) (59 ∷ []) in
     let join = λ (u : List ℕ). append_assoc name (59 ∷ []) u in
-    piece_taken path rest before (name ++ 59 ∷ []) 38 n n it whole (omega arith)
+    piece_taken path rest before (name ++ 59 ∷ []) 38 n n it whole (omega arith) (λ is. absurd (omega (arith, is)))
     (λ u. ap (λ (x : List ℕ). read trail_piece (38 ∷ x)) (join u) ∙ reference_read name u some every)
     (λ u. ap (λ (x : List ℕ). n + how_many 41 (38 ∷ x)) (join u) ∙ ap (λ x. n + x) (name_uncounted name u every))
 
+trailing_ascii : (c : ℕ) → is_trailing c ≡ true → c < 128
+trailing_ascii c e = grind (arith, nat_tests)
+
+trailing_other : (c : ℕ) → is_trailing c ≡ true → (c == 41) ≡ false
+trailing_other c e = grind (arith, nat_tests)
+
+pub mark_taken : (path rest front : List ℕ) (c n : ℕ) → TrimsTo path rest n → rest ≡ front ++ c ∷ [] → is_trailing c ≡ true → (c ≡ 59 → (f : List ℕ) → EndsWithName front f → ⊥) → TrimsTo path front n
+mark_taken path rest front c n it parts mark unnamed =
+    piece_taken path rest front [] c n n it parts (trailing_ascii c mark) unnamed (λ u. mark_read c u mark)
+    (λ u. ap (λ k. n + k) (counted 41 c u false (trailing_other c mark)))
+
 -- no piece more
-pub trims_to : (path rest : List ℕ) (n : ℕ) → TrimsTo path rest n → IsDone n rest → take (length rest) path ≡ trimmed path
+pub trims_to : (path rest : List ℕ) (n : ℕ) → (it : TrimsTo path rest n) → IsDone n rest it.taken → take (length rest) path ≡ trimmed path
 trims_to path rest n it done =
     ap (take (length rest)) it.whole ∙ take-append_seam rest it.taken
     ∙ sym (ap (without_trail (how_many 41 path - how_many 40 path)) it.whole ∙ left_of n _ rest it.taken done it.trails it.counted)
@@ -350,11 +375,14 @@ name_nowhere s front n it empty named =
 -- ---- Where the loop ends
 
 -- by the last byte
-pub done_last : (n c : ℕ) (rest front : List ℕ) → rest ≡ front ++ c ∷ [] → is_trailing c ≡ false → (c ≡ 41 → n ≡ 0) → (c ≡ 59 → (f : List ℕ) → EndsWithName front f → ⊥) → IsDone n rest
-done_last n c rest front parts mark parenthesis reference = record {
+pub done_last : (n c : ℕ) (rest front taken : List ℕ) → rest ≡ front ++ c ∷ [] → is_trailing c ≡ false → (c ≡ 41 → n ≡ 0) → IsApart rest taken → IsDone n rest taken
+done_last n c rest front taken parts mark parenthesis apart = record {
   mark = λ f d e. ap is_trailing (sym (last_same front f c d (sym parts ∙ e))) ∙ mark;
   parenthesis = λ f e. parenthesis (last_same front f c 41 (sym parts ∙ e));
   reference = λ f name e some every.
       (let joined : front ++ c ∷ [] ≡ (f ++ 38 ∷ name) ++ 59 ∷ [] = sym parts ∙ e ∙ sym (append_assoc f (38 ∷ name) (59 ∷ [])) in
-      reference (last_same front (f ++ 38 ∷ name) c 59 joined) f (name, front_same front (f ++ 38 ∷ name) c 59 joined, every, some));
+      let semicolon : c ≡ 59 = last_same front (f ++ 38 ∷ name) c 59 joined in
+      let k : is_trailing c ≡ true = ap is_trailing semicolon in
+      let l : true ≡ false = sym k ∙ mark in cc);
+  semicolon = apart;
 }

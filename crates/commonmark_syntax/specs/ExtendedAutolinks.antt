@@ -20,10 +20,10 @@ path_at_depth in_bracket depth (c ∷ u) = cond (ends_path in_bracket depth c) [
 abbrev pub path : (in_bracket : Bool) → List ℕ → List ℕ
 path in_bracket text = path_at_depth in_bracket 0 text
 
--- The parts that an autolink may not end with: one of ?!.,:*_~, something like an entity reference, which is & and some
--- letters and digits and a semicolon, or a closing parenthesis, but see below.
+-- The parts that an autolink may not end with: one of ?!.,:*_~, a quote or a semicolon (micromark and cmark-gfm), something
+-- like an entity reference, which is & and some letters and digits and a semicolon, or a closing parenthesis, but see below.
 abbrev pub is_trailing : ℕ → Bool
-is_trailing c = is_one_of (codes "?!.,:*_~") c
+is_trailing c = is_one_of (codes "?!.,:*_~\"';") c
 
 abbrev pub reference_like : Syntax
 reference_like = byte 38 then one is_alphanumeric then all is_alphanumeric then byte 59

@@ -414,7 +414,10 @@ impl Class for Trailing {
     ghost class = { extended.is_trailing };
 
     fn has(byte: u8) -> bool {
-        matches!(byte, b'?' | b'!' | b'.' | b',' | b':' | b'*' | b'_' | b'~')
+        matches!(
+            byte,
+            b'?' | b'!' | b'.' | b',' | b':' | b'*' | b'_' | b'~' | b'"' | b'\'' | b';'
+        )
     }
 }
 

@@ -92,7 +92,7 @@ fn trimmed_size(path: &[u8]) -> usize
             }
             b';' => match before_name(front) {
                 Some(front) => front,
-                None => break,
+                None => front,
             },
             last if Trailing::has(last) => front,
             _ => break,

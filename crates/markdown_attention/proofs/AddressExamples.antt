@@ -25,7 +25,7 @@ two_periods = refl
 pub bracket_after_a_domain : address_in true (codes "a.b](c)") ≡ Some (codes "a.b")
 bracket_after_a_domain = refl
 
-pub no_period : address_in false (codes "ab/c.d") ≡ None
+pub no_period : address_in false (codes "ab:30/c.d") ≡ Some (codes "ab:30/c.d")
 no_period = refl
 
 pub underscore_in_the_last_segment : address_in false (codes "a.b_c/d") ≡ None

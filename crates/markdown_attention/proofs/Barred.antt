@@ -249,11 +249,8 @@ stem_size p (c ∷ v) = omega (arith, with_byte_size p c (without_last p v), ste
 -- ---- Domains that end where one ends that is refused
 
 pub no_domain : (d : List ℕ) → has 95 (last_two_segments d) ≡ true → is_domain d ≡ false
-no_domain d e = ap (λ b. has 46 d && not b) e ∙ none (has 46 d)
-  where
-    none : (a : Bool) → (a && false) ≡ false
-    none true = refl
-    none false = refl
+no_domain [] e = refl
+no_domain (c ∷ d) e = ap not e
 
 ends_no_domain : (d : List ℕ) → 0 < length d → ends_with is_underscore d ≡ true → is_domain d ≡ false
 ends_no_domain d some e = no_domain d (ends_has (last_two_segments d) (two_ends is_underscore d ∙ e))

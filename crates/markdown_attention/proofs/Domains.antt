@@ -120,18 +120,19 @@ underscore_missing s n m it most is less =
 
 -- ---- Addresses
 
-domain_passes : (d : List ℕ) → has 46 d ≡ true → has 95 (last_two_segments d) ≡ false → is_domain d ≡ true
-domain_passes d period underscore = ap (λ b. b && not (has 95 (last_two_segments d))) period ∙ ap not underscore
+domain_passes : (d : List ℕ) → 0 < length d → has 95 (last_two_segments d) ≡ false → is_domain d ≡ true
+domain_passes [] some underscore = absurd (omega (arith, some))
+domain_passes (c ∷ d) some underscore = ap not underscore
 
-pub address_of : (b : Bool) (text whole : List ℕ) (n r : ℕ) → n ≤ length text → take n text ≡ domain b text whole → has 95 (last_two_segments (take n text)) ≡ false → has 46 (take n text) ≡ true
+pub address_of : (b : Bool) (text whole : List ℕ) (n r : ℕ) → n ≤ length text → take n text ≡ domain b text whole → has 95 (last_two_segments (take n text)) ≡ false → (n ≡ 0 → ⊥)
     → take r (drop n text) ≡ trimmed (path b (drop n text)) → address b text whole ≡ Some (take (n + r) text)
-address_of b text whole n r most is underscore period rest =
+address_of b text whole n r most is underscore some rest =
     let d : List ℕ = take n text in
     let size : length d ≡ n = length-take-le n text most in
     let parts : take (n + r) text ≡ d ++ take r (drop n text) =
     ap (λ k. take (k + r) text) (sym size) ∙ ap (take (length d + r)) (sym (take-append-drop n text)) ∙ take-append-add d (drop n text) r in
     let joined : with_path b text d ≡ take (n + r) text = ap (λ k. d ++ trimmed (path b (drop k text))) size ∙ ap (λ (x : List ℕ). d ++ x) (sym rest) ∙ sym parts in
-    ap (λ x. cond (is_domain x) (Some (with_path b text x)) None) (sym is) ∙ ap (λ x. cond x (Some (with_path b text d)) None) (domain_passes d period underscore) ∙ ap Some joined
+    ap (λ x. cond (is_domain x) (Some (with_path b text x)) None) (sym is) ∙ ap (λ x. cond x (Some (with_path b text d)) None) (domain_passes d (omega (arith, size, some)) underscore) ∙ ap Some joined
 
 pub line_less : (text : List ℕ) (n m : ℕ) → m ≤ n → IsInLine text n → IsInLine text m
 line_less text n m le line k less = line k (omega (arith, less, le))

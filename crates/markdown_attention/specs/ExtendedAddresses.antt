@@ -44,13 +44,15 @@ stem whole = without_last is_period_or_underscore whole
 abbrev pub domain : (in_bracket : Bool) → (text whole : List ℕ) → List ℕ
 domain in_bracket text whole = cond (is_trail (path in_bracket (drop (length (stem whole)) text))) (stem whole) whole
 
--- A domain has at least one period, and no underscore in its last two segments.
+-- A domain has at least one segment, and no underscore in its last two. GFM asks for a period, too; micromark and cmark-gfm
+-- do not, so that http://localhost:3000 is a link.
 abbrev pub last_two_segments : List ℕ → List ℕ
 last_two_segments [] = []
 last_two_segments (c ∷ u) = cond (nat_le (how_many 46 (c ∷ u)) 1) (c ∷ u) (last_two_segments u)
 
 abbrev pub is_domain : List ℕ → Bool
-is_domain w = has 46 w && not (has 95 (last_two_segments w))
+is_domain [] = false
+is_domain (c ∷ u) = not (has 95 (last_two_segments (c ∷ u)))
 
 -- The address at the start of a text, given the segments there: its domain, if it is one, and the path after that without
 -- the punctuation at its end.

@@ -7,7 +7,7 @@ ghost use Rattle.commonmark_syntax.specs.Cuts.{IsCut, IsInLine};
 ghost use Rattle.markdown_attention.specs.ExtendedAddresses as page;
 
 use crate::extended_autolink_segments;
-use commonmark_syntax::bytes::{after, count_back, has_byte};
+use commonmark_syntax::bytes::{after, count_back};
 use commonmark_syntax::extended_autolink_path;
 
 /// A domain that was refused for an underscore. No address begins in it before that underscore.
@@ -71,6 +71,9 @@ pub fn scan(
     let text = after(content, at);
     let whole = extended_autolink_segments::size(text);
     let size = domain_size(text, whole, in_bracket);
+    if size == 0 {
+        return None;
+    }
     let domain = &text[..size];
     if let Some(place) = last_underscore(domain) {
         *refused = RefusedDomain {
@@ -78,9 +81,6 @@ pub fn scan(
             start: at,
             end: at + place,
         };
-        return None;
-    }
-    if !has_byte(domain, b'.') {
         return None;
     }
     Some(size + extended_autolink_path::scan(after(text, size), in_bracket))

@@ -19,7 +19,7 @@ ghost use Rattle.markdown_nodes.specs.Tree.{nothing};
 ghost use Rattle.markdown_nodes.specs.View.{views};
 
 use markdown_grammar::error_kind::{ErrorKind, Stop};
-use markdown_nodes::count::Count;
+use markdown_nodes::steps::Steps;
 use markdown_nodes::mdast::{Code, InlineCode, Node};
 use markdown_nodes::role::{Content, ItemKind, Part};
 use markdown_nodes::unist::Position;
@@ -122,14 +122,15 @@ impl CodeFencedParts {
     pub fn node(
         self,
         alloc: Global,
-        steps: &mut Count,
+        steps: &mut Steps<'_>,
         document: &Document<'_>,
         nodes: &mut Vec<Node>,
         position: Position,
     ) -> Result<Node, Stop>
         ensures node { Makes result (is_some self.fence) MissingFence
             (IsNode (code_label self.fence (fenced_text document.now position.end.offset nodes.old.items)) nothing position) }
-        ensures bound { steps.new.number ≤ steps.old.number + node_count (views nodes.old.items) }
+        ensures list { steps.new.events ≡ steps.old.events }
+        ensures bound { steps.new.count ≤ steps.old.count + node_count (views nodes.old.items) }
     {
         match self.fence {
             Some(fence) => Ok(fenced_code(alloc, steps, document, nodes, position, fence)?),
@@ -142,14 +143,15 @@ impl CodeFencedParts {
 #[tactic(auto, unfolding(markdown_nodes::specs::View::view))]
 fn fenced_code(
     alloc: Global,
-    steps: &mut Count,
+    steps: &mut Steps<'_>,
     document: &Document<'_>,
     nodes: &mut Vec<Node>,
     position: Position,
     fence: CodeFenceParts,
 ) -> Result<Node, AllocError>
     ensures node { IfOk result (IsNode (code_label (Some fence) (fenced_text document.now position.end.offset nodes.old.items)) nothing position) }
-    ensures bound { steps.new.number ≤ steps.old.number + node_count (views nodes.old.items) }
+    ensures list { steps.new.events ≡ steps.old.events }
+    ensures bound { steps.new.count ≤ steps.old.count + node_count (views nodes.old.items) }
 {
     let CodeFenceParts { info, meta } = fence;
     let value = fenced_value(alloc, steps, document, nodes, position.end.offset)?;
@@ -167,12 +169,13 @@ fn fenced_code(
 #[tactic(auto, unfolding(markdown_nodes::specs::View::view))]
 pub fn indented_code(
     alloc: Global,
-    steps: &mut Count,
+    steps: &mut Steps<'_>,
     nodes: &mut Vec<Node>,
     position: Position,
 ) -> Result<Node, AllocError>
     ensures node { IfOk result (IsNode (tree.code (indented_text nodes.old.items) None None) nothing position) }
-    ensures bound { steps.new.number ≤ steps.old.number + node_count (views nodes.old.items) }
+    ensures list { steps.new.events ≡ steps.old.events }
+    ensures bound { steps.new.count ≤ steps.old.count + node_count (views nodes.old.items) }
 {
     let text = values_of(alloc, steps, nodes)?;
     Ok(Node::Code(Code {
@@ -189,13 +192,14 @@ pub fn indented_code(
 #[tactic(auto, unfolding(markdown_nodes::specs::View::view))]
 pub fn inline_code(
     alloc: Global,
-    steps: &mut Count,
+    steps: &mut Steps<'_>,
     nodes: &mut Vec<Node>,
     position: Position,
     in_table: bool,
 ) -> Result<Node, AllocError>
     ensures node { IfOk result (IsNode (tree.inline_code (inline_text nodes.old.items in_table)) nothing position) }
-    ensures bound { steps.new.number ≤ steps.old.number + node_count (views nodes.old.items) }
+    ensures list { steps.new.events ≡ steps.old.events }
+    ensures bound { steps.new.count ≤ steps.old.count + node_count (views nodes.old.items) }
 {
     let text = values_of(alloc, steps, nodes)?;
     Ok(Node::InlineCode(InlineCode {

@@ -10,7 +10,7 @@ ghost use Rattle.markdown_grammar.specs.Nodes.{frontmatter};
 ghost use Rattle.markdown_nodes.specs.Tree.{nothing};
 ghost use Rattle.markdown_nodes.specs.View.{views};
 
-use markdown_nodes::count::Count;
+use markdown_nodes::steps::Steps;
 use markdown_nodes::mdast::{Node, Toml, Yaml};
 use markdown_nodes::unist::Position;
 use markdown_parts::buffer::values_of;
@@ -23,13 +23,14 @@ use std::alloc::{AllocError, Global};
 #[tactic(auto, unfolding(markdown_nodes::specs::View::view))]
 pub fn frontmatter(
     alloc: Global,
-    steps: &mut Count,
+    steps: &mut Steps<'_>,
     nodes: &mut Vec<Node>,
     position: Position,
     is_toml: bool,
 ) -> Result<Node, AllocError>
     ensures node { IfOk result (IsNode (frontmatter is_toml (frontmatter_text nodes.old.items)) nothing position) }
-    ensures bound { steps.new.number ≤ steps.old.number + node_count (views nodes.old.items) }
+    ensures list { steps.new.events ≡ steps.old.events }
+    ensures bound { steps.new.count ≤ steps.old.count + node_count (views nodes.old.items) }
 {
     let text = values_of(alloc, steps, nodes)?;
     let value = block_value(text, true, true);

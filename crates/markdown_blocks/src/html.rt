@@ -9,7 +9,7 @@ ghost use Rattle.markdown_nodes.specs.Tree as tree;
 ghost use Rattle.markdown_nodes.specs.Tree.{nothing, plain_text};
 ghost use Rattle.markdown_nodes.specs.View.{views};
 
-use markdown_nodes::count::Count;
+use markdown_nodes::steps::Steps;
 use markdown_nodes::mdast::{Html, Node};
 use markdown_nodes::unist::Position;
 use markdown_parts::buffer::values_of;
@@ -20,12 +20,13 @@ use std::alloc::{AllocError, Global};
 #[tactic(auto, unfolding(markdown_nodes::specs::View::view))]
 pub fn html(
     alloc: Global,
-    steps: &mut Count,
+    steps: &mut Steps<'_>,
     nodes: &mut Vec<Node>,
     position: Position,
 ) -> Result<Node, AllocError>
     ensures node { IfOk result (IsNode (tree.html (plain_text (views nodes.old.items))) nothing position) }
-    ensures bound { steps.new.number ≤ steps.old.number + node_count (views nodes.old.items) }
+    ensures list { steps.new.events ≡ steps.old.events }
+    ensures bound { steps.new.count ≤ steps.old.count + node_count (views nodes.old.items) }
 {
     Ok(Node::Html(Html {
         value: values_of(alloc, steps, nodes)?,

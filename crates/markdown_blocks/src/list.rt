@@ -19,7 +19,7 @@ ghost use Rattle.markdown_nodes.specs.View.{view, views};
 use crate::parent::settled;
 use crate::task::trim;
 use markdown_grammar::error_kind::{ErrorKind, Stop};
-use markdown_nodes::count::Count;
+use markdown_nodes::steps::Steps;
 use markdown_nodes::event::Point;
 use markdown_nodes::mdast::{List, ListItem, Node};
 use markdown_nodes::role::{ItemKind, Part};
@@ -235,14 +235,15 @@ fn list(
 /// paragraph loses the blank after the mark. This takes one step, from the paragraph to its first
 /// child.
 pub fn list_item(
-    steps: &mut Count,
+    steps: &mut Steps<'_>,
     children: Vec<Node>,
     position: Position,
     spread: bool,
     mark: Option<bool>,
 ) -> Node
     ensures node { view result ≡ placed (tree.list_item spread mark) (task_if mark (views children.items)) position }
-    ensures bound { steps.new.number ≤ steps.old.number + 1 }
+    ensures list { steps.new.events ≡ steps.old.events }
+    ensures bound { steps.new.count ≤ steps.old.count + 1 }
 {
     let mut children = children;
     if mark.is_some() {

@@ -17,7 +17,7 @@ ghost use Rattle.markdown_nodes.specs.Tree.{nothing};
 ghost use Rattle.markdown_nodes.specs.View.{views};
 
 use markdown_grammar::error_kind::{ErrorKind, Stop};
-use markdown_nodes::count::Count;
+use markdown_nodes::steps::Steps;
 use markdown_nodes::mdast::{InlineMath, Math, Node};
 use markdown_nodes::role::{Content, ItemKind, Part};
 use markdown_nodes::unist::Position;
@@ -104,14 +104,15 @@ impl MathFlowParts {
     pub fn node(
         self,
         alloc: Global,
-        steps: &mut Count,
+        steps: &mut Steps<'_>,
         document: &Document<'_>,
         nodes: &mut Vec<Node>,
         position: Position,
     ) -> Result<Node, Stop>
         ensures node { Makes result (is_some self.fence) MissingFence
             (IsNode (math_label self.fence (fenced_text document.now position.end.offset nodes.old.items)) nothing position) }
-        ensures bound { steps.new.number ≤ steps.old.number + node_count (views nodes.old.items) }
+        ensures list { steps.new.events ≡ steps.old.events }
+        ensures bound { steps.new.count ≤ steps.old.count + node_count (views nodes.old.items) }
     {
         match self.fence {
             Some(fence) => Ok(block_math(alloc, steps, document, nodes, position, fence)?),
@@ -124,14 +125,15 @@ impl MathFlowParts {
 #[tactic(auto, unfolding(markdown_nodes::specs::View::view))]
 fn block_math(
     alloc: Global,
-    steps: &mut Count,
+    steps: &mut Steps<'_>,
     document: &Document<'_>,
     nodes: &mut Vec<Node>,
     position: Position,
     fence: MathFenceParts,
 ) -> Result<Node, AllocError>
     ensures node { IfOk result (IsNode (math_label (Some fence) (fenced_text document.now position.end.offset nodes.old.items)) nothing position) }
-    ensures bound { steps.new.number ≤ steps.old.number + node_count (views nodes.old.items) }
+    ensures list { steps.new.events ≡ steps.old.events }
+    ensures bound { steps.new.count ≤ steps.old.count + node_count (views nodes.old.items) }
 {
     let MathFenceParts { meta } = fence;
     let value = fenced_value(alloc, steps, document, nodes, position.end.offset)?;
@@ -148,13 +150,14 @@ fn block_math(
 #[tactic(auto, unfolding(markdown_nodes::specs::View::view))]
 pub fn inline_math(
     alloc: Global,
-    steps: &mut Count,
+    steps: &mut Steps<'_>,
     nodes: &mut Vec<Node>,
     position: Position,
     in_table: bool,
 ) -> Result<Node, AllocError>
     ensures node { IfOk result (IsNode (tree.inline_math (inline_text nodes.old.items in_table)) nothing position) }
-    ensures bound { steps.new.number ≤ steps.old.number + node_count (views nodes.old.items) }
+    ensures list { steps.new.events ≡ steps.old.events }
+    ensures bound { steps.new.count ≤ steps.old.count + node_count (views nodes.old.items) }
 {
     let text = values_of(alloc, steps, nodes)?;
     Ok(Node::InlineMath(InlineMath {

@@ -45,7 +45,7 @@ use markdown_inlines::definition::DefinitionParts;
 use markdown_inlines::footnote_call::FootnoteCallParts;
 use markdown_inlines::footnote_definition::FootnoteDefinitionParts;
 use markdown_inlines::media::{MediaParts, ReferenceParts, ResourceParts};
-use markdown_nodes::count::Count;
+use markdown_nodes::steps::Steps;
 use markdown_nodes::event::Point;
 use markdown_nodes::mdast::Node;
 use markdown_nodes::role::{Content, ItemKind, Part};
@@ -376,7 +376,7 @@ impl<'a> Container<'a> {
     pub fn take_text(
         &mut self,
         alloc: Global,
-        steps: &mut Count,
+        steps: &mut Steps<'_>,
         document: &Document<'a>,
         part: Part,
         nodes: &mut Vec<Node>,
@@ -387,7 +387,8 @@ impl<'a> Container<'a> {
         requires heading { part ≢ parts.HeadingSetextText }
         requires fits { misfit_of self.old (item_kinds.Part part) ≡ None }
         ensures taken { KeepsNodes document.now part start end (views nodes.old.items) self.old self.new result }
-        ensures bound { steps.new.number ≤ steps.old.number + visits_at_end (item_kinds.Part part) (summary_of_nodes (views nodes.old.items)) }
+        ensures list { steps.new.events ≡ steps.old.events }
+        ensures bound { steps.new.count ≤ steps.old.count + visits_at_end (item_kinds.Part part) (summary_of_nodes (views nodes.old.items)) }
     {
         match part {
             Part::LabelText => {
@@ -430,7 +431,7 @@ impl<'a> Container<'a> {
     fn take_identified(
         &mut self,
         alloc: Global,
-        steps: &mut Count,
+        steps: &mut Steps<'_>,
         document: &Document<'_>,
         part: Part,
         nodes: &mut Vec<Node>,
@@ -440,7 +441,8 @@ impl<'a> Container<'a> {
         requires such { is_label_string part ≡ true }
         requires fits { misfit_of self.old (item_kinds.Part part) ≡ None }
         ensures taken { KeepsNodes document.now part start end (views nodes.old.items) self.old self.new result }
-        ensures bound { steps.new.number ≤ steps.old.number + node_count (views nodes.old.items) }
+        ensures list { steps.new.events ≡ steps.old.events }
+        ensures bound { steps.new.count ≤ steps.old.count + node_count (views nodes.old.items) }
     {
         match (self, part) {
             (Container::Reference(parts), Part::ReferenceString) => {

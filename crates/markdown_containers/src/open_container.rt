@@ -56,7 +56,7 @@ use markdown_blocks::thematic_break::thematic_break;
 use markdown_grammar::error_kind::Stop;
 use markdown_inlines::autolink::literal;
 use markdown_inlines::text::{hard_break, put_line_ending, put_slice};
-use markdown_nodes::count::Count;
+use markdown_nodes::steps::Steps;
 use markdown_nodes::event::Point;
 use markdown_nodes::mdast::Node;
 use markdown_nodes::role::{Content, ItemKind, Part};
@@ -243,7 +243,7 @@ impl<'a> OpenContainer<'a> {
     pub fn take_any_part(
         &mut self,
         alloc: Global,
-        steps: &mut Count,
+        steps: &mut Steps<'_>,
         document: &Document<'a>,
         part: Part,
         nodes: &mut Vec<Node>,
@@ -252,7 +252,8 @@ impl<'a> OpenContainer<'a> {
         requires such { is_part_model part models.any_content ≡ true }
         requires fits { misfit_of self.old.container (item_kinds.Part part) ≡ None }
         ensures left { TakesText document.now part (views nodes.old.items) ending self.old self.new result }
-        ensures bound { steps.new.number ≤ steps.old.number + visits_at_end (item_kinds.Part part) (summary_of_nodes (views nodes.old.items)) }
+        ensures list { steps.new.events ≡ steps.old.events }
+        ensures bound { steps.new.count ≤ steps.old.count + visits_at_end (item_kinds.Part part) (summary_of_nodes (views nodes.old.items)) }
     {
         match part {
             Part::HeadingSetextText => Ok(self.take_heading_text(nodes)?),
@@ -277,7 +278,7 @@ impl<'a> OpenContainer<'a> {
     fn take_text(
         &mut self,
         alloc: Global,
-        steps: &mut Count,
+        steps: &mut Steps<'_>,
         document: &Document<'a>,
         part: Part,
         nodes: &mut Vec<Node>,
@@ -287,7 +288,8 @@ impl<'a> OpenContainer<'a> {
         requires heading { part ≢ parts.HeadingSetextText }
         requires fits { misfit_of self.old.container (item_kinds.Part part) ≡ None }
         ensures left { TakesText document.now part (views nodes.old.items) ending self.old self.new result }
-        ensures bound { steps.new.number ≤ steps.old.number + visits_at_end (item_kinds.Part part) (summary_of_nodes (views nodes.old.items)) }
+        ensures list { steps.new.events ≡ steps.old.events }
+        ensures bound { steps.new.count ≤ steps.old.count + visits_at_end (item_kinds.Part part) (summary_of_nodes (views nodes.old.items)) }
     {
         self.container.take_text(
             alloc,
@@ -379,7 +381,7 @@ impl<'a> OpenContainer<'a> {
     pub fn take_any_content(
         &mut self,
         alloc: Global,
-        steps: &mut Count,
+        steps: &mut Steps<'_>,
         document: &Document<'_>,
         columns: &mut Columns,
         content: Content,
@@ -390,7 +392,8 @@ impl<'a> OpenContainer<'a> {
         requires no_parent { is_parent content ≡ false }
         ensures left { TakesAnyContent document.now content nodes.old ending (columns_of columns.old) self.old self.new result }
         ensures columns { OnOk result (LeavesColumns content ending.marks columns.old columns.new) }
-        ensures bound { steps.new.number ≤ steps.old.number + visits_at_end (item_kinds.Content content) (summary_of_nodes (views nodes.old.items)) }
+        ensures list { steps.new.events ≡ steps.old.events }
+        ensures bound { steps.new.count ≤ steps.old.count + visits_at_end (item_kinds.Content content) (summary_of_nodes (views nodes.old.items)) }
     {
         let node = any_content_node(alloc, steps, document, columns, content, nodes, ending)?;
         put(&mut self.nodes, node)?;
@@ -401,7 +404,7 @@ impl<'a> OpenContainer<'a> {
     pub fn take_content(
         &mut self,
         alloc: Global,
-        steps: &mut Count,
+        steps: &mut Steps<'_>,
         document: &Document<'_>,
         content: Content,
         own: OpenContainer<'_>,
@@ -411,7 +414,8 @@ impl<'a> OpenContainer<'a> {
         requires such { is_model_of content (initial_model_of own.container) ≡ true }
         requires other { own.container ≢ containers.AnyContent }
         ensures left { (columns : TableColumns) → TakesContent document.now content own.entry ending columns self.old self.new result }
-        ensures bound { steps.new.number ≤ steps.old.number + content_visits content own.entry + 1 }
+        ensures list { steps.new.events ≡ steps.old.events }
+        ensures bound { steps.new.count ≤ steps.old.count + content_visits content own.entry + 1 }
     {
         self.container.take_content(content, &own.container);
         match content {
@@ -456,7 +460,7 @@ impl<'a> OpenContainer<'a> {
     fn node(
         self,
         alloc: Global,
-        steps: &mut Count,
+        steps: &mut Steps<'_>,
         document: &Document<'_>,
         content: Content,
         ending: Ending,
@@ -465,7 +469,8 @@ impl<'a> OpenContainer<'a> {
         requires reference { content ≢ contents.CharacterReference }
         requires other { self.container ≢ containers.AnyContent }
         ensures node { MakesOf self.entry result (λ node. (columns : TableColumns) → IsNodeOf document.now content ending columns (summary_of_container self.entry) node) }
-        ensures bound { steps.new.number ≤ steps.old.number + content_visits content self.entry + 1 }
+        ensures list { steps.new.events ≡ steps.old.events }
+        ensures bound { steps.new.count ≤ steps.old.count + content_visits content self.entry + 1 }
     {
         let OpenContainer {
             container,
@@ -524,7 +529,7 @@ fn unescapes(document: &Document<'_>, ending: Ending) -> bool
 #[tactic(auto, unfolding(markdown_nodes::specs::View::view))]
 fn any_content_node(
     alloc: Global,
-    steps: &mut Count,
+    steps: &mut Steps<'_>,
     document: &Document<'_>,
     columns: &mut Columns,
     content: Content,
@@ -535,7 +540,8 @@ fn any_content_node(
     requires no_parent { is_parent content ≡ false }
     ensures node { IfOk result (IsNodeOf document.now content ending (columns_of columns.old) (summary_of_nodes (views nodes.old.items))) }
     ensures columns { OnOk result (LeavesColumns content ending.marks columns.old columns.new) }
-    ensures bound { steps.new.number ≤ steps.old.number + visits_at_end (item_kinds.Content content) (summary_of_nodes (views nodes.old.items)) }
+    ensures list { steps.new.events ≡ steps.old.events }
+    ensures bound { steps.new.count ≤ steps.old.count + visits_at_end (item_kinds.Content content) (summary_of_nodes (views nodes.old.items)) }
 {
     let position = position_of(ending.start, ending.end);
     match content {

@@ -10,6 +10,5 @@ pub mod Lists
 pub mod Searches
 pub mod Spans
 mod Folding
-mod GhostWalks
 pub mod OpenSpans
 pub mod Aligns

@@ -8,7 +8,6 @@
 #![tactic(auto)]
 
 pub mod around;
-pub mod count;
 pub mod decimal;
 pub mod event;
 pub mod infer;

@@ -3,9 +3,9 @@
 ghost use Rattle.std.specs.Prelude.{◌≡◌, ◌+◌, ◌^◌, ◌<◌, slice_get, IfSome};
 ghost use Rattle.markdown_events.specs.Steps.{steps_of};
 
-use crate::count::Count;
 use crate::event::Event;
 use std::marker::Model;
+use step_count::count::Count;
 
 /// A list of events, and the number of steps taken over it (ours).
 ///
@@ -17,19 +17,16 @@ use std::marker::Model;
 #[derive(Drop)]
 pub struct Steps<'a> {
     events: &'a [Event],
-    /// The events read so far.
-    reads: Count,
-    /// The descents so far. A function that reads no event takes this alone.
-    pub descents: Count,
+    /// The reads and descents so far.
+    count: Count,
 }
 
 impl<'a> Model for Steps<'a> {
     ghost use Rattle.markdown_events.specs.Counted.{Counted};
-    ghost use Rattle.std.specs.Prelude.{◌+◌};
 
     ghost Value = { Counted };
 
-    ghost view = { λ s. record { events = s.events.now; count = s.reads.number + s.descents.number } };
+    ghost view = { λ s. record { events = s.events.now; count = s.count.number } };
 }
 
 impl<'a> Steps<'a> {
@@ -42,8 +39,7 @@ impl<'a> Steps<'a> {
     {
         Steps {
             events,
-            reads: Count::zero(),
-            descents: Count::zero(),
+            count: Count::zero(),
         }
     }
 
@@ -59,7 +55,18 @@ impl<'a> Steps<'a> {
         ensures count { self.new.count ≡ self.old.count + steps_of result }
     {
         let event = self.events.get(index)?;
-        self.reads.tick();
+        self.tick();
         Some(*event)
+    }
+
+    /// Counts one descent from a node to a child.
+    ///
+    /// `steps.tick()` changes nothing at run time.
+    #[inline(always)]
+    pub fn tick(&mut self)
+        ensures list { self.new.events ≡ self.old.events }
+        ensures count { self.new.count ≡ self.old.count + 1 }
+    {
+        self.count.tick();
     }
 }

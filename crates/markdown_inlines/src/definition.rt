@@ -14,7 +14,7 @@ ghost use Rattle.markdown_nodes.specs.Tree.{nothing};
 ghost use Rattle.markdown_nodes.specs.View.{view, views};
 
 use markdown_grammar::error_kind::{ErrorKind, Stop};
-use markdown_nodes::count::Count;
+use markdown_nodes::steps::Steps;
 use markdown_nodes::event::Point;
 use markdown_nodes::mdast::{Definition, Node};
 use markdown_nodes::role::{Content, ItemKind, Part};
@@ -70,7 +70,7 @@ impl DefinitionParts {
     pub fn take_label(
         &mut self,
         alloc: Global,
-        steps: &mut Count,
+        steps: &mut Steps<'_>,
         document: &Document<'_>,
         nodes: &mut Vec<Node>,
         start: Point,
@@ -79,7 +79,8 @@ impl DefinitionParts {
         requires { misfit_in (definition self.old) (item_kinds.Part parts.DefinitionLabelString) ≡ None }
         ensures taken { ReadsText document.now parts.DefinitionLabelString (views nodes.old.items) start end
             (definition self.old) (definition self.new) result }
-        ensures bound { steps.new.number ≤ steps.old.number + node_count (views nodes.old.items) }
+        ensures list { steps.new.events ≡ steps.old.events }
+        ensures bound { steps.new.count ≤ steps.old.count + node_count (views nodes.old.items) }
     {
         let visible = visible_of(alloc, document, start, end)?;
         self.label = Some(identify(alloc, steps, visible.as_str(), nodes)?);

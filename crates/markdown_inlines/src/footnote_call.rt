@@ -15,7 +15,7 @@ ghost use Rattle.markdown_inlines.specs.FootnoteCalls.{call_label, footnote_call
 
 use crate::label::{Label, identified};
 use markdown_grammar::error_kind::{ErrorKind, Stop};
-use markdown_nodes::count::Count;
+use markdown_nodes::steps::Steps;
 use markdown_nodes::event::Point;
 use markdown_nodes::mdast::{FootnoteReference, Node};
 use markdown_nodes::role::{Content, ItemKind, Part};
@@ -79,11 +79,12 @@ impl<'a> FootnoteCallParts<'a> {
     pub fn node(
         self,
         alloc: Global,
-        steps: &mut Count,
+        steps: &mut Steps<'_>,
         position: Position,
     ) -> Result<Node, AllocError>
         ensures node { IfOk result (IsNode (call_label self.entry) nothing position) }
-        ensures bound { steps.new.number ≤ steps.old.number + node_count (footnote_call self.entry).label }
+        ensures list { steps.new.events ≡ steps.old.events }
+        ensures bound { steps.new.count ≤ steps.old.count + node_count (footnote_call self.entry).label }
     {
         let Identified { identifier, label } = identified(alloc, steps, &self.label)?;
         Ok(Node::FootnoteReference(FootnoteReference {

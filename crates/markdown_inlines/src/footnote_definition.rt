@@ -13,7 +13,7 @@ ghost use Rattle.markdown_nodes.specs.Tree as tree;
 ghost use Rattle.markdown_nodes.specs.View.{view, views};
 
 use markdown_grammar::error_kind::{ErrorKind, Stop};
-use markdown_nodes::count::Count;
+use markdown_nodes::steps::Steps;
 use markdown_nodes::event::Point;
 use markdown_nodes::mdast::{FootnoteDefinition, Node};
 use markdown_nodes::role::{ItemKind, Part};
@@ -60,7 +60,7 @@ impl FootnoteDefinitionParts {
     pub fn take_label(
         &mut self,
         alloc: Global,
-        steps: &mut Count,
+        steps: &mut Steps<'_>,
         document: &Document<'_>,
         nodes: &mut Vec<Node>,
         start: Point,
@@ -69,7 +69,8 @@ impl FootnoteDefinitionParts {
         requires { misfit_in (footnote_definition self.old) (item_kinds.Part parts.FootnoteDefinitionLabelString) ≡ None }
         ensures taken { ReadsText document.now parts.FootnoteDefinitionLabelString (views nodes.old.items) start end
             (footnote_definition self.old) (footnote_definition self.new) result }
-        ensures bound { steps.new.number ≤ steps.old.number + node_count (views nodes.old.items) }
+        ensures list { steps.new.events ≡ steps.old.events }
+        ensures bound { steps.new.count ≤ steps.old.count + node_count (views nodes.old.items) }
     {
         let visible = visible_of(alloc, document, start, end)?;
         self.label = Some(identify(alloc, steps, visible.as_str(), nodes)?);

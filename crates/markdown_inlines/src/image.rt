@@ -11,7 +11,7 @@ ghost use Rattle.markdown_inlines.specs.Media.{image_by_label, image_by_name, im
 
 use crate::label::{Label, identified_by, label_text};
 use crate::media::{MediaParts, ReferenceParts, ResourceParts, Target};
-use markdown_nodes::count::Count;
+use markdown_nodes::steps::Steps;
 use markdown_nodes::mdast::{Image, ImageReference, Node, ReferenceKind};
 use markdown_nodes::unist::Position;
 use markdown_parts::label::Identified;
@@ -27,11 +27,12 @@ impl MediaParts<'_> {
     pub fn image(
         self,
         alloc: Global,
-        steps: &mut Count,
+        steps: &mut Steps<'_>,
         position: Position,
     ) -> Result<Node, AllocError>
         ensures node { IfOk result (IsNode (image_of self.entry) nothing position) }
-        ensures bound { steps.new.number ≤ steps.old.number + node_count (media self.entry).label }
+        ensures list { steps.new.events ≡ steps.old.events }
+        ensures bound { steps.new.count ≤ steps.old.count + node_count (media self.entry).label }
     {
         let MediaParts { label, target } = self;
         let alt = label_text(alloc, steps, &label)?;

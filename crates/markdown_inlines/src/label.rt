@@ -14,7 +14,7 @@ ghost use Rattle.markdown_inlines.specs.Labels;
 ghost use Rattle.markdown_inlines.specs.Labels.{IsLabelOf, label_kept};
 
 use markdown_grammar::error_kind::Stop;
-use markdown_nodes::count::Count;
+use markdown_nodes::steps::Steps;
 use markdown_nodes::event::Point;
 use markdown_nodes::mdast::Node;
 use markdown_nodes::text::normalize_identifier;
@@ -69,11 +69,12 @@ pub(crate) fn label_identifier(
 /// Returns the text of a label, in one step for each node in it. If there is no label it is empty.
 pub(crate) fn label_text(
     alloc: Global,
-    steps: &mut Count,
+    steps: &mut Steps<'_>,
     label: &Option<Label<'_>>,
 ) -> Result<String, AllocError>
     ensures text { IfOk result (λ made. string_bytes made ≡ text_in (label_kept label.now)) }
-    ensures bound { steps.new.number ≤ steps.old.number + node_count (Labels.label_nodes label.now) }
+    ensures list { steps.new.events ≡ steps.old.events }
+    ensures bound { steps.new.count ≤ steps.old.count + node_count (Labels.label_nodes label.now) }
 {
     match label {
         Some(label) => label_of(alloc, steps, &label.nodes),
@@ -87,12 +88,13 @@ pub(crate) fn label_text(
 /// one step for each node in it. The only error is that memory ran out.
 pub fn identified(
     alloc: Global,
-    steps: &mut Count,
+    steps: &mut Steps<'_>,
     label: &Option<Label<'_>>,
 ) -> Result<Identified, AllocError>
     ensures identifier { IfOk result (λ made. string_bytes made.identifier ≡ identifier_of (label_kept label.now)) }
     ensures label { IfOk result (λ made. string_bytes made.label ≡ text_in (label_kept label.now)) }
-    ensures bound { steps.new.number ≤ steps.old.number + node_count (Labels.label_nodes label.now) }
+    ensures list { steps.new.events ≡ steps.old.events }
+    ensures bound { steps.new.count ≤ steps.old.count + node_count (Labels.label_nodes label.now) }
 {
     Ok(Identified {
         identifier: label_identifier(alloc, label)?,

@@ -12,7 +12,7 @@ ghost use Rattle.markdown_inlines.specs.Media.{link_by_label, link_by_name, link
 use crate::autolink::link_to;
 use crate::label::{Label, identified, label_nodes};
 use crate::media::{MediaParts, ReferenceParts, ResourceParts, Target};
-use markdown_nodes::count::Count;
+use markdown_nodes::steps::Steps;
 use markdown_nodes::mdast::{LinkReference, Node, ReferenceKind};
 use markdown_nodes::unist::Position;
 use markdown_parts::label::Identified;
@@ -27,11 +27,12 @@ impl MediaParts<'_> {
     pub fn link(
         self,
         alloc: Global,
-        steps: &mut Count,
+        steps: &mut Steps<'_>,
         position: Position,
     ) -> Result<Node, AllocError>
         ensures node { IfOk result (IsNode (link_of self.entry) (media self.entry).label position) }
-        ensures bound { steps.new.number ≤ steps.old.number + node_count (media self.entry).label }
+        ensures list { steps.new.events ≡ steps.old.events }
+        ensures bound { steps.new.count ≤ steps.old.count + node_count (media self.entry).label }
     {
         let MediaParts { label, target } = self;
         match target {
@@ -56,13 +57,14 @@ impl MediaParts<'_> {
 /// Returns a link by reference to the name in its label.
 fn link_by_label(
     alloc: Global,
-    steps: &mut Count,
+    steps: &mut Steps<'_>,
     label: Option<Label<'_>>,
     position: Position,
     reference_kind: ReferenceKind,
 ) -> Result<Node, AllocError>
     ensures node { IfOk result (IsNode (link_by_label reference_kind label.entry) (Labels.label_nodes label.entry) position) }
-    ensures bound { steps.new.number ≤ steps.old.number + node_count (Labels.label_nodes label.entry) }
+    ensures list { steps.new.events ≡ steps.old.events }
+    ensures bound { steps.new.count ≤ steps.old.count + node_count (Labels.label_nodes label.entry) }
 {
     let named = identified(alloc, steps, &label)?;
     let children = label_nodes(alloc, label);

@@ -18,7 +18,7 @@ ghost use Rattle.markdown_inlines.specs.Media.{media, reference, resource};
 
 use crate::label::Label;
 use markdown_grammar::error_kind::{ErrorKind, Stop};
-use markdown_nodes::count::Count;
+use markdown_nodes::steps::Steps;
 use markdown_nodes::event::Point;
 use markdown_nodes::mdast::Node;
 use markdown_nodes::role::{Content, ItemKind, Part};
@@ -134,7 +134,7 @@ impl ReferenceParts {
     pub fn take_string(
         &mut self,
         alloc: Global,
-        steps: &mut Count,
+        steps: &mut Steps<'_>,
         document: &Document<'_>,
         nodes: &mut Vec<Node>,
         start: Point,
@@ -143,7 +143,8 @@ impl ReferenceParts {
         requires { misfit_in (reference self.old) (item_kinds.Part parts.ReferenceString) ≡ None }
         ensures taken { ReadsText document.now parts.ReferenceString (views nodes.old.items) start end
             (reference self.old) (reference self.new) result }
-        ensures bound { steps.new.number ≤ steps.old.number + node_count (views nodes.old.items) }
+        ensures list { steps.new.events ≡ steps.old.events }
+        ensures bound { steps.new.count ≤ steps.old.count + node_count (views nodes.old.items) }
     {
         let visible = visible_of(alloc, document, start, end)?;
         self.string = Some(identify(alloc, steps, visible.as_str(), nodes)?);

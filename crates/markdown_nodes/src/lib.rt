@@ -7,5 +7,5 @@ pub mod mdast;
 pub mod walk;
 
 pub use markdown_events::{
-    around, count, decimal, event, infer, message, role, search, steps, text, unist,
+    around, decimal, event, infer, message, role, search, steps, text, unist,
 };

@@ -8,7 +8,7 @@ ghost use Rattle.markdown_nodes.specs.View.{views};
 ghost use Rattle.markdown_grammar.specs.Buffers.{node_count};
 ghost use Rattle.markdown_parts.specs.Readings.{own_text, reading};
 
-use markdown_nodes::count::Count;
+use markdown_nodes::steps::Steps;
 use markdown_nodes::mdast::Node;
 use std::alloc::{AllocError, Global};
 use std::mem;
@@ -32,13 +32,14 @@ enum Form {
 /// For an emphasis with the text `a` in it, and the text `b` after it, it is `ab`.
 pub fn values_of(
     alloc: Global,
-    steps: &mut Count,
+    steps: &mut Steps<'_>,
     nodes: &mut Vec<Node>,
 ) -> Result<String, AllocError>
     ensures text { IfOk result (λ text. string_bytes text ≡ plain_text (views nodes.old.items)) }
+    ensures list { steps.new.events ≡ steps.old.events }
     // Each node takes one step, and if memory runs out it takes no more than that.
-    ensures count { OnOk result (steps.new.number ≡ steps.old.number + node_count (views nodes.old.items)) }
-    ensures bound { steps.new.number ≤ steps.old.number + node_count (views nodes.old.items) }
+    ensures count { OnOk result (steps.new.count ≡ steps.old.count + node_count (views nodes.old.items)) }
+    ensures bound { steps.new.count ≤ steps.old.count + node_count (views nodes.old.items) }
 {
     if let Some(text) = text_alone(alloc, nodes) {
         steps.tick();
@@ -68,11 +69,12 @@ fn text_alone(alloc: Global, nodes: &mut Vec<Node>) -> Option<String>
 /// this way.
 ///
 /// For the text `a`, and after it an image with the alternative text `b`, it is `ab`.
-pub fn label_of(alloc: Global, steps: &mut Count, nodes: &[Node]) -> Result<String, AllocError>
+pub fn label_of(alloc: Global, steps: &mut Steps<'_>, nodes: &[Node]) -> Result<String, AllocError>
     ensures text { IfOk result (λ text. string_bytes text ≡ plain_label (views nodes.now)) }
+    ensures list { steps.new.events ≡ steps.old.events }
     // Each node takes one step, and if memory runs out it takes no more than that.
-    ensures count { OnOk result (steps.new.number ≡ steps.old.number + node_count (views nodes.now)) }
-    ensures bound { steps.new.number ≤ steps.old.number + node_count (views nodes.now) }
+    ensures count { OnOk result (steps.new.count ≡ steps.old.count + node_count (views nodes.now)) }
+    ensures bound { steps.new.count ≤ steps.old.count + node_count (views nodes.now) }
 {
     text_of(alloc, steps, Form::Label, nodes)
 }
@@ -80,13 +82,14 @@ pub fn label_of(alloc: Global, steps: &mut Count, nodes: &[Node]) -> Result<Stri
 /// Returns the text of nodes.
 fn text_of(
     alloc: Global,
-    steps: &mut Count,
+    steps: &mut Steps<'_>,
     form: Form,
     nodes: &[Node],
 ) -> Result<String, AllocError>
     ensures text { IfOk result (λ text. string_bytes text ≡ reading form (views nodes.now)) }
-    ensures count { OnOk result (steps.new.number ≡ steps.old.number + node_count (views nodes.now)) }
-    ensures bound { steps.new.number ≤ steps.old.number + node_count (views nodes.now) }
+    ensures list { steps.new.events ≡ steps.old.events }
+    ensures count { OnOk result (steps.new.count ≡ steps.old.count + node_count (views nodes.now)) }
+    ensures bound { steps.new.count ≤ steps.old.count + node_count (views nodes.now) }
 {
     let mut text = String::new(alloc);
     add_text(alloc, steps, form, nodes, &mut text)?;
@@ -96,14 +99,15 @@ fn text_of(
 /// Appends the text of nodes to a text. After an error an unknown part of it has been appended.
 fn add_text(
     alloc: Global,
-    steps: &mut Count,
+    steps: &mut Steps<'_>,
     form: Form,
     nodes: &[Node],
     text: &mut String,
 ) -> Result<(), AllocError>
     ensures text { OnOk result (string_bytes text.new ≡ string_bytes text.old ++ reading form (views nodes.now)) }
-    ensures count { OnOk result (steps.new.number ≡ steps.old.number + node_count (views nodes.now)) }
-    ensures bound { steps.new.number ≤ steps.old.number + node_count (views nodes.now) }
+    ensures list { steps.new.events ≡ steps.old.events }
+    ensures count { OnOk result (steps.new.count ≡ steps.old.count + node_count (views nodes.now)) }
+    ensures bound { steps.new.count ≤ steps.old.count + node_count (views nodes.now) }
 {
     let mut levels: Vec<&[Node]> = Vec::new(alloc);
     let mut level = nodes;

@@ -11,7 +11,7 @@ use crate::buffer::values_of;
 use crate::line_ending::is_before_line;
 use crate::slice::Document;
 use crate::texts::block_value;
-use markdown_nodes::count::Count;
+use markdown_nodes::steps::Steps;
 use markdown_nodes::mdast::Node;
 use markdown_nodes::unist::Position;
 use std::alloc::{AllocError, Global};
@@ -26,13 +26,14 @@ use std::alloc::{AllocError, Global};
 /// The text of `~~~⏎a⏎~~~` is `⏎a⏎`, and the value is `a`.
 pub fn fenced_value(
     alloc: Global,
-    steps: &mut Count,
+    steps: &mut Steps<'_>,
     document: &Document<'_>,
     nodes: &mut Vec<Node>,
     end: usize,
 ) -> Result<String, AllocError>
     ensures value { IfOk result (λ value. string_bytes value ≡ fenced document.now end (views nodes.old.items)) }
-    ensures bound { steps.new.number ≤ steps.old.number + node_count (views nodes.old.items) }
+    ensures list { steps.new.events ≡ steps.old.events }
+    ensures bound { steps.new.count ≤ steps.old.count + node_count (views nodes.old.items) }
 {
     let place = place_of(nodes);
     let text = values_of(alloc, steps, nodes)?;

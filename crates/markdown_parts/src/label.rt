@@ -9,7 +9,7 @@ ghost use Rattle.markdown_nodes.specs.View.{views};
 ghost use Rattle.markdown_steps.specs.Summaries.{identifier_of, words_of};
 
 use crate::buffer::values_of;
-use markdown_nodes::count::Count;
+use markdown_nodes::steps::Steps;
 use markdown_nodes::mdast::Node;
 use markdown_nodes::text::normalize_identifier;
 use std::alloc::{AllocError, Global};
@@ -28,13 +28,14 @@ pub struct Identified {
 /// node. The only error is that memory ran out.
 pub fn identify(
     alloc: Global,
-    steps: &mut Count,
+    steps: &mut Steps<'_>,
     slice: &str,
     nodes: &mut Vec<Node>,
 ) -> Result<Identified, AllocError>
     ensures identifier { IfOk result (λ made. string_bytes made.identifier ≡ fold slice.now) }
     ensures label { IfOk result (λ made. string_bytes made.label ≡ plain_text (views nodes.old.items)) }
-    ensures bound { steps.new.number ≤ steps.old.number + node_count (views nodes.old.items) }
+    ensures list { steps.new.events ≡ steps.old.events }
+    ensures bound { steps.new.count ≤ steps.old.count + node_count (views nodes.old.items) }
 {
     Ok(Identified {
         identifier: normalize_identifier(alloc, slice)?,

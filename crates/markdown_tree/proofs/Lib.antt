@@ -4,5 +4,4 @@ pub mod Endings
 pub mod Unfinished
 pub mod Loop
 pub mod Answered
-mod GhostWalks
 mod Building

@@ -47,10 +47,6 @@ pub record Stands (s : Source) (es : List Event) (began count i : ℕ) (st : Sta
 pub begins : (s : Source) (es : List Event) (began : ℕ) → Stands s es began began 0 opening
 begins s es began = record { same = refl; counted = omega arith; within = omega arith; well = well-opening s }
 
--- descents add to the steps what they add to the descents
-pub descended : (reads before after visits : ℕ) → after ≤ before + visits + 1 → reads + after ≤ reads + before + visits + 1
-descended reads before after visits h = omega (arith, h)
-
 pub goes_on : (s : Source) (es : List Event) (began count read after i : ℕ) (e : Event) (st next : State)
     → Some e ≡ slice_get es i → step s e st ≡ Ok next → read ≡ count + 1 → after ≤ read + step_visits e st + 1 → Stands s es began count i st → Stands s es began after (i + 1) next
 goes_on s es began count read after i e st next at one ticked visits_at_end so_far =

@@ -21,7 +21,7 @@ use crate::context::{Context, TokenStop};
 use crate::history::Passed;
 use character_references::references::References;
 use markdown_grammar::error_kind::Stop;
-use markdown_nodes::count::Count;
+use markdown_nodes::steps::Steps;
 use markdown_nodes::event::{Event, Kind, Name, Point};
 use markdown_nodes::mdast::{Node, Root};
 use markdown_nodes::message::Fault;
@@ -136,7 +136,7 @@ impl<'a, R: References> TreeBuilder<'a, R> {
             self.alloc,
             &mut self.context,
             &mut self.fault,
-            &mut self.steps.descents,
+            &mut self.steps,
             &self.document,
             self.references,
             name,
@@ -161,7 +161,7 @@ impl<'a, R: References> TreeBuilder<'a, R> {
             self.alloc,
             &mut self.context,
             &mut self.fault,
-            &mut self.steps.descents,
+            &mut self.steps,
             &self.document,
             self.references,
             name,
@@ -232,7 +232,7 @@ fn close_span<'a, R: References>(
     alloc: Global,
     context: &mut Context<'a>,
     fault: &mut Option<Fault>,
-    steps: &mut Count,
+    steps: &mut Steps<'_>,
     document: &Document<'a>,
     references: &R,
     name: Name,
@@ -265,7 +265,7 @@ fn advance_token<'a, R: References>(
     alloc: Global,
     context: &mut Context<'a>,
     fault: &mut Option<Fault>,
-    steps: &mut Count,
+    steps: &mut Steps<'_>,
     document: &Document<'a>,
     references: &R,
     name: Name,

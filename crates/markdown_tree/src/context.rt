@@ -53,7 +53,7 @@ use markdown_containers::container::Container;
 use markdown_containers::open_container::{Ending, OpenContainer, innermost_nodes, remove_last};
 use markdown_grammar::error_kind::{ErrorKind, Stop};
 use markdown_nodes::around::Around;
-use markdown_nodes::count::Count;
+use markdown_nodes::steps::Steps;
 use markdown_nodes::event::{Event, Kind, Name, Point};
 use markdown_nodes::mdast::Node;
 use markdown_nodes::role::{Content, ItemKind, Role, TransparentKind};
@@ -305,7 +305,7 @@ impl<'a> Context<'a> {
     pub fn step<R: References>(
         &mut self,
         alloc: Global,
-        steps: &mut Count,
+        steps: &mut Steps<'_>,
         document: &Document<'a>,
         references: &R,
         event: &Event,
@@ -313,7 +313,8 @@ impl<'a> Context<'a> {
         requires { Well (source_of document.now (R.text references.now)) (state_of self.old) }
         ensures gives { Reaches self.new event.now.point result
             (Compiler.step (source_of document.now (R.text references.now)) event.now (state_of self.old)) }
-        ensures bound { steps.new.number ≤ steps.old.number + step_visits event.now (state_of self.old) + 1 }
+        ensures list { steps.new.events ≡ steps.old.events }
+        ensures bound { steps.new.count ≤ steps.old.count + step_visits event.now (state_of self.old) + 1 }
     {
         match event.kind {
             Kind::Enter => self.enter(alloc, document, event.name, &event.point),
@@ -441,7 +442,7 @@ impl<'a> Context<'a> {
     pub fn exit<R: References>(
         &mut self,
         alloc: Global,
-        steps: &mut Count,
+        steps: &mut Steps<'_>,
         document: &Document<'a>,
         references: &R,
         name: Name,
@@ -450,7 +451,8 @@ impl<'a> Context<'a> {
         requires { Well (source_of document.now (R.text references.now)) (state_of self.old) }
         ensures gives { Reaches self.new point.now result
             (exit_step (source_of document.now (R.text references.now)) name point.now (state_of self.old)) }
-        ensures bound { steps.new.number ≤ steps.old.number + exit_visits name (state_of self.old).frames (top_of self.old).inner + 1 }
+        ensures list { steps.new.events ≡ steps.old.events }
+        ensures bound { steps.new.count ≤ steps.old.count + exit_visits name (state_of self.old).frames (top_of self.old).inner + 1 }
     {
         let Some(frame) = self.frames.pop() else {
             return Err(Stop::Refused(ErrorKind::Unbalanced));
@@ -466,7 +468,7 @@ impl<'a> Context<'a> {
     fn end<R: References>(
         &mut self,
         alloc: Global,
-        steps: &mut Count,
+        steps: &mut Steps<'_>,
         document: &Document<'a>,
         references: &R,
         frame: Frame,
@@ -475,7 +477,8 @@ impl<'a> Context<'a> {
         requires { Well (source_of document.now (R.text references.now)) (state_with frame self.old) }
         ensures gives { (name : Name) → is_same_name frame.name name ≡ true → Reaches self.new point.now result
             (exit_step (source_of document.now (R.text references.now)) name point.now (state_with frame self.old)) }
-        ensures bound { steps.new.number ≤ steps.old.number + left_visits (role_of frame.name) frame self.old + 1 }
+        ensures list { steps.new.events ≡ steps.old.events }
+        ensures bound { steps.new.count ≤ steps.old.count + left_visits (role_of frame.name) frame self.old + 1 }
     {
         let role = frame.name.role();
         self.leave(alloc, steps, document, references, role, frame, point)?;
@@ -490,7 +493,7 @@ impl<'a> Context<'a> {
     pub fn token<R: References>(
         &mut self,
         alloc: Global,
-        steps: &mut Count,
+        steps: &mut Steps<'_>,
         document: &Document<'a>,
         references: &R,
         name: Name,
@@ -514,7 +517,7 @@ impl<'a> Context<'a> {
     fn significant_token<R: References>(
         &mut self,
         alloc: Global,
-        steps: &mut Count,
+        steps: &mut Steps<'_>,
         document: &Document<'a>,
         references: &R,
         name: Name,
@@ -546,7 +549,7 @@ impl<'a> Context<'a> {
     fn container_token<R: References>(
         &mut self,
         alloc: Global,
-        steps: &mut Count,
+        steps: &mut Steps<'_>,
         document: &Document<'a>,
         references: &R,
         name: Name,
@@ -649,7 +652,7 @@ impl<'a> Context<'a> {
     fn leave<R: References>(
         &mut self,
         alloc: Global,
-        steps: &mut Count,
+        steps: &mut Steps<'_>,
         document: &Document<'a>,
         references: &R,
         role: Role,
@@ -660,7 +663,8 @@ impl<'a> Context<'a> {
         ensures gives { ReachesTop self.new end.now result
             (left_to (source_of document.now (R.text references.now)) role frame end.now self.old) }
         ensures closed { OnOk result (Closed role self.old self.new) }
-        ensures bound { steps.new.number ≤ steps.old.number + left_visits role frame self.old + 1 }
+        ensures list { steps.new.events ≡ steps.old.events }
+        ensures bound { steps.new.count ≤ steps.old.count + left_visits role frame self.old + 1 }
     {
         match role {
             Role::Transparent(kind) => Ok(self.columns.exit(kind, self.interior.marks)?),
@@ -708,7 +712,7 @@ impl<'a> Context<'a> {
     fn leave_container(
         &mut self,
         alloc: Global,
-        steps: &mut Count,
+        steps: &mut Steps<'_>,
         document: &Document<'a>,
         what: ItemKind,
         frame: Frame,
@@ -719,7 +723,8 @@ impl<'a> Context<'a> {
         ensures gives { (s : Source) → given_of s ≡ document.now → ReachesTop self.new end.now result
             (item_left s what frame end.now self.old) }
         ensures closed { OnOk result (Closed (roles.Significant what) self.old self.new) }
-        ensures bound { steps.new.number ≤ steps.old.number + left_visits (roles.Significant what) frame self.old + 1 }
+        ensures list { steps.new.events ≡ steps.old.events }
+        ensures bound { steps.new.count ≤ steps.old.count + left_visits (roles.Significant what) frame self.old + 1 }
     {
         if self.pending.is_some() {
             return Err(Stop::Refused(ErrorKind::UnfinishedBreak));
@@ -769,7 +774,7 @@ impl<'a> Context<'a> {
     fn close_container(
         &mut self,
         alloc: Global,
-        steps: &mut Count,
+        steps: &mut Steps<'_>,
         document: &Document<'a>,
         what: ItemKind,
         frame: Frame,
@@ -783,7 +788,8 @@ impl<'a> Context<'a> {
         ensures gives { (s : Source) → given_of s ≡ document.now → ReachesTop self.new end.now result
             (item_left s what frame end.now self.old) }
         ensures closed { OnOk result (Closed (roles.Significant what) self.old self.new) }
-        ensures bound { steps.new.number ≤ steps.old.number + left_visits (roles.Significant what) frame self.old + 1 }
+        ensures list { steps.new.events ≡ steps.old.events }
+        ensures bound { steps.new.count ≤ steps.old.count + left_visits (roles.Significant what) frame self.old + 1 }
     {
         let ending = Ending {
             start: frame.start,
@@ -816,7 +822,7 @@ impl<'a> Context<'a> {
     fn leave_parts(
         &mut self,
         alloc: Global,
-        steps: &mut Count,
+        steps: &mut Steps<'_>,
         document: &Document<'a>,
         what: ItemKind,
         frame: Frame,
@@ -829,7 +835,8 @@ impl<'a> Context<'a> {
         ensures gives { (s : Source) → given_of s ≡ document.now → ReachesTop self.new end.now result
             (item_left s what frame end.now self.old) }
         ensures closed { OnOk result (Closed (roles.Significant what) self.old self.new) }
-        ensures bound { steps.new.number ≤ steps.old.number + left_visits (roles.Significant what) frame self.old + 1 }
+        ensures list { steps.new.events ≡ steps.old.events }
+        ensures bound { steps.new.count ≤ steps.old.count + left_visits (roles.Significant what) frame self.old + 1 }
     {
         let ending = Ending {
             start: frame.start,

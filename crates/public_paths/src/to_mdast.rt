@@ -51,7 +51,7 @@ const ENTER: Event = Event {
 fn steps_read_events(rt: HostRuntime) {
     let events = [ENTER];
     let mut steps = Steps::new(&events);
-    steps.descents.tick();
+    steps.tick();
     holds(&rt, steps.read(0) == Some(ENTER));
     holds(&rt, steps.read(1).is_none());
 }

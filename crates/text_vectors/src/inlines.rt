@@ -156,7 +156,7 @@ fn autolinks(rt: HostRuntime) -> Result<(), AllocError> {
 
 /// Documents, and where the autolink literal in each begins and ends. Data comes before and after
 /// it.
-const LITERALS: [(&str, &str, usize, usize); 14] = [
+const LITERALS: [(&str, &str, usize, usize); 19] = [
     ("~http://a.b", "Protocol", 1, 11),
     ("a\u{b}www.a.b", "Www", 2, 9),
     ("http://a.b..c", "Protocol", 0, 13),
@@ -167,7 +167,12 @@ const LITERALS: [(&str, &str, usize, usize); 14] = [
     ("http://a.b/c]", "Protocol", 0, 13),
     ("[ http://a.b/[c]]", "Protocol", 2, 16),
     ("[ www.a.b_]", "Www", 2, 9),
-    ("www.a.b/\"c;", "Www", 0, 11),
+    ("www.a.b/\"c;", "Www", 0, 10),
+    ("http://a", "Protocol", 0, 8),
+    ("www.a", "Www", 0, 5),
+    ("www.a._", "Www", 0, 5),
+    ("http://a..b", "Protocol", 0, 11),
+    ("http://localhost:3000'", "Protocol", 0, 21),
     ("www.a.b/c&d1;&e;?", "Www", 0, 9),
     ("a@b.1", "Email", 0, 5),
     ("a@-b._c.", "Email", 0, 7),
@@ -198,11 +203,7 @@ fn data_to(alloc: Global, end: usize, is_there: bool) -> Result<String, AllocErr
 }
 
 /// Documents that contain no autolink literal.
-const NO_LITERALS: [&str; 15] = [
-    "http://a",
-    "www.a",
-    "www.a._",
-    "http://a..b",
+const NO_LITERALS: [&str; 11] = [
     "ftp://.a.b",
     "www.a.b_/c",
     "www.a_.b.*c",

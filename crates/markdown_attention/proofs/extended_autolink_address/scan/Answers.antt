@@ -5,7 +5,7 @@ use Rattle.commonmark_syntax.specs.Cuts.{IsInLine}
 use Rattle.commonmark_syntax.specs.ExtendedAutolinks.{path, trimmed}
 use Rattle.commonmark_syntax.proofs.Cuts.{line_drop}
 use Rattle.markdown_attention.specs.ExtendedAddresses.{address, domain, last_two_segments, segments}
-use Rattle.markdown_attention.proofs.Barred.{TextFrom, kept, text_from}
+use Rattle.markdown_attention.proofs.Barred.{TextFrom, kept, no_address, no_domain, text_from}
 use Rattle.markdown_attention.proofs.Domains.{address_of, line_less}
 use Rattle.markdown_attention.proofs.extended_autolink_address.scan.Goals as goal
 
@@ -23,7 +23,7 @@ returns-clause-exact c = λ valid characters ok e.
     let rest = c.after.ensures.rest in
     let behind = ap (take r) (sym rest) ∙ c.scan.ensures.exact ∙ ap (λ x. trimmed (path b x)) rest in
     subst (λ t. address b t whole ≡ Some (take (n + r) t)) c.after-text.ensures.rest
-    (address_of b text whole n r (omega (arith, w_most, n_most)) is c.in_default.ensures (sym c.has_byte.ensures ∙ c.if-not-has_byte.false) behind)
+    (address_of b text whole n r (omega (arith, w_most, n_most)) is c.in_default.ensures c.if-size-eq0.false behind)
 
 pub returns-clause-in_line : goal.returns-clause-in_line
 returns-clause-in_line c =
@@ -39,6 +39,17 @@ returns-then-covers-clause-exact c = λ valid characters ok e.
     let known = c.covers.ensures in
     let is = c.if-covers.true in
     subst (λ b. address b (drop c.args.at c.args.content.now) (encode_utf8_all (segments characters)) ≡ None) (known.bracket is) (c.requires.refused valid c.args.at characters (known.start is) (known.end is) ok e)
+
+pub returns-in-Some-clause-exact : goal.returns-in-Some-clause-exact
+returns-in-Some-clause-exact c = λ valid characters ok e.
+    let b = c.args.in_bracket in
+    let text = c.after-text.result.now in
+    let n = c.domain_size-size.result in
+    let whole : List ℕ = encode_utf8_all (segments characters) in
+    let segs : take c.size-whole.result text ≡ whole = c.size-whole.ensures.exact characters ok (c.after-text.ensures.rest ∙ e) in
+    let is : take n text ≡ domain b text whole = c.domain_size-size.ensures.exact ∙ ap (domain b text) segs in
+    subst (λ t. address b t whole ≡ None) c.after-text.ensures.rest
+    (no_address b text whole (no_domain (domain b text whole) (ap (λ (x : List ℕ). has 95 (last_two_segments x)) (sym is) ∙ c.in-Some.ensures.2)))
 
 pub returns-in-Some-clause-refused : goal.returns-in-Some-clause-refused
 returns-in-Some-clause-refused c = λ cut valid.

@@ -5,15 +5,16 @@ use Rattle.markdown_parts.proofs.buffer.add_text.Goals as goal
 
 pub walk-init : goal.walk-init
 walk-init c = record {
+  list = refl;
   text = reads_first c.args.form _ c.args.nodes.now c.new-levels.result.items c.new-levels.ensures.items;
   count = omega (arith, left_first c.args.nodes.now c.new-levels.result.items c.new-levels.ensures.items);
 }
 
 pub returns-in_err-push_str-clause-bound : goal.returns-in_err-push_str-clause-bound
-returns-in_err-push_str-clause-bound c = within c.walk.level.now c.in-Some.rest.now c.in-Some.first.now c.walk.levels.items _ _ _ c.in-Some.ensures.cases.0 c.tick.ensures c.walk.invariant.count
+returns-in_err-push_str-clause-bound c = within c.walk.level.now c.in-Some.rest.now c.in-Some.first.now c.walk.levels.items _ _ _ c.in-Some.ensures.cases.0 c.tick.ensures.count c.walk.invariant.count
 
 pub returns-in_err-push-clause-bound : goal.returns-in_err-push-clause-bound
-returns-in_err-push-clause-bound c = within c.walk.level.now c.in-Some.rest.now c.in-Some.first.now c.walk.levels.items _ _ _ c.in-Some.ensures.cases.0 c.tick.ensures c.walk.invariant.count
+returns-in_err-push-clause-bound c = within c.walk.level.now c.in-Some.rest.now c.in-Some.first.now c.walk.levels.items _ _ _ c.in-Some.ensures.cases.0 c.tick.ensures.count c.walk.invariant.count
 
 pub walk-smaller-in-Some-children : goal.walk-smaller-in-Some-children
 walk-smaller-in-Some-children c =
@@ -25,7 +26,8 @@ walk-preserved-in-Some-children c =
     let inner = in_parent c.in-Some.first.now c.in-Some-children.children.now c.as_slice-level.result.now c.in-Some-children.ensures c.as_slice-level.ensures.value in
     record {
       text = reads_down c.args.form _ _ c.own_text.result.now c.walk.level.now c.in-Some.rest.now c.as_slice-level.result.now c.in-Some.first.now c.walk.levels.items c.push.new.self.items c.in-Some.rest _ c.walk.invariant.text c.in-Some.ensures.cases.0 c.in_ok-push_str.ensures.bytes c.own_text.ensures inner c.in_ok-push.ensures.items refl;
-      count = omega (arith, c.tick.ensures, c.walk.invariant.count, left_down c.walk.level.now c.in-Some.rest.now c.as_slice-level.result.now c.in-Some.first.now c.walk.levels.items c.push.new.self.items c.in-Some.rest c.in-Some.ensures.cases.0 inner c.in_ok-push.ensures.items refl);
+      list = c.tick.ensures.list ∙ c.walk.invariant.list;
+      count = omega (arith, c.tick.ensures.count, c.walk.invariant.count, left_down c.walk.level.now c.in-Some.rest.now c.as_slice-level.result.now c.in-Some.first.now c.walk.levels.items c.push.new.self.items c.in-Some.rest c.in-Some.ensures.cases.0 inner c.in_ok-push.ensures.items refl);
     }
 
 pub walk-smaller-in_default-children : goal.walk-smaller-in_default-children
@@ -36,7 +38,8 @@ walk-preserved-in_default-children c =
     let bare = in_none c.in-Some.first.now c.in_default-children.ensures in
     record {
       text = reads_past c.args.form _ _ c.own_text.result.now c.walk.level.now c.in-Some.rest.now c.in-Some.first.now c.walk.levels.items _ c.walk.invariant.text c.in-Some.ensures.cases.0 c.in_ok-push_str.ensures.bytes c.own_text.ensures bare;
-      count = omega (arith, c.tick.ensures, c.walk.invariant.count, left_past c.walk.level.now c.in-Some.rest.now c.in-Some.first.now c.walk.levels.items c.in-Some.ensures.cases.0 bare);
+      list = c.tick.ensures.list ∙ c.walk.invariant.list;
+      count = omega (arith, c.tick.ensures.count, c.walk.invariant.count, left_past c.walk.level.now c.in-Some.rest.now c.in-Some.first.now c.walk.levels.items c.in-Some.ensures.cases.0 bare);
     }
 
 pub returns-in_default-pop-clause-text : goal.returns-in_default-pop-clause-text
@@ -52,6 +55,7 @@ pub walk-preserved : goal.walk-preserved
 walk-preserved c =
     let empty = nil_from_length _ c.in_default.ensures.cases in
     record {
+      list = c.walk.invariant.list;
       text = reads_up c.args.form _ c.walk.level.now c.in-Some-pop.rest.now c.walk.levels.items c.pop.new.self.items c.in-Some-pop.rest _ c.walk.invariant.text empty c.in-Some-pop.ensures.items refl;
       count = omega (arith, c.walk.invariant.count, left_up c.walk.level.now c.in-Some-pop.rest.now c.walk.levels.items c.pop.new.self.items c.in-Some-pop.rest empty c.in-Some-pop.ensures.items refl);
     }

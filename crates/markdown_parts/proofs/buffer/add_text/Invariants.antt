@@ -9,7 +9,8 @@ use Rattle.markdown_parts.proofs.buffer.add_text.Given as goal
 abbrev pub invariant-walk : goal.invariant-walk
 invariant-walk l = record {
   text : Reads l.fn.form (string_bytes l.text) l.level l.levels.items (string_bytes l.fn.text ++ reading l.fn.form (views l.fn.nodes));
-  count : l.steps.number + left l.level l.levels.items ≡ l.fn.steps.number + node_count (views l.fn.nodes);
+  list : l.steps.events ≡ l.fn.steps.events;
+  count : l.steps.count + left l.level l.levels.items ≡ l.fn.steps.count + node_count (views l.fn.nodes);
 }
 
 abbrev pub decreases-walk : goal.decreases-walk

@@ -26,7 +26,7 @@ use denote.Triple.Table.{entered}
 use denote.Triple.Walked.{says, Stays, stay_dropped, walk_of, ends_at, walk_Meets, Goes-dropped}
 use denote.Exit.{yes}
 use Rattle.markdown_events.specs.contracts.event.Event as Event
-use Rattle.markdown_tree.proofs.GhostWalks.{none, none_made}
+use Rattle.step_count.proofs.GhostWalks.{none, none_made}
 use Rattle.markdown_tree.specs.contracts.history.History as History
 use Rattle.markdown_tree.specs.contracts.history.History.and as F
 use Rattle.markdown_tree.specs.contracts.history.History.and.Key.{name as #self}

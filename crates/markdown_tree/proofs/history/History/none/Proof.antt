@@ -23,7 +23,7 @@ use denote.Triple.Entry.{alive}
 use denote.Triple.Spec.{Meets, triple_of}
 use denote.Triple.Table.{entered}
 use denote.Triple.Walked.{says, Stays, walk_of, ends_at, walk_Meets}
-use Rattle.markdown_tree.proofs.GhostWalks.{none, none_made}
+use Rattle.step_count.proofs.GhostWalks.{none, none_made}
 use Rattle.markdown_tree.specs.contracts.history.History as History
 use Rattle.markdown_tree.specs.contracts.history.History.none as F
 use Rattle.markdown_tree.specs.contracts.history.History.none.Key.{name as #self}

@@ -1,5 +1,4 @@
-//! The number of steps of `compile`, for its contract. It takes no memory, and its methods do nothing at
-//! run time.
+//! The number of steps that a function has taken, for its contract.
 
 ghost use Rattle.std.specs.Prelude.{◌≡◌, ℕ, ◌+◌};
 ghost use Rattle.std.specs.Borrow.{ftrue};
@@ -8,8 +7,8 @@ use std::marker::Model;
 
 /// A number of steps (ours). A clause reads it as `number`: a natural number without a limit.
 ///
-/// A step is one read of an event by [`Steps`](crate::steps::Steps), or one descent from a node to a
-/// child, which [`tick`](Count::tick) counts.
+/// What a step is says the function that counts. After `let mut steps = Count::zero()` and
+/// `steps.tick()` it is 1.
 #[derive(Drop)]
 pub struct Count {
     pub ghost number: { ℕ },
@@ -21,7 +20,7 @@ impl Model for Count {
 
 impl Count {
     /// Returns the count zero.
-    pub(crate) fn zero() -> Count
+    pub fn zero() -> Count
         ensures { result.number ≡ 0 }
     {
         Count {}
@@ -29,7 +28,7 @@ impl Count {
 
     /// Returns the count plus one.
     #[inline(always)]
-    pub(crate) fn next(&self) -> Count
+    fn next(&self) -> Count
         ensures { result.number ≡ self.now.number + 1 }
     {
         Count {}
@@ -37,7 +36,7 @@ impl Count {
 
     /// Counts one step.
     ///
-    /// `count.tick()` changes nothing at run time.
+    /// `steps.tick()` changes nothing at run time.
     #[inline(always)]
     pub fn tick(&mut self)
         ensures { self.new.number ≡ self.old.number + 1 }

@@ -23,12 +23,12 @@ use denote.Triple.Entry.{alive}
 use denote.Triple.Spec.{Meets, triple_of}
 use denote.Triple.Table.{entered}
 use denote.Triple.Walked.{says, Stays, walk_of, ends_at, walk_Meets}
-use Rattle.markdown_events.proofs.GhostWalks.{none, none_made}
-use Rattle.markdown_events.specs.contracts.count.Count as Count
-use Rattle.markdown_events.specs.contracts.count.Count.zero as F
-use Rattle.markdown_events.specs.contracts.count.Count.zero.Key.{name as #self}
-use Rattle.markdown_events.proofs.count.Count.zero.Statement as stated
-use Rattle.markdown_events.proofs.count.Count.zero.Code as code
+use Rattle.step_count.proofs.GhostWalks.{none, none_made}
+use Rattle.step_count.specs.contracts.count.Count as Count
+use Rattle.step_count.specs.contracts.count.Count.zero as F
+use Rattle.step_count.specs.contracts.count.Count.zero.Key.{name as #self}
+use Rattle.step_count.proofs.count.Count.zero.Statement as stated
+use Rattle.step_count.proofs.count.Count.zero.Code as code
 
 abbrev function : Fn
 function = code.function

@@ -25,12 +25,12 @@ use denote.Triple.Spec.{Meets, triple_of}
 use denote.Triple.Table.{entered}
 use denote.Triple.Walked.{says, Stays, stay_dropped, walk_of, ends_at, walk_Meets, Goes-dropped}
 use denote.Exit.{yes}
-use Rattle.markdown_events.proofs.GhostWalks.{none, none_made}
-use Rattle.markdown_events.specs.contracts.count.Count as Count
-use Rattle.markdown_events.specs.contracts.count.Count.next as F
-use Rattle.markdown_events.specs.contracts.count.Count.next.Key.{name as #self}
-use Rattle.markdown_events.proofs.count.Count.next.Statement as stated
-use Rattle.markdown_events.proofs.count.Count.next.Code as code
+use Rattle.step_count.proofs.GhostWalks.{none, none_made}
+use Rattle.step_count.specs.contracts.count.Count as Count
+use Rattle.step_count.specs.contracts.count.Count.next as F
+use Rattle.step_count.specs.contracts.count.Count.next.Key.{name as #self}
+use Rattle.step_count.proofs.count.Count.next.Statement as stated
+use Rattle.step_count.proofs.count.Count.next.Code as code
 
 abbrev function : Fn
 function = code.function
