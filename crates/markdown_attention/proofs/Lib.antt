@@ -1,5 +1,6 @@
 pub mod Characters
 pub mod Classes
+pub mod Costs
 pub mod Ends
 mod FlankingExamples
 pub mod Domains

@@ -1,3 +1,4 @@
+pub mod Costs
 pub mod Emphasis
 pub mod Flanking
 pub mod ExtendedAddresses

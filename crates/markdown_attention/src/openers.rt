@@ -1,10 +1,11 @@
 //! The stack of the runs that may still open something.
 
-ghost use Rattle.std.specs.Prelude.{OnOk, ◌≡◌, ◌≢◌, false, ◌<◌, ◌++◌, ◌∷◌, List, length, [], IfNone, IfSome, min, slice_index, slice_set, true, ℕ};
+ghost use Rattle.std.specs.Prelude.{OnOk, ◌≡◌, ◌≢◌, false, ◌<◌, ◌++◌, ◌∷◌, ◌≤◌, ◌+◌, ◌-◌, ◌*◌, List, length, [], IfNone, IfSome, min, slice_index, slice_set, true, ℕ};
 
 use crate::delimiter::Delimiter;
 use crate::run::Run;
 use std::alloc::{AllocError, Global};
+use step_count::count::Count;
 
 /// How many classes of closing runs there are.
 const CLASSES: usize = 14;
@@ -22,6 +23,7 @@ impl Openers {
     ghost use Rattle.markdown_attention.specs.Emphasis.{DelimiterRun, NoneOpens, closed, kept, opened, paired, strength};
     ghost use Rattle.markdown_attention.specs.Taking.{AreTaken, AreTakenInPart, IsTaking, openers};
     ghost use Rattle.markdown_attention.specs.Openers.{IsClosed, IsNearest, IsPaired, IsSound, MayClose, class_of};
+    ghost use Rattle.markdown_attention.specs.Costs.{cost, reach};
     ghost use Rattle.markdown_attention.specs.Runs.{AreReady, IsDelimiterRun, IsReady, marked, view, views};
 
     /// Returns an empty stack.
@@ -40,30 +42,40 @@ impl Openers {
         &mut self,
         runs: &[Run],
         delimiters: &mut Vec<Delimiter>,
+        steps: &mut Count,
     ) -> Result<(), AllocError>
         requires runs { AreReady runs.now }
         requires sound { IsSound self.old.bottoms (views self.old.stack.items) }
         ensures taken { OnOk result ((taken : List DelimiterRun) → openers taken ≡ views self.old.stack.items → AreTaken taken (views runs.now) (views self.new.stack.items) delimiters.old.items delimiters.new.items) }
         ensures part { (taken : List DelimiterRun) → openers taken ≡ views self.old.stack.items → AreTakenInPart taken (views runs.now) delimiters.old.items delimiters.new.items }
+        ensures linear { steps.new.number ≤ steps.old.number + reach self.old.bottoms (length self.old.stack.items) + cost runs.now }
     {
         for run in runs {
-            self.take(*run, delimiters)?;
+            steps.tick();
+            self.take(*run, delimiters, steps)?;
         }
         Ok(())
     }
 
     /// Takes the next run: it closes what it can, and may open something later. The only error is that
     /// memory ran out.
-    fn take(&mut self, run: Run, delimiters: &mut Vec<Delimiter>) -> Result<(), AllocError>
+    fn take(
+        &mut self,
+        run: Run,
+        delimiters: &mut Vec<Delimiter>,
+        steps: &mut Count,
+    ) -> Result<(), AllocError>
         requires run { IsReady (view run) }
         requires sound { IsSound self.old.bottoms (views self.old.stack.items) }
         ensures sound { IsSound self.new.bottoms (views self.new.stack.items) }
         ensures taken { OnOk result ((taken : List DelimiterRun) → openers taken ≡ views self.old.stack.items → AreTaken taken (view run ∷ []) (views self.new.stack.items) delimiters.old.items delimiters.new.items) }
         ensures part { (taken : List DelimiterRun) → openers taken ≡ views self.old.stack.items → AreTakenInPart taken (view run ∷ []) delimiters.old.items delimiters.new.items }
+        ensures linear { OnOk result (steps.new.number + reach self.new.bottoms (length self.new.stack.items) ≤ steps.old.number + reach self.old.bottoms (length self.old.stack.items) + 16 * (view run).left + 15) }
+        ensures most { steps.new.number ≤ steps.old.number + reach self.old.bottoms (length self.old.stack.items) + 16 * (view run).left + 1 }
     {
         let mut run = run;
         if run.can_close() {
-            self.close_all(&mut run, delimiters);
+            self.close_all(&mut run, delimiters, steps);
         }
         self.keep(run)
     }
@@ -74,6 +86,7 @@ impl Openers {
         requires sound { IsSound self.old.bottoms (views self.old.stack.items) }
         ensures sound { IsSound self.new.bottoms (views self.new.stack.items) }
         ensures runs { OnOk result (views self.new.stack.items ≡ views self.old.stack.items ++ openers (kept (view run))) }
+        ensures reach { OnOk result (reach self.new.bottoms (length self.new.stack.items) ≤ reach self.old.bottoms (length self.old.stack.items) + 14) }
     {
         if run.can_open() && run.left() > 0 {
             self.stack.push(run)?;
@@ -82,23 +95,30 @@ impl Openers {
     }
 
     /// Closes everything that a run can close.
-    fn close_all(&mut self, run: &mut Run, delimiters: &mut Vec<Delimiter>)
+    fn close_all(&mut self, run: &mut Run, delimiters: &mut Vec<Delimiter>, steps: &mut Count)
         requires run { MayClose (view run.old) }
         requires sound { IsSound self.old.bottoms (views self.old.stack.items) }
         ensures sound { IsSound self.new.bottoms (views self.new.stack.items) }
         ensures taking { (taken : List DelimiterRun) → openers taken ≡ views self.old.stack.items → IsTaking taken (view run.old) (views self.new.stack.items) (view run.new) delimiters.old.items delimiters.new.items }
         ensures left { 0 < (view run.new).left → NoneOpens (views self.new.stack.items) (view run.new) }
+        ensures linear { steps.new.number + reach self.new.bottoms (length self.new.stack.items) + 16 * (view run.new).left ≤ steps.old.number + reach self.old.bottoms (length self.old.stack.items) + 16 * (view run.old).left + 1 }
         ensures same { ((view run.new).can_open ≡ (view run.old).can_open) × IsDelimiterRun (view run.new) }
     {
         'pairs: while run.left() > 0 {
-            if !self.close_nearest(run, delimiters) {
+            steps.tick();
+            if !self.close_nearest(run, delimiters, steps) {
                 return;
             }
         }
     }
 
     /// Pairs a closing run with its nearest opener, if it has one.
-    fn close_nearest(&mut self, closer: &mut Run, delimiters: &mut Vec<Delimiter>) -> bool
+    fn close_nearest(
+        &mut self,
+        closer: &mut Run,
+        delimiters: &mut Vec<Delimiter>,
+        steps: &mut Count,
+    ) -> bool
         requires closer { MayClose (view closer.old) }
         requires sound { IsSound self.old.bottoms (views self.old.stack.items) }
         ensures sound { IsSound self.new.bottoms (views self.new.stack.items) }
@@ -106,27 +126,32 @@ impl Openers {
         ensures stack { result ≡ false → self.new.stack ≡ self.old.stack }
         ensures closer { result ≡ false → view closer.new ≡ view closer.old }
         ensures delimiters { result ≡ false → delimiters.new.items ≡ delimiters.old.items }
+        ensures linear_none { result ≡ false → steps.new.number + reach self.new.bottoms (length self.new.stack.items) ≤ steps.old.number + reach self.old.bottoms (length self.old.stack.items) }
+        ensures linear { result ≡ true → steps.new.number + reach self.new.bottoms (length self.new.stack.items) ≤ steps.old.number + reach self.old.bottoms (length self.old.stack.items) + 15 }
         ensures paired { result ≡ true → IsClosed (views self.old.stack.items) (view closer.old) (views self.new.stack.items) (view closer.new) delimiters.old.items delimiters.new.items }
     {
-        let Some(height) = self.height_for(closer) else {
+        let Some(height) = self.height_for(closer, steps) else {
             self.raise_bottom(closer);
             return false;
         };
         self.stack.truncate(height);
-        self.pair(closer, delimiters);
+        self.pair(closer, delimiters, steps);
         true
     }
 
     /// Returns how many runs there are up to the nearest opener of a closing one.
-    fn height_for(&self, closer: &Run) -> Option<usize>
+    fn height_for(&self, closer: &Run, steps: &mut Count) -> Option<usize>
         requires closer { MayClose (view closer.now) }
         requires sound { IsSound self.now.bottoms (views self.now.stack.items) }
         ensures none { IfNone result (NoneOpens (views self.now.stack.items) (view closer.now)) }
         ensures some { IfSome result (λ height. IsNearest (views self.now.stack.items) (view closer.now) height) }
+        ensures steps_none { IfNone result (steps.new.number + slice_index self.now.bottoms (class_of (view closer.now)) ≡ steps.old.number + length self.now.stack.items) }
+        ensures steps_some { IfSome result (λ height. (steps.new.number + height ≡ steps.old.number + length self.now.stack.items + 1) × (slice_index self.now.bottoms (class_of (view closer.now)) < height)) }
     {
         let bottom = self.bottom_for(closer);
         let mut height = self.stack.len();
         'runs: while height > bottom {
+            steps.tick();
             height -= 1;
             if self.stack[height].goes_with(closer) {
                 return Some(height + 1);
@@ -152,13 +177,14 @@ impl Openers {
     }
 
     /// Pairs the run on top with a closing one.
-    fn pair(&mut self, closer: &mut Run, delimiters: &mut Vec<Delimiter>)
+    fn pair(&mut self, closer: &mut Run, delimiters: &mut Vec<Delimiter>, steps: &mut Count)
         ensures paired { (before : List DelimiterRun) → (opener : DelimiterRun) → views self.old.stack.items ≡ before ++ (opener ∷ []) → 0 < opener.left → 0 < (view closer.old).left → IsPaired before opener (view closer.old) (views self.new.stack.items) (view closer.new) delimiters.old.items delimiters.new.items }
         ensures bottoms { (class : ℕ) → slice_index self.new.bottoms class ≡ min (slice_index self.old.bottoms class) (length self.new.stack.items) }
+        ensures steps { steps.new.number ≡ steps.old.number + 14 }
     {
         self.pair_top(closer, delimiters);
         self.drop_used();
-        self.lower_bottoms();
+        self.lower_bottoms(steps);
     }
 
     /// Takes the markers of a pair from the run on top and from a closing one.
@@ -188,12 +214,14 @@ impl Openers {
     }
 
     /// Lowers the bottoms that are above the top.
-    fn lower_bottoms(&mut self)
+    fn lower_bottoms(&mut self, steps: &mut Count)
         ensures stack { self.new.stack ≡ self.old.stack }
         ensures bottoms { (class : ℕ) → slice_index self.new.bottoms class ≡ min (slice_index self.old.bottoms class) (length self.old.stack.items) }
+        ensures steps { steps.new.number ≡ steps.old.number + 14 }
     {
         let size = self.stack.len();
         for class in 0..CLASSES {
+            steps.tick();
             self.bottoms[class] = self.bottoms[class].min(size);
         }
     }

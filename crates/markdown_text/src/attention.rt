@@ -10,6 +10,7 @@ use markdown_attention::delimiter::Delimiter;
 use markdown_attention::emphasis;
 use markdown_attention::run::Run;
 use std::alloc::{AllocError, Global};
+use step_count::count::Count;
 
 /// The waiting runs of a text, and the delimiters in the resolved ones.
 #[derive(Drop)]
@@ -77,7 +78,12 @@ impl Attention {
         ensures waiting { OnOk result (self.new.runs.items ≡ take from self.old.runs.items) }
     {
         self.begin(size)?;
-        emphasis::resolve(alloc, &self.runs[from..], &mut self.delimiters)?;
+        emphasis::resolve(
+            alloc,
+            &self.runs[from..],
+            &mut self.delimiters,
+            &mut Count::zero(),
+        )?;
         self.runs.truncate(from);
         Ok(())
     }

@@ -1,6 +1,8 @@
-use Rattle.std.proofs.Common.{arith, ap, subst, sym, ◌∙◌, ◌++◌, ◌∷◌, [], ◌≡◌, ◌<◌}
+use Rattle.std.proofs.Common.{rules, arith, ap, length, ◌+◌, ◌≤◌, subst, sym, ◌∙◌, ◌++◌, ◌∷◌, [], ◌≡◌, ◌<◌}
 use Rattle.markdown_attention.specs.Openers.{IsSound}
 use Rattle.markdown_attention.specs.Runs.{view, views}
+use Rattle.markdown_attention.specs.Costs.{reach}
+use Rattle.markdown_attention.proofs.Costs.{reach_pushed}
 use Rattle.markdown_attention.proofs.Stack.{sound_pushed, views_both}
 use Rattle.markdown_attention.proofs.openers.Openers.keep.Goals as goal
 
@@ -15,3 +17,8 @@ pub returns-in_ok-push-clause-sound : goal.returns-in_ok-push-clause-sound
 returns-in_ok-push-clause-sound c =
     subst (IsSound c.args.self.now.bottoms) (sym (runs_are c))
     (sound_pushed c.args.self.now.bottoms (views c.args.self.now.stack.items) (view c.args.run) c.requires.sound c.requires.run (sym c.can_open.ensures ∙ c.if-can_open.true) (some_left c))
+
+pub returns-in_ok-push-clause-reach : goal.returns-in_ok-push-clause-reach
+returns-in_ok-push-clause-reach c =
+    subst (λ n. reach c.args.self.now.bottoms n ≤ reach c.args.self.now.bottoms (length c.args.self.now.stack.items) + 14) (search rules)
+    (reach_pushed c.args.self.now.bottoms (length c.args.self.now.stack.items))
