@@ -30,6 +30,24 @@ def table(files, size, rows):
     return "\n".join(lines)
 
 
+# The columns of docs/COMPARISON.md after the first, with the programs whose instructions stand there.
+COMPARED = [
+    [("mdast --commonmark", "JSON"), ("mdast --commonmark --html", "HTML")],
+    [("cmark --unsafe", "HTML"), ("cmark -t xml", "XML")],
+    [],
+    [],
+    [("pulldown-cmark", "HTML")],
+]
+COMPARED_TITLE = "| Instructions for each byte of markdown |"
+
+
+def compared(rows):
+    """The line of docs/COMPARISON.md that has the instructions of each parser."""
+    counted = {row.program: row.instructions for row in rows if row.instructions is not None}
+    columns = ["; ".join(f"{counted[program]:.0f} to {form}" for program, form in column if program in counted) for column in COMPARED]
+    return COMPARED_TITLE + "".join(f" {column} |" if column else " |" for column in columns)
+
+
 def bar(at, row, most):
     """The bar of a program, after its name and what it prints, and before its number."""
     y, length = TOP + at * ROW, row.instructions / most * (RIGHT - LEFT)

@@ -393,7 +393,7 @@ impl<'a> Container<'a> {
         match part {
             Part::LabelText => {
                 let nodes = drained(alloc, nodes)?;
-                self.take_label(alloc, document, nodes, start, end)
+                self.take_label(document, nodes, start, end)
             }
             Part::ReferenceString
             | Part::DefinitionLabelString
@@ -411,7 +411,6 @@ impl<'a> Container<'a> {
     /// Takes the label of a link, an image or a footnote call.
     fn take_label(
         &mut self,
-        alloc: Global,
         document: &Document<'a>,
         nodes: Vec<Node>,
         start: Point,
@@ -421,8 +420,8 @@ impl<'a> Container<'a> {
         ensures { KeepsNodes document.now parts.LabelText start end (views nodes.items) self.old self.new result }
     {
         match self {
-            Container::Media(parts) => parts.take_label(alloc, document, nodes, start, end),
-            Container::FootnoteCall(parts) => parts.take_label(alloc, document, nodes, start, end),
+            Container::Media(parts) => parts.take_label(document, nodes, start, end),
+            Container::FootnoteCall(parts) => parts.take_label(document, nodes, start, end),
             _ => unreachable!(),
         }
     }

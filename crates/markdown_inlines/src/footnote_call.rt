@@ -58,7 +58,6 @@ impl<'a> FootnoteCallParts<'a> {
     /// a text of the document, it is refused as `ErrorKind::InvalidSlice`.
     pub fn take_label(
         &mut self,
-        alloc: Global,
         document: &Document<'a>,
         nodes: Vec<Node>,
         start: Point,
@@ -67,7 +66,7 @@ impl<'a> FootnoteCallParts<'a> {
         requires { misfit_in (footnote_call self.old) (item_kinds.Part parts.LabelText) ≡ None }
         ensures { ReadsLabel document.now nodes start end (footnote_call self.old) (footnote_call self.new) result }
     {
-        self.label = Some(Label::read(alloc, document, nodes, start, end)?);
+        self.label = Some(Label::read(document, nodes, start, end)?);
         Ok(())
     }
 

@@ -21,15 +21,15 @@ use markdown_nodes::text::normalize_identifier;
 use markdown_parts::buffer::label_of;
 use markdown_parts::label::Identified;
 use markdown_parts::slice::Document;
-use markdown_parts::value::{Value, visible_of};
+use markdown_parts::value::Slice;
 use std::alloc::{AllocError, Global};
 
 /// The label of a link, an image or a footnote call. Its identifier and its text are made only if a
 /// node needs them.
 #[derive(Drop)]
 pub struct Label<'a> {
-    /// Its visible bytes, by which it is matched.
-    pub visible: Value<'a>,
+    /// Its slice of the document, by whose visible bytes it is matched.
+    pub slice: Slice<'a>,
     /// The nodes made in it.
     pub nodes: Vec<Node>,
 }
@@ -40,7 +40,6 @@ impl<'a> Label<'a> {
     ///
     /// In `[a *b*](c)` its visible bytes are `a *b*`, and its nodes are a text and an emphasis.
     pub fn read(
-        alloc: Global,
         document: &Document<'a>,
         nodes: Vec<Node>,
         start: Point,
@@ -48,8 +47,8 @@ impl<'a> Label<'a> {
     ) -> Result<Label<'a>, Stop>
         ensures { Makes result (is_some (slice document.now.bytes start end)) InvalidSlice (IsLabelOf document.now start end nodes) }
     {
-        let visible = visible_of(alloc, document, start, end)?;
-        Ok(Label { visible, nodes })
+        let slice = Slice::between(document, start, end)?;
+        Ok(Label { slice, nodes })
     }
 }
 
@@ -61,7 +60,7 @@ pub(crate) fn label_identifier(
     ensures { IfOk result (λ made. string_bytes made ≡ identifier_of (label_kept label.now)) }
 {
     match label {
-        Some(label) => normalize_identifier(alloc, label.visible.as_str()),
+        Some(label) => normalize_identifier(alloc, label.slice.visible(alloc)?.as_str()),
         None => Ok(String::new(alloc)),
     }
 }

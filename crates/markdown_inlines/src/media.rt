@@ -186,7 +186,6 @@ impl<'a> MediaParts<'a> {
     /// not a text of the document, it is refused as `ErrorKind::InvalidSlice`.
     pub fn take_label(
         &mut self,
-        alloc: Global,
         document: &Document<'a>,
         nodes: Vec<Node>,
         start: Point,
@@ -195,7 +194,7 @@ impl<'a> MediaParts<'a> {
         requires { misfit_in (media self.old) (item_kinds.Part parts.LabelText) ≡ None }
         ensures { ReadsLabel document.now nodes start end (media self.old) (media self.new) result }
     {
-        self.label = Some(Label::read(alloc, document, nodes, start, end)?);
+        self.label = Some(Label::read(document, nodes, start, end)?);
         Ok(())
     }
 

@@ -5,6 +5,8 @@ use Rattle.markdown_events.specs.declared.event.Point.{Point}
 use Rattle.markdown_grammar.specs.Document.{Given}
 use Rattle.markdown_grammar.specs.declared.values.Values.{Values}
 use Rattle.markdown_grammar.specs.declared.values.Values.TheVariants.{AsInDocument, Whole}
+use Rattle.markdown_grammar.specs.Hidden.{visible}
+use Rattle.markdown_parts.specs.declared.value.Slice.{Slice}
 use Rattle.markdown_parts.specs.declared.value.Value.{Value}
 use Rattle.markdown_parts.specs.declared.value.Value.TheVariants.{Made, Part}
 
@@ -26,6 +28,10 @@ pub record IsTextOf (values : Values) (bytes text : List ℕ) : Type 0 where
 abbrev pub value_text : Value → List ℕ
 value_text (Part part) = part.now
 value_text (Made text) = string_bytes text
+
+-- the visible bytes of a slice
+abbrev pub slice_text : Slice → List ℕ
+slice_text s = visible s.hidden.now s.text.now
 
 -- whether, with whole values, at least one of two points is within a tab
 abbrev pub is_split : Given → Point → Point → Bool

@@ -34,15 +34,17 @@ fn edge_of(point: Point) -> Option<usize>
 /// if all of them are UTF-8.
 ///
 /// With that text, a span is a part of it, and only its ends are checked. In a document that is not
-/// all UTF-8, each span is tested by itself. The same is done if there is a NUL in whole values:
-/// then values are not parts of the document as it is.
+/// all UTF-8, each span is tested by itself.
 #[derive(Drop)]
 pub struct Document<'a> {
     bytes: &'a [u8],
     values: Values,
     /// A flag for each byte, or no flags.
     hidden: &'a [bool],
+    /// The bytes, if they are UTF-8.
     text: Option<&'a str>,
+    /// The same, if values are parts of it as it is: whole values have no NUL.
+    values_text: Option<&'a str>,
 }
 
 impl<'a> Model for Document<'a> {
@@ -54,7 +56,7 @@ impl<'a> Model for Document<'a> {
 
     ghost view = { λ d. record { bytes = d.bytes.now; values = d.values; hidden = d.hidden.now } };
 
-    ghost invariant = { λ d. IfSome d.text (λ text. IsTextOf d.values d.bytes.now text.now) };
+    ghost invariant = { λ d. IfSome d.text (λ text. text.now ≡ d.bytes.now) × IfSome d.values_text (λ text. IsTextOf d.values d.bytes.now text.now) };
 }
 
 impl<'a> Document<'a> {
@@ -66,7 +68,8 @@ impl<'a> Document<'a> {
             bytes,
             values,
             hidden: &[],
-            text: text_as_it_stands(bytes, values),
+            text: str::from_utf8(bytes).ok(),
+            values_text: text_as_it_stands(bytes, values),
         }
     }
 
@@ -79,7 +82,8 @@ impl<'a> Document<'a> {
             bytes,
             values: Values::Whole,
             hidden,
-            text: text_as_it_stands(bytes, Values::Whole),
+            text: str::from_utf8(bytes).ok(),
+            values_text: text_as_it_stands(bytes, Values::Whole),
         }
     }
 
@@ -95,7 +99,8 @@ impl<'a> Document<'a> {
             bytes,
             values: Values::Whole,
             hidden,
-            text: if has_nul(bytes) { None } else { Some(text) },
+            text: Some(text),
+            values_text: if has_nul(bytes) { None } else { Some(text) },
         }
     }
 
@@ -165,20 +170,35 @@ impl<'a> Document<'a> {
         ensures size { IfSome result (λ part. length part.now + from ≡ to) }
         ensures no_nul { IfSome result (λ part. is_whole self.now.values ≡ true → without_nul part.now ≡ part.now) }
     {
-        let part = self.text?.get(from..to)?;
+        let part = self.values_text?.get(from..to)?;
         // For the proof: a text is UTF-8.
         let _ = part.as_bytes();
         Some(part)
     }
 
-    /// Returns the bytes from one index to another as a text, if they are UTF-8.
+    /// Returns the bytes from one index to another as a text, if they are UTF-8. In a document that
+    /// is UTF-8 itself, only the ends are checked.
     #[inline(never)]
     fn tested(&self, from: usize, to: usize) -> Option<&'a str>
         requires order { from ≤ to }
         requires within { to ≤ length self.now.bytes }
         ensures { option_copied result ≡ text_between self.now.bytes from to }
     {
+        if let Some(part) = self.text_part(from, to) {
+            return Some(part);
+        }
         str::from_utf8(&self.bytes[from..to]).ok()
+    }
+
+    /// Returns the bytes from one index to another as a part of the document's text. It is `None` if
+    /// the document is not all UTF-8, or an index is outside it or inside a character.
+    fn text_part(&self, from: usize, to: usize) -> Option<&'a str>
+        ensures { IfSome result (λ part. Some part.now ≡ text_between self.now.bytes from to) }
+    {
+        let part = self.text?.get(from..to)?;
+        // For the proof: a text is UTF-8.
+        let _ = part.as_bytes();
+        Some(part)
     }
 }
 
@@ -225,9 +245,10 @@ fn text_as_it_stands(bytes: &[u8], values: Values) -> Option<&str>
     ensures { IfSome result (λ text. IsTextOf values bytes.now text.now) }
 {
     if replaces_nul(bytes, values) {
-        return None;
+        None
+    } else {
+        str::from_utf8(bytes).ok()
     }
-    str::from_utf8(bytes).ok()
 }
 
 /// Whether values are whole and the document has a NUL.
@@ -252,7 +273,7 @@ fn has_nul(bytes: &[u8]) -> bool
 }
 
 /// Whether none of the first `count` flags is set.
-fn none_is_set(flags: &[bool], count: usize) -> bool
+pub(crate) fn none_is_set(flags: &[bool], count: usize) -> bool
     ensures { result ≡ true → (text : List ℕ) → length text ≤ count → visible flags.now text ≡ text }
 {
     let mut rest = first_flags(flags, count);
