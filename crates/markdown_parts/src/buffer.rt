@@ -8,8 +8,8 @@ ghost use Rattle.markdown_nodes.specs.View.{views};
 ghost use Rattle.markdown_grammar.specs.Buffers.{node_count};
 ghost use Rattle.markdown_parts.specs.Readings.{own_text, reading};
 
-use markdown_nodes::steps::Steps;
 use markdown_nodes::mdast::Node;
+use markdown_nodes::steps::Steps;
 use std::alloc::{AllocError, Global};
 use std::mem;
 

@@ -11,8 +11,8 @@ use crate::buffer::values_of;
 use crate::line_ending::is_before_line;
 use crate::slice::Document;
 use crate::texts::block_value;
-use markdown_nodes::steps::Steps;
 use markdown_nodes::mdast::Node;
+use markdown_nodes::steps::Steps;
 use markdown_nodes::unist::Position;
 use std::alloc::{AllocError, Global};
 

@@ -9,8 +9,8 @@ ghost use Rattle.markdown_nodes.specs.View.{views};
 ghost use Rattle.markdown_steps.specs.Summaries.{identifier_of, words_of};
 
 use crate::buffer::values_of;
-use markdown_nodes::steps::Steps;
 use markdown_nodes::mdast::Node;
+use markdown_nodes::steps::Steps;
 use markdown_nodes::text::normalize_identifier;
 use std::alloc::{AllocError, Global};
 

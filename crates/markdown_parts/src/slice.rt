@@ -48,7 +48,7 @@ pub struct Document<'a> {
 }
 
 impl<'a> Model for Document<'a> {
-    ghost use Rattle.std.specs.Prelude.{IfSome};
+    ghost use Rattle.std.specs.Prelude.{◌≡◌, IfSome};
     ghost use Rattle.markdown_grammar.specs.Document.{Given};
     ghost use Rattle.markdown_parts.specs.WholeValues.{IsTextOf};
 

@@ -9,7 +9,7 @@ use Rattle.markdown_parts.proofs.slice.Document.part.Goals as goal
 
 pub returns-clause-part : goal.returns-clause-part
 returns-clause-part c =
-    let text = subst (λ o. IfSome o (λ text. IsTextOf c.self.inside.values c.self.inside.bytes.now text.now)) c.in_ok-self.was c.self.invariant in
+    let text = subst (λ o. IfSome o (λ text. IsTextOf c.self.inside.values c.self.inside.bytes.now text.now)) c.in_ok-self.was c.self.invariant.1 in
     let whole : c.in_ok-self.field-0.now ≡ c.args.self.now.bytes = text.is ∙ ap (λ (given : Given). given.bytes) c.self.view_is in
     part_is c.args.self.now.bytes c.args.from c.args.to c.in_ok-part.part.now
     (c.in_ok-part.ensures.cases.0 ∙ ap (λ (b : List ℕ). slice_range b c.args.from c.args.to) whole)
@@ -19,7 +19,7 @@ returns-clause-part c =
 
 pub returns-clause-no_nul : goal.returns-clause-no_nul
 returns-clause-no_nul c whole =
-    let text = subst (λ o. IfSome o (λ text. IsTextOf c.self.inside.values c.self.inside.bytes.now text.now)) c.in_ok-self.was c.self.invariant in
+    let text = subst (λ o. IfSome o (λ text. IsTextOf c.self.inside.values c.self.inside.bytes.now text.now)) c.in_ok-self.was c.self.invariant.1 in
     part_without_nul c.self.inside.bytes.now c.args.from c.args.to c.in_ok-part.part.now
     (c.in_ok-part.ensures.cases.0 ∙ ap (λ (b : List ℕ). slice_range b c.args.from c.args.to) text.is)
     (text.no_nul (ap (λ (given : Given). is_whole given.values) c.self.view_is ∙ whole))
