@@ -21,7 +21,6 @@ use crate::context::{Context, TokenStop};
 use crate::history::Passed;
 use character_references::references::References;
 use markdown_grammar::error_kind::Stop;
-use markdown_nodes::steps::Steps;
 use markdown_nodes::event::{Event, Kind, Name, Point};
 use markdown_nodes::mdast::{Node, Root};
 use markdown_nodes::message::Fault;

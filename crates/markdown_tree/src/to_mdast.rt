@@ -244,7 +244,7 @@ fn take_all<'a, R: References>(
     let mut context = Context::new(alloc);
     let mut index = 0;
     while let Some(event) = steps.read(index) {
-        if let Err(stop) = context.step(alloc, &mut steps.descents, document, references, &event) {
+        if let Err(stop) = context.step(alloc, steps, document, references, &event) {
             return Taken {
                 context,
                 outcome: Err(stop.at(event.point)),
