@@ -1,14 +1,12 @@
--- Lemmas on what is counted before an offset: one byte more, and the counts of a whole document.
-use Rattle.std.proofs.Common.{◌≡◌, ℕ, ◌+◌, ◌*◌, ◌≤◌, ◌||◌, List, [], ◌∷◌, ◌++◌, Option, Some, None, unwrap_or, ◌-◌, Bool, true, false, if◌then◌else◌, length, take, get_or, ◌⊎◌, suc, refl, sym, ap, ◌∙◌, arith}
-use Rattle.std.specs.List.{list_any, slice_get}
+-- Lemmas on what is counted before an offset: that its counts are small, and one byte more.
+use Rattle.std.proofs.Common.{◌≡◌, ℕ, ◌+◌, ◌*◌, ◌≤◌, ◌||◌, List, [], ◌∷◌, ◌++◌, Bool, true, false, if◌then◌else◌, length, suc, refl, sym, ap, ◌∙◌, arith}
+use Rattle.std.specs.List.{list_any}
 use Rattle.std.proofs.lemmas.Bool.Decides.{nat_tests}
 use Rattle.std.proofs.lemmas.List.Folds.{list_any-append}
 use Rattle.std.proofs.Math.Bool.{or-false}
 use Rattle.std.proofs.lemmas.Grind.{common_steps}
-use Rattle.std.proofs.lemmas.Option.{slice_get-get_or, slice_get_past, get_or_from_slice_get}
-use mathlib.Core.Logic.{⊎_elim}
 use Rattle.markdown_json.specs.declared.utf16.Counts.{Counts}
-use Rattle.markdown_json.specs.Utf16.{AreCountsOf, counted_by, counts_after, counts_at, ends_line, in_units, last_line, units, units_at, utf16}
+use Rattle.markdown_json.specs.Utf16.{counts_after, ends_line, last_line, units, units_at}
 
 units_at-le : (b : ℕ) → units_at b ≤ 2
 units_at-le b = grind (arith, nat_tests)
@@ -83,43 +81,3 @@ counts-more text c next all bytes of_line =
       line_bytes = (line.0 ∙ sym (ap (λ (l : List ℕ). length l) is)) i;
       line_units = (line.1 ∙ sym (ap (λ (l : List ℕ). units l) is)) i;
     })
-
-lt_or_is : (k n : ℕ) → k ≤ n + 1 → (k ≤ n) ⊎ (k ≡ n + 1)
-lt_or_is k n le = grind arith
-
--- the counts of a text with one byte more
-pub are-more : (counts : List Counts) (next : Counts) (text : List ℕ) (c : ℕ) → AreCountsOf counts text → next ≡ counts_after (text ++ c ∷ []) → AreCountsOf (counts ++ next ∷ []) (text ++ c ∷ [])
-are-more counts next text c (many, are) is = (
-  grind (arith, common_steps),
-  λ k within. ⊎_elim
-      (λ (l : k ≤ length text).
-      let there = get_or_from_slice_get counts k (counts_after (take k text)) next (are k l) in
-      let kept : take k (text ++ c ∷ []) ≡ take k text = grind (arith, common_steps) in
-      let found : get_or (counts ++ next ∷ []) k next ≡ counts_after (take k text) = grind (arith, common_steps) in
-      slice_get-get_or (counts ++ next ∷ []) k next (grind (arith, common_steps)) ∙ ap Some (found ∙ ap counts_after (sym kept)))
-      (λ (e : k ≡ length text + 1).
-      let kept : take k (text ++ c ∷ []) ≡ text ++ c ∷ [] = grind (arith, common_steps) in
-      let found : get_or (counts ++ next ∷ []) k next ≡ next = grind (arith, common_steps) in
-      slice_get-get_or (counts ++ next ∷ []) k next (grind (arith, common_steps)) ∙ ap Some (found ∙ is ∙ ap counts_after (sym kept)))
-      (lt_or_is k (length text) (grind (arith, common_steps))),
-)
-
-le_or_past : (k n : ℕ) → (k ≤ n) ⊎ (n + 1 ≤ k)
-le_or_past k n = grind arith
-
--- what is looked up at an offset is what is counted before it
-counts_at-is : (counts : List Counts) (document : List ℕ) (k : ℕ) → AreCountsOf counts document → counts_at counts k ≡ counts_after (take k document)
-counts_at-is counts document k (many, are) =
-    let last = unwrap_or (slice_get counts (length counts - 1)) (counts_after []) in
-    ⊎_elim
-    (λ (l : k ≤ length document). ap (λ (o : Option Counts). unwrap_or o last) (are k l))
-    (λ (l : length document + 1 ≤ k).
-    let none : slice_get counts k ≡ None = slice_get_past counts k (omega (arith, many, l)) in
-    let end : slice_get counts (length counts - 1) ≡ Some (counts_after (take (length document) document)) = ap (slice_get counts) (omega (arith, many)) ∙ are (length document) (omega arith) in
-    let whole : take (length document) document ≡ take k document = grind (arith, common_steps) in
-    ap (λ (o : Option Counts). unwrap_or o last) none ∙ ap (λ (o : Option Counts). unwrap_or o (counts_after [])) end ∙ ap counts_after whole)
-    (le_or_past k (length document))
-
--- the code counts points as the definition does
-pub counted-is : (counts : List Counts) (document : List ℕ) → AreCountsOf counts document → counted_by counts ≡ utf16 document
-counted-is counts document are = λ i point. in_units (counts_at-is counts document point.offset are i) point

@@ -1,5 +1,5 @@
 -- Points in UTF-16 code units, as JavaScript counts the characters of its strings.
-use Rattle.std.specs.Prelude.{ℕ, ◌≡◌, ◌≤◌, Some, ◌+◌, ◌-◌, List, [], ◌∷◌, Bool, if◌then◌else◌, ◌==◌, ◌||◌, nat_lt, length, take, min, unwrap_or, ◌^◌}
+use Rattle.std.specs.Prelude.{ℕ, ◌≡◌, ◌≤◌, Some, ◌+◌, ◌*◌, ◌/◌, ◌-◌, List, [], ◌∷◌, Bool, if◌then◌else◌, ◌==◌, ◌||◌, nat_lt, length, take, min, ◌^◌}
 use Rattle.std.specs.List.{list_any, slice_get}
 use Rattle.markdown_events.specs.declared.unist.Point.{Point}
 use Rattle.markdown_json.specs.declared.utf16.Counts.{Counts}
@@ -38,15 +38,11 @@ utf16 document point = in_units (counts_after (take point.offset document)) poin
 
 -- ---- The counts in the code
 
--- the counts for each offset of a document, from the first to its end
+-- the counts at the starts of this many blocks of 32 bytes, and at the end of the last
+abbrev pub AreCountsTo : ℕ → List Counts → List ℕ → Type 0
+AreCountsTo blocks counts document =
+    (length counts ≡ blocks + 1) × ((k : ℕ) → k ≤ blocks → slice_get counts k ≡ Some (counts_after (take (32 * k) document)))
+
+-- the same for all whole blocks of a document
 abbrev pub AreCountsOf : List Counts → List ℕ → Type 0
-AreCountsOf counts document =
-    (length counts ≡ length document + 1) × ((k : ℕ) → k ≤ length document → slice_get counts k ≡ Some (counts_after (take k document)))
-
--- the counts before an offset, or before the end if the offset is after it
-abbrev pub counts_at : List Counts → ℕ → Counts
-counts_at counts offset = unwrap_or (slice_get counts offset) (unwrap_or (slice_get counts (length counts - 1)) (counts_after []))
-
--- a point in units, from the counts before it
-abbrev pub counted_by : List Counts → Point → Point
-counted_by counts point = in_units (counts_at counts point.offset) point
+AreCountsOf counts document = AreCountsTo (length document / 32) counts document

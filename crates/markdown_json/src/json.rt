@@ -32,7 +32,7 @@ pub fn to_json(alloc: Global, tree: &Node) -> Result<String, AllocError>
 /// U+FFFF two. `document` has the bytes that the tree was made from. The columns of the tree must
 /// count bytes, as its offsets do. A column counts from 1 and an offset from 0. The columns that a
 /// tab adds are kept, and a point after the end of the document has the offset of the end. The only
-/// error is that memory ran out: it needs 24 bytes for each byte of the document.
+/// error is that memory ran out: beside the text it needs three bytes for each four of the document.
 ///
 /// In the document `é!`, whose first character is two bytes long, a text that starts at `1:3 (2)`
 /// has the start `{"line":1,"column":2,"offset":1}`.

@@ -14,6 +14,8 @@ mod pieces;
 mod points;
 mod positions;
 mod strings;
+#[cfg(test)]
+mod tests;
 mod utf16;
 
 pub use json::{to_json, to_json_utf16};

@@ -32,7 +32,7 @@ struct Frame<'a> {
 /// text.
 #[derive(Drop)]
 pub struct JsonPieces<'a> {
-    points: Points,
+    points: Points<'a>,
     /// The last position that is written.
     last: LastPosition,
     /// The nodes to come on the level of the walk.
@@ -67,10 +67,10 @@ impl<'a> JsonPieces<'a> {
     /// Returns the JSON that [`to_json_utf16`](crate::to_json_utf16) returns, with nothing written
     /// yet.
     ///
-    /// The only error is that memory ran out: it needs 24 bytes for each byte of the document.
+    /// The only error is that memory ran out: it needs three bytes for each four of the document.
     pub fn utf16(
         alloc: Global,
-        document: &[u8],
+        document: &'a [u8],
         tree: &'a Node,
     ) -> Result<JsonPieces<'a>, AllocError>
         ensures { IfOk result (λ pieces. pieces ≡ json_utf16 document.now (view tree.now)) }
@@ -80,8 +80,8 @@ impl<'a> JsonPieces<'a> {
     }
 
     /// Returns the JSON of a tree with its points counted in this way.
-    fn counted(alloc: Global, points: Points, tree: &'a Node) -> JsonPieces<'a>
-        ensures { result ≡ json_counted (counted_as points) (view tree.now) }
+    fn counted(alloc: Global, points: Points<'a>, tree: &'a Node) -> JsonPieces<'a>
+        ensures { result ≡ json_counted (counted_as points.entry) (view tree.now) }
     {
         JsonPieces {
             points,

@@ -8,14 +8,14 @@ use markdown_events::unist::Point;
 
 /// How points are counted: which point is written for each point of a tree (ours).
 #[derive(Debug, Drop)]
-pub enum Points {
+pub enum Points<'a> {
     /// Bytes and byte columns, as in the tree.
     Bytes,
     /// UTF-16 code units.
-    Utf16(Utf16Points),
+    Utf16(Utf16Points<'a>),
 }
 
-impl Points {
+impl Points<'_> {
     /// Returns the point to write for a point of the tree.
     ///
     /// For `Points::Bytes` it is that point itself.

@@ -1,12 +1,15 @@
 //! Points in UTF-16 code units, as JavaScript counts the characters of its strings.
 
-ghost use Rattle.std.specs.Prelude.{◌≡◌, ◌+◌, ◌≤◌, ◌<◌, ◌^◌, ◌*◌, if◌then◌else◌, IfOk};
-ghost use Rattle.markdown_events.specs.declared.unist.Point.{Point};
+ghost use Rattle.std.specs.Prelude.{◌≡◌, ◌+◌, ◌≤◌, ◌<◌, ◌^◌, IfOk, if◌then◌else◌, length, take};
 ghost use Rattle.markdown_json.specs.Utf16;
-ghost use Rattle.markdown_json.specs.Utf16.{AreCountsOf, counted_by, counts_at, ends_line, units_at};
+ghost use Rattle.markdown_json.specs.Utf16.{counts_after, ends_line, units_at, utf16};
 
 use markdown_events::unist::Point;
 use std::alloc::{AllocError, Global};
+use std::marker::Model;
+
+/// How many bytes of a document are between two offsets whose counts are kept.
+const BLOCK: usize = 32;
 
 /// The counts before an offset.
 #[derive(Clone, Copy, PartialEq, Eq, Debug)]
@@ -50,6 +53,21 @@ impl Counts {
             line_units: self.line_units + units,
         }
     }
+
+    /// Returns the counts before the offset `end` of a document, from those before the offset
+    /// `start`.
+    fn up_to(self, document: &[u8], start: usize, end: usize) -> Counts
+        requires order { start ≤ end }
+        requires end { end ≤ length document.now }
+        requires start { self ≡ counts_after (take start document.now) }
+        ensures { result ≡ counts_after (take end document.now) }
+    {
+        let mut last = self;
+        for offset in start..end {
+            last = last.after(document[offset]);
+        }
+        last
+    }
 }
 
 /// Returns how many UTF-16 units the character takes that begins with this byte, or 0 for a byte
@@ -69,48 +87,57 @@ fn units_at(byte: u8) -> usize
 /// The points of a document in UTF-16 code units, in which JavaScript counts columns and offsets.
 /// The columns of the points that are looked up must count bytes.
 ///
-/// It takes 24 bytes for each byte of the document, and one lookup for each point. A point after
-/// the end of the document has the offset of its end.
+/// It takes three bytes for each four of the document, and a look at no more than 31 bytes for each
+/// point. A point after the end of the document has the offset of its end.
 ///
 /// In the document `é!`, whose first character takes two bytes and one unit, the point before the
 /// `!` is `1:3 (2)` in bytes, and `1:2 (1)` in units.
 #[derive(Debug, Drop)]
-pub struct Utf16Points {
-    /// The counts before each offset, from the first to that of the end.
+pub struct Utf16Points<'a> {
+    document: &'a [u8],
+    /// The counts before the first byte of each block, and before the end of the last whole one.
     counts: Vec<Counts>,
 }
 
-impl Utf16Points {
+impl<'a> Model for Utf16Points<'a> {
+    ghost use Rattle.std.specs.Prelude.{List, ℕ};
+    ghost use Rattle.markdown_json.specs.Utf16.{AreCountsOf};
+
+    ghost Value = { List ℕ };
+
+    ghost view = { λ it. it.document.now };
+
+    ghost invariant = { λ it. AreCountsOf it.counts.items it.document.now };
+}
+
+impl<'a> Utf16Points<'a> {
     /// Returns the points of a document. The only error is that memory ran out.
-    pub fn new(alloc: Global, document: &[u8]) -> Result<Utf16Points, AllocError>
-        ensures { IfOk result (λ points. AreCountsOf points.counts.items document.now) }
+    pub fn new(alloc: Global, document: &'a [u8]) -> Result<Utf16Points<'a>, AllocError>
+        ensures { IfOk result (λ points. points ≡ document.now) }
     {
+        let blocks = document.len() / BLOCK;
         let mut last = Counts::START;
-        let mut counts = Vec::new(alloc);
+        let mut counts = Vec::with_capacity(alloc, blocks + 1)?;
         counts.push(last)?;
-        for byte in document {
-            last = last.after(*byte);
+        for block in 0..blocks {
+            last = last.up_to(document, block * BLOCK, (block + 1) * BLOCK);
             counts.push(last)?;
         }
-        Ok(Utf16Points { counts })
+        Ok(Utf16Points { document, counts })
     }
 
-    /// Returns the counts before an offset.
+    /// Returns the counts before an offset, or before the end if the offset is after it.
     fn counts_at(&self, offset: usize) -> Counts
-        ensures { result ≡ counts_at self.now.counts.items offset }
+        ensures { result ≡ counts_after (take offset self.now) }
     {
-        if let Some(counts) = self.counts.get(offset) {
-            return *counts;
-        }
-        match self.counts.last() {
-            Some(counts) => *counts,
-            None => Counts::START,
-        }
+        let end = offset.min(self.document.len());
+        let block = end / BLOCK;
+        self.counts[block].up_to(self.document, block * BLOCK, end)
     }
 
     /// Returns a point of the document in units.
     pub fn counted(&self, point: Point) -> Point
-        ensures { result ≡ counted_by self.now.counts.items point }
+        ensures { result ≡ utf16 self.now point }
     {
         let before = self.counts_at(point.offset);
         let in_line = point.column.saturating_sub(before.line_bytes);
