@@ -1,6 +1,6 @@
 -- How a browser's tokenizer reads a text (HTML Standard), and which texts are safe. It knows what a page here may have and refuses
 -- everything else: a comment, a tag or an attribute that is not listed, a value without quotes, another character reference,
--- a value that its attribute may not have.
+-- a value that its attribute may not have, an element where a browser would move it or close another for it.
 use Rattle.std.specs.Prelude.{◌≡◌, ℕ, Bool, true, false, not, ◌&&◌, ◌||◌, List, [], ◌∷◌, ◌++◌, Option, Some, None, if◌then◌else◌, ◌==◌, codes}
 use Rattle.std.specs.List.{list_any, list_all}
 use Rattle.std.specs.Str.{bytes_eq}
@@ -18,13 +18,42 @@ elements = codes "p" ∷ codes "blockquote" ∷ codes "em" ∷ codes "strong" �
 abbrev pub void_elements : List (List ℕ)
 void_elements = codes "hr" ∷ codes "br" ∷ codes "img" ∷ codes "input" ∷ []
 
+-- elements in which no block begins, and the blocks: a browser would close a paragraph for a block, or put it before a table
+abbrev pub closed_elements : List (List ℕ)
+closed_elements = codes "p" ∷ codes "h1" ∷ codes "h2" ∷ codes "h3" ∷ codes "h4" ∷ codes "h5" ∷ codes "h6" ∷ codes "table" ∷ []
+
+abbrev pub blocks : List (List ℕ)
+blocks = codes "blockquote" ∷ codes "ol" ∷ codes "ul" ∷ codes "pre" ∷ codes "section" ∷ codes "hr" ∷ closed_elements
+
+-- a link is open; no element is open in which no block begins; the innermost open element is one of these
+abbrev pub has_link : (up : List (List ℕ)) → Bool
+has_link up = list_any (bytes_eq (codes "a")) up
+
+abbrev pub takes_blocks : (up : List (List ℕ)) → Bool
+takes_blocks up = not (list_any (one_of closed_elements) up)
+
+abbrev pub is_in : (parents up : List (List ℕ)) → Bool
+is_in parents [] = false
+is_in parents (last ∷ up) = one_of parents last
+
+-- an element may begin where these are open, the innermost first: no link in a link; items, rows and cells in their parents
+abbrev pub may_begin : (up : List (List ℕ)) → (name : List ℕ) → Bool
+may_begin up name =
+    if bytes_eq name (codes "a") then not (has_link up)
+    else (if bytes_eq name (codes "li") then is_in (codes "ol" ∷ codes "ul" ∷ []) up
+    else (if bytes_eq name (codes "thead") || bytes_eq name (codes "tbody") then is_in (codes "table" ∷ []) up
+    else (if bytes_eq name (codes "tr") then is_in (codes "thead" ∷ codes "tbody" ∷ []) up
+    else (if bytes_eq name (codes "th") || bytes_eq name (codes "td") then is_in (codes "tr" ∷ []) up
+    else (if one_of blocks name then takes_blocks up
+    else true)))))
+
 -- the attributes that an element may have
 abbrev pub attributes_of : List ℕ → List (List ℕ)
 attributes_of name =
     if bytes_eq name (codes "a") then codes "href" ∷ codes "title" ∷ codes "id" ∷ codes "class" ∷ codes "data-footnote-ref" ∷ codes "data-footnote-backref" ∷ codes "aria-describedby" ∷ codes "aria-label" ∷ []
     else (if bytes_eq name (codes "img") then codes "src" ∷ codes "alt" ∷ codes "title" ∷ []
     else (if bytes_eq name (codes "ol") then codes "start" ∷ []
-    else (if bytes_eq name (codes "li") then codes "id" ∷ []
+    else (if bytes_eq name (codes "li") || bytes_eq name (codes "sup") then codes "id" ∷ []
     else (if bytes_eq name (codes "code") then codes "class" ∷ []
     else (if bytes_eq name (codes "input") then codes "type" ∷ codes "checked" ∷ codes "disabled" ∷ []
     else (if bytes_eq name (codes "th") || bytes_eq name (codes "td") then codes "align" ∷ []
@@ -124,8 +153,8 @@ module _ (allowed : Allowed) where
   step (reference up read) b = if b == 59 then referred up (character read) else reference up (read ++ (b ∷ []))
   step (tag up) b = if b == 47 then end_tag up [] else start_tag up (b ∷ [])
   step (start_tag up read) b =
-      if b == 62 then (if one_of elements read then content (read ∷ up) else unsafe)
-      else (if b == 32 then (if one_of elements read || one_of void_elements read then attribute_name up read [] else unsafe)
+      if b == 62 then (if one_of elements read && may_begin up read then content (read ∷ up) else unsafe)
+      else (if b == 32 then (if (one_of elements read || one_of void_elements read) && may_begin up read then attribute_name up read [] else unsafe)
       else start_tag up (read ++ (b ∷ [])))
   step (end_tag up read) b = if b == 62 then closed up read else end_tag up (read ++ (b ∷ []))
   step (after_value up name) b =

@@ -56,3 +56,19 @@ fn calls_in_footnotes(rt: HostRuntime) -> Result<(), AllocError> {
 </ol>\n</section>\n",
     )
 }
+
+/// A call in a link is its number alone, since a link may not be in a link. The back reference leads
+/// to it.
+#[test]
+fn calls_in_links(rt: HostRuntime) -> Result<(), AllocError> {
+    let alloc = rt.alloc();
+    shows(
+        &rt,
+        alloc,
+        "[b[^a]](c)\n\n[^a]: d",
+        "<p><a href=\"c\">b<sup id=\"user-content-fnref-a\">1</sup></a></p>\n\
+<section data-footnotes=\"\" class=\"footnotes\"><h2 class=\"sr-only\" id=\"user-content-footnote-label\">Footnotes</h2>\n<ol>\n\
+<li id=\"user-content-fn-a\">\n<p>d <a href=\"#user-content-fnref-a\" data-footnote-backref=\"\" aria-label=\"Back to reference 1\" class=\"data-footnote-backref\">↩</a></p>\n</li>\n\
+</ol>\n</section>\n",
+    )
+}

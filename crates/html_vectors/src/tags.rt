@@ -9,7 +9,7 @@ static ELEMENTS: [(&str, &[&str]); 29] = [
     ("em", &[]),
     ("strong", &[]),
     ("del", &[]),
-    ("sup", &[]),
+    ("sup", &["id"]),
     ("h1", &[]),
     ("h2", &["class", "id"]),
     ("h3", &[]),
@@ -45,6 +45,40 @@ static ELEMENTS: [(&str, &[&str]); 29] = [
     ("br", &[]),
     ("img", &["src", "alt", "title"]),
     ("input", &["type", "checked", "disabled"]),
+];
+
+/// The elements that stand in few others, and those.
+static PARENTS: [(&str, &[&str]); 6] = [
+    ("li", &["ol", "ul"]),
+    ("thead", &["table"]),
+    ("tbody", &["table"]),
+    ("tr", &["thead", "tbody"]),
+    ("th", &["tr"]),
+    ("td", &["tr"]),
+];
+
+/// The elements that stand in no other ones, and those.
+static OUTSIDE: [(&[&str], &[&str]); 2] = [
+    (&["a"], &["a"]),
+    (
+        &[
+            "p",
+            "h1",
+            "h2",
+            "h3",
+            "h4",
+            "h5",
+            "h6",
+            "blockquote",
+            "ol",
+            "ul",
+            "pre",
+            "section",
+            "table",
+            "hr",
+        ],
+        &["p", "h1", "h2", "h3", "h4", "h5", "h6", "table"],
+    ),
 ];
 
 /// Reads a page to its end. Each `<` begins a tag and each `>` ends one; anything not allowed is a
@@ -91,10 +125,24 @@ fn read_tag<'a>(tag: &'a str, up: &mut Vec<&'a str>) -> Result<(), &'static str>
         return Err("an element that is not listed");
     };
     read_attributes(attributes, allowed)?;
+    if !stands(name, up) {
+        return Err("an element where a browser would move it");
+    }
     if !is_void && up.push(name).is_err() {
         return Err("out of memory");
     }
     Ok(())
+}
+
+/// Whether an element may begin inside these open elements.
+fn stands(name: &str, up: &[&str]) -> bool {
+    let parent = up.last().copied().unwrap_or("");
+    let is_placed = PARENTS.iter().all(|(element, parents)| *element != name
+        || (&**parents).contains(&parent));
+    let is_outside = OUTSIDE.iter().all(|(elements, others)| {
+        !(&**elements).contains(&name) || !up.iter().any(|open| (&**others).contains(open))
+    });
+    is_placed && is_outside
 }
 
 /// Reads attributes, and allows only these: a name, and a value in quotes.

@@ -2,8 +2,8 @@
 
 use crate::expect::writes;
 use markdown_nodes::mdast::{
-    AlignKind, Code, Emphasis, FootnoteReference, Heading, List, ListItem, Node, Paragraph, Table,
-    TableCell, TableRow, Text,
+    AlignKind, Code, Emphasis, FootnoteReference, Heading, Link, List, ListItem, Node, Paragraph,
+    Table, TableCell, TableRow, Text,
 };
 use std::alloc::{AllocError, Global};
 
@@ -38,12 +38,12 @@ fn headings_of_any_depth(rt: HostRuntime) -> Result<(), AllocError> {
     Ok(())
 }
 
-/// A row alone, and a table without alignments: there are as many columns as the row has cells.
+/// A row alone is its content. In a table without alignments there are as many columns as the row
+/// has cells.
 #[test]
 fn rows_without_columns(rt: HostRuntime) -> Result<(), AllocError> {
     let alloc = rt.alloc();
-    let row = "<tr>\n<td>a</td>\n</tr>\n";
-    writes(&rt, alloc, &row_of(alloc, "a")?, row)?;
+    writes(&rt, alloc, &row_of(alloc, "a")?, "a")?;
     let table = Node::Table(Table {
         children: one(alloc, row_of(alloc, "a")?)?,
         position: None,
@@ -88,21 +88,17 @@ fn row_of(alloc: Global, value: &str) -> Result<Node, AllocError> {
     }))
 }
 
-/// An item alone is that of a loose list. A language of two words is not a class.
+/// An item alone is its content. A language of two words is not a class.
 #[test]
 fn items_and_code(rt: HostRuntime) -> Result<(), AllocError> {
     let alloc = rt.alloc();
-    let paragraph = Node::Paragraph(Paragraph {
-        children: one(alloc, text(alloc, "a")?)?,
-        position: None,
-    });
     let item = Node::ListItem(ListItem {
-        children: one(alloc, paragraph)?,
+        children: one(alloc, paragraph(alloc, text(alloc, "a")?)?)?,
         position: None,
         spread: false,
         checked: None,
     });
-    writes(&rt, alloc, &item, "<li>\n<p>a</p>\n</li>\n")?;
+    writes(&rt, alloc, &item, "<p>a</p>\n")?;
     let code = Node::Code(Code {
         value: String::from_str(alloc, "a")?,
         position: None,
@@ -110,6 +106,72 @@ fn items_and_code(rt: HostRuntime) -> Result<(), AllocError> {
         meta: None,
     });
     writes(&rt, alloc, &code, "<pre><code>a\n</code></pre>\n")
+}
+
+fn paragraph(alloc: Global, node: Node) -> Result<Node, AllocError> {
+    Ok(Node::Paragraph(Paragraph {
+        children: one(alloc, node)?,
+        position: None,
+    }))
+}
+
+fn link(alloc: Global, url: &str, node: Node) -> Result<Node, AllocError> {
+    Ok(Node::Link(Link {
+        children: one(alloc, node)?,
+        position: None,
+        url: String::from_str(alloc, url)?,
+        title: None,
+    }))
+}
+
+fn table(alloc: Global, node: Node) -> Result<Node, AllocError> {
+    Ok(Node::Table(Table {
+        children: one(alloc, node)?,
+        position: None,
+        align: Vec::new(alloc),
+    }))
+}
+
+/// A link within a link is its content, and so is a block within a text.
+#[test]
+fn links_in_links(rt: HostRuntime) -> Result<(), AllocError> {
+    let alloc = rt.alloc();
+    let inner = link(alloc, "b", text(alloc, "c")?)?;
+    let nested = Node::Emphasis(Emphasis {
+        children: one(alloc, paragraph(alloc, inner)?)?,
+        position: None,
+    });
+    let outer = link(alloc, "a", nested)?;
+    writes(&rt, alloc, &outer, "<a href=\"a\"><em>c</em></a>")
+}
+
+/// A block within a paragraph is its content. In a list, anything is an item; in a table, anything
+/// is a row, whose children are cells.
+#[test]
+fn blocks_in_blocks(rt: HostRuntime) -> Result<(), AllocError> {
+    let alloc = rt.alloc();
+    let inner = table(alloc, row_of(alloc, "a")?)?;
+    writes(&rt, alloc, &paragraph(alloc, inner)?, "<p>a</p>\n")?;
+    let list = Node::List(List {
+        children: one(alloc, table(alloc, paragraph(alloc, text(alloc, "a")?)?)?)?,
+        position: None,
+        ordered: false,
+        start: None,
+        spread: false,
+    });
+    writes(
+        &rt,
+        alloc,
+        &list,
+        "<ul>\n<li>\n<table>\n<thead>\n<tr>\n<th></th>\n</tr>\n</thead>\n</table>\n</li>\n</ul>\n",
+    )?;
+    let outer = table(alloc, table(alloc, row_of(alloc, "a")?)?)?;
+    writes(
+        &rt,
+        alloc,
+        &outer,
+        "<table>\n<thead>\n<tr>\n<th>a</th>\n</tr>\n</thead>\n</table>\n",
+    )
 }
 
 /// A list of any start, and a call of a footnote that is not there.

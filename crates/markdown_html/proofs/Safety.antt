@@ -2,7 +2,7 @@
 use Rattle.std.proofs.Common.{◌≡◌, ℕ, ◌+◌, ◌||◌, ◌&&◌, zero, suc, not, cond, Bool, true, false, nat_le, List, [], ◌∷◌, ◌++◌, Option, None, Some, if◌then◌else◌, codes, drop, arith, refl, sym, ap, subst, ◌∙◌, slice_get, unwrap_or}
 use Rattle.std.proofs.lemmas.Bool.{and_from, and_parts, cond_both, false≢true, le-leb}
 use Rattle.html_text.specs.Escapes.{escaped}
-use Rattle.html_text.specs.Safe.{IsSafe, State, content, run}
+use Rattle.html_text.specs.Safe.{IsSafe, State, content, has_link, run}
 use Rattle.html_text.proofs.Reading.{Reads, both, fixed, text_reads}
 use Rattle.markdown_events.specs.declared.infer.AlignKind.{AlignKind}
 use Rattle.markdown_kinds.specs.declared.ReferenceKind.{ReferenceKind}
@@ -12,31 +12,61 @@ use Rattle.std.proofs.lemmas.Option.{none-some}
 use Rattle.markdown_nodes.specs.Walk.{walk, walks}
 use Rattle.mdast_util.specs.Definitions.{definition_in}
 use Rattle.markdown_html.specs.declared.place.Kind.{Kind}
-use Rattle.markdown_html.specs.declared.place.Kind.TheVariants.{Text, Flow, Tight, Hidden, FirstRow, SecondRow, LaterRow, HeaderCell, Cell, Note, Tail}
-use Rattle.markdown_html.specs.Elements.{back_references, call_text, cell_end, cell_start, empty_cells, heading_name, image_tag, link_start, note_start, passes, raw_html, reference_end, section_start}
-use Rattle.markdown_html.specs.Html.{Source, allowed_of, back_page, cell_name, closed, count, ends_with_paragraph, entered, footnote_end, footnote_in, footnote_start, html, is_footnote, is_free, is_free_tree, is_no_html, left, most_notes, nodes_page, notes_page, opened, paragraph_end, paragraph_start, raw_text, row_end, table_end, title_of, tree_page, url_of}
+use Rattle.markdown_html.specs.declared.place.Kind.TheVariants.{Text, Linked, Flow, Tight, LooseItem, TightItem, Hidden, FirstRow, SecondRow, LaterRow, HeaderCell, Cell, Note, Tail}
+use Rattle.markdown_html.specs.Elements.{back_references, call_text, cell_end, cell_start, check_box, empty_cells, heading_name, image_tag, linked_call_text, note_start, passes, raw_html, reference_end, section_start}
+use Rattle.markdown_html.specs.Html.{Source, allowed_of, back_page, cell_name, checked_of, closed, count, ends_with_paragraph, entered, footnote_end, footnote_in, footnote_start, html, is_footnote, is_free, is_free_tree, is_no_html, left, link_back, link_front, most_notes, nodes_page, notes_page, opened, paragraph_end, paragraph_start, phrase_closed, phrase_opened, row_end, table_end, title_of, tree_page, url_of}
 use Rattle.markdown_html.specs.Page.{Call, Page, blank, block, fresh_line, is_fresh, on_new_line, put, say}
-use Rattle.markdown_html.specs.Places.{Place, after, any_spread, below, followed, in_cell as cell_place, in_footnote, in_item, in_row, inside, place, unended}
-use Rattle.markdown_html.proofs.Tokens.{backs_read, call_reads, cell_ends, cell_reads, check_box_reads, code_reads, code_text_reads, empty_cells_read, heading_ends, heading_reads, image_reads, in_cell, link_reads, list_ends, list_name, list_reads, math_reads, math_text_reads, note_reads, raw_reads, section_reads, td_starts, th_starts}
+use Rattle.markdown_html.specs.Places.{Place, after, any_spread, below, followed, in_cell as cell_place, in_footnote, in_item, in_list, in_text, inside, place, unended}
+use Rattle.markdown_html.proofs.Tokens.{InList, Linkless, TakesBlocks, backs_read, call_reads, cell_ends, cell_reads, check_box_reads, code_reads, code_text_reads, empty_cells_read, heading_ends, heading_linkless, heading_reads, image_reads, in_cell, link_reads, linked_call_reads, list_ends, list_is_in, list_linkless, list_name, list_reads, list_takes_blocks, math_reads, math_text_reads, note_reads, raw_reads, section_reads, td_starts, th_starts}
 
 -- what holds of each kind of place holds of any
-by_kind : (P : Kind → Type 0) → P Text → P Flow → P Tight → P Hidden → P FirstRow → P SecondRow → P LaterRow → P HeaderCell → P Cell → ((n : ℕ) → P (Note n)) → ((n : ℕ) → P (Tail n)) → (kind : Kind) → P kind
-by_kind P of_text of_flow of_tight of_hidden of_first of_second of_later of_header of_cell of_note of_tail Text = of_text
-by_kind P of_text of_flow of_tight of_hidden of_first of_second of_later of_header of_cell of_note of_tail Flow = of_flow
-by_kind P of_text of_flow of_tight of_hidden of_first of_second of_later of_header of_cell of_note of_tail Tight = of_tight
-by_kind P of_text of_flow of_tight of_hidden of_first of_second of_later of_header of_cell of_note of_tail Hidden = of_hidden
-by_kind P of_text of_flow of_tight of_hidden of_first of_second of_later of_header of_cell of_note of_tail FirstRow = of_first
-by_kind P of_text of_flow of_tight of_hidden of_first of_second of_later of_header of_cell of_note of_tail SecondRow = of_second
-by_kind P of_text of_flow of_tight of_hidden of_first of_second of_later of_header of_cell of_note of_tail LaterRow = of_later
-by_kind P of_text of_flow of_tight of_hidden of_first of_second of_later of_header of_cell of_note of_tail HeaderCell = of_header
-by_kind P of_text of_flow of_tight of_hidden of_first of_second of_later of_header of_cell of_note of_tail Cell = of_cell
-by_kind P of_text of_flow of_tight of_hidden of_first of_second of_later of_header of_cell of_note of_tail (Note n) = of_note n
-by_kind P of_text of_flow of_tight of_hidden of_first of_second of_later of_header of_cell of_note of_tail (Tail n) = of_tail n
+by_kind : (P : Kind → Type 0) → P Text → P Linked → P Flow → P Tight → P LooseItem → P TightItem → P Hidden → P FirstRow → P SecondRow → P LaterRow → P HeaderCell → P Cell → ((n : ℕ) → P (Note n)) → ((n : ℕ) → P (Tail n)) → (kind : Kind) → P kind
+by_kind P of_text of_linked of_flow of_tight of_loose of_tight_item of_hidden of_first of_second of_later of_header of_cell of_note of_tail Text = of_text
+by_kind P of_text of_linked of_flow of_tight of_loose of_tight_item of_hidden of_first of_second of_later of_header of_cell of_note of_tail Linked = of_linked
+by_kind P of_text of_linked of_flow of_tight of_loose of_tight_item of_hidden of_first of_second of_later of_header of_cell of_note of_tail Flow = of_flow
+by_kind P of_text of_linked of_flow of_tight of_loose of_tight_item of_hidden of_first of_second of_later of_header of_cell of_note of_tail Tight = of_tight
+by_kind P of_text of_linked of_flow of_tight of_loose of_tight_item of_hidden of_first of_second of_later of_header of_cell of_note of_tail LooseItem = of_loose
+by_kind P of_text of_linked of_flow of_tight of_loose of_tight_item of_hidden of_first of_second of_later of_header of_cell of_note of_tail TightItem = of_tight_item
+by_kind P of_text of_linked of_flow of_tight of_loose of_tight_item of_hidden of_first of_second of_later of_header of_cell of_note of_tail Hidden = of_hidden
+by_kind P of_text of_linked of_flow of_tight of_loose of_tight_item of_hidden of_first of_second of_later of_header of_cell of_note of_tail FirstRow = of_first
+by_kind P of_text of_linked of_flow of_tight of_loose of_tight_item of_hidden of_first of_second of_later of_header of_cell of_note of_tail SecondRow = of_second
+by_kind P of_text of_linked of_flow of_tight of_loose of_tight_item of_hidden of_first of_second of_later of_header of_cell of_note of_tail LaterRow = of_later
+by_kind P of_text of_linked of_flow of_tight of_loose of_tight_item of_hidden of_first of_second of_later of_header of_cell of_note of_tail HeaderCell = of_header
+by_kind P of_text of_linked of_flow of_tight of_loose of_tight_item of_hidden of_first of_second of_later of_header of_cell of_note of_tail Cell = of_cell
+by_kind P of_text of_linked of_flow of_tight of_loose of_tight_item of_hidden of_first of_second of_later of_header of_cell of_note of_tail (Note n) = of_note n
+by_kind P of_text of_linked of_flow of_tight of_loose of_tight_item of_hidden of_first of_second of_later of_header of_cell of_note of_tail (Tail n) = of_tail n
 
--- the body of a table is open around its second row and those after it
+-- what is open around a place, from what is open around the table or the row that it is in
 abbrev base : Kind → List (List ℕ) → List (List ℕ)
-base LaterRow up = codes "tbody" ∷ up
+base FirstRow up = codes "table" ∷ up
+base SecondRow up = codes "table" ∷ up
+base LaterRow up = codes "tbody" ∷ codes "table" ∷ up
+base HeaderCell up = codes "tr" ∷ up
+base Cell up = codes "tr" ∷ up
 base _ up = up
+
+-- what may begin in a place, by what is open around it
+abbrev MayLink : (linked : Bool) → List (List ℕ) → Type 0
+MayLink linked up = (linked || not (has_link up)) ≡ true
+
+abbrev Blocks : List (List ℕ) → Type 0
+Blocks up = Linkless up × TakesBlocks up
+
+abbrev Fits : Kind → List (List ℕ) → Type 0
+Fits Text up = MayLink false up
+Fits Linked up = MayLink true up
+Fits Flow up = Blocks up
+Fits Tight up = Blocks up
+Fits LooseItem up = InList up × Blocks up
+Fits TightItem up = InList up × Blocks up
+Fits Hidden up = Unit {0}
+Fits FirstRow up = Linkless up
+Fits SecondRow up = Linkless up
+Fits LaterRow up = Linkless up
+Fits HeaderCell up = Linkless up
+Fits Cell up = Linkless up
+Fits (Note _) up = InList up × Blocks up
+Fits (Tail _) up = Blocks up
 
 -- the kind of place of the next sibling, and of what follows some nodes
 abbrev next : Kind → Kind
@@ -49,7 +79,10 @@ ends kind nothing = kind
 ends kind (node _ _ _ rest) = ends (next kind) rest
 
 after_kind : (kind : Kind) (columns : Option (List AlignKind)) → (after (record { kind = kind; columns = columns })).kind ≡ next kind
-after_kind kind columns = by_kind (λ k. (after (record { kind = k; columns = columns })).kind ≡ next k) refl refl refl refl refl refl refl refl refl (λ n. refl) (λ n. refl) kind
+after_kind kind columns = by_kind (λ k. (after (record { kind = k; columns = columns })).kind ≡ next k) refl refl refl refl refl refl refl refl refl refl refl refl (λ n. refl) (λ n. refl) kind
+
+next_fits : (kind : Kind) (up : List (List ℕ)) → Fits kind up → Fits (next kind) up
+next_fits kind up = by_kind (λ k. Fits k up → Fits (next k) up) (λ f. f) (λ f. f) (λ f. f) (λ f. f) (λ f. f) (λ f. f) (λ f. f) (λ f. f) (λ f. f) (λ f. f) (λ f. f) (λ f. f) (λ _ f. f) (λ _ f. f) kind
 
 -- a kind of place whose nodes leave open what was open
 record Steady (kind : Kind) : Type 0 where
@@ -113,133 +146,219 @@ module _ (it : Source) where
   in_note (Note _) up = codes "li" ∷ up
   in_note _ up = up
 
-  abbrev in_reference : Option Tree → List (List ℕ) → List (List ℕ)
-  in_reference None up = up
-  in_reference (Some _) up = codes "a" ∷ up
+  abbrev in_link : (linked : Bool) → List (List ℕ) → List (List ℕ)
+  in_link true up = up
+  in_link false up = codes "a" ∷ up
+
+  abbrev in_reference : (linked : Bool) → Option Tree → List (List ℕ) → List (List ℕ)
+  in_reference linked None up = up
+  in_reference linked (Some _) up = in_link linked up
+
+  abbrev phrase_in : (linked : Bool) → Label → List (List ℕ) → List (List ℕ)
+  phrase_in linked emphasis up = codes "em" ∷ up
+  phrase_in linked strong up = codes "strong" ∷ up
+  phrase_in linked delete up = codes "del" ∷ up
+  phrase_in linked (link _ _) up = in_link linked up
+  phrase_in linked (link_reference _ identifier _) up = in_reference linked (definition_in it.tree identifier) up
+  phrase_in linked _ up = up
 
   abbrev open_in : Kind → Label → List (List ℕ) → List (List ℕ)
   open_in kind paragraph up = in_paragraph kind up
   open_in kind blockquote up = codes "blockquote" ∷ up
-  open_in kind emphasis up = codes "em" ∷ up
-  open_in kind strong up = codes "strong" ∷ up
-  open_in kind delete up = codes "del" ∷ up
-  open_in kind table_row up = codes "tr" ∷ up
   open_in kind (heading depth) up = heading_name depth ∷ up
   open_in kind (list ordered _ _) up = list_name it.raw it.id_prefix ordered ∷ up
-  open_in kind (list_item _ _) up = codes "li" ∷ up
   open_in kind (table _) up = codes "table" ∷ up
-  open_in kind (link _ _) up = codes "a" ∷ up
-  open_in kind (link_reference _ identifier _) up = in_reference (definition_in it.tree identifier) up
   open_in kind (footnote_definition _ _) up = in_note kind up
-  open_in kind _ up = up
+  open_in kind label up = phrase_in false label up
 
-  paragraph_opens : (kind : Kind) (page : Page) (up : List (List ℕ)) → At page up → At (put page (paragraph_start kind page.text)) (in_paragraph kind up)
-  paragraph_opens kind page up p =
-      let other : Read (content []) (fresh_line page.text ++ codes "<p>") (content (codes "p" ∷ up)) = both (allowed_of it) (fresh p) (reads (content up) (codes "<p>")) in
-      by_kind (λ k. At (put page (paragraph_start k page.text)) (in_paragraph k up)) other other p other other other other other other (λ _. other) (λ _. other) kind
+  -- a footnote may begin in a place
+  abbrev MayNote : Kind → List (List ℕ) → Type 0
+  MayNote (Note _) up = InList up
+  MayNote _ up = Unit {0}
+
+  paragraph_opens : (kind : Kind) (page : Page) (up : List (List ℕ)) → TakesBlocks up → At page up → At (put page (paragraph_start kind page.text)) (in_paragraph kind up)
+  paragraph_opens kind page up takes p =
+      let begin : Read (content up) (codes "<p>") (content (codes "p" ∷ up)) = record { is = rw takes refl } in
+      let other : Read (content []) (fresh_line page.text ++ codes "<p>") (content (codes "p" ∷ up)) = both (allowed_of it) (fresh p) begin in
+      by_kind (λ k. At (put page (paragraph_start k page.text)) (in_paragraph k up)) other other other p other other other other other other other other (λ _. other) (λ _. other) kind
 
   held_back : (passing : Bool) → (not passing || false) ≡ true → passing ≡ false
   held_back true fine = absurd (false≢true fine)
   held_back false fine = refl
 
-  raw_pages : (kind : Kind) (value : List ℕ) (page : Page) (up : List (List ℕ)) → Fine false → At page up → At (put page (raw_text it.raw kind value page.text)) up
-  raw_pages kind value page up fine p =
-      let html = raw_reads it.raw it.id_prefix up it.raw value (held_back (passes it.raw) fine) in
-      let other : Read (content []) (fresh_line (fresh_line page.text ++ raw_html it.raw value)) (content up) = fresh (both (allowed_of it) (fresh p) html) in
-      by_kind (λ k. At (put page (raw_text it.raw k value page.text)) up) (both (allowed_of it) p html) other other other other other other other other (λ _. other) (λ _. other) kind
+  raw_texts : (value : List ℕ) (up : List (List ℕ)) → Fine false → Read (content up) (raw_html it.raw value) (content up)
+  raw_texts value up fine = raw_reads it.raw it.id_prefix up it.raw value (held_back (passes it.raw) fine)
 
-  call_pages : (found : Option Tree) (identifier : List ℕ) (label : Option (List ℕ)) (number times : ℕ) (calls : List Call) (page : Page) (up : List (List ℕ)) → At page up → At (elim found [ None ↦ say page (codes "[^" ++ escaped (unwrap_or label identifier) ++ codes "]") | Some _ ↦ record { text = page.text ++ call_text it.id_prefix identifier number times; calls = calls } ]) up
-  call_pages None identifier label number times calls page up p = says page p (both (allowed_of it) (both (allowed_of it) (reads (content up) (codes "[^")) (text_reads (allowed_of it) up (unwrap_or label identifier))) (reads (content up) (codes "]")))
-  call_pages (Some _) identifier label number times calls page up p = both (allowed_of it) p (call_reads it.raw it.id_prefix up identifier number times)
+  calls_read : (linked : Bool) (identifier : List ℕ) (number times : ℕ) (up : List (List ℕ)) → MayLink linked up → Read (content up) (if linked then linked_call_text it.id_prefix identifier number times else call_text it.id_prefix identifier number times) (content up)
+  calls_read true identifier number times up may = linked_call_reads it.raw it.id_prefix up identifier number times
+  calls_read false identifier number times up may = call_reads it.raw it.id_prefix up identifier number times may
 
-  reference_opens : (found : Option Tree) (up : List (List ℕ)) → Read (content up) (elim found [ None ↦ codes "[" | Some tree ↦ link_start it.raw (url_of tree.label) (title_of tree.label) ]) (content (in_reference found up))
-  reference_opens None up = reads (content up) (codes "[")
-  reference_opens (Some tree) up = link_reads it.raw it.id_prefix up (url_of tree.label) (title_of tree.label)
+  call_pages : (linked : Bool) (found : Option Tree) (identifier : List ℕ) (label : Option (List ℕ)) (number times : ℕ) (calls : List Call) (page : Page) (up : List (List ℕ)) → MayLink linked up → At page up → At (elim found [ None ↦ say page (codes "[^" ++ escaped (unwrap_or label identifier) ++ codes "]") | Some _ ↦ record { text = page.text ++ (if linked then linked_call_text it.id_prefix identifier number times else call_text it.id_prefix identifier number times); calls = calls } ]) up
+  call_pages linked None identifier label number times calls page up may p = says page p (both (allowed_of it) (both (allowed_of it) (reads (content up) (codes "[^")) (text_reads (allowed_of it) up (unwrap_or label identifier))) (reads (content up) (codes "]")))
+  call_pages linked (Some _) identifier label number times calls page up may p = both (allowed_of it) p (calls_read linked identifier number times up may)
 
-  reference_closes : (found : Option Tree) (kind : ReferenceKind) (identifier : List ℕ) (label : Option (List ℕ)) (up : List (List ℕ)) → Read (content (in_reference found up)) (elim found [ None ↦ escaped (reference_end kind identifier label) | Some _ ↦ codes "</a>" ]) (content up)
-  reference_closes None kind identifier label up = text_reads (allowed_of it) up (reference_end kind identifier label)
-  reference_closes (Some _) kind identifier label up = reads (content (codes "a" ∷ up)) (codes "</a>")
+  link_opens : (linked : Bool) (url : List ℕ) (title : Option (List ℕ)) (up : List (List ℕ)) → MayLink linked up → Read (content up) (link_front it linked url title) (content (in_link linked up))
+  link_opens true url title up may = same (content up)
+  link_opens false url title up may = link_reads it.raw it.id_prefix up url title may
+
+  link_closes : (linked : Bool) (up : List (List ℕ)) → Read (content (in_link linked up)) (link_back linked) (content up)
+  link_closes true up = same (content up)
+  link_closes false up = reads (content (codes "a" ∷ up)) (codes "</a>")
+
+  reference_opens : (linked : Bool) (found : Option Tree) (up : List (List ℕ)) → MayLink linked up → Read (content up) (elim found [ None ↦ codes "[" | Some tree ↦ link_front it linked (url_of tree.label) (title_of tree.label) ]) (content (in_reference linked found up))
+  reference_opens linked None up may = reads (content up) (codes "[")
+  reference_opens linked (Some tree) up may = link_opens linked (url_of tree.label) (title_of tree.label) up may
+
+  reference_closes : (linked : Bool) (found : Option Tree) (kind : ReferenceKind) (identifier : List ℕ) (label : Option (List ℕ)) (up : List (List ℕ)) → Read (content (in_reference linked found up)) (elim found [ None ↦ escaped (reference_end kind identifier label) | Some _ ↦ link_back linked ]) (content up)
+  reference_closes linked None kind identifier label up = text_reads (allowed_of it) up (reference_end kind identifier label)
+  reference_closes linked (Some _) kind identifier label up = link_closes linked up
 
   image_reference_reads : (found : Option Tree) (alt : List ℕ) (kind : ReferenceKind) (identifier : List ℕ) (label : Option (List ℕ)) (up : List (List ℕ)) → Read (content up) (elim found [ None ↦ codes "![" ++ escaped alt ++ escaped (reference_end kind identifier label) | Some tree ↦ image_tag it.raw alt (url_of tree.label) (title_of tree.label) ]) (content up)
   image_reference_reads None alt kind identifier label up =
       both (allowed_of it) (both (allowed_of it) (reads (content up) (codes "![")) (text_reads (allowed_of it) up alt)) (text_reads (allowed_of it) up (reference_end kind identifier label))
   image_reference_reads (Some tree) alt kind identifier label up = image_reads it.raw it.id_prefix up alt (url_of tree.label) (title_of tree.label)
 
-  note_opens : (call : Option Call) (up : List (List ℕ)) → Read (content up) (elim call [ None ↦ codes "<li>\n" | Some c ↦ note_start it.id_prefix c.identifier ]) (content (codes "li" ∷ up))
-  note_opens None up = reads (content up) (codes "<li>\n")
-  note_opens (Some c) up = note_reads it.raw it.id_prefix up c.identifier
+  note_opens : (call : Option Call) (up : List (List ℕ)) → InList up → Read (content up) (elim call [ None ↦ codes "<li>\n" | Some c ↦ note_start it.id_prefix c.identifier ]) (content (codes "li" ∷ up))
+  note_opens None up listed = record { is = rw listed refl }
+  note_opens (Some c) up listed = note_reads it.raw it.id_prefix up c.identifier listed
 
-  footnote_opens : (kind : Kind) (page : Page) (up : List (List ℕ)) → At page up → At (footnote_start it kind page) (in_note kind up)
-  footnote_opens kind page up p = by_kind (λ k. At (footnote_start it k page) (in_note k up)) p p p p p p p p p (λ n. says page p (note_opens (slice_get page.calls n) up)) (λ _. p) kind
+  footnote_opens : (kind : Kind) (page : Page) (up : List (List ℕ)) → MayNote kind up → At page up → At (footnote_start it kind page) (in_note kind up)
+  footnote_opens kind page up may p =
+      by_kind (λ k. MayNote k up → At (footnote_start it k page) (in_note k up)) (λ _. p) (λ _. p) (λ _. p) (λ _. p) (λ _. p) (λ _. p) (λ _. p) (λ _. p) (λ _. p) (λ _. p) (λ _. p) (λ _. p)
+      (λ n. λ listed. says page p (note_opens (slice_get page.calls n) up listed)) (λ _. λ _. p) kind may
 
-  back_pages : (call : Option Call) (number : ℕ) (page : Page) (up : List (List ℕ)) → At page up → At (elim call [ None ↦ page | Some c ↦ say page (back_references it.id_prefix c.identifier (number + 1) c.count) ]) up
-  back_pages None number page up p = p
-  back_pages (Some c) number page up p = says page p (backs_read it.raw it.id_prefix up c.identifier (number + 1) c.count)
+  back_pages : (call : Option Call) (number : ℕ) (page : Page) (up : List (List ℕ)) → Linkless up → At page up → At (elim call [ None ↦ page | Some c ↦ say page (back_references it.id_prefix c.identifier (number + 1) c.count) ]) up
+  back_pages None number page up linkless p = p
+  back_pages (Some c) number page up linkless p = says page p (backs_read it.raw it.id_prefix up c.identifier (number + 1) c.count linkless)
 
-  backs : (number : ℕ) (page : Page) (up : List (List ℕ)) → At page up → At (back_page it number page) up
-  backs number page up p = back_pages (slice_get page.calls number) number page up p
+  backs : (number : ℕ) (page : Page) (up : List (List ℕ)) → Linkless up → At page up → At (back_page it number page) up
+  backs number page up linkless p = back_pages (slice_get page.calls number) number page up linkless p
 
-  paragraph_closes : (kind : Kind) (page : Page) (up : List (List ℕ)) → At page (in_paragraph kind up) → At (paragraph_end it kind page) up
-  paragraph_closes kind page up =
+  paragraph_closes : (kind : Kind) (page : Page) (up : List (List ℕ)) → Linkless up → At page (in_paragraph kind up) → At (paragraph_end it kind page) up
+  paragraph_closes kind page up linkless =
       let end : Read (content (codes "p" ∷ up)) (codes "</p>\n") (content up) = reads (content (codes "p" ∷ up)) (codes "</p>\n") in
       let other : At page (codes "p" ∷ up) → At (say page (codes "</p>\n")) up = λ p. says page p end in
-      by_kind (λ k. At page (in_paragraph k up) → At (paragraph_end it k page) up) other other (λ p. p) other other other other other other (λ _. other) (λ n. λ p. says (back_page it n page) (backs n page (codes "p" ∷ up) p) end) kind
+      by_kind (λ k. At page (in_paragraph k up) → At (paragraph_end it k page) up) other other other (λ p. p) other other other other other other other other (λ _. other) (λ n. λ p. says (back_page it n page) (backs n page (codes "p" ∷ up) linkless p) end) kind
 
-  note_closes : (has_paragraph : Bool) (number : ℕ) (page : Page) (up : List (List ℕ)) → At page (codes "li" ∷ up) → At (say (if has_paragraph then page else say (back_page it number (on_new_line page)) (codes "\n")) (codes "</li>\n")) up
-  note_closes true number page up p = says page p (reads (content (codes "li" ∷ up)) (codes "</li>\n"))
-  note_closes false number page up p =
+  note_closes : (has_paragraph : Bool) (number : ℕ) (page : Page) (up : List (List ℕ)) → Linkless up → At page (codes "li" ∷ up) → At (say (if has_paragraph then page else say (back_page it number (on_new_line page)) (codes "\n")) (codes "</li>\n")) up
+  note_closes true number page up linkless p = says page p (reads (content (codes "li" ∷ up)) (codes "</li>\n"))
+  note_closes false number page up linkless p =
       let inside = codes "li" ∷ up in
-      says (say (back_page it number (on_new_line page)) (codes "\n")) (says (back_page it number (on_new_line page)) (backs number (on_new_line page) inside (fresh p)) (reads (content inside) (codes "\n"))) (reads (content inside) (codes "</li>\n"))
+      says (say (back_page it number (on_new_line page)) (codes "\n")) (says (back_page it number (on_new_line page)) (backs number (on_new_line page) inside linkless (fresh p)) (reads (content inside) (codes "\n"))) (reads (content inside) (codes "</li>\n"))
 
-  footnote_closes : (kind : Kind) (children : Trees) (page : Page) (up : List (List ℕ)) → At page (in_note kind up) → At (footnote_end it kind children page) up
-  footnote_closes kind children page up = by_kind (λ k. At page (in_note k up) → At (footnote_end it k children page) up) (λ p. p) (λ p. p) (λ p. p) (λ p. p) (λ p. p) (λ p. p) (λ p. p) (λ p. p) (λ p. p) (λ n. note_closes (ends_with_paragraph children) n page up) (λ _. λ p. p) kind
+  footnote_closes : (kind : Kind) (children : Trees) (page : Page) (up : List (List ℕ)) → Linkless up → At page (in_note kind up) → At (footnote_end it kind children page) up
+  footnote_closes kind children page up linkless = by_kind (λ k. At page (in_note k up) → At (footnote_end it k children page) up) (λ p. p) (λ p. p) (λ p. p) (λ p. p) (λ p. p) (λ p. p) (λ p. p) (λ p. p) (λ p. p) (λ p. p) (λ p. p) (λ p. p) (λ n. note_closes (ends_with_paragraph children) n page up linkless) (λ _. λ p. p) kind
 
-  -- what stands before the children of a node opens its element
-  opens : (kind : Kind) (label : Label) (page : Page) (up : List (List ℕ)) → Fine (is_no_html label) → At page up → At (opened it kind label page) (open_in kind label up)
-  opens kind root page up fine p = p
-  opens kind paragraph page up fine p = paragraph_opens kind page up p
-  opens kind blockquote page up fine p = blocks page p (reads (content up) (codes "<blockquote>\n"))
-  opens kind emphasis page up fine p = says page p (reads (content up) (codes "<em>"))
-  opens kind strong page up fine p = says page p (reads (content up) (codes "<strong>"))
-  opens kind delete page up fine p = says page p (reads (content up) (codes "<del>"))
-  opens kind table_row page up fine p = says page p (reads (content up) (codes "<tr>\n"))
-  opens kind table_cell page up fine p = p
-  opens kind thematic_break page up fine p = blocks page p (reads (content up) (codes "<hr />\n"))
-  opens kind «break» page up fine p = says page p (reads (content up) (codes "<br />\n"))
-  opens kind (text value) page up fine p = says page p (text_reads (allowed_of it) up value)
-  opens kind (raw_node value) page up fine p = raw_pages kind value page up fine p
-  opens kind (inline_code value) page up fine p = says page p (code_text_reads it.raw it.id_prefix up value)
-  opens kind (inline_math value) page up fine p = says page p (math_text_reads it.raw it.id_prefix up value)
-  opens kind (yaml _) page up fine p = p
-  opens kind (toml _) page up fine p = p
-  opens kind (heading depth) page up fine p = blocks page p (heading_reads it.raw it.id_prefix up depth)
-  opens kind (list ordered start _) page up fine p = blocks page p (list_reads it.raw it.id_prefix up ordered start)
-  opens kind (list_item _ checked) page up fine p = blocks page p (both (allowed_of it) (reads (content up) (codes "<li>")) (check_box_reads it.raw it.id_prefix (codes "li" ∷ up) checked))
-  opens kind (table _) page up fine p = blocks page p (reads (content up) (codes "<table>\n"))
-  opens kind (code value lang _) page up fine p = blocks page p (code_reads it.raw it.id_prefix up lang value)
-  opens kind (math value _) page up fine p = blocks page p (math_reads it.raw it.id_prefix up value)
-  opens kind (link url title) page up fine p = says page p (link_reads it.raw it.id_prefix up url title)
-  opens kind (image alt url title) page up fine p = says page p (image_reads it.raw it.id_prefix up alt url title)
-  opens kind (link_reference _ identifier _) page up fine p = says page p (reference_opens (definition_in it.tree identifier) up)
-  opens kind (image_reference alt reference_kind identifier label) page up fine p = says page p (image_reference_reads (definition_in it.tree identifier) alt reference_kind identifier label up)
-  opens kind (footnote_reference identifier label) page up fine p = call_pages (footnote_in it.tree identifier) identifier label _ _ _ page up p
-  opens kind (footnote_definition _ _) page up fine p = footnote_opens kind page up p
-  opens kind (definition _ _ _ _) page up fine p = p
+  -- what stands before the children of a node in a text opens its element
+  phrase_opens : (linked : Bool) (label : Label) (page : Page) (up : List (List ℕ)) → MayLink linked up → Fine (is_no_html label) → At page up → At (phrase_opened it linked label page) (phrase_in linked label up)
+  phrase_opens linked root page up may fine p = p
+  phrase_opens linked paragraph page up may fine p = p
+  phrase_opens linked blockquote page up may fine p = p
+  phrase_opens linked emphasis page up may fine p = says page p (reads (content up) (codes "<em>"))
+  phrase_opens linked strong page up may fine p = says page p (reads (content up) (codes "<strong>"))
+  phrase_opens linked delete page up may fine p = says page p (reads (content up) (codes "<del>"))
+  phrase_opens linked table_row page up may fine p = p
+  phrase_opens linked table_cell page up may fine p = p
+  phrase_opens linked thematic_break page up may fine p = p
+  phrase_opens linked «break» page up may fine p = says page p (reads (content up) (codes "<br />\n"))
+  phrase_opens linked (text value) page up may fine p = says page p (text_reads (allowed_of it) up value)
+  phrase_opens linked (raw_node value) page up may fine p = says page p (raw_texts value up fine)
+  phrase_opens linked (inline_code value) page up may fine p = says page p (code_text_reads it.raw it.id_prefix up value)
+  phrase_opens linked (inline_math value) page up may fine p = says page p (math_text_reads it.raw it.id_prefix up value)
+  phrase_opens linked (yaml _) page up may fine p = p
+  phrase_opens linked (toml _) page up may fine p = p
+  phrase_opens linked (heading _) page up may fine p = p
+  phrase_opens linked (list _ _ _) page up may fine p = p
+  phrase_opens linked (list_item _ _) page up may fine p = p
+  phrase_opens linked (table _) page up may fine p = p
+  phrase_opens linked (code value _ _) page up may fine p = says page p (code_text_reads it.raw it.id_prefix up value)
+  phrase_opens linked (math value _) page up may fine p = says page p (math_text_reads it.raw it.id_prefix up value)
+  phrase_opens linked (link url title) page up may fine p = says page p (link_opens linked url title up may)
+  phrase_opens linked (image alt url title) page up may fine p = says page p (image_reads it.raw it.id_prefix up alt url title)
+  phrase_opens linked (link_reference _ identifier _) page up may fine p = says page p (reference_opens linked (definition_in it.tree identifier) up may)
+  phrase_opens linked (image_reference alt reference_kind identifier label) page up may fine p = says page p (image_reference_reads (definition_in it.tree identifier) alt reference_kind identifier label up)
+  phrase_opens linked (footnote_reference identifier label) page up may fine p = call_pages linked (footnote_in it.tree identifier) identifier label _ _ _ page up may p
+  phrase_opens linked (footnote_definition _ _) page up may fine p = p
+  phrase_opens linked (definition _ _ _ _) page up may fine p = p
+
+  -- what stands after the children closes it
+  phrase_closes : (linked : Bool) (label : Label) (page : Page) (up : List (List ℕ)) → At page (phrase_in linked label up) → At (phrase_closed it linked label page) up
+  phrase_closes linked root page up p = p
+  phrase_closes linked paragraph page up p = p
+  phrase_closes linked blockquote page up p = p
+  phrase_closes linked emphasis page up p = says page p (reads (content (codes "em" ∷ up)) (codes "</em>"))
+  phrase_closes linked strong page up p = says page p (reads (content (codes "strong" ∷ up)) (codes "</strong>"))
+  phrase_closes linked delete page up p = says page p (reads (content (codes "del" ∷ up)) (codes "</del>"))
+  phrase_closes linked table_row page up p = p
+  phrase_closes linked table_cell page up p = p
+  phrase_closes linked thematic_break page up p = p
+  phrase_closes linked «break» page up p = p
+  phrase_closes linked (text _) page up p = p
+  phrase_closes linked (raw_node _) page up p = p
+  phrase_closes linked (inline_code _) page up p = p
+  phrase_closes linked (inline_math _) page up p = p
+  phrase_closes linked (yaml _) page up p = p
+  phrase_closes linked (toml _) page up p = p
+  phrase_closes linked (heading _) page up p = p
+  phrase_closes linked (list _ _ _) page up p = p
+  phrase_closes linked (list_item _ _) page up p = p
+  phrase_closes linked (table _) page up p = p
+  phrase_closes linked (code _ _ _) page up p = p
+  phrase_closes linked (math _ _) page up p = p
+  phrase_closes linked (link _ _) page up p = says page p (link_closes linked up)
+  phrase_closes linked (image _ _ _) page up p = p
+  phrase_closes linked (link_reference kind identifier label) page up p = says page p (reference_closes linked (definition_in it.tree identifier) kind identifier label up)
+  phrase_closes linked (image_reference _ _ _ _) page up p = p
+  phrase_closes linked (footnote_reference _ _) page up p = p
+  phrase_closes linked (footnote_definition _ _) page up p = p
+  phrase_closes linked (definition _ _ _ _) page up p = p
+
+  -- the same for a node among blocks
+  opens : (kind : Kind) (label : Label) (page : Page) (up : List (List ℕ)) → Blocks up → MayNote kind up → Fine (is_no_html label) → At page up → At (opened it kind label page) (open_in kind label up)
+  opens kind root page up may note fine p = phrase_opens false root page up may.0 fine p
+  opens kind paragraph page up may note fine p = paragraph_opens kind page up may.1 p
+  opens kind blockquote page up may note fine p = blocks page p (record { is = rw may.1 refl })
+  opens kind emphasis page up may note fine p = phrase_opens false emphasis page up may.0 fine p
+  opens kind strong page up may note fine p = phrase_opens false strong page up may.0 fine p
+  opens kind delete page up may note fine p = phrase_opens false delete page up may.0 fine p
+  opens kind table_row page up may note fine p = phrase_opens false table_row page up may.0 fine p
+  opens kind table_cell page up may note fine p = phrase_opens false table_cell page up may.0 fine p
+  opens kind thematic_break page up may note fine p = blocks page p (record { is = rw may.1 refl })
+  opens kind «break» page up may note fine p = phrase_opens false «break» page up may.0 fine p
+  opens kind (text v) page up may note fine p = phrase_opens false (text v) page up may.0 fine p
+  opens kind (raw_node value) page up may note fine p = fresh (both (allowed_of it) (fresh p) (raw_texts value up fine))
+  opens kind (inline_code v) page up may note fine p = phrase_opens false (inline_code v) page up may.0 fine p
+  opens kind (inline_math v) page up may note fine p = phrase_opens false (inline_math v) page up may.0 fine p
+  opens kind (yaml v) page up may note fine p = phrase_opens false (yaml v) page up may.0 fine p
+  opens kind (toml v) page up may note fine p = phrase_opens false (toml v) page up may.0 fine p
+  opens kind (heading depth) page up may note fine p = blocks page p (heading_reads it.raw it.id_prefix up depth may.1)
+  opens kind (list ordered start _) page up may note fine p = blocks page p (list_reads it.raw it.id_prefix up ordered start may.1)
+  opens kind (list_item s c) page up may note fine p = phrase_opens false (list_item s c) page up may.0 fine p
+  opens kind (table _) page up may note fine p = blocks page p (record { is = rw may.1 refl })
+  opens kind (code value lang _) page up may note fine p = blocks page p (code_reads it.raw it.id_prefix up lang value may.1)
+  opens kind (math value _) page up may note fine p = blocks page p (math_reads it.raw it.id_prefix up value may.1)
+  opens kind (link u t) page up may note fine p = phrase_opens false (link u t) page up may.0 fine p
+  opens kind (image a u t) page up may note fine p = phrase_opens false (image a u t) page up may.0 fine p
+  opens kind (link_reference k i l) page up may note fine p = phrase_opens false (link_reference k i l) page up may.0 fine p
+  opens kind (image_reference a k i l) page up may note fine p = phrase_opens false (image_reference a k i l) page up may.0 fine p
+  opens kind (footnote_reference i l) page up may note fine p = phrase_opens false (footnote_reference i l) page up may.0 fine p
+  opens kind (footnote_definition _ _) page up may note fine p = footnote_opens kind page up note p
+  opens kind (definition u t i l) page up may note fine p = phrase_opens false (definition u t i l) page up may.0 fine p
 
   -- the elements that are open after the children of a node: a table may have its body open
   abbrev within : Kind → Label → Trees → List (List ℕ) → List (List ℕ)
-  within kind (table _) children up = base (ends FirstRow children) (codes "table" ∷ up)
+  within kind (table _) children up = base (ends FirstRow children) up
   within kind label children up = open_in kind label up
 
-  later_rows : (rest : Trees) (up : List (List ℕ)) → base (ends LaterRow rest) up ≡ codes "tbody" ∷ up
+  later_rows : (rest : Trees) (up : List (List ℕ)) → base (ends LaterRow rest) up ≡ codes "tbody" ∷ codes "table" ∷ up
   later_rows rest up = ap (λ (k : Kind). base k up) (ends_same LaterRow rest refl)
 
-  table_closes : (children : Trees) (page : Page) (up : List (List ℕ)) → At page (base (ends FirstRow children) (codes "table" ∷ up)) → At (say page (table_end children)) up
+  table_closes : (children : Trees) (page : Page) (up : List (List ℕ)) → At page (base (ends FirstRow children) up) → At (say page (table_end children)) up
   table_closes nothing page up p = says page p (reads (content (codes "table" ∷ up)) (codes "</table>\n"))
   table_closes (node _ _ _ nothing) page up p = says page p (reads (content (codes "table" ∷ up)) (codes "</table>\n"))
   table_closes (node _ _ _ (node _ _ _ rest)) page up p =
       let many : nat_le 2 (count rest + 1 + 1) ≡ true = le-leb 2 (count rest + 1 + 1) (omega arith) in
-      let body : At page (codes "tbody" ∷ (codes "table" ∷ up)) = subst (λ (names : List (List ℕ)). At page names) (later_rows rest (codes "table" ∷ up)) p in
+      let body : At page (codes "tbody" ∷ (codes "table" ∷ up)) = subst (λ (names : List (List ℕ)). At page names) (later_rows rest up) p in
       says page body (rw many (reads (content (codes "tbody" ∷ (codes "table" ∷ up))) (codes "</tbody>\n</table>\n")))
 
   row_closes : (at : Place) (cells : Trees) (up : List (List ℕ)) → Read (content (codes "tr" ∷ up)) (row_end at cells) (content up)
@@ -247,187 +366,302 @@ module _ (it : Source) where
       let inside = codes "tr" ∷ up in
       let columns = drop (count cells) (unwrap_or at.columns []) in
       let end : Read (content inside) (codes "</tr>\n") (content up) = reads (content inside) (codes "</tr>\n") in
-      let header = empty_cells_read it.raw it.id_prefix inside (codes "th") (th_starts it.raw it.id_prefix inside) (reads (content inside) (codes "<th>")) (reads (content (codes "th" ∷ inside)) (codes "</th>\n")) columns in
-      let other = empty_cells_read it.raw it.id_prefix inside (codes "td") (td_starts it.raw it.id_prefix inside) (reads (content inside) (codes "<td>")) (reads (content (codes "td" ∷ inside)) (codes "</td>\n")) columns in
-      both (allowed_of it) (by_kind (λ k. Read (content inside) (empty_cells (cell_name k) columns) (content inside)) other other other other header other other other other (λ _. other) (λ _. other) at.kind) end
+      let header = empty_cells_read it.raw it.id_prefix inside (codes "th") (th_starts it.raw it.id_prefix up) (reads (content inside) (codes "<th>")) (reads (content (codes "th" ∷ inside)) (codes "</th>\n")) columns in
+      let other = empty_cells_read it.raw it.id_prefix inside (codes "td") (td_starts it.raw it.id_prefix up) (reads (content inside) (codes "<td>")) (reads (content (codes "td" ∷ inside)) (codes "</td>\n")) columns in
+      both (allowed_of it) (by_kind (λ k. Read (content inside) (empty_cells (cell_name k) columns) (content inside)) other other other other other other other header other other other other (λ _. other) (λ _. other) at.kind) end
 
-  -- what stands after the children of a node closes its element
-  closes : (at : Place) (label : Label) (children : Trees) (page : Page) (up : List (List ℕ)) → At page (within at.kind label children up) → At (closed it at label children page) up
-  closes at root children page up p = p
-  closes at paragraph children page up p = paragraph_closes at.kind page up p
-  closes at blockquote children page up p = blocks page p (reads (content (codes "blockquote" ∷ up)) (codes "</blockquote>\n"))
-  closes at emphasis children page up p = says page p (reads (content (codes "em" ∷ up)) (codes "</em>"))
-  closes at strong children page up p = says page p (reads (content (codes "strong" ∷ up)) (codes "</strong>"))
-  closes at delete children page up p = says page p (reads (content (codes "del" ∷ up)) (codes "</del>"))
-  closes at table_row children page up p = says page p (row_closes at children up)
-  closes at table_cell children page up p = p
-  closes at thematic_break children page up p = p
-  closes at «break» children page up p = p
-  closes at (text _) children page up p = p
-  closes at (raw_node _) children page up p = p
-  closes at (inline_code _) children page up p = p
-  closes at (inline_math _) children page up p = p
-  closes at (yaml _) children page up p = p
-  closes at (toml _) children page up p = p
-  closes at (heading depth) children page up p = says page p (heading_ends it.raw it.id_prefix up depth)
-  closes at (list ordered _ _) children page up p = says page p (list_ends it.raw it.id_prefix up ordered)
-  closes at (list_item _ _) children page up p = says page p (reads (content (codes "li" ∷ up)) (codes "</li>\n"))
-  closes at (table _) children page up p = table_closes children page up p
-  closes at (code _ _ _) children page up p = p
-  closes at (math _ _) children page up p = p
-  closes at (link _ _) children page up p = says page p (reads (content (codes "a" ∷ up)) (codes "</a>"))
-  closes at (image _ _ _) children page up p = p
-  closes at (link_reference kind identifier label) children page up p = says page p (reference_closes (definition_in it.tree identifier) kind identifier label up)
-  closes at (image_reference _ _ _ _) children page up p = p
-  closes at (footnote_reference _ _) children page up p = p
-  closes at (footnote_definition _ _) children page up p = footnote_closes at.kind children page up p
-  closes at (definition _ _ _ _) children page up p = p
+  closes : (kind : Kind) (label : Label) (children : Trees) (page : Page) (up : List (List ℕ)) → Linkless up → At page (within kind label children up) → At (closed it kind label children page) up
+  closes kind root children page up linkless p = phrase_closes false root page up p
+  closes kind paragraph children page up linkless p = paragraph_closes kind page up linkless p
+  closes kind blockquote children page up linkless p = blocks page p (reads (content (codes "blockquote" ∷ up)) (codes "</blockquote>\n"))
+  closes kind emphasis children page up linkless p = phrase_closes false emphasis page up p
+  closes kind strong children page up linkless p = phrase_closes false strong page up p
+  closes kind delete children page up linkless p = phrase_closes false delete page up p
+  closes kind table_row children page up linkless p = phrase_closes false table_row page up p
+  closes kind table_cell children page up linkless p = phrase_closes false table_cell page up p
+  closes kind thematic_break children page up linkless p = phrase_closes false thematic_break page up p
+  closes kind «break» children page up linkless p = phrase_closes false «break» page up p
+  closes kind (text v) children page up linkless p = phrase_closes false (text v) page up p
+  closes kind (raw_node v) children page up linkless p = phrase_closes false (raw_node v) page up p
+  closes kind (inline_code v) children page up linkless p = phrase_closes false (inline_code v) page up p
+  closes kind (inline_math v) children page up linkless p = phrase_closes false (inline_math v) page up p
+  closes kind (yaml v) children page up linkless p = phrase_closes false (yaml v) page up p
+  closes kind (toml v) children page up linkless p = phrase_closes false (toml v) page up p
+  closes kind (heading depth) children page up linkless p = says page p (heading_ends it.raw it.id_prefix up depth)
+  closes kind (list ordered start _) children page up linkless p = says page p (list_ends it.raw it.id_prefix up ordered)
+  closes kind (list_item s c) children page up linkless p = phrase_closes false (list_item s c) page up p
+  closes kind (table _) children page up linkless p = table_closes children page up p
+  closes kind (code v g m) children page up linkless p = phrase_closes false (code v g m) page up p
+  closes kind (math v m) children page up linkless p = phrase_closes false (math v m) page up p
+  closes kind (link u t) children page up linkless p = phrase_closes false (link u t) page up p
+  closes kind (image a u t) children page up linkless p = phrase_closes false (image a u t) page up p
+  closes kind (link_reference k i l) children page up linkless p = phrase_closes false (link_reference k i l) page up p
+  closes kind (image_reference a k i l) children page up linkless p = phrase_closes false (image_reference a k i l) page up p
+  closes kind (footnote_reference i l) children page up linkless p = phrase_closes false (footnote_reference i l) page up p
+  closes kind (footnote_definition _ _) children page up linkless p = footnote_closes kind children page up linkless p
+  closes kind (definition u t i l) children page up linkless p = phrase_closes false (definition u t i l) page up p
 
   -- what the children of a node leave open, where they stand among others that leave open what was open
   abbrev Level : Place → Trees → Type 0
-  Level at children = (page : Page) (up : List (List ℕ)) → At page (base at.kind up) → At (nodes_page it at children page) (base (ends at.kind children) up)
+  Level at children = (page : Page) (up : List (List ℕ)) → Fits at.kind up → At page (base at.kind up) → At (nodes_page it at children page) (base (ends at.kind children) up)
 
-  steadily : (at : Place) (children : Trees) (page : Page) (up : List (List ℕ)) → Level at children → Steady at.kind → At page up → At (nodes_page it at children page) up
-  steadily at children page up level steady p =
+  steadily : (at : Place) (children : Trees) (page : Page) (up : List (List ℕ)) → Level at children → Steady at.kind → Fits at.kind up → At page up → At (nodes_page it at children page) up
+  steadily at children page up level steady fits p =
       let start : At page (base at.kind up) = subst (λ (names : List (List ℕ)). At page names) (sym (steady.base_is up)) p in
-      subst (λ (names : List (List ℕ)). At (nodes_page it at children page) names) (ap (λ (k : Kind). base k up) (ends_same at.kind children steady.next_is) ∙ steady.base_is up) (level page up start)
-
-  by_place : (b : Bool) → Steady (if b then Flow else Tight)
-  by_place true = record { next_is = refl; base_is = λ up. refl }
-  by_place false = record { next_is = refl; base_is = λ up. refl }
+      subst (λ (names : List (List ℕ)). At (nodes_page it at children page) names) (ap (λ (k : Kind). base k up) (ends_same at.kind children steady.next_is) ∙ steady.base_is up) (level page up fits start)
 
   steady : (kind : Kind) → next kind ≡ kind → ((up : List (List ℕ)) → base kind up ≡ up) → Steady kind
   steady kind next_is base_is = record { next_is = next_is; base_is = base_is }
 
-  in_items : (kind : Kind) → Steady (in_item kind).kind
-  in_items kind =
-      let other : Steady Flow = steady Flow refl (λ up. refl) in
-      by_kind (λ k. Steady (in_item k).kind) other other (steady Tight refl (λ up. refl)) other other other other other other (λ _. other) (λ _. other) kind
+  -- the children of a node in a text
+  abbrev text_kind : (linked : Bool) → Kind
+  text_kind true = Linked
+  text_kind false = Text
 
-  in_rows : (at : Place) → Steady (in_row at).kind
-  in_rows at =
-      let other : Steady Cell = steady Cell refl (λ up. refl) in
-      by_kind (λ k. Steady (in_row (record { kind = k; columns = at.columns })).kind) other other other other (steady HeaderCell refl (λ up. refl)) other other other other (λ _. other) (λ _. other) at.kind
+  text_steady : (linked : Bool) → Steady (text_kind linked)
+  text_steady true = steady Linked refl (λ up. refl)
+  text_steady false = steady Text refl (λ up. refl)
 
-  in_notes : (kind : Kind) → Steady (in_footnote kind).kind
-  in_notes kind =
-      let other : Steady Hidden = steady Hidden refl (λ up. refl) in
-      by_kind (λ k. Steady (in_footnote k).kind) other other other other other other other other other (λ n. steady (Tail n) refl (λ up. refl)) (λ _. other) kind
+  text_fits : (linked : Bool) (up : List (List ℕ)) → MayLink linked up → Fits (text_kind linked) up
+  text_fits true up may = may
+  text_fits false up may = may
 
-  in_cells : (columns : Option (List AlignKind)) → Steady (cell_place columns).kind
-  in_cells None = steady Text refl (λ up. refl)
-  in_cells (Some []) = steady Hidden refl (λ up. refl)
-  in_cells (Some (_ ∷ _)) = steady Text refl (λ up. refl)
+  linked_down : (children : Trees) (page : Page) (up : List (List ℕ)) → Level (place Linked) children → At page up → At (nodes_page it (place Linked) children page) up
+  linked_down children page up level p = steadily (place Linked) children page up level (steady Linked refl (λ u. refl)) refl p
 
-  -- the children of a node, where nothing around it says otherwise
-  down : (at : Place) (label : Label) (children : Trees) (page : Page) (up : List (List ℕ)) → Level (below at label children) children → At page (open_in at.kind label up) → At (nodes_page it (below at label children) children page) (within at.kind label children up)
-  down at root children page up level p = steadily (below at root children) children page up level (steady Flow refl (λ u. refl)) p
-  down at paragraph children page up level p = steadily (below at paragraph children) children page (open_in at.kind paragraph up) level (steady Text refl (λ u. refl)) p
-  down at blockquote children page up level p = steadily (below at blockquote children) children page (open_in at.kind blockquote up) level (steady Flow refl (λ u. refl)) p
-  down at emphasis children page up level p = steadily (below at emphasis children) children page (open_in at.kind emphasis up) level (steady Text refl (λ u. refl)) p
-  down at strong children page up level p = steadily (below at strong children) children page (open_in at.kind strong up) level (steady Text refl (λ u. refl)) p
-  down at delete children page up level p = steadily (below at delete children) children page (open_in at.kind delete up) level (steady Text refl (λ u. refl)) p
-  down at table_row children page up level p = steadily (below at table_row children) children page (open_in at.kind table_row up) level (in_rows at) p
-  down at table_cell children page up level p = steadily (below at table_cell children) children page up level (steady Text refl (λ u. refl)) p
-  down at thematic_break children page up level p = steadily (below at thematic_break children) children page up level (steady Text refl (λ u. refl)) p
-  down at «break» children page up level p = steadily (below at «break» children) children page up level (steady Text refl (λ u. refl)) p
-  down at (text v) children page up level p = steadily (below at (text v) children) children page up level (steady Text refl (λ u. refl)) p
-  down at (raw_node v) children page up level p = steadily (below at (raw_node v) children) children page up level (steady Text refl (λ u. refl)) p
-  down at (inline_code v) children page up level p = steadily (below at (inline_code v) children) children page up level (steady Text refl (λ u. refl)) p
-  down at (inline_math v) children page up level p = steadily (below at (inline_math v) children) children page up level (steady Text refl (λ u. refl)) p
-  down at (yaml v) children page up level p = steadily (below at (yaml v) children) children page up level (steady Text refl (λ u. refl)) p
-  down at (toml v) children page up level p = steadily (below at (toml v) children) children page up level (steady Text refl (λ u. refl)) p
-  down at (heading d) children page up level p = steadily (below at (heading d) children) children page (open_in at.kind (heading d) up) level (steady Text refl (λ u. refl)) p
-  down at (list o s spread) children page up level p = steadily (below at (list o s spread) children) children page (open_in at.kind (list o s spread) up) level (by_place (spread || any_spread children)) p
-  down at (list_item s c) children page up level p = steadily (below at (list_item s c) children) children page (open_in at.kind (list_item s c) up) level (in_items at.kind) p
-  down at (table align) children page up level p = level page (codes "table" ∷ up) p
-  down at (code v l m) children page up level p = steadily (below at (code v l m) children) children page up level (steady Text refl (λ u. refl)) p
-  down at (math v m) children page up level p = steadily (below at (math v m) children) children page up level (steady Text refl (λ u. refl)) p
-  down at (link url t) children page up level p = steadily (below at (link url t) children) children page (open_in at.kind (link url t) up) level (steady Text refl (λ u. refl)) p
-  down at (image a url t) children page up level p = steadily (below at (image a url t) children) children page up level (steady Text refl (λ u. refl)) p
-  down at (link_reference k i l) children page up level p = steadily (below at (link_reference k i l) children) children page (open_in at.kind (link_reference k i l) up) level (steady Text refl (λ u. refl)) p
-  down at (image_reference a k i l) children page up level p = steadily (below at (image_reference a k i l) children) children page up level (steady Text refl (λ u. refl)) p
-  down at (footnote_reference i l) children page up level p = steadily (below at (footnote_reference i l) children) children page up level (steady Text refl (λ u. refl)) p
-  down at (footnote_definition i l) children page up level p = steadily (below at (footnote_definition i l) children) children page (open_in at.kind (footnote_definition i l) up) level (in_notes at.kind) p
-  down at (definition u t i l) children page up level p = steadily (below at (definition u t i l) children) children page up level (steady Text refl (λ u. refl)) p
+  text_down : (linked : Bool) (children : Trees) (page : Page) (up : List (List ℕ)) → Level (place (text_kind linked)) children → MayLink linked up → At page up → At (nodes_page it (place (text_kind linked)) children page) up
+  text_down linked children page up level may p = steadily (place (text_kind linked)) children page up level (text_steady linked) (text_fits linked up may) p
 
-  -- a node with all that is in it, where its place adds nothing
-  plainly : (at : Place) (label : Label) (children : Trees) (page : Page) (up : List (List ℕ)) → Fine (is_no_html label) → Level (below at label children) children → At page up → At (closed it at label children (nodes_page it (below at label children) children (opened it at.kind label page))) up
-  plainly at label children page up fine level p = closes at label children _ up (down at label children (opened it at.kind label page) up level (opens at.kind label page up fine p))
+  hidden_down : (children : Trees) (page : Page) (up : List (List ℕ)) → Level (place Hidden) children → At page up → At (nodes_page it (place Hidden) children page) up
+  hidden_down children page up level p = steadily (place Hidden) children page up level (steady Hidden refl (λ u. refl)) tt p
 
-  -- a cell
+  phrase_down : (linked : Bool) (label : Label) (children : Trees) (page : Page) (up : List (List ℕ)) → Level (in_text (text_kind linked) label) children → MayLink linked up → At page (phrase_in linked label up) → At (nodes_page it (in_text (text_kind linked) label) children page) (phrase_in linked label up)
+  phrase_down linked root children page up level may p = text_down linked children page up level may p
+  phrase_down linked paragraph children page up level may p = text_down linked children page up level may p
+  phrase_down linked blockquote children page up level may p = text_down linked children page up level may p
+  phrase_down linked emphasis children page up level may p = text_down linked children page (codes "em" ∷ up) level may p
+  phrase_down linked strong children page up level may p = text_down linked children page (codes "strong" ∷ up) level may p
+  phrase_down linked delete children page up level may p = text_down linked children page (codes "del" ∷ up) level may p
+  phrase_down linked table_row children page up level may p = text_down linked children page up level may p
+  phrase_down linked table_cell children page up level may p = text_down linked children page up level may p
+  phrase_down linked thematic_break children page up level may p = text_down linked children page up level may p
+  phrase_down linked «break» children page up level may p = text_down linked children page up level may p
+  phrase_down linked (text v) children page up level may p = text_down linked children page up level may p
+  phrase_down linked (raw_node v) children page up level may p = text_down linked children page up level may p
+  phrase_down linked (inline_code v) children page up level may p = text_down linked children page up level may p
+  phrase_down linked (inline_math v) children page up level may p = text_down linked children page up level may p
+  phrase_down linked (yaml v) children page up level may p = text_down linked children page up level may p
+  phrase_down linked (toml v) children page up level may p = text_down linked children page up level may p
+  phrase_down linked (heading d) children page up level may p = text_down linked children page up level may p
+  phrase_down linked (list o s t) children page up level may p = text_down linked children page up level may p
+  phrase_down linked (list_item s c) children page up level may p = text_down linked children page up level may p
+  phrase_down linked (table a) children page up level may p = text_down linked children page up level may p
+  phrase_down linked (code v l m) children page up level may p = text_down linked children page up level may p
+  phrase_down linked (math v m) children page up level may p = text_down linked children page up level may p
+  phrase_down linked (link u t) children page up level may p = linked_down children page (in_link linked up) level p
+  phrase_down linked (image a u t) children page up level may p = text_down linked children page up level may p
+  phrase_down linked (link_reference k i l) children page up level may p = linked_down children page (phrase_in linked (link_reference k i l) up) level p
+  phrase_down linked (image_reference a k i l) children page up level may p = text_down linked children page up level may p
+  phrase_down linked (footnote_reference i l) children page up level may p = text_down linked children page up level may p
+  phrase_down linked (footnote_definition i l) children page up level may p = hidden_down children page up level p
+  phrase_down linked (definition u t i l) children page up level may p = text_down linked children page up level may p
+
+  phrase_plainly : (linked : Bool) (label : Label) (children : Trees) (page : Page) (up : List (List ℕ)) → Fine (is_no_html label) → Level (in_text (text_kind linked) label) children → MayLink linked up → At page up → At (phrase_closed it linked label (nodes_page it (in_text (text_kind linked) label) children (phrase_opened it linked label page))) up
+  phrase_plainly linked label children page up fine level may p = phrase_closes linked label _ up (phrase_down linked label children (phrase_opened it linked label page) up level may (phrase_opens linked label page up may fine p))
+
+  -- the children of a node among blocks
+  flow_down : (kind : Kind) (children : Trees) (page : Page) (up : List (List ℕ)) → Level (place kind) children → Steady kind → Fits kind up → At page up → At (nodes_page it (place kind) children page) up
+  flow_down kind children page up level steady fits p = steadily (place kind) children page up level steady fits p
+
+  list_down : (spread : Bool) (children : Trees) (page : Page) (up : List (List ℕ)) → Level (in_list spread) children → InList up × Blocks up → At page up → At (nodes_page it (in_list spread) children page) up
+  list_down true children page up level fits p = flow_down LooseItem children page up level (steady LooseItem refl (λ u. refl)) fits p
+  list_down false children page up level fits p = flow_down TightItem children page up level (steady TightItem refl (λ u. refl)) fits p
+
+  item_down : (kind : Kind) (children : Trees) (page : Page) (up : List (List ℕ)) → Level (in_item kind) children → Blocks up → At page up → At (nodes_page it (in_item kind) children page) up
+  item_down kind children page up level fits p =
+      let Claim : Kind → Type 0 = λ k. Level (in_item k) children → At (nodes_page it (in_item k) children page) up in
+      let other : Level (place Flow) children → At (nodes_page it (place Flow) children page) up = λ l. flow_down Flow children page up l (steady Flow refl (λ u. refl)) fits p in
+      by_kind Claim other other other (λ l. flow_down Tight children page up l (steady Tight refl (λ u. refl)) fits p) other other other other other other other other (λ _. other) (λ _. other) kind level
+
+  footnote_down : (kind : Kind) (children : Trees) (page : Page) (up : List (List ℕ)) → Level (in_footnote kind) children → Blocks up → At page (in_note kind up) → At (nodes_page it (in_footnote kind) children page) (in_note kind up)
+  footnote_down kind children page up level fits p =
+      let Claim : Kind → Type 0 = λ k. Level (in_footnote k) children → At page (in_note k up) → At (nodes_page it (in_footnote k) children page) (in_note k up) in
+      let other : Level (place Hidden) children → At page up → At (nodes_page it (place Hidden) children page) up = λ l q. hidden_down children page up l q in
+      by_kind Claim other other other other other other other other other other other other (λ n. λ l q. flow_down (Tail n) children page (codes "li" ∷ up) l (steady (Tail n) refl (λ u. refl)) fits q) (λ _. other) kind level p
+
+  paragraph_down : (kind : Kind) (children : Trees) (page : Page) (up : List (List ℕ)) → Level (place Text) children → Linkless up → At page (in_paragraph kind up) → At (nodes_page it (place Text) children page) (in_paragraph kind up)
+  paragraph_down kind children page up level linkless p =
+      let Claim : Kind → Type 0 = λ k. At page (in_paragraph k up) → At (nodes_page it (place Text) children page) (in_paragraph k up) in
+      let other : At page (codes "p" ∷ up) → At (nodes_page it (place Text) children page) (codes "p" ∷ up) = λ q. text_down false children page (codes "p" ∷ up) level linkless q in
+      by_kind Claim other other other (λ q. text_down false children page up level linkless q) other other other other other other other other (λ _. other) (λ _. other) kind p
+
+  down : (kind : Kind) (label : Label) (children : Trees) (page : Page) (up : List (List ℕ)) → Level (below kind label children) children → Blocks up → At page (open_in kind label up) → At (nodes_page it (below kind label children) children page) (within kind label children up)
+  down kind root children page up level may p = flow_down Flow children page up level (steady Flow refl (λ u. refl)) may p
+  down kind paragraph children page up level may p = paragraph_down kind children page up level may.0 p
+  down kind blockquote children page up level may p = flow_down Flow children page (codes "blockquote" ∷ up) level (steady Flow refl (λ u. refl)) may p
+  down kind emphasis children page up level may p = phrase_down false emphasis children page up level may.0 p
+  down kind strong children page up level may p = phrase_down false strong children page up level may.0 p
+  down kind delete children page up level may p = phrase_down false delete children page up level may.0 p
+  down kind table_row children page up level may p = phrase_down false table_row children page up level may.0 p
+  down kind table_cell children page up level may p = phrase_down false table_cell children page up level may.0 p
+  down kind thematic_break children page up level may p = phrase_down false thematic_break children page up level may.0 p
+  down kind «break» children page up level may p = phrase_down false «break» children page up level may.0 p
+  down kind (text v) children page up level may p = phrase_down false (text v) children page up level may.0 p
+  down kind (raw_node v) children page up level may p = phrase_down false (raw_node v) children page up level may.0 p
+  down kind (inline_code v) children page up level may p = phrase_down false (inline_code v) children page up level may.0 p
+  down kind (inline_math v) children page up level may p = phrase_down false (inline_math v) children page up level may.0 p
+  down kind (yaml v) children page up level may p = phrase_down false (yaml v) children page up level may.0 p
+  down kind (toml v) children page up level may p = phrase_down false (toml v) children page up level may.0 p
+  down kind (heading d) children page up level may p = text_down false children page (heading_name d ∷ up) level (heading_linkless it.raw it.id_prefix up d may.0) p
+  down kind (list o s t) children page up level may p = list_down (t || any_spread children) children page (list_name it.raw it.id_prefix o ∷ up) level (list_is_in it.raw it.id_prefix up o, (list_linkless it.raw it.id_prefix up o may.0, list_takes_blocks it.raw it.id_prefix up o may.1)) p
+  down kind (list_item s c) children page up level may p = item_down kind children page up level may p
+  down kind (table a) children page up level may p = level page up may.0 p
+  down kind (code v l m) children page up level may p = phrase_down false (code v l m) children page up level may.0 p
+  down kind (math v m) children page up level may p = phrase_down false (math v m) children page up level may.0 p
+  down kind (link u t) children page up level may p = phrase_down false (link u t) children page up level may.0 p
+  down kind (image a u t) children page up level may p = phrase_down false (image a u t) children page up level may.0 p
+  down kind (link_reference k i l) children page up level may p = phrase_down false (link_reference k i l) children page up level may.0 p
+  down kind (image_reference a k i l) children page up level may p = phrase_down false (image_reference a k i l) children page up level may.0 p
+  down kind (footnote_reference i l) children page up level may p = phrase_down false (footnote_reference i l) children page up level may.0 p
+  down kind (footnote_definition i l) children page up level may p = footnote_down kind children page up level may p
+  down kind (definition u t i l) children page up level may p = phrase_down false (definition u t i l) children page up level may.0 p
+
+  plainly : (kind : Kind) (label : Label) (children : Trees) (page : Page) (up : List (List ℕ)) → Fine (is_no_html label) → Level (below kind label children) children → Blocks up → MayNote kind up → At page up → At (closed it kind label children (nodes_page it (below kind label children) children (opened it kind label page))) up
+  plainly kind label children page up fine level may note p = closes kind label children _ up may.0 (down kind label children (opened it kind label page) up level may (opens kind label page up may note fine p))
+
+  -- a node in an item of its own
+  item_begins : (up : List (List ℕ)) → InList up → Read (content up) (codes "<li>") (content (codes "li" ∷ up))
+  item_begins up listed = record { is = rw listed refl }
+
+  item_opens : (checked : Option Bool) (up : List (List ℕ)) → InList up → Read (content up) (codes "<li>" ++ check_box checked) (content (codes "li" ∷ up))
+  item_opens checked up listed = both (allowed_of it) (item_begins up listed) (check_box_reads it.raw it.id_prefix (codes "li" ∷ up) checked)
+
+  item_read : (kind : Kind) (label : Label) (children : Trees) (page : Page) (up : List (List ℕ)) → Fine (is_no_html label) → Level (below kind label children) children → InList up × Blocks up → MayNote kind (codes "li" ∷ up) → At page up → At (say (closed it kind label children (nodes_page it (below kind label children) children (opened it kind label (block page (codes "<li>" ++ check_box (checked_of label)))))) (codes "</li>\n")) up
+  item_read kind label children page up fine level fits note p =
+      let begun = block page (codes "<li>" ++ check_box (checked_of label)) in
+      says (closed it kind label children (nodes_page it (below kind label children) children (opened it kind label begun)))
+      (plainly kind label children begun (codes "li" ∷ up) fine level fits.1 note (blocks page p (item_opens (checked_of label) up fits.0)))
+      (reads (content (codes "li" ∷ up)) (codes "</li>\n"))
+
+  -- a row: its cells leave it open
+  row_open : (kind : Kind) (cells : Trees) (up : List (List ℕ)) → next kind ≡ kind → base kind up ≡ codes "tr" ∷ up → base (ends kind cells) up ≡ codes "tr" ∷ up
+  row_open kind cells up same is = ap (λ (k : Kind). base k up) (ends_same kind cells same) ∙ is
+
+  header_read : (at : Place) (cells : Trees) (page : Page) (up : List (List ℕ)) → Level (record at { kind = HeaderCell }) cells → Linkless up → At page (codes "table" ∷ up) → At (say (nodes_page it (record at { kind = HeaderCell }) cells (say page (codes "<thead>\n<tr>\n"))) (row_end at cells ++ codes "</thead>\n")) (codes "table" ∷ up)
+  header_read at cells page up level linkless p =
+      let inner = codes "thead" ∷ codes "table" ∷ up in
+      let begun = say page (codes "<thead>\n<tr>\n") in
+      let all = nodes_page it (record at { kind = HeaderCell }) cells begun in
+      let done : At all (codes "tr" ∷ inner) = subst (λ (names : List (List ℕ)). At all names) (row_open HeaderCell cells inner refl refl) (level begun inner linkless (says page p (reads (content (codes "table" ∷ up)) (codes "<thead>\n<tr>\n")))) in
+      says all done (both (allowed_of it) (row_closes at cells inner) (reads (content inner) (codes "</thead>\n")))
+
+  row_read : (at : Place) (cells : Trees) (page : Page) (up from : List (List ℕ)) (start : List ℕ) → Level (record at { kind = Cell }) cells → Linkless up → Read (content from) start (content (codes "tr" ∷ codes "tbody" ∷ codes "table" ∷ up)) → At page from → At (say (nodes_page it (record at { kind = Cell }) cells (say page start)) (row_end at cells)) (codes "tbody" ∷ codes "table" ∷ up)
+  row_read at cells page up from start level linkless starts p =
+      let inner = codes "tbody" ∷ codes "table" ∷ up in
+      let all = nodes_page it (record at { kind = Cell }) cells (say page start) in
+      let done : At all (codes "tr" ∷ inner) = subst (λ (names : List (List ℕ)). At all names) (row_open Cell cells inner refl refl) (level (say page start) inner linkless (says page p starts)) in
+      says all done (row_closes at cells inner)
+
+  -- a cell, in a row
   abbrev th_in : List (List ℕ) → Option (List AlignKind) → List (List ℕ)
-  th_in up columns = in_cell it.raw it.id_prefix up (codes "th") (th_starts it.raw it.id_prefix up) (reads (content up) (codes "<th>")) (reads (content (codes "th" ∷ up)) (codes "</th>\n")) columns
+  th_in up columns = in_cell it.raw it.id_prefix (codes "tr" ∷ up) (codes "th") (th_starts it.raw it.id_prefix up) (reads (content (codes "tr" ∷ up)) (codes "<th>")) (reads (content (codes "th" ∷ codes "tr" ∷ up)) (codes "</th>\n")) columns
 
-  th_reads : (up : List (List ℕ)) (columns : Option (List AlignKind)) → Read (content up) (cell_start (codes "th") columns) (content (th_in up columns))
-  th_reads up columns = cell_reads it.raw it.id_prefix up (codes "th") (th_starts it.raw it.id_prefix up) (reads (content up) (codes "<th>")) (reads (content (codes "th" ∷ up)) (codes "</th>\n")) columns
+  th_reads : (up : List (List ℕ)) (columns : Option (List AlignKind)) → Read (content (codes "tr" ∷ up)) (cell_start (codes "th") columns) (content (th_in up columns))
+  th_reads up columns = cell_reads it.raw it.id_prefix (codes "tr" ∷ up) (codes "th") (th_starts it.raw it.id_prefix up) (reads (content (codes "tr" ∷ up)) (codes "<th>")) (reads (content (codes "th" ∷ codes "tr" ∷ up)) (codes "</th>\n")) columns
 
-  th_ends : (up : List (List ℕ)) (columns : Option (List AlignKind)) → Read (content (th_in up columns)) (cell_end (codes "th") columns) (content up)
-  th_ends up columns = cell_ends it.raw it.id_prefix up (codes "th") (th_starts it.raw it.id_prefix up) (reads (content up) (codes "<th>")) (reads (content (codes "th" ∷ up)) (codes "</th>\n")) columns
+  th_ends : (up : List (List ℕ)) (columns : Option (List AlignKind)) → Read (content (th_in up columns)) (cell_end (codes "th") columns) (content (codes "tr" ∷ up))
+  th_ends up columns = cell_ends it.raw it.id_prefix (codes "tr" ∷ up) (codes "th") (th_starts it.raw it.id_prefix up) (reads (content (codes "tr" ∷ up)) (codes "<th>")) (reads (content (codes "th" ∷ codes "tr" ∷ up)) (codes "</th>\n")) columns
 
   abbrev td_in : List (List ℕ) → Option (List AlignKind) → List (List ℕ)
-  td_in up columns = in_cell it.raw it.id_prefix up (codes "td") (td_starts it.raw it.id_prefix up) (reads (content up) (codes "<td>")) (reads (content (codes "td" ∷ up)) (codes "</td>\n")) columns
+  td_in up columns = in_cell it.raw it.id_prefix (codes "tr" ∷ up) (codes "td") (td_starts it.raw it.id_prefix up) (reads (content (codes "tr" ∷ up)) (codes "<td>")) (reads (content (codes "td" ∷ codes "tr" ∷ up)) (codes "</td>\n")) columns
 
-  td_reads : (up : List (List ℕ)) (columns : Option (List AlignKind)) → Read (content up) (cell_start (codes "td") columns) (content (td_in up columns))
-  td_reads up columns = cell_reads it.raw it.id_prefix up (codes "td") (td_starts it.raw it.id_prefix up) (reads (content up) (codes "<td>")) (reads (content (codes "td" ∷ up)) (codes "</td>\n")) columns
+  td_reads : (up : List (List ℕ)) (columns : Option (List AlignKind)) → Read (content (codes "tr" ∷ up)) (cell_start (codes "td") columns) (content (td_in up columns))
+  td_reads up columns = cell_reads it.raw it.id_prefix (codes "tr" ∷ up) (codes "td") (td_starts it.raw it.id_prefix up) (reads (content (codes "tr" ∷ up)) (codes "<td>")) (reads (content (codes "td" ∷ codes "tr" ∷ up)) (codes "</td>\n")) columns
 
-  td_ends : (up : List (List ℕ)) (columns : Option (List AlignKind)) → Read (content (td_in up columns)) (cell_end (codes "td") columns) (content up)
-  td_ends up columns = cell_ends it.raw it.id_prefix up (codes "td") (td_starts it.raw it.id_prefix up) (reads (content up) (codes "<td>")) (reads (content (codes "td" ∷ up)) (codes "</td>\n")) columns
+  td_ends : (up : List (List ℕ)) (columns : Option (List AlignKind)) → Read (content (td_in up columns)) (cell_end (codes "td") columns) (content (codes "tr" ∷ up))
+  td_ends up columns = cell_ends it.raw it.id_prefix (codes "tr" ∷ up) (codes "td") (td_starts it.raw it.id_prefix up) (reads (content (codes "tr" ∷ up)) (codes "<td>")) (reads (content (codes "td" ∷ codes "tr" ∷ up)) (codes "</td>\n")) columns
 
-  -- and where its place is of a kind
+  -- its children, in a cell of either name
+  cell_down : (columns : Option (List AlignKind)) (children : Trees) (page : Page) (up inner : List (List ℕ)) → Level (cell_place columns) children → Linkless inner → At page inner → At (nodes_page it (cell_place columns) children page) inner
+  cell_down None children page up inner level linkless p = text_down false children page inner level linkless p
+  cell_down (Some []) children page up inner level linkless p = hidden_down children page inner level p
+  cell_down (Some (_ ∷ _)) children page up inner level linkless p = text_down false children page inner level linkless p
+
+  th_linkless : (up : List (List ℕ)) (columns : Option (List AlignKind)) → Linkless up → Linkless (th_in up columns)
+  th_linkless up None linkless = linkless
+  th_linkless up (Some []) linkless = linkless
+  th_linkless up (Some (_ ∷ _)) linkless = linkless
+
+  td_linkless : (up : List (List ℕ)) (columns : Option (List AlignKind)) → Linkless up → Linkless (td_in up columns)
+  td_linkless up None linkless = linkless
+  td_linkless up (Some []) linkless = linkless
+  td_linkless up (Some (_ ∷ _)) linkless = linkless
+
+  cell_read : (columns : Option (List AlignKind)) (children : Trees) (page : Page) (up inner : List (List ℕ)) (start finish : List ℕ) → Level (cell_place columns) children → Linkless inner → Read (content (codes "tr" ∷ up)) start (content inner) → Read (content inner) finish (content (codes "tr" ∷ up)) → At page (codes "tr" ∷ up) → At (say (nodes_page it (cell_place columns) children (say page start)) finish) (codes "tr" ∷ up)
+  cell_read columns children page up inner start finish level linkless starts finishes p = says (nodes_page it (cell_place columns) children (say page start)) (cell_down columns children (say page start) up inner level linkless (says page p starts)) finishes
+
+  -- a node where its place is of a kind
   abbrev whole : Place → Label → Trees → Page → Page
   whole at label children page = left it at label children (nodes_page it (inside at label children) children (entered it at label page))
 
   abbrev Whole : Label → Trees → Page → List (List ℕ) → Option (List AlignKind) → Kind → Type 0
   Whole label children page up columns kind =
       let at : Place = record { kind = kind; columns = columns } in
-      Level (inside at label children) children → At page (base kind up) → At (whole at label children page) (base (next kind) up)
-
-  cell_whole : (at : Place) (label : Label) (children : Trees) (page : Page) (up inner : List (List ℕ)) (start finish : List ℕ) → Level (cell_place at.columns) children → Read (content up) start (content inner) → Read (content inner) finish (content up) → At page up → At (say (nodes_page it (cell_place at.columns) children (say page start)) finish) up
-  cell_whole at label children page up inner start finish level starts finishes p = says (nodes_page it (cell_place at.columns) children (say page start)) (steadily (cell_place at.columns) children (say page start) inner level (in_cells at.columns) (says page p starts)) finishes
+      Level (inside at label children) children → Fits kind up → At page (base kind up) → At (whole at label children page) (base (next kind) up)
 
   node_read : (columns : Option (List AlignKind)) (label : Label) (children : Trees) (page : Page) (up : List (List ℕ)) (kind : Kind) → Fine (is_no_html label) → Whole label children page up columns kind
   node_read columns label children page up kind fine =
       let place_of_kind : Kind → Place = λ k. record { kind = k; columns = columns } in
       by_kind (Whole label children page up columns)
-      (λ level. λ p. plainly (place_of_kind Text) label children page up fine level p)
-      (λ level. λ p. plainly (place_of_kind Flow) label children page up fine level p)
-      (λ level. λ p. plainly (place_of_kind Tight) label children page up fine level p)
-      (λ level. λ p. steadily (place Hidden) children page up level (steady Hidden refl (λ u. refl)) p)
-      (λ level. λ p. says (closed it (place_of_kind FirstRow) label children (nodes_page it (below (place_of_kind FirstRow) label children) children (opened it FirstRow label (say page (codes "<thead>\n"))))) (plainly (place_of_kind FirstRow) label children (say page (codes "<thead>\n")) (codes "thead" ∷ up) fine level (says page p (reads (content up) (codes "<thead>\n")))) (reads (content (codes "thead" ∷ up)) (codes "</thead>\n")))
-      (λ level. λ p. plainly (place_of_kind SecondRow) label children (say page (codes "<tbody>\n")) (codes "tbody" ∷ up) fine level (says page p (reads (content up) (codes "<tbody>\n"))))
-      (λ level. λ p. plainly (place_of_kind LaterRow) label children page (codes "tbody" ∷ up) fine level p)
-      (λ level. λ p. cell_whole (place_of_kind HeaderCell) label children page up (th_in up columns) (cell_start (codes "th") columns) (cell_end (codes "th") columns) level (th_reads up columns) (th_ends up columns) p)
-      (λ level. λ p. cell_whole (place_of_kind Cell) label children page up (td_in up columns) (cell_start (codes "td") columns) (cell_end (codes "td") columns) level (td_reads up columns) (td_ends up columns) p)
-      (λ n. λ level. λ p. plainly (place_of_kind (Note n)) label children page up fine level p)
-      (λ n. λ level. λ p. plainly (place_of_kind (Tail n)) label children page up fine level p)
+      (λ level fits p. phrase_plainly false label children page up fine level fits p)
+      (λ level fits p. phrase_plainly true label children page up fine level fits p)
+      (λ level fits p. plainly Flow label children page up fine level fits tt p)
+      (λ level fits p. plainly Tight label children page up fine level fits tt p)
+      (λ level fits p. item_read Flow label children page up fine level fits tt p)
+      (λ level fits p. item_read Tight label children page up fine level fits tt p)
+      (λ level fits p. hidden_down children page up level p)
+      (λ level fits p. header_read (place_of_kind FirstRow) children page up level fits p)
+      (λ level fits p. row_read (place_of_kind SecondRow) children page up (codes "table" ∷ up) (codes "<tbody>\n<tr>\n") level fits (reads (content (codes "table" ∷ up)) (codes "<tbody>\n<tr>\n")) p)
+      (λ level fits p. row_read (place_of_kind LaterRow) children page up (codes "tbody" ∷ codes "table" ∷ up) (codes "<tr>\n") level fits (reads (content (codes "tbody" ∷ codes "table" ∷ up)) (codes "<tr>\n")) p)
+      (λ level fits p. cell_read columns children page up (th_in up columns) (cell_start (codes "th") columns) (cell_end (codes "th") columns) level (th_linkless up columns fits) (th_reads up columns) (th_ends up columns) p)
+      (λ level fits p. cell_read columns children page up (td_in up columns) (cell_start (codes "td") columns) (cell_end (codes "td") columns) level (td_linkless up columns fits) (td_reads up columns) (td_ends up columns) p)
+      (λ n. λ level fits p. plainly (Note n) label children page up fine level fits.1 fits.0 p)
+      (λ n. λ level fits p. plainly (Tail n) label children page up fine level fits tt p)
       kind
 
   -- a place before others leaves open what it does alone
   unended_base : (kind : Kind) (columns : Option (List AlignKind)) (up : List (List ℕ)) → (base (unended (record { kind = kind; columns = columns })).kind up ≡ base kind up) × (base (next (unended (record { kind = kind; columns = columns })).kind) up ≡ base (next kind) up)
-  unended_base kind columns up = by_kind (λ k. (base (unended (record { kind = k; columns = columns })).kind up ≡ base k up) × (base (next (unended (record { kind = k; columns = columns })).kind) up ≡ base (next k) up)) (refl, refl) (refl, refl) (refl, refl) (refl, refl) (refl, refl) (refl, refl) (refl, refl) (refl, refl) (refl, refl) (λ n. (refl, refl)) (λ n. (refl, refl)) kind
+  unended_base kind columns up = by_kind (λ k. (base (unended (record { kind = k; columns = columns })).kind up ≡ base k up) × (base (next (unended (record { kind = k; columns = columns })).kind) up ≡ base (next k) up)) (refl, refl) (refl, refl) (refl, refl) (refl, refl) (refl, refl) (refl, refl) (refl, refl) (refl, refl) (refl, refl) (refl, refl) (refl, refl) (refl, refl) (λ n. (refl, refl)) (λ n. (refl, refl)) kind
 
   followed_base : (at : Place) (rest : Trees) (up : List (List ℕ)) → (base (followed at rest).kind up ≡ base at.kind up) × (base (next (followed at rest).kind) up ≡ base (next at.kind) up)
   followed_base at nothing up = (refl, refl)
   followed_base at (node _ _ _ _) up = unended_base at.kind at.columns up
 
+  unended_fits : (kind : Kind) (columns : Option (List AlignKind)) (up : List (List ℕ)) → Fits kind up → Fits (unended (record { kind = kind; columns = columns })).kind up
+  unended_fits kind columns up = by_kind (λ k. Fits k up → Fits (unended (record { kind = k; columns = columns })).kind up) (λ f. f) (λ f. f) (λ f. f) (λ f. f) (λ f. f) (λ f. f) (λ f. f) (λ f. f) (λ f. f) (λ f. f) (λ f. f) (λ f. f) (λ _ f. f) (λ _ f. f) kind
+
+  followed_fits : (at : Place) (rest : Trees) (up : List (List ℕ)) → Fits at.kind up → Fits (followed at rest).kind up
+  followed_fits at nothing up fits = fits
+  followed_fits at (node _ _ _ _) up fits = unended_fits at.kind at.columns up fits
+
   -- nodes in order
   nodes_read : (at : Place) (nodes : Trees) → Fine (is_free nodes) → Level at nodes
-  nodes_read at nothing fine page up p = p
-  nodes_read at (node label children _ rest) fine page up p =
+  nodes_read at nothing fine page up fits p = p
+  nodes_read at (node label children _ rest) fine page up fits p =
       let held = not (passes it.raw) in
       let more = second_part held (is_no_html label) (is_free children && is_free rest) fine in
       let here = followed at rest in
       let same = followed_base at rest up in
       let first : At page (base here.kind up) = subst (λ (names : List (List ℕ)). At page names) (sym same.0) p in
-      let done : At (whole here label children page) (base (next here.kind) up) = node_read here.columns label children page up here.kind (first_part held (is_no_html label) (is_free children && is_free rest) fine) (nodes_read (inside here label children) children (first_part held (is_free children) (is_free rest) more)) first in
+      let done : At (whole here label children page) (base (next here.kind) up) = node_read here.columns label children page up here.kind (first_part held (is_no_html label) (is_free children && is_free rest) fine) (nodes_read (inside here label children) children (first_part held (is_free children) (is_free rest) more)) (followed_fits at rest up fits) first in
       let now : At (whole here label children page) (base (after at).kind up) = subst (λ (names : List (List ℕ)). At (whole here label children page) names) (same.1 ∙ ap (λ (k : Kind). base k up) (sym (after_kind at.kind at.columns))) done in
-      subst (λ (k : Kind). At (nodes_page it (after at) rest (whole here label children page)) (base (ends k rest) up)) (after_kind at.kind at.columns) (nodes_read (after at) rest (second_part held (is_free children) (is_free rest) more) (whole here label children page) up now)
+      let fits_now : Fits (after at).kind up = subst (λ (k : Kind). Fits k up) (sym (after_kind at.kind at.columns)) (next_fits at.kind up fits) in
+      subst (λ (k : Kind). At (nodes_page it (after at) rest (whole here label children page)) (base (ends k rest) up)) (after_kind at.kind at.columns) (nodes_read (after at) rest (second_part held (is_free children) (is_free rest) more) (whole here label children page) up fits_now now)
 
-  tree_read : (at : Place) (tree : Tree) (page : Page) (up : List (List ℕ)) → Fine (is_free_tree tree) → At page (base at.kind up) → At (tree_page it at tree page) (base (next at.kind) up)
-  tree_read at tree page up fine p =
+  tree_read : (at : Place) (tree : Tree) (page : Page) (up : List (List ℕ)) → Fine (is_free_tree tree) → Fits at.kind up → At page (base at.kind up) → At (tree_page it at tree page) (base (next at.kind) up)
+  tree_read at tree page up fine fits p =
       let held = not (passes it.raw) in
-      node_read at.columns tree.label tree.children page up at.kind (first_part held (is_no_html tree.label) (is_free tree.children) fine) (nodes_read (inside at tree.label tree.children) tree.children (second_part held (is_no_html tree.label) (is_free tree.children) fine)) p
+      node_read at.columns tree.label tree.children page up at.kind (first_part held (is_no_html tree.label) (is_free tree.children) fine) (nodes_read (inside at tree.label tree.children) tree.children (second_part held (is_no_html tree.label) (is_free tree.children) fine)) fits p
 
   -- the nodes of a tree are as the tree is
   abbrev AllFine : List Tree → Type 0
@@ -470,11 +704,11 @@ module _ (it : Source) where
         let held = not (passes it.raw) in
         found_free (is_footnote identifier) (walk it.tree) tree (fine, walks_free it.tree.children (second_part held (is_no_html it.tree.label) (is_free it.tree.children) fine)) is
 
-    notes_read : (most number : ℕ) (page : Page) (up : List (List ℕ)) → At page up → At (notes_page it most number page) up
-    notes_read zero number page up p = p
-    notes_read (suc most) number page up p =
+    notes_read : (most number : ℕ) (page : Page) (up : List (List ℕ)) → InList up × Blocks up → At page up → At (notes_page it most number page) up
+    notes_read zero number page up fits p = p
+    notes_read (suc most) number page up fits p =
         with_calls (slice_get page.calls number) most number page up p
-        (λ identifier tree is. notes_read most (number + 1) (tree_page it (place (Note number)) tree page) up (tree_read (place (Note number)) tree page up (note_free identifier tree is) p))
+        (λ identifier tree is. notes_read most (number + 1) (tree_page it (place (Note number)) tree page) up fits (tree_read (place (Note number)) tree page up (note_free identifier tree is) fits p))
 
     -- the section of the footnotes
     with_section : (calls : List Call) (page : Page) → At page [] → At (elim calls [ [] ↦ page | _ ∷ _ ↦ say (notes_page it most_notes 0 (say (on_new_line page) (section_start it.id_prefix))) (codes "</ol>\n</section>\n") ]) []
@@ -482,11 +716,11 @@ module _ (it : Source) where
     with_section (_ ∷ _) page p =
         let begin = say (on_new_line page) (section_start it.id_prefix) in
         let inside = codes "ol" ∷ (codes "section" ∷ []) in
-        says (notes_page it most_notes 0 begin) (notes_read most_notes 0 begin inside (says (on_new_line page) (fresh p) (section_reads it.raw it.id_prefix []))) (reads (content inside) (codes "</ol>\n</section>\n"))
+        says (notes_page it most_notes 0 begin) (notes_read most_notes 0 begin inside (refl, (refl, refl)) (says (on_new_line page) (fresh p) (section_reads it.raw it.id_prefix))) (reads (content inside) (codes "</ol>\n</section>\n"))
 
     -- the page of a tree is safe
     pub html_safe : IsSafe (allowed_of it) (html it)
     unfolding IsSafe
     html_safe =
-        let tree : At (tree_page it (place Flow) it.tree blank) [] = tree_read (place Flow) it.tree blank [] fine (reads (content []) []) in
+        let tree : At (tree_page it (place Flow) it.tree blank) [] = tree_read (place Flow) it.tree blank [] fine (refl, refl) (reads (content []) []) in
         (with_section (tree_page it (place Flow) it.tree blank).calls (tree_page it (place Flow) it.tree blank) tree).is

@@ -1,15 +1,25 @@
 -- What the tokenizer reads in a page.
-use Rattle.std.proofs.Common.{◌≡◌, ℕ, ◌-◌, ◌^◌, ◌==◌, ◌||◌, zero, suc, Bool, true, false, nat_le, min, List, [], ◌∷◌, ◌++◌, Option, None, Some, codes, refl, sym, ap, ◌∙◌, arith, append_assoc}
+use Rattle.std.proofs.Common.{◌≡◌, ℕ, ◌-◌, ◌^◌, ◌==◌, ◌||◌, zero, suc, not, Bool, true, false, nat_le, min, List, [], ◌∷◌, ◌++◌, Option, None, Some, codes, refl, sym, ap, ◌∙◌, arith, append_assoc}
 use Rattle.std.proofs.lemmas.Bool.{cond_both, false≢true, not-true}
 use Rattle.std.specs.List.{list_any}
-use Rattle.html_text.specs.Safe.{Allowed, State, after_value, content, in_value, is_space, may_be, start_tag}
+use Rattle.html_text.specs.Safe.{Allowed, State, after_value, content, has_link, in_value, is_in, is_space, may_be, start_tag, takes_blocks}
 use Rattle.html_text.specs.Urls.{encoded, is_safe_link, is_safe_source}
 use Rattle.html_text.proofs.Reading.{Reads, begins-append, both, digits_are, fixed, number_reads, text_reads, value_ends, value_reads}
 use Rattle.markdown_events.specs.declared.infer.AlignKind.{AlignKind}
 use Rattle.markdown_events.specs.declared.infer.AlignKind.TheVariants as align
 use Rattle.markdown_html.specs.declared.source.Raw.{Raw}
 use Rattle.markdown_html.specs.declared.source.Raw.TheVariants.{Omit, Escape, Filter, Pass}
-use Rattle.markdown_html.specs.Elements.{align_attribute, arrow, attribute, back_attributes, back_label, back_reference, back_references, call_attributes, call_id, call_links, call_text, cell_end, cell_start, check_box, code_block, code_lines, code_text, empty_cell, empty_cells, heading_name, image_tag, image_url, is_class, label_id, language_attribute, link_start, link_url, list_end, list_start, math_block, math_text, note_id, note_start, numeral, passes, raw_html, repeat_mark, repeat_text, section_heading, section_start, start_attribute, title_attribute}
+use Rattle.markdown_html.specs.Elements.{align_attribute, arrow, attribute, back_attributes, back_label, back_reference, back_references, call_attributes, call_id, call_links, call_text, cell_end, cell_start, check_box, code_block, code_lines, code_text, empty_cell, empty_cells, heading_name, image_tag, image_url, is_class, label_id, language_attribute, link_start, link_url, linked_call_text, list_end, list_start, math_block, math_text, note_id, note_start, numeral, passes, raw_html, repeat_mark, repeat_text, section_heading, section_start, start_attribute, title_attribute}
+
+-- a link may begin where these elements are open, or a block, or an item
+abbrev pub Linkless : List (List ℕ) → Type 0
+Linkless up = not (has_link up) ≡ true
+
+abbrev pub TakesBlocks : List (List ℕ) → Type 0
+TakesBlocks up = takes_blocks up ≡ true
+
+abbrev pub InList : List (List ℕ) → Type 0
+InList up = is_in (codes "ol" ∷ codes "ul" ∷ []) up ≡ true
 
 module _ (raw : Raw) (prefix : List ℕ) where
   -- what the page may have
@@ -45,8 +55,11 @@ module _ (raw : Raw) (prefix : List ℕ) where
       cond_both (depth == 4) _ _ P (λ _. four) (λ _.
       cond_both (depth == 5) _ _ P (λ _. five) (λ _. six)))))
 
-  pub heading_reads : (up : List (List ℕ)) (depth : ℕ) → Read (content up) (codes "<" ++ heading_name depth ++ codes ">") (content (heading_name depth ∷ up))
-  heading_reads up depth = heading_cases (λ n. Read (content up) (codes "<" ++ n ++ codes ">") (content (n ∷ up))) depth (fixed may _ _) (fixed may _ _) (fixed may _ _) (fixed may _ _) (fixed may _ _) (fixed may _ _)
+  pub heading_reads : (up : List (List ℕ)) (depth : ℕ) → TakesBlocks up → Read (content up) (codes "<" ++ heading_name depth ++ codes ">") (content (heading_name depth ∷ up))
+  heading_reads up depth may_begin = heading_cases (λ n. Read (content up) (codes "<" ++ n ++ codes ">") (content (n ∷ up))) depth (record { is = rw may_begin refl }) (record { is = rw may_begin refl }) (record { is = rw may_begin refl }) (record { is = rw may_begin refl }) (record { is = rw may_begin refl }) (record { is = rw may_begin refl })
+
+  pub heading_linkless : (up : List (List ℕ)) (depth : ℕ) → Linkless up → Linkless (heading_name depth ∷ up)
+  heading_linkless up depth linkless = heading_cases (λ n. Linkless (n ∷ up)) depth linkless linkless linkless linkless linkless linkless
 
   pub heading_ends : (up : List (List ℕ)) (depth : ℕ) → Read (content (heading_name depth ∷ up)) (codes "</" ++ heading_name depth ++ codes ">\n") (content up)
   heading_ends up depth = heading_cases (λ n. Read (content (n ∷ up)) (codes "</" ++ n ++ codes ">\n") (content up)) depth (fixed may _ _) (fixed may _ _) (fixed may _ _) (fixed may _ _) (fixed may _ _) (fixed may _ _)
@@ -56,26 +69,42 @@ module _ (raw : Raw) (prefix : List ℕ) where
   unfolding numeral
   numeral_fits n = digits_are (min n (2 ^ 64 - 1)) (omega arith)
 
-  ol_with : (up : List (List ℕ)) {m : State} {x : List ℕ} → Read (start_tag up (codes "ol")) x m → Read m (codes ">\n") (content (codes "ol" ∷ up)) → Read (content up) (codes "<ol" ++ x ++ codes ">\n") (content (codes "ol" ∷ up))
-  ol_with up p q = both may (both may (fixed may (content up) (codes "<ol")) p) q
+  module _ (up : List (List ℕ)) (may_begin : TakesBlocks up) where
+    ol_with : {m : State} {x : List ℕ} → Read (start_tag up (codes "ol")) x m → Read m (codes ">\n") (content (codes "ol" ∷ up)) → Read (content up) (codes "<ol" ++ x ++ codes ">\n") (content (codes "ol" ∷ up))
+    ol_with p q = both may (both may (fixed may (content up) (codes "<ol")) p) q
 
-  ol_reads : (up : List (List ℕ)) (start : Option ℕ) → Read (content up) (codes "<ol" ++ start_attribute start ++ codes ">\n") (content (codes "ol" ∷ up))
-  unfolding start_attribute
-  ol_reads up None = ol_with up (fixed may (start_tag up (codes "ol")) []) (fixed may _ _)
-  ol_reads up (Some start) =
-      cond_both (start == 1) _ _ (λ x. Read (content up) (codes "<ol" ++ x ++ codes ">\n") (content (codes "ol" ∷ up)))
-      (λ _. ol_with up (fixed may (start_tag up (codes "ol")) []) (fixed may _ _))
-      (λ _. ol_with up (attribute_reads up (codes "ol") (codes "start") (start_tag up (codes "ol")) (numeral start) (fixed may _ _) (numeral_fits start)) (fixed may (after_value up (codes "ol")) (codes ">\n")))
+    ol_plain : Read (start_tag up (codes "ol")) (codes ">\n") (content (codes "ol" ∷ up))
+    ol_plain = record { is = rw may_begin refl }
+
+    ol_reads : (start : Option ℕ) → Read (content up) (codes "<ol" ++ start_attribute start ++ codes ">\n") (content (codes "ol" ∷ up))
+    unfolding start_attribute
+    ol_reads None = ol_with (fixed may (start_tag up (codes "ol")) []) ol_plain
+    ol_reads (Some start) =
+        cond_both (start == 1) _ _ (λ x. Read (content up) (codes "<ol" ++ x ++ codes ">\n") (content (codes "ol" ∷ up)))
+        (λ _. ol_with (fixed may (start_tag up (codes "ol")) []) ol_plain)
+        (λ _. ol_with (attribute_reads up (codes "ol") (codes "start") (start_tag up (codes "ol")) (numeral start) (record { is = rw may_begin refl }) (numeral_fits start)) (fixed may (after_value up (codes "ol")) (codes ">\n")))
 
   -- the element of a list
   abbrev pub list_name : Bool → List ℕ
   list_name true = codes "ol"
   list_name false = codes "ul"
 
-  pub list_reads : (up : List (List ℕ)) (ordered : Bool) (start : Option ℕ) → Read (content up) (list_start ordered start) (content (list_name ordered ∷ up))
+  pub list_linkless : (up : List (List ℕ)) (ordered : Bool) → Linkless up → Linkless (list_name ordered ∷ up)
+  list_linkless up true linkless = linkless
+  list_linkless up false linkless = linkless
+
+  pub list_takes_blocks : (up : List (List ℕ)) (ordered : Bool) → TakesBlocks up → TakesBlocks (list_name ordered ∷ up)
+  list_takes_blocks up true takes = takes
+  list_takes_blocks up false takes = takes
+
+  pub list_is_in : (up : List (List ℕ)) (ordered : Bool) → InList (list_name ordered ∷ up)
+  list_is_in up true = refl
+  list_is_in up false = refl
+
+  pub list_reads : (up : List (List ℕ)) (ordered : Bool) (start : Option ℕ) → TakesBlocks up → Read (content up) (list_start ordered start) (content (list_name ordered ∷ up))
   unfolding list_start
-  list_reads up true start = ol_reads up start
-  list_reads up false start = fixed may (content up) (codes "<ul>\n")
+  list_reads up true start may_begin = ol_reads up may_begin start
+  list_reads up false start may_begin = record { is = rw may_begin refl }
 
   pub list_ends : (up : List (List ℕ)) (ordered : Bool) → Read (content (list_name ordered ∷ up)) (list_end ordered) (content up)
   unfolding list_end
@@ -94,9 +123,12 @@ module _ (raw : Raw) (prefix : List ℕ) where
   lines_read up [] = fixed may (content up) []
   lines_read up (b ∷ value) = both may (text_reads may up (b ∷ value)) (fixed may (content up) (codes "\n"))
 
-  code_with : (up : List (List ℕ)) (value : List ℕ) {m : State} {x : List ℕ} → Read (start_tag (codes "pre" ∷ up) (codes "code")) x m → Read m (codes ">") (content (codes "code" ∷ codes "pre" ∷ up)) → Read (content up) (codes "<pre><code" ++ x ++ codes ">" ++ code_lines value ++ codes "</code></pre>\n") (content up)
-  code_with up value p q =
-      both may (both may (both may (both may (fixed may (content up) (codes "<pre><code")) p) q) (lines_read (codes "code" ∷ codes "pre" ∷ up) value)) (fixed may (content (codes "code" ∷ codes "pre" ∷ up)) (codes "</code></pre>\n"))
+  pre_reads : (up : List (List ℕ)) → TakesBlocks up → Read (content up) (codes "<pre><code") (start_tag (codes "pre" ∷ up) (codes "code"))
+  pre_reads up may_begin = record { is = rw may_begin refl }
+
+  code_with : (up : List (List ℕ)) (value : List ℕ) {m : State} {x : List ℕ} → TakesBlocks up → Read (start_tag (codes "pre" ∷ up) (codes "code")) x m → Read m (codes ">") (content (codes "code" ∷ codes "pre" ∷ up)) → Read (content up) (codes "<pre><code" ++ x ++ codes ">" ++ code_lines value ++ codes "</code></pre>\n") (content up)
+  code_with up value may_begin p q =
+      both may (both may (both may (both may (pre_reads up may_begin) p) q) (lines_read (codes "code" ∷ codes "pre" ∷ up) value)) (fixed may (content (codes "code" ∷ codes "pre" ∷ up)) (codes "</code></pre>\n"))
 
   class_fits : (language : List ℕ) → is_class language ≡ true → may_be may (codes "class") (codes "language-" ++ language) ≡ true
   class_fits [] is = refl
@@ -105,18 +137,18 @@ module _ (raw : Raw) (prefix : List ℕ) where
   class_reads : (up : List (List ℕ)) (value : List ℕ) → may_be may (codes "class") value ≡ true → Read (start_tag up (codes "code")) (attribute (codes "class") value) (after_value up (codes "code"))
   class_reads up value fits = attribute_reads up (codes "code") (codes "class") (start_tag up (codes "code")) value (fixed may _ _) fits
 
-  pub code_reads : (up : List (List ℕ)) (lang : Option (List ℕ)) (value : List ℕ) → Read (content up) (code_block lang value) (content up)
+  pub code_reads : (up : List (List ℕ)) (lang : Option (List ℕ)) (value : List ℕ) → TakesBlocks up → Read (content up) (code_block lang value) (content up)
   unfolding code_block language_attribute
-  code_reads up None value = code_with up value (fixed may (start_tag (codes "pre" ∷ up) (codes "code")) []) (fixed may _ _)
-  code_reads up (Some language) value =
+  code_reads up None value may_begin = code_with up value may_begin (fixed may (start_tag (codes "pre" ∷ up) (codes "code")) []) (fixed may _ _)
+  code_reads up (Some language) value may_begin =
       cond_both (is_class language) _ _ (λ x. Read (content up) (codes "<pre><code" ++ x ++ codes ">" ++ code_lines value ++ codes "</code></pre>\n") (content up))
-      (λ is. code_with up value (class_reads (codes "pre" ∷ up) (codes "language-" ++ language) (class_fits language is)) (fixed may (after_value (codes "pre" ∷ up) (codes "code")) (codes ">")))
-      (λ _. code_with up value (fixed may (start_tag (codes "pre" ∷ up) (codes "code")) []) (fixed may _ _))
+      (λ is. code_with up value may_begin (class_reads (codes "pre" ∷ up) (codes "language-" ++ language) (class_fits language is)) (fixed may (after_value (codes "pre" ∷ up) (codes "code")) (codes ">")))
+      (λ _. code_with up value may_begin (fixed may (start_tag (codes "pre" ∷ up) (codes "code")) []) (fixed may _ _))
 
-  pub math_reads : (up : List (List ℕ)) (value : List ℕ) → Read (content up) (math_block value) (content up)
+  pub math_reads : (up : List (List ℕ)) (value : List ℕ) → TakesBlocks up → Read (content up) (math_block value) (content up)
   unfolding math_block
-  math_reads up value =
-      both may (both may (both may (both may (fixed may (content up) (codes "<pre><code")) (class_reads (codes "pre" ∷ up) (codes "language-math math-display") refl)) (fixed may (after_value (codes "pre" ∷ up) (codes "code")) (codes ">")))
+  math_reads up value may_begin =
+      both may (both may (both may (both may (pre_reads up may_begin) (class_reads (codes "pre" ∷ up) (codes "language-math math-display") refl)) (fixed may (after_value (codes "pre" ∷ up) (codes "code")) (codes ">")))
       (text_reads may (codes "code" ∷ codes "pre" ∷ up) value)) (fixed may (content (codes "code" ∷ codes "pre" ∷ up)) (codes "</code></pre>\n"))
 
   pub math_text_reads : (up : List (List ℕ)) (value : List ℕ) → Read (content up) (math_text value) (content up)
@@ -142,11 +174,11 @@ module _ (raw : Raw) (prefix : List ℕ) where
   unfolding image_url is_safe_source
   image_fits url = cond_both (passes raw || is_safe_source (encoded url)) (encoded url) [] (λ u. (passes raw || is_safe_source u) ≡ true) (λ e. e) (λ _. or_true (passes raw))
 
-  pub link_reads : (up : List (List ℕ)) (url : List ℕ) (title : Option (List ℕ)) → Read (content up) (link_start raw url title) (content (codes "a" ∷ up))
+  pub link_reads : (up : List (List ℕ)) (url : List ℕ) (title : Option (List ℕ)) → Linkless up → Read (content up) (link_start raw url title) (content (codes "a" ∷ up))
   unfolding link_start
-  link_reads up url title =
+  link_reads up url title linkless =
       both may (both may (both may (fixed may (content up) (codes "<a"))
-      (attribute_reads up (codes "a") (codes "href") (start_tag up (codes "a")) (link_url raw url) (fixed may _ _) (link_fits url)))
+      (attribute_reads up (codes "a") (codes "href") (start_tag up (codes "a")) (link_url raw url) (record { is = rw linkless refl }) (link_fits url)))
       (title_reads up (codes "a") title (λ value. attribute_reads up (codes "a") (codes "title") (after_value up (codes "a")) value (fixed may _ _) refl)))
       (fixed may (after_value up (codes "a")) (codes ">"))
 
@@ -197,19 +229,20 @@ module _ (raw : Raw) (prefix : List ℕ) where
     empty_cells_read [] = fixed may (content up) []
     empty_cells_read (first ∷ rest) = both may (empty_reads first) (empty_cells_read rest)
 
-  pub th_starts : (up : List (List ℕ)) (kind : AlignKind) → Read (content up) (codes "<" ++ codes "th" ++ align_attribute kind ++ codes ">") (content (codes "th" ∷ up))
+  -- in a row
+  pub th_starts : (up : List (List ℕ)) (kind : AlignKind) → Read (content (codes "tr" ∷ up)) (codes "<" ++ codes "th" ++ align_attribute kind ++ codes ">") (content (codes "th" ∷ codes "tr" ∷ up))
   unfolding align_attribute
-  th_starts up align.Left = fixed may (content up) (codes "<th align=\"left\">")
-  th_starts up align.Right = fixed may (content up) (codes "<th align=\"right\">")
-  th_starts up align.Center = fixed may (content up) (codes "<th align=\"center\">")
-  th_starts up align.None = fixed may (content up) (codes "<th>")
+  th_starts up align.Left = fixed may (content (codes "tr" ∷ up)) (codes "<th align=\"left\">")
+  th_starts up align.Right = fixed may (content (codes "tr" ∷ up)) (codes "<th align=\"right\">")
+  th_starts up align.Center = fixed may (content (codes "tr" ∷ up)) (codes "<th align=\"center\">")
+  th_starts up align.None = fixed may (content (codes "tr" ∷ up)) (codes "<th>")
 
-  pub td_starts : (up : List (List ℕ)) (kind : AlignKind) → Read (content up) (codes "<" ++ codes "td" ++ align_attribute kind ++ codes ">") (content (codes "td" ∷ up))
+  pub td_starts : (up : List (List ℕ)) (kind : AlignKind) → Read (content (codes "tr" ∷ up)) (codes "<" ++ codes "td" ++ align_attribute kind ++ codes ">") (content (codes "td" ∷ codes "tr" ∷ up))
   unfolding align_attribute
-  td_starts up align.Left = fixed may (content up) (codes "<td align=\"left\">")
-  td_starts up align.Right = fixed may (content up) (codes "<td align=\"right\">")
-  td_starts up align.Center = fixed may (content up) (codes "<td align=\"center\">")
-  td_starts up align.None = fixed may (content up) (codes "<td>")
+  td_starts up align.Left = fixed may (content (codes "tr" ∷ up)) (codes "<td align=\"left\">")
+  td_starts up align.Right = fixed may (content (codes "tr" ∷ up)) (codes "<td align=\"right\">")
+  td_starts up align.Center = fixed may (content (codes "tr" ∷ up)) (codes "<td align=\"center\">")
+  td_starts up align.None = fixed may (content (codes "tr" ∷ up)) (codes "<td>")
 
   -- footnotes
   id_fits : (text : List ℕ) → may_be may (codes "id") (prefix ++ text) ≡ true
@@ -228,9 +261,10 @@ module _ (raw : Raw) (prefix : List ℕ) where
   unfolding is_safe_link
   here_fits id = or_true (passes raw)
 
-  pub section_reads : (up : List (List ℕ)) → Read (content up) (section_start prefix) (content (codes "ol" ∷ codes "section" ∷ up))
+  pub section_reads : Read (content []) (section_start prefix) (content (codes "ol" ∷ codes "section" ∷ []))
   unfolding section_start section_heading
-  section_reads up =
+  section_reads =
+      let up : List (List ℕ) = [] in
       let inside = codes "section" ∷ up in
       both may (both may (both may (both may (fixed may (content up) (codes "<section"))
       (attribute_reads up (codes "section") (codes "data-footnotes") (start_tag up (codes "section")) [] (fixed may _ _) refl))
@@ -242,31 +276,39 @@ module _ (raw : Raw) (prefix : List ℕ) where
       (fixed may (after_value inside (codes "h2")) (codes ">Footnotes")))
       (fixed may (content (codes "h2" ∷ inside)) (codes "</h2>\n<ol>\n")))
 
-  pub note_reads : (up : List (List ℕ)) (identifier : List ℕ) → Read (content up) (note_start prefix identifier) (content (codes "li" ∷ up))
+  pub note_reads : (up : List (List ℕ)) (identifier : List ℕ) → InList up → Read (content up) (note_start prefix identifier) (content (codes "li" ∷ up))
   unfolding note_start
-  note_reads up identifier =
-      both may (both may (fixed may (content up) (codes "<li")) (attribute_reads up (codes "li") (codes "id") (start_tag up (codes "li")) (note_id prefix identifier) (fixed may _ _) (note_fits identifier)))
+  note_reads up identifier listed =
+      both may (both may (fixed may (content up) (codes "<li")) (attribute_reads up (codes "li") (codes "id") (start_tag up (codes "li")) (note_id prefix identifier) (record { is = rw listed refl }) (note_fits identifier)))
       (fixed may (after_value up (codes "li")) (codes ">\n"))
 
-  links_read : (up : List (List ℕ)) (identifier : List ℕ) (count : ℕ) → Read (start_tag up (codes "a")) (call_links prefix identifier count) (after_value up (codes "a"))
+  links_read : (up : List (List ℕ)) (identifier : List ℕ) (count : ℕ) → Linkless up → Read (start_tag up (codes "a")) (call_links prefix identifier count) (after_value up (codes "a"))
   unfolding call_links
-  links_read up identifier count =
-      both may (attribute_reads up (codes "a") (codes "href") (start_tag up (codes "a")) (codes "#" ++ note_id prefix identifier) (fixed may _ _) (here_fits (note_id prefix identifier)))
+  links_read up identifier count linkless =
+      both may (attribute_reads up (codes "a") (codes "href") (start_tag up (codes "a")) (codes "#" ++ note_id prefix identifier) (record { is = rw linkless refl }) (here_fits (note_id prefix identifier)))
       (attribute_reads up (codes "a") (codes "id") (after_value up (codes "a")) (call_id prefix identifier count) (fixed may _ _) (call_fits identifier count))
 
-  call_attributes_read : (up : List (List ℕ)) (identifier : List ℕ) (count : ℕ) → Read (start_tag up (codes "a")) (call_attributes prefix identifier count) (after_value up (codes "a"))
+  call_attributes_read : (up : List (List ℕ)) (identifier : List ℕ) (count : ℕ) → Linkless up → Read (start_tag up (codes "a")) (call_attributes prefix identifier count) (after_value up (codes "a"))
   unfolding call_attributes
-  call_attributes_read up identifier count =
-      both may (both may (links_read up identifier count)
+  call_attributes_read up identifier count linkless =
+      both may (both may (links_read up identifier count linkless)
       (attribute_reads up (codes "a") (codes "data-footnote-ref") (after_value up (codes "a")) [] (fixed may _ _) refl))
       (attribute_reads up (codes "a") (codes "aria-describedby") (after_value up (codes "a")) (label_id prefix) (fixed may _ _) (id_fits (codes "footnote-label")))
 
-  pub call_reads : (up : List (List ℕ)) (identifier : List ℕ) (number count : ℕ) → Read (content up) (call_text prefix identifier number count) (content up)
+  pub call_reads : (up : List (List ℕ)) (identifier : List ℕ) (number count : ℕ) → Linkless up → Read (content up) (call_text prefix identifier number count) (content up)
   unfolding call_text
-  call_reads up identifier number count =
+  call_reads up identifier number count linkless =
       let inside = codes "sup" ∷ up in
-      both may (both may (both may (both may (fixed may (content up) (codes "<sup><a")) (call_attributes_read inside identifier count)) (fixed may (after_value inside (codes "a")) (codes ">")))
+      both may (both may (both may (both may (fixed may (content up) (codes "<sup><a")) (call_attributes_read inside identifier count linkless)) (fixed may (after_value inside (codes "a")) (codes ">")))
       (numeral_reads (codes "a" ∷ inside) number)) (fixed may (content (codes "a" ∷ inside)) (codes "</a></sup>"))
+
+  pub linked_call_reads : (up : List (List ℕ)) (identifier : List ℕ) (number count : ℕ) → Read (content up) (linked_call_text prefix identifier number count) (content up)
+  unfolding linked_call_text
+  linked_call_reads up identifier number count =
+      both may (both may (both may (both may (fixed may (content up) (codes "<sup"))
+      (attribute_reads up (codes "sup") (codes "id") (start_tag up (codes "sup")) (call_id prefix identifier count) (fixed may _ _) (call_fits identifier count)))
+      (fixed may (after_value up (codes "sup")) (codes ">")))
+      (numeral_reads (codes "sup" ∷ up) number)) (fixed may (content (codes "sup" ∷ up)) (codes "</sup>"))
 
   mark_reads : (up : List (List ℕ)) (count : ℕ) → Read (content up) (repeat_mark count) (content up)
   unfolding repeat_mark
@@ -279,21 +321,21 @@ module _ (raw : Raw) (prefix : List ℕ) where
   unfolding arrow
   arrow_reads up = fixed may (content up) (226 ∷ 134 ∷ 169 ∷ [])
 
-  back_attributes_read : (up : List (List ℕ)) (identifier : List ℕ) (number count : ℕ) → Read (start_tag up (codes "a")) (back_attributes prefix identifier number count) (after_value up (codes "a"))
+  back_attributes_read : (up : List (List ℕ)) (identifier : List ℕ) (number count : ℕ) → Linkless up → Read (start_tag up (codes "a")) (back_attributes prefix identifier number count) (after_value up (codes "a"))
   unfolding back_attributes
-  back_attributes_read up identifier number count =
+  back_attributes_read up identifier number count linkless =
       both may (both may (both may
-      (attribute_reads up (codes "a") (codes "href") (start_tag up (codes "a")) (codes "#" ++ call_id prefix identifier count) (fixed may _ _) (here_fits (call_id prefix identifier count)))
+      (attribute_reads up (codes "a") (codes "href") (start_tag up (codes "a")) (codes "#" ++ call_id prefix identifier count) (record { is = rw linkless refl }) (here_fits (call_id prefix identifier count)))
       (attribute_reads up (codes "a") (codes "data-footnote-backref") (after_value up (codes "a")) [] (fixed may _ _) refl))
       (attribute_reads up (codes "a") (codes "aria-label") (after_value up (codes "a")) (back_label number count) (fixed may _ _) refl))
       (attribute_reads up (codes "a") (codes "class") (after_value up (codes "a")) (codes "data-footnote-backref") (fixed may _ _) refl)
 
-  back_reads : (up : List (List ℕ)) (identifier : List ℕ) (number count : ℕ) → Read (content up) (back_reference prefix identifier number count) (content up)
+  back_reads : (up : List (List ℕ)) (identifier : List ℕ) (number count : ℕ) → Linkless up → Read (content up) (back_reference prefix identifier number count) (content up)
   unfolding back_reference
-  back_reads up identifier number count =
-      both may (both may (both may (both may (both may (fixed may (content up) (codes "<a")) (back_attributes_read up identifier number count)) (fixed may (after_value up (codes "a")) (codes ">")))
+  back_reads up identifier number count linkless =
+      both may (both may (both may (both may (both may (fixed may (content up) (codes "<a")) (back_attributes_read up identifier number count linkless)) (fixed may (after_value up (codes "a")) (codes ">")))
       (arrow_reads (codes "a" ∷ up))) (mark_reads (codes "a" ∷ up) count)) (fixed may (content (codes "a" ∷ up)) (codes "</a>"))
 
-  pub backs_read : (up : List (List ℕ)) (identifier : List ℕ) (number count : ℕ) → Read (content up) (back_references prefix identifier number count) (content up)
-  backs_read up identifier number zero = fixed may (content up) []
-  backs_read up identifier number (suc count) = both may (both may (backs_read up identifier number count) (fixed may (content up) (codes " "))) (back_reads up identifier number (suc count))
+  pub backs_read : (up : List (List ℕ)) (identifier : List ℕ) (number count : ℕ) → Linkless up → Read (content up) (back_references prefix identifier number count) (content up)
+  backs_read up identifier number zero linkless = fixed may (content up) []
+  backs_read up identifier number (suc count) linkless = both may (both may (backs_read up identifier number count linkless) (fixed may (content up) (codes " "))) (back_reads up identifier number (suc count) linkless)

@@ -196,6 +196,10 @@ module _ (prefix : List ℕ) where
   unfoldable pub call_text : (identifier : List ℕ) → (number count : ℕ) → List ℕ
   call_text identifier number count = codes "<sup><a" ++ call_attributes identifier count ++ codes ">" ++ numeral number ++ codes "</a></sup>"
 
+  -- a footnote call within a link: its number, which the back reference leads to
+  unfoldable pub linked_call_text : (identifier : List ℕ) → (number count : ℕ) → List ℕ
+  linked_call_text identifier number count = codes "<sup" ++ attribute (codes "id") (call_id identifier count) ++ codes ">" ++ numeral number ++ codes "</sup>"
+
   -- a back reference from a footnote to one of its calls
   unfoldable pub back_attributes : (identifier : List ℕ) → (number count : ℕ) → List ℕ
   back_attributes identifier number count =

@@ -6,17 +6,17 @@ use Rattle.std.specs.Str.{bytes_eq}
 use Rattle.html_text.specs.Escapes.{escaped}
 use Rattle.html_text.specs.Safe.{Allowed}
 use Rattle.markdown_kinds.specs.declared.ReferenceKind.{ReferenceKind}
-use Rattle.markdown_nodes.specs.Tree.{Label, Tree, Trees, nothing, node, root, paragraph, blockquote, emphasis, strong, delete, table_row, table_cell, thematic_break, «break», text, html as raw, inline_code, inline_math, yaml, toml, heading, list, list_item, table, code, math, link, image, link_reference, image_reference, footnote_reference, footnote_definition, definition}
+use Rattle.markdown_nodes.specs.Tree.{Label, Tree, Trees, nothing, node, paragraph, blockquote, emphasis, strong, delete, thematic_break, «break», text, html as raw, inline_code, inline_math, heading, list, list_item, table, code, math, link, image, link_reference, image_reference, footnote_reference, footnote_definition, definition}
 use Rattle.mdast_check.specs.References.{footnote_identifier_of}
 use Rattle.markdown_nodes.specs.Walk.{walk}
 use Rattle.mdast_util.specs.Definitions.{definition_in}
 use Rattle.markdown_html.specs.declared.place.Kind.{Kind}
-use Rattle.markdown_html.specs.declared.place.Kind.TheVariants.{Text, Flow, Tight, Hidden, FirstRow, SecondRow, HeaderCell, Cell, Note, Tail}
+use Rattle.markdown_html.specs.declared.place.Kind.TheVariants.{Text, Linked, Flow, Tight, LooseItem, TightItem, Hidden, FirstRow, SecondRow, LaterRow, HeaderCell, Cell, Note, Tail}
 use Rattle.markdown_html.specs.declared.html.RawHtml.{RawHtml}
 use Rattle.markdown_html.specs.declared.html.RawHtml.TheVariants as raw_htmls
 use Rattle.markdown_html.specs.declared.source.Raw.{Raw}
 use Rattle.markdown_html.specs.declared.source.Raw.TheVariants as raws
-use Rattle.markdown_html.specs.Elements.{back_references, call_text, cell_end, cell_start, check_box, code_block, code_text, empty_cells, heading_name, image_tag, link_start, list_end, list_start, math_block, math_text, note_start, passes, raw_html, reference_end, section_start}
+use Rattle.markdown_html.specs.Elements.{back_references, call_text, cell_end, cell_start, check_box, code_block, code_text, empty_cells, heading_name, image_tag, link_start, linked_call_text, list_end, list_start, math_block, math_text, note_start, passes, raw_html, reference_end, section_start}
 use Rattle.markdown_html.specs.Page.{Page, blank, block, count_of, fresh_line, more, number_of, on_new_line, put, say, with_call}
 use Rattle.markdown_html.specs.Places.{Place, after, followed, inside, place}
 
@@ -85,10 +85,14 @@ abbrev pub paragraph_start : Kind → List ℕ → List ℕ
 paragraph_start Tight written = written
 paragraph_start _ written = fresh_line written ++ codes "<p>"
 
--- raw HTML; among blocks, it is on lines of its own
-abbrev pub raw_text : Raw → Kind → List ℕ → List ℕ → List ℕ
-raw_text how Text value written = written ++ raw_html how value
-raw_text how _ value written = fresh_line (fresh_line written ++ raw_html how value)
+-- raw HTML among blocks, on lines of its own
+abbrev pub raw_lines : Raw → List ℕ → List ℕ → List ℕ
+raw_lines how value written = fresh_line (fresh_line written ++ raw_html how value)
+
+-- whether an item has a check mark, and which
+abbrev pub checked_of : Label → Option Bool
+checked_of (list_item _ checked) = checked
+checked_of _ = None
 
 -- whether a node is not raw HTML; whether there is none in some nodes, and none in a tree
 abbrev pub is_no_html : Label → Bool
@@ -102,32 +106,43 @@ is_free (node label children _ rest) = is_no_html label && (is_free children && 
 abbrev pub is_free_tree : Tree → Bool
 is_free_tree tree = is_no_html tree.label && is_free tree.children
 
+-- the end of a link; one within a link has none
+abbrev pub link_back : (linked : Bool) → List ℕ
+link_back linked = if linked then [] else codes "</a>"
+
 -- the limits of the page: each id has the prefix, and any address is allowed if raw HTML passes
 abbrev pub allowed_of : Source → Allowed
 allowed_of it = record { id_prefix = it.id_prefix; any_url = passes it.raw }
 
 module _ (it : Source) where
   -- a footnote call, or its text if nothing defines the footnote
-  abbrev pub call_page : List ℕ → Option (List ℕ) → Page → Page
-  call_page identifier label page = elim (footnote_in it.tree identifier) [
+  abbrev pub call_page : (linked : Bool) → List ℕ → Option (List ℕ) → Page → Page
+  call_page linked identifier label page = elim (footnote_in it.tree identifier) [
     | None ↦ say page (codes "[^" ++ escaped (unwrap_or label identifier) ++ codes "]")
-    | Some _ ↦ record {
-      text = page.text ++ call_text it.id_prefix identifier (number_of identifier page.calls) (more (count_of identifier page.calls));
-      calls = with_call identifier page.calls;
-    }
+    | Some _ ↦
+        let number = number_of identifier page.calls in
+        let count = more (count_of identifier page.calls) in
+        record {
+          text = page.text ++ (if linked then linked_call_text it.id_prefix identifier number count else call_text it.id_prefix identifier number count);
+          calls = with_call identifier page.calls;
+        }
   ]
+
+  -- the start of a link; one within a link has none
+  abbrev pub link_front : (linked : Bool) → (url : List ℕ) → (title : Option (List ℕ)) → List ℕ
+  link_front linked url title = if linked then [] else link_start it.raw url title
 
   -- the start and the end of a link by reference, or its text if nothing defines it
-  abbrev pub link_reference_start : List ℕ → List ℕ
-  link_reference_start identifier = elim (definition_in it.tree identifier) [
+  abbrev pub link_reference_start : (linked : Bool) → List ℕ → List ℕ
+  link_reference_start linked identifier = elim (definition_in it.tree identifier) [
     | None ↦ codes "["
-    | Some found ↦ link_start it.raw (url_of found.label) (title_of found.label)
+    | Some found ↦ link_front linked (url_of found.label) (title_of found.label)
   ]
 
-  abbrev pub link_reference_end : ReferenceKind → List ℕ → Option (List ℕ) → List ℕ
-  link_reference_end kind identifier label = elim (definition_in it.tree identifier) [
+  abbrev pub link_reference_end : (linked : Bool) → ReferenceKind → List ℕ → Option (List ℕ) → List ℕ
+  link_reference_end linked kind identifier label = elim (definition_in it.tree identifier) [
     | None ↦ escaped (reference_end kind identifier label)
-    | Some _ ↦ codes "</a>"
+    | Some _ ↦ link_back linked
   ]
 
   -- an image by reference, or its text if nothing defines it
@@ -164,73 +179,87 @@ module _ (it : Source) where
   paragraph_end (Tail number) page = say (back_page number page) (codes "</p>\n")
   paragraph_end _ page = say page (codes "</p>\n")
 
-  -- a page with what comes before the children of a node
+  -- a page with what comes before the children of a node in a text; a block has no element there
+  abbrev pub phrase_opened : (linked : Bool) → Label → Page → Page
+  phrase_opened linked emphasis page = say page (codes "<em>")
+  phrase_opened linked strong page = say page (codes "<strong>")
+  phrase_opened linked delete page = say page (codes "<del>")
+  phrase_opened linked «break» page = say page (codes "<br />\n")
+  phrase_opened linked (text value) page = say page (escaped value)
+  phrase_opened linked (raw value) page = say page (raw_html it.raw value)
+  phrase_opened linked (inline_code value) page = say page (code_text value)
+  phrase_opened linked (inline_math value) page = say page (math_text value)
+  phrase_opened linked (code value _ _) page = say page (code_text value)
+  phrase_opened linked (math value _) page = say page (math_text value)
+  phrase_opened linked (link url title) page = say page (link_front linked url title)
+  phrase_opened linked (image alt url title) page = say page (image_tag it.raw alt url title)
+  phrase_opened linked (link_reference _ identifier _) page = say page (link_reference_start linked identifier)
+  phrase_opened linked (image_reference alt reference_kind identifier label) page = say page (image_reference_text alt reference_kind identifier label)
+  phrase_opened linked (footnote_reference identifier label) page = call_page linked identifier label page
+  phrase_opened linked _ page = page
+
+  -- a page with what comes after the children of a node in a text
+  abbrev pub phrase_closed : (linked : Bool) → Label → Page → Page
+  phrase_closed linked emphasis page = say page (codes "</em>")
+  phrase_closed linked strong page = say page (codes "</strong>")
+  phrase_closed linked delete page = say page (codes "</del>")
+  phrase_closed linked (link _ _) page = say page (link_back linked)
+  phrase_closed linked (link_reference kind identifier label) page = say page (link_reference_end linked kind identifier label)
+  phrase_closed linked _ page = page
+
+  -- these pages for a node among blocks; items, rows and cells have their elements from their places
   abbrev pub opened : Kind → Label → Page → Page
-  opened kind root page = page
   opened kind paragraph page = put page (paragraph_start kind page.text)
   opened kind blockquote page = block page (codes "<blockquote>\n")
-  opened kind emphasis page = say page (codes "<em>")
-  opened kind strong page = say page (codes "<strong>")
-  opened kind delete page = say page (codes "<del>")
-  opened kind table_row page = say page (codes "<tr>\n")
-  opened kind table_cell page = page
   opened kind thematic_break page = block page (codes "<hr />\n")
-  opened kind «break» page = say page (codes "<br />\n")
-  opened kind (text value) page = say page (escaped value)
-  opened kind (raw value) page = put page (raw_text it.raw kind value page.text)
-  opened kind (inline_code value) page = say page (code_text value)
-  opened kind (inline_math value) page = say page (math_text value)
-  opened kind (yaml _) page = page
-  opened kind (toml _) page = page
+  opened kind (raw value) page = put page (raw_lines it.raw value page.text)
   opened kind (heading depth) page = block page (codes "<" ++ heading_name depth ++ codes ">")
   opened kind (list ordered start _) page = block page (list_start ordered start)
-  opened kind (list_item _ checked) page = block page (codes "<li>" ++ check_box checked)
   opened kind (table _) page = block page (codes "<table>\n")
   opened kind (code value lang _) page = block page (code_block lang value)
   opened kind (math value _) page = block page (math_block value)
-  opened kind (link url title) page = say page (link_start it.raw url title)
-  opened kind (image alt url title) page = say page (image_tag it.raw alt url title)
-  opened kind (link_reference _ identifier _) page = say page (link_reference_start identifier)
-  opened kind (image_reference alt reference_kind identifier label) page = say page (image_reference_text alt reference_kind identifier label)
-  opened kind (footnote_reference identifier label) page = call_page identifier label page
   opened kind (footnote_definition _ _) page = footnote_start kind page
-  opened kind (definition _ _ _ _) page = page
+  opened kind label page = phrase_opened false label page
 
-  -- a page with what comes after the children of a node
-  abbrev pub closed : Place → Label → Trees → Page → Page
-  closed at paragraph children page = paragraph_end at.kind page
-  closed at blockquote children page = block page (codes "</blockquote>\n")
-  closed at emphasis children page = say page (codes "</em>")
-  closed at strong children page = say page (codes "</strong>")
-  closed at delete children page = say page (codes "</del>")
-  closed at (heading depth) children page = say page (codes "</" ++ heading_name depth ++ codes ">\n")
-  closed at (list ordered _ _) children page = say page (list_end ordered)
-  closed at (list_item _ _) children page = say page (codes "</li>\n")
-  closed at (table _) children page = say page (table_end children)
-  closed at table_row children page = say page (row_end at children)
-  closed at (link _ _) children page = say page (codes "</a>")
-  closed at (link_reference kind identifier label) children page = say page (link_reference_end kind identifier label)
-  closed at (footnote_definition _ _) children page = footnote_end at.kind children page
-  closed at _ children page = page
+  abbrev pub closed : Kind → Label → Trees → Page → Page
+  closed kind paragraph children page = paragraph_end kind page
+  closed kind blockquote children page = block page (codes "</blockquote>\n")
+  closed kind (heading depth) children page = say page (codes "</" ++ heading_name depth ++ codes ">\n")
+  closed kind (list ordered _ _) children page = say page (list_end ordered)
+  closed kind (table _) children page = say page (table_end children)
+  closed kind (footnote_definition _ _) children page = footnote_end kind children page
+  closed kind label children page = phrase_closed false label page
 
-  -- these pages with what the place adds: a cell for each child of a row, and the parts of a table around its rows
+  -- these pages for a node in any place: each child of a list is in an item, each child of a table is a row, and each child
+  -- of a row is a cell
   abbrev pub entered : Place → Label → Page → Page
   entered at label page = elim at.kind [
     | Hidden ↦ page
+    | FirstRow ↦ say page (codes "<thead>\n<tr>\n")
+    | SecondRow ↦ say page (codes "<tbody>\n<tr>\n")
+    | LaterRow ↦ say page (codes "<tr>\n")
     | HeaderCell ↦ say page (cell_start (codes "th") at.columns)
     | Cell ↦ say page (cell_start (codes "td") at.columns)
-    | FirstRow ↦ opened at.kind label (say page (codes "<thead>\n"))
-    | SecondRow ↦ opened at.kind label (say page (codes "<tbody>\n"))
-    | _ ↦ opened at.kind label page
+    | Text ↦ phrase_opened false label page
+    | Linked ↦ phrase_opened true label page
+    | LooseItem ↦ opened Flow label (block page (codes "<li>" ++ check_box (checked_of label)))
+    | TightItem ↦ opened Tight label (block page (codes "<li>" ++ check_box (checked_of label)))
+    | kind ↦ opened kind label page
   ]
 
   abbrev pub left : Place → Label → Trees → Page → Page
   left at label children page = elim at.kind [
     | Hidden ↦ page
+    | FirstRow ↦ say page (row_end at children ++ codes "</thead>\n")
+    | SecondRow ↦ say page (row_end at children)
+    | LaterRow ↦ say page (row_end at children)
     | HeaderCell ↦ say page (cell_end (codes "th") at.columns)
     | Cell ↦ say page (cell_end (codes "td") at.columns)
-    | FirstRow ↦ say (closed at label children page) (codes "</thead>\n")
-    | _ ↦ closed at label children page
+    | Text ↦ phrase_closed false label page
+    | Linked ↦ phrase_closed true label page
+    | LooseItem ↦ say (closed Flow label children page) (codes "</li>\n")
+    | TightItem ↦ say (closed Tight label children page) (codes "</li>\n")
+    | kind ↦ closed kind label children page
   ]
 
   -- nodes in order

@@ -2,10 +2,10 @@
 use Rattle.std.specs.Prelude.{Bool, false, ◌||◌, List, [], ◌∷◌, Option, Some, None, if◌then◌else◌, option_map}
 use denote.Ref.{Bor}
 use Rattle.markdown_events.specs.declared.infer.AlignKind.{AlignKind}
-use Rattle.markdown_nodes.specs.Tree.{Label, Trees, nothing, node, root, blockquote, list, list_item, table, table_row, footnote_definition}
+use Rattle.markdown_nodes.specs.Tree.{Label, Trees, nothing, node, root, blockquote, list, list_item, table, link, link_reference, footnote_definition}
 use Rattle.markdown_html.specs.declared.place.Kind.{Kind}
 use Rattle.markdown_html.specs.declared.place.Place.{Place as PlaceHere}
-use Rattle.markdown_html.specs.declared.place.Kind.TheVariants.{Text, Flow, Tight, Hidden, FirstRow, SecondRow, LaterRow, HeaderCell, Cell, Note, Tail}
+use Rattle.markdown_html.specs.declared.place.Kind.TheVariants.{Text, Linked, Flow, Tight, LooseItem, TightItem, Hidden, FirstRow, SecondRow, LaterRow, HeaderCell, Cell, Note, Tail}
 
 -- a place: its kind, and the alignments of the columns from here on, if there are columns
 pub record Place : Type 0 where
@@ -56,28 +56,41 @@ abbrev pub in_item : Kind → Place
 in_item Tight = place Tight
 in_item _ = place Flow
 
--- the place of a row's cells
-abbrev pub in_row : Place → Place
-in_row at = record { kind = elim at.kind [ FirstRow ↦ HeaderCell | _ ↦ Cell ]; columns = at.columns }
+-- the place of a list's children
+abbrev pub in_list : (spread : Bool) → Place
+in_list spread = place (if spread then LooseItem else TightItem)
 
--- the place of a node's children, if nothing around the node decides it
-abbrev pub below : Place → Label → Trees → Place
-below at root children = place Flow
-below at blockquote children = place Flow
-below at (list _ _ spread) children = place (if spread || any_spread children then Flow else Tight)
-below at (list_item _ _) children = in_item at.kind
-below at (table align) children = in_table align
-below at table_row children = in_row at
-below at (footnote_definition _ _) children = in_footnote at.kind
-below at _ children = place Text
+-- the place of the children of a node in a text; everything in a text is text
+abbrev pub in_text : Kind → Label → Place
+in_text kind (link _ _) = place Linked
+in_text kind (link_reference _ _ _) = place Linked
+in_text kind (footnote_definition _ _) = place Hidden
+in_text kind _ = place kind
 
--- the place of a node's children
+-- the place of the children of a node among blocks
+abbrev pub below : Kind → Label → Trees → Place
+below kind root children = place Flow
+below kind blockquote children = place Flow
+below kind (list _ _ spread) children = in_list (spread || any_spread children)
+below kind (list_item _ _) children = in_item kind
+below kind (table align) children = in_table align
+below kind (footnote_definition _ _) children = in_footnote kind
+below kind label children = in_text Text label
+
+-- the place of a node's children; each child of a table is a row, and each child of a row is a cell
 abbrev pub inside : Place → Label → Trees → Place
 inside at label children = elim at.kind [
   | Hidden ↦ place Hidden
+  | FirstRow ↦ record at { kind = HeaderCell }
+  | SecondRow ↦ record at { kind = Cell }
+  | LaterRow ↦ record at { kind = Cell }
   | HeaderCell ↦ in_cell at.columns
   | Cell ↦ in_cell at.columns
-  | _ ↦ below at label children
+  | Text ↦ in_text Text label
+  | Linked ↦ in_text Linked label
+  | LooseItem ↦ below Flow label children
+  | TightItem ↦ below Tight label children
+  | kind ↦ below kind label children
 ]
 
 -- the columns after the first

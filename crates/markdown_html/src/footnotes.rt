@@ -2,7 +2,7 @@
 
 ghost use Rattle.std.specs.Prelude.{◌≡◌, ◌++◌, IfOk, OnOk, codes, string_bytes};
 ghost use Rattle.html_text.specs.Urls.{encoded};
-ghost use Rattle.markdown_html.specs.Elements.{arrow, attribute, back_attributes, back_label, back_reference, back_references, call_attributes, call_id, call_links, call_text, label_id, note_id, note_start, numeral, repeat_mark, repeat_text, section_heading, section_start};
+ghost use Rattle.markdown_html.specs.Elements.{arrow, attribute, back_attributes, back_label, back_reference, back_references, call_attributes, call_id, call_links, call_text, label_id, linked_call_text, note_id, note_start, numeral, repeat_mark, repeat_text, section_heading, section_start};
 
 use crate::attributes::{push_attribute, push_numeral};
 use html_text::urls::encoded;
@@ -68,6 +68,29 @@ pub(crate) fn push_call(
     out.push_str(">")?;
     push_numeral(out, number)?;
     out.push_str("</a></sup>")
+}
+
+/// Appends a call within a link: its number alone, which the back reference leads to.
+#[tactic(auto, unfolding(crate::specs::Elements::linked_call_text))]
+pub(crate) fn push_linked_call(
+    alloc: Global,
+    out: &mut String,
+    prefix: &str,
+    identifier: &str,
+    number: usize,
+    count: usize,
+) -> Result<(), AllocError>
+    ensures { OnOk result (string_bytes out.new ≡ string_bytes out.old ++ linked_call_text prefix.now identifier.now number count) }
+{
+    out.push_str("<sup")?;
+    push_attribute(
+        out,
+        "id",
+        call_id(alloc, prefix, identifier, count)?.as_str(),
+    )?;
+    out.push_str(">")?;
+    push_numeral(out, number)?;
+    out.push_str("</sup>")
 }
 
 /// Appends the attributes of a call.

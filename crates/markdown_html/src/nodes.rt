@@ -4,15 +4,15 @@ ghost use Rattle.std.specs.Prelude.{◌≡◌, ◌++◌, [], OnOk, codes, drop, 
 ghost use Rattle.markdown_nodes.specs.Access.{label_of, nodes_in};
 ghost use Rattle.markdown_nodes.specs.View.{view, views};
 ghost use Rattle.html_text.specs.Escapes.{escaped};
-ghost use Rattle.markdown_html.specs.Elements.{heading_name};
-ghost use Rattle.markdown_html.specs.Html.{back_page, call_page, cell_name, closed, count, ends_with_paragraph, entered, footnote_end, footnote_start, image_reference_text, is_paragraph, left, link_reference_end, link_reference_start, opened, paragraph_end, paragraph_start, raw_text, row_end, table_end, title_of, url_of};
+ghost use Rattle.markdown_html.specs.Elements.{check_box, heading_name};
+ghost use Rattle.markdown_html.specs.Html.{back_page, call_page, cell_name, checked_of, closed, count, ends_with_paragraph, entered, footnote_end, footnote_start, image_reference_text, is_paragraph, left, link_back, link_front, link_reference_end, link_reference_start, opened, paragraph_end, paragraph_start, phrase_closed, phrase_opened, raw_lines, row_end, table_end, title_of, url_of};
 ghost use Rattle.markdown_html.specs.Page.{fresh_line};
 ghost use Rattle.markdown_html.specs.Places.{place_of, seen};
 ghost use Rattle.markdown_html.specs.Pages.{page_of};
 ghost use Rattle.markdown_html.specs.Given.{source_of};
 
 use crate::code::{push_code_block, push_code_text, push_math_block, push_math_text, push_raw};
-use crate::footnotes::{push_back_references, push_call, push_note_start};
+use crate::footnotes::{push_back_references, push_call, push_linked_call, push_note_start};
 use crate::links::{push_image, push_link_start, reference_end};
 use crate::lists::{check_box, heading_name, list_end, push_list_start};
 use crate::page::{Page, push_block, push_fresh};
@@ -33,17 +33,23 @@ impl<'a> Source<'a> {
     ) -> Result<(), AllocError>
         ensures { OnOk result (page_of page.new ≡ entered (source_of self.now) (place_of at.entry) (label_of node.now) (page_of page.old)) }
     {
+        let out = &mut page.text;
         match at.kind {
             Kind::Hidden => Ok(()),
-            Kind::HeaderCell => push_cell_start(&mut page.text, "th", at.columns),
-            Kind::Cell => push_cell_start(&mut page.text, "td", at.columns),
-            Kind::FirstRow => {
-                page.text.push_str("<thead>\n")?;
-                self.open(page, at.kind, node)
+            Kind::FirstRow => out.push_str("<thead>\n<tr>\n"),
+            Kind::SecondRow => out.push_str("<tbody>\n<tr>\n"),
+            Kind::LaterRow => out.push_str("<tr>\n"),
+            Kind::HeaderCell => push_cell_start(out, "th", at.columns),
+            Kind::Cell => push_cell_start(out, "td", at.columns),
+            Kind::Text => self.open_phrase(page, false, node),
+            Kind::Linked => self.open_phrase(page, true, node),
+            Kind::LooseItem => {
+                push_item_start(out, node)?;
+                self.open(page, Kind::Flow, node)
             }
-            Kind::SecondRow => {
-                page.text.push_str("<tbody>\n")?;
-                self.open(page, at.kind, node)
+            Kind::TightItem => {
+                push_item_start(out, node)?;
+                self.open(page, Kind::Tight, node)
             }
             _ => self.open(page, at.kind, node),
         }
@@ -58,48 +64,44 @@ impl<'a> Source<'a> {
     ) -> Result<(), AllocError>
         ensures { OnOk result (page_of page.new ≡ left (source_of self.now) (place_of at.entry) (label_of node.now) (views (nodes_in node.now)) (page_of page.old)) }
     {
+        let out = &mut page.text;
         match at.kind {
             Kind::Hidden => Ok(()),
-            Kind::HeaderCell => push_cell_end(&mut page.text, "th", at.columns),
-            Kind::Cell => push_cell_end(&mut page.text, "td", at.columns),
             Kind::FirstRow => {
-                self.close(page, at, node)?;
-                page.text.push_str("</thead>\n")
+                push_row_end(out, at, node.child_nodes())?;
+                out.push_str("</thead>\n")
             }
-            _ => self.close(page, at, node),
+            Kind::SecondRow | Kind::LaterRow => push_row_end(out, at, node.child_nodes()),
+            Kind::HeaderCell => push_cell_end(out, "th", at.columns),
+            Kind::Cell => push_cell_end(out, "td", at.columns),
+            Kind::Text => self.close_phrase(page, false, node),
+            Kind::Linked => self.close_phrase(page, true, node),
+            Kind::LooseItem => {
+                self.close(page, Kind::Flow, node)?;
+                page.text.push_str("</li>\n")
+            }
+            Kind::TightItem => {
+                self.close(page, Kind::Tight, node)?;
+                page.text.push_str("</li>\n")
+            }
+            _ => self.close(page, at.kind, node),
         }
     }
 
-    /// Appends the start of the element of a node, or all of a node that has no children.
+    /// Appends the start of the element of a block, or all of a block that has no children.
     fn open(&self, page: &mut Page<'a>, kind: Kind, node: &'a Node) -> Result<(), AllocError>
         ensures { OnOk result (page_of page.new ≡ opened (source_of self.now) kind (label_of node.now) (page_of page.old)) }
     {
-        let alloc = self.alloc;
         let out = &mut page.text;
         match node {
-            Node::Root(_) => Ok(()),
             Node::Paragraph(_) => push_paragraph_start(out, kind),
             Node::Blockquote(_) => push_block(out, "<blockquote>\n"),
-            Node::Emphasis(_) => out.push_str("<em>"),
-            Node::Strong(_) => out.push_str("<strong>"),
-            Node::Delete(_) => out.push_str("<del>"),
-            Node::TableRow(_) => out.push_str("<tr>\n"),
-            Node::TableCell(_) => Ok(()),
             Node::ThematicBreak(_) => push_block(out, "<hr />\n"),
-            Node::Break(_) => out.push_str("<br />\n"),
-            Node::Text(node) => push_escaped(out, node.value.as_str()),
-            Node::Html(node) => self.push_html(out, kind, node.value.as_str()),
-            Node::InlineCode(node) => push_code_text(out, node.value.as_str()),
-            Node::InlineMath(node) => push_math_text(out, node.value.as_str()),
-            Node::Yaml(_) | Node::Toml(_) | Node::Definition(_) => Ok(()),
+            Node::Html(node) => self.push_html(out, node.value.as_str()),
             Node::Heading(node) => push_heading_start(out, node.depth),
             Node::List(node) => {
                 push_fresh(out)?;
                 push_list_start(out, node.ordered, node.start)
-            }
-            Node::ListItem(node) => {
-                push_block(out, "<li>")?;
-                out.push_str(check_box(node.checked))
             }
             Node::Table(_) => push_block(out, "<table>\n"),
             Node::Code(node) => {
@@ -110,51 +112,88 @@ impl<'a> Source<'a> {
                 push_fresh(out)?;
                 push_math_block(out, node.value.as_str())
             }
-            Node::Link(node) => push_link_start(
-                alloc,
-                out,
-                self.raw,
-                node.url.as_str(),
-                node.title.as_deref(),
-            ),
+            Node::FootnoteDefinition(_) => self.open_footnote(page, kind),
+            _ => self.open_phrase(page, false, node),
+        }
+    }
+
+    /// Appends the start of the element of a node in a text, or all of a node that has no
+    /// children. A link within a link has no element, and neither has a block.
+    fn open_phrase(
+        &self,
+        page: &mut Page<'a>,
+        linked: bool,
+        node: &'a Node,
+    ) -> Result<(), AllocError>
+        ensures { OnOk result (page_of page.new ≡ phrase_opened (source_of self.now) linked (label_of node.now) (page_of page.old)) }
+    {
+        let out = &mut page.text;
+        match node {
+            Node::Emphasis(_) => out.push_str("<em>"),
+            Node::Strong(_) => out.push_str("<strong>"),
+            Node::Delete(_) => out.push_str("<del>"),
+            Node::Break(_) => out.push_str("<br />\n"),
+            Node::Text(node) => push_escaped(out, node.value.as_str()),
+            Node::Html(node) => push_raw(out, self.raw, node.value.as_str()),
+            Node::InlineCode(node) => push_code_text(out, node.value.as_str()),
+            Node::InlineMath(node) => push_math_text(out, node.value.as_str()),
+            Node::Code(node) => push_code_text(out, node.value.as_str()),
+            Node::Math(node) => push_math_text(out, node.value.as_str()),
+            Node::Link(node) => {
+                self.open_link(out, linked, node.url.as_str(), node.title.as_deref())
+            }
             Node::Image(node) => push_image(
-                alloc,
+                self.alloc,
                 out,
                 self.raw,
                 node.alt.as_str(),
                 node.url.as_str(),
                 node.title.as_deref(),
             ),
-            Node::LinkReference(node) => self.open_link_reference(out, node),
+            Node::LinkReference(node) => self.open_link_reference(out, linked, node),
             Node::ImageReference(node) => self.push_image_reference(out, node),
-            Node::FootnoteReference(node) => self.push_footnote_reference(page, node),
-            Node::FootnoteDefinition(_) => self.open_footnote(page, kind),
+            Node::FootnoteReference(node) => self.push_footnote_reference(page, linked, node),
+            _ => Ok(()),
         }
     }
 
-    /// Appends raw HTML. Among blocks it is on lines of its own.
-    fn push_html(&self, out: &mut String, kind: Kind, value: &str) -> Result<(), AllocError>
-        ensures { OnOk result (string_bytes out.new ≡ raw_text self.now.raw kind value.now (string_bytes out.old)) }
+    /// Appends raw HTML among blocks, on lines of its own.
+    fn push_html(&self, out: &mut String, value: &str) -> Result<(), AllocError>
+        ensures { OnOk result (string_bytes out.new ≡ raw_lines self.now.raw value.now (string_bytes out.old)) }
     {
-        if kind == Kind::Text {
-            return push_raw(out, self.raw, value);
-        }
         push_fresh(out)?;
         push_raw(out, self.raw, value)?;
         push_fresh(out)
+    }
+
+    /// Appends the start of a link, unless a link is around it.
+    fn open_link(
+        &self,
+        out: &mut String,
+        linked: bool,
+        url: &str,
+        title: Option<&str>,
+    ) -> Result<(), AllocError>
+        ensures { OnOk result (string_bytes out.new ≡ string_bytes out.old ++ link_front (source_of self.now) linked url.now (option_map (λ text. text.now) title.entry)) }
+    {
+        if linked {
+            return Ok(());
+        }
+        push_link_start(self.alloc, out, self.raw, url, title)
     }
 
     /// Appends the start of a link by reference, or of its text if nothing defines it.
     fn open_link_reference(
         &self,
         out: &mut String,
+        linked: bool,
         node: &'a LinkReference,
     ) -> Result<(), AllocError>
-        ensures { OnOk result (string_bytes out.new ≡ string_bytes out.old ++ link_reference_start (source_of self.now) (string_bytes node.now.identifier)) }
+        ensures { OnOk result (string_bytes out.new ≡ string_bytes out.old ++ link_reference_start (source_of self.now) linked (string_bytes node.now.identifier)) }
     {
         match self.definition(node.identifier.as_str()) {
             None => out.push_str("["),
-            Some(found) => push_link_start(self.alloc, out, self.raw, url(found), title(found)),
+            Some(found) => self.open_link(out, linked, url(found), title(found)),
         }
     }
 
@@ -162,9 +201,10 @@ impl<'a> Source<'a> {
     fn close_link_reference(
         &self,
         out: &mut String,
+        linked: bool,
         node: &'a LinkReference,
     ) -> Result<(), AllocError>
-        ensures { OnOk result (string_bytes out.new ≡ string_bytes out.old ++ link_reference_end (source_of self.now) node.now.reference_kind (string_bytes node.now.identifier) (option_map string_bytes node.now.label)) }
+        ensures { OnOk result (string_bytes out.new ≡ string_bytes out.old ++ link_reference_end (source_of self.now) linked node.now.reference_kind (string_bytes node.now.identifier) (option_map string_bytes node.now.label)) }
     {
         match self.definition(node.identifier.as_str()) {
             None => {
@@ -176,7 +216,7 @@ impl<'a> Source<'a> {
                 )?;
                 push_escaped(out, end.as_str())
             }
-            Some(_) => out.push_str("</a>"),
+            Some(_) => out.push_str(link_back(linked)),
         }
     }
 
@@ -215,9 +255,10 @@ impl<'a> Source<'a> {
     fn push_footnote_reference(
         &self,
         page: &mut Page<'a>,
+        linked: bool,
         node: &'a FootnoteReference,
     ) -> Result<(), AllocError>
-        ensures { OnOk result (page_of page.new ≡ call_page (source_of self.now) (string_bytes node.now.identifier) (option_map string_bytes node.now.label) (page_of page.old)) }
+        ensures { OnOk result (page_of page.new ≡ call_page (source_of self.now) linked (string_bytes node.now.identifier) (option_map string_bytes node.now.label) (page_of page.old)) }
     {
         let identifier = node.identifier.as_str();
         if self.footnote(identifier).is_none() {
@@ -225,14 +266,12 @@ impl<'a> Source<'a> {
             return push_undefined_call(&mut page.text, label);
         }
         let (number, count) = page.calls.add(identifier)?;
-        push_call(
-            self.alloc,
-            &mut page.text,
-            self.id_prefix,
-            identifier,
-            number,
-            count,
-        )
+        let out = &mut page.text;
+        if linked {
+            push_linked_call(self.alloc, out, self.id_prefix, identifier, number, count)
+        } else {
+            push_call(self.alloc, out, self.id_prefix, identifier, number, count)
+        }
     }
 
     /// Appends the start of a footnote, if it is written.
@@ -270,25 +309,38 @@ impl<'a> Source<'a> {
         }
     }
 
-    /// Appends the end of the element of a node.
-    fn close(&self, page: &mut Page<'a>, at: Place<'a>, node: &'a Node) -> Result<(), AllocError>
-        ensures { OnOk result (page_of page.new ≡ closed (source_of self.now) (place_of at.entry) (label_of node.now) (views (nodes_in node.now)) (page_of page.old)) }
+    /// Appends the end of the element of a block.
+    fn close(&self, page: &mut Page<'a>, kind: Kind, node: &'a Node) -> Result<(), AllocError>
+        ensures { OnOk result (page_of page.new ≡ closed (source_of self.now) kind (label_of node.now) (views (nodes_in node.now)) (page_of page.old)) }
     {
         let out = &mut page.text;
         match node {
-            Node::Paragraph(_) => self.close_paragraph(page, at.kind),
+            Node::Paragraph(_) => self.close_paragraph(page, kind),
             Node::Blockquote(_) => push_block(out, "</blockquote>\n"),
+            Node::Heading(node) => push_heading_end(out, node.depth),
+            Node::List(node) => out.push_str(list_end(node.ordered)),
+            Node::Table(node) => out.push_str(table_end(&node.children)),
+            Node::FootnoteDefinition(node) => self.close_footnote(page, kind, &node.children),
+            _ => self.close_phrase(page, false, node),
+        }
+    }
+
+    /// Appends the end of the element of a node in a text.
+    fn close_phrase(
+        &self,
+        page: &mut Page<'a>,
+        linked: bool,
+        node: &'a Node,
+    ) -> Result<(), AllocError>
+        ensures { OnOk result (page_of page.new ≡ phrase_closed (source_of self.now) linked (label_of node.now) (page_of page.old)) }
+    {
+        let out = &mut page.text;
+        match node {
             Node::Emphasis(_) => out.push_str("</em>"),
             Node::Strong(_) => out.push_str("</strong>"),
             Node::Delete(_) => out.push_str("</del>"),
-            Node::Heading(node) => push_heading_end(out, node.depth),
-            Node::List(node) => out.push_str(list_end(node.ordered)),
-            Node::ListItem(_) => out.push_str("</li>\n"),
-            Node::Table(node) => out.push_str(table_end(&node.children)),
-            Node::TableRow(node) => push_row_end(out, at, &node.children),
-            Node::Link(_) => out.push_str("</a>"),
-            Node::LinkReference(node) => self.close_link_reference(out, node),
-            Node::FootnoteDefinition(node) => self.close_footnote(page, at.kind, &node.children),
+            Node::Link(_) => out.push_str(link_back(linked)),
+            Node::LinkReference(node) => self.close_link_reference(out, linked, node),
             _ => Ok(()),
         }
     }
@@ -323,6 +375,31 @@ impl<'a> Source<'a> {
             page.text.push_str("\n")?;
         }
         page.text.push_str("</li>\n")
+    }
+}
+
+/// Returns the end of a link, unless a link is around it.
+fn link_back(linked: bool) -> &'static str
+    ensures { result.now ≡ link_back linked }
+{
+    if linked { "" } else { "</a>" }
+}
+
+/// Appends the start of an item.
+fn push_item_start(out: &mut String, node: &Node) -> Result<(), AllocError>
+    ensures { OnOk result (string_bytes out.new ≡ fresh_line (string_bytes out.old) ++ (codes "<li>" ++ check_box (checked_of (label_of node.now)))) }
+{
+    push_block(out, "<li>")?;
+    out.push_str(check_box(checked(node)))
+}
+
+/// Returns the check mark of an item.
+fn checked(node: &Node) -> Option<bool>
+    ensures { result ≡ checked_of (label_of node.now) }
+{
+    match node {
+        Node::ListItem(item) => item.checked,
+        _ => None,
     }
 }
 

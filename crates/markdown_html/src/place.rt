@@ -3,7 +3,7 @@
 ghost use Rattle.std.specs.Prelude.{◌≡◌};
 ghost use Rattle.markdown_nodes.specs.Access.{label_of, nodes_in};
 ghost use Rattle.markdown_nodes.specs.View.{views};
-ghost use Rattle.markdown_html.specs.Places.{after, any_spread, below, followed, in_cell, in_footnote, in_item, in_row, in_table, inside, is_spread, next_column, place, place_of, seen, unended};
+ghost use Rattle.markdown_html.specs.Places.{after, any_spread, below, followed, in_cell, in_footnote, in_item, in_list, in_table, in_text, inside, is_spread, next_column, place, place_of, seen, unended};
 
 use markdown_nodes::mdast::{AlignKind, Node};
 
@@ -12,10 +12,16 @@ use markdown_nodes::mdast::{AlignKind, Node};
 pub(crate) enum Kind {
     /// Text.
     Text,
+    /// Text in a link.
+    Linked,
     /// Blocks.
     Flow,
     /// An item of a tight list, whose paragraphs have no element of their own.
     Tight,
+    /// A loose list.
+    LooseItem,
+    /// A tight list.
+    TightItem,
     /// Something that is not written.
     Hidden,
     /// A table, as its first child.
@@ -60,8 +66,23 @@ impl<'a> Place<'a> {
     {
         match self.kind {
             Kind::Hidden => Place::new(Kind::Hidden),
+            Kind::FirstRow => self.with(Kind::HeaderCell),
+            Kind::SecondRow | Kind::LaterRow => self.with(Kind::Cell),
             Kind::HeaderCell | Kind::Cell => self.in_cell(),
-            _ => self.below(node),
+            Kind::Text | Kind::Linked => in_text(self.kind, node),
+            Kind::LooseItem => below(Kind::Flow, node),
+            Kind::TightItem => below(Kind::Tight, node),
+            _ => below(self.kind, node),
+        }
+    }
+
+    /// Returns a place of another kind with the same columns.
+    fn with(self, kind: Kind) -> Place<'a>
+        ensures { place_of result ≡ record (place_of self.entry) { kind = kind } }
+    {
+        Place {
+            kind,
+            columns: self.columns,
         }
     }
 
@@ -72,58 +93,6 @@ impl<'a> Place<'a> {
         match self.columns {
             Some([]) => Place::new(Kind::Hidden),
             _ => Place::new(Kind::Text),
-        }
-    }
-
-    /// Returns the place of the children of a node, if nothing around it changes that.
-    fn below(self, node: &'a Node) -> Place<'a>
-        ensures { place_of result ≡ below (place_of self.entry) (label_of node.now) (views (nodes_in node.now)) }
-    {
-        match node {
-            Node::Root(_) | Node::Blockquote(_) => Place::new(Kind::Flow),
-            Node::List(list) => {
-                let spread = list.spread || has_spread(&list.children);
-                Place::new(if spread { Kind::Flow } else { Kind::Tight })
-            }
-            Node::ListItem(_) => self.in_item(),
-            Node::Table(table) => in_table(&table.align),
-            Node::TableRow(_) => self.in_row(),
-            Node::FootnoteDefinition(_) => self.in_footnote(),
-            _ => Place::new(Kind::Text),
-        }
-    }
-
-    /// Returns the place of the children of an item.
-    fn in_item(self) -> Place<'a>
-        ensures { place_of result ≡ in_item self.entry.kind }
-    {
-        match self.kind {
-            Kind::Tight => Place::new(Kind::Tight),
-            _ => Place::new(Kind::Flow),
-        }
-    }
-
-    /// Returns the place of the cells of a row.
-    fn in_row(self) -> Place<'a>
-        ensures { place_of result ≡ in_row (place_of self.entry) }
-    {
-        let kind = match self.kind {
-            Kind::FirstRow => Kind::HeaderCell,
-            _ => Kind::Cell,
-        };
-        Place {
-            kind,
-            columns: self.columns,
-        }
-    }
-
-    /// Returns the place of the children of a footnote.
-    fn in_footnote(self) -> Place<'a>
-        ensures { place_of result ≡ in_footnote self.entry.kind }
-    {
-        match self.kind {
-            Kind::Note(number) => Place::new(Kind::Tail(number)),
-            _ => Place::new(Kind::Hidden),
         }
     }
 
@@ -167,6 +136,62 @@ impl<'a> Place<'a> {
             Kind::Tail(_) => Place::new(Kind::Flow),
             _ => self,
         }
+    }
+}
+
+/// Returns the place of the children of a node in a text.
+fn in_text<'a>(kind: Kind, node: &Node) -> Place<'a>
+    ensures { place_of result ≡ in_text kind (label_of node.now) }
+{
+    match node {
+        Node::Link(_) | Node::LinkReference(_) => Place::new(Kind::Linked),
+        Node::FootnoteDefinition(_) => Place::new(Kind::Hidden),
+        _ => Place::new(kind),
+    }
+}
+
+/// Returns the place of the children of a node among blocks.
+fn below(kind: Kind, node: &Node) -> Place<'_>
+    ensures { place_of result ≡ below kind (label_of node.now) (views (nodes_in node.now)) }
+{
+    match node {
+        Node::Root(_) | Node::Blockquote(_) => Place::new(Kind::Flow),
+        Node::List(list) => in_list(list.spread || has_spread(&list.children)),
+        Node::ListItem(_) => in_item(kind),
+        Node::Table(table) => in_table(&table.align),
+        Node::FootnoteDefinition(_) => in_footnote(kind),
+        _ => in_text(Kind::Text, node),
+    }
+}
+
+/// Returns the place of the children of a list.
+fn in_list<'a>(spread: bool) -> Place<'a>
+    ensures { place_of result ≡ in_list spread }
+{
+    Place::new(if spread {
+        Kind::LooseItem
+    } else {
+        Kind::TightItem
+    })
+}
+
+/// Returns the place of the children of an item.
+fn in_item<'a>(kind: Kind) -> Place<'a>
+    ensures { place_of result ≡ in_item kind }
+{
+    match kind {
+        Kind::Tight => Place::new(Kind::Tight),
+        _ => Place::new(Kind::Flow),
+    }
+}
+
+/// Returns the place of the children of a footnote.
+fn in_footnote<'a>(kind: Kind) -> Place<'a>
+    ensures { place_of result ≡ in_footnote kind }
+{
+    match kind {
+        Kind::Note(number) => Place::new(Kind::Tail(number)),
+        _ => Place::new(Kind::Hidden),
     }
 }
 
