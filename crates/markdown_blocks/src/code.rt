@@ -19,9 +19,9 @@ ghost use Rattle.markdown_nodes.specs.Tree.{nothing};
 ghost use Rattle.markdown_nodes.specs.View.{views};
 
 use markdown_grammar::error_kind::{ErrorKind, Stop};
-use markdown_nodes::steps::Steps;
 use markdown_nodes::mdast::{Code, InlineCode, Node};
 use markdown_nodes::role::{Content, ItemKind, Part};
+use markdown_nodes::steps::Steps;
 use markdown_nodes::unist::Position;
 use markdown_parts::buffer::values_of;
 use markdown_parts::fenced::fenced_value;

@@ -10,8 +10,8 @@ ghost use Rattle.markdown_grammar.specs.Nodes.{frontmatter};
 ghost use Rattle.markdown_nodes.specs.Tree.{nothing};
 ghost use Rattle.markdown_nodes.specs.View.{views};
 
-use markdown_nodes::steps::Steps;
 use markdown_nodes::mdast::{Node, Toml, Yaml};
+use markdown_nodes::steps::Steps;
 use markdown_nodes::unist::Position;
 use markdown_parts::buffer::values_of;
 use markdown_parts::texts::block_value;

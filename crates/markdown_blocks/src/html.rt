@@ -9,8 +9,8 @@ ghost use Rattle.markdown_nodes.specs.Tree as tree;
 ghost use Rattle.markdown_nodes.specs.Tree.{nothing, plain_text};
 ghost use Rattle.markdown_nodes.specs.View.{views};
 
-use markdown_nodes::steps::Steps;
 use markdown_nodes::mdast::{Html, Node};
+use markdown_nodes::steps::Steps;
 use markdown_nodes::unist::Position;
 use markdown_parts::buffer::values_of;
 use std::alloc::{AllocError, Global};

@@ -14,10 +14,10 @@ ghost use Rattle.markdown_nodes.specs.Tree.{nothing};
 ghost use Rattle.markdown_nodes.specs.View.{view, views};
 
 use markdown_grammar::error_kind::{ErrorKind, Stop};
-use markdown_nodes::steps::Steps;
 use markdown_nodes::event::Point;
 use markdown_nodes::mdast::{Definition, Node};
 use markdown_nodes::role::{Content, ItemKind, Part};
+use markdown_nodes::steps::Steps;
 use markdown_nodes::unist::Position;
 use markdown_parts::label::{Identified, identify, named};
 use markdown_parts::misfits::at_most_one;

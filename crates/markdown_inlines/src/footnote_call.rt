@@ -15,10 +15,10 @@ ghost use Rattle.markdown_inlines.specs.FootnoteCalls.{call_label, footnote_call
 
 use crate::label::{Label, identified};
 use markdown_grammar::error_kind::{ErrorKind, Stop};
-use markdown_nodes::steps::Steps;
 use markdown_nodes::event::Point;
 use markdown_nodes::mdast::{FootnoteReference, Node};
 use markdown_nodes::role::{Content, ItemKind, Part};
+use markdown_nodes::steps::Steps;
 use markdown_nodes::unist::Position;
 use markdown_parts::label::Identified;
 use markdown_parts::misfits::at_most_one;

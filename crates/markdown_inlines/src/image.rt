@@ -11,8 +11,8 @@ ghost use Rattle.markdown_inlines.specs.Media.{image_by_label, image_by_name, im
 
 use crate::label::{Label, identified_by, label_text};
 use crate::media::{MediaParts, ReferenceParts, ResourceParts, Target};
-use markdown_nodes::steps::Steps;
 use markdown_nodes::mdast::{Image, ImageReference, Node, ReferenceKind};
+use markdown_nodes::steps::Steps;
 use markdown_nodes::unist::Position;
 use markdown_parts::label::Identified;
 use std::alloc::{AllocError, Global};

@@ -14,9 +14,9 @@ ghost use Rattle.markdown_inlines.specs.Labels;
 ghost use Rattle.markdown_inlines.specs.Labels.{IsLabelOf, label_kept};
 
 use markdown_grammar::error_kind::Stop;
-use markdown_nodes::steps::Steps;
 use markdown_nodes::event::Point;
 use markdown_nodes::mdast::Node;
+use markdown_nodes::steps::Steps;
 use markdown_nodes::text::normalize_identifier;
 use markdown_parts::buffer::label_of;
 use markdown_parts::label::Identified;

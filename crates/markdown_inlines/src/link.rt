@@ -12,8 +12,8 @@ ghost use Rattle.markdown_inlines.specs.Media.{link_by_label, link_by_name, link
 use crate::autolink::link_to;
 use crate::label::{Label, identified, label_nodes};
 use crate::media::{MediaParts, ReferenceParts, ResourceParts, Target};
-use markdown_nodes::steps::Steps;
 use markdown_nodes::mdast::{LinkReference, Node, ReferenceKind};
+use markdown_nodes::steps::Steps;
 use markdown_nodes::unist::Position;
 use markdown_parts::label::Identified;
 use std::alloc::{AllocError, Global};

@@ -18,10 +18,10 @@ ghost use Rattle.markdown_inlines.specs.Media.{media, reference, resource};
 
 use crate::label::Label;
 use markdown_grammar::error_kind::{ErrorKind, Stop};
-use markdown_nodes::steps::Steps;
 use markdown_nodes::event::Point;
 use markdown_nodes::mdast::Node;
 use markdown_nodes::role::{Content, ItemKind, Part};
+use markdown_nodes::steps::Steps;
 use markdown_parts::label::{Identified, identify};
 use markdown_parts::misfits::at_most_one;
 use markdown_parts::slice::Document;
