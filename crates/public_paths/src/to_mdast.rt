@@ -8,6 +8,7 @@ use markdown_tree::History;
 use markdown_tree::builder::TreeBuilder;
 use markdown_tree::to_mdast::{Document, References, Steps, Values, compile, compile_counted};
 use std::alloc::{AllocError, Global};
+use step_count::count::Count;
 
 /// A user's decoder, which knows nothing.
 struct Nothing;
@@ -54,6 +55,13 @@ fn steps_read_events(rt: HostRuntime) {
     steps.tick();
     holds(&rt, steps.read(0) == Some(ENTER));
     holds(&rt, steps.read(1).is_none());
+}
+
+/// At run time there is nothing to ask of a count.
+#[test]
+fn a_count_ticks(_rt: HostRuntime) {
+    let mut steps = Count::zero();
+    steps.tick();
 }
 
 /// At run time there is nothing to ask of a history.
