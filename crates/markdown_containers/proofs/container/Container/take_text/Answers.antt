@@ -17,5 +17,6 @@ returns-in_ok-text-in_default c =
         text_is_read (source_of c.args.document.now text) (current_model_of c.args.self.now) p c.args.part c.args.start c.args.end such,
         c.take_value.ensures (views c.args.nodes.now.items) c.in_ok-text-in_default.ensures.text (source_of c.args.document.now text) p c.args.start c.args.end,
       );
+      list = c.values_of.ensures.list;
       bound = omega (arith, visits, bound);
     }

@@ -29,6 +29,7 @@ returns-in_err-node-in_default c = record {
   left = λ columns s inner_table same. passed_on _ c.args.ending.end c.from_residual.result _ _ c.from_residual.ensures
       (unmade_stops _ _ _ _ c.args.ending.end _ c.in_err-node-in_default.ensures.node
       (content_lacks s c.args.ending.in_table inner_table c.args.self.now c.args.own c.args.content c.args.ending.start c.args.ending.end (child_facts (marks_of c.args.ending.marks) columns)));
+  list = c.node.ensures.list;
   bound = c.node.ensures.bound;
 }
 
@@ -54,5 +55,6 @@ returns-in_ok-put-in_default c = record {
       c.requires.such c.in_ok-node-in_default.ensures.node.0
       (c.take_content.ensures s (place_of c.args.ending.in_table c.args.self.now) c.args.ending.start c.args.ending.end (views c.args.own.nodes.items)) refl
       (c.in_ok-put-in_default.ensures ∙ ap (λ (ts : Trees). join (views c.args.self.now.nodes.items) ts) (c.in_ok-node-in_default.ensures.node.1 columns s c.args.self.now.line_endings (marker_of c.args.self.now.container) same));
+  list = c.node.ensures.list;
   bound = c.node.ensures.bound;
 }
