@@ -37,23 +37,32 @@ underscore_in_the_segment_before = refl
 pub period_first : address_in false (codes ".a.b") ≡ None
 period_first = refl
 
-pub at_the_start : may_follow (codes "") ≡ true
+pub at_the_start : may_follow 119 (codes "") ≡ true
 at_the_start = refl
 
-pub after_a_space : may_follow (codes "a ") ≡ true
+pub after_a_space : may_follow 119 (codes "a ") ≡ true
 after_a_space = refl
 
-pub after_an_asterisk : may_follow (codes "a*") ≡ true
+pub after_an_asterisk : may_follow 119 (codes "a*") ≡ true
 after_an_asterisk = refl
 
-pub after_a_parenthesis : may_follow (codes "a (") ≡ true
+pub after_a_parenthesis : may_follow 119 (codes "a (") ≡ true
 after_a_parenthesis = refl
 
-pub after_a_letter : may_follow (codes "( a") ≡ false
+pub after_a_letter : may_follow 119 (codes "( a") ≡ false
 after_a_letter = refl
 
-pub after_a_bracket : may_follow (codes " [") ≡ false
+pub after_a_bracket : may_follow 119 (codes " [") ≡ false
 after_a_bracket = refl
 
-pub after_a_slash : may_follow (codes "*/") ≡ false
+pub after_a_slash : may_follow 119 (codes "*/") ≡ false
 after_a_slash = refl
+
+pub scheme_after_a_quotation_mark : may_follow 104 (codes "a \"") ≡ true
+scheme_after_a_quotation_mark = refl
+
+pub scheme_after_a_digit : may_follow 72 (codes "1") ≡ true
+scheme_after_a_digit = refl
+
+pub scheme_after_a_letter : may_follow 102 (codes " a") ≡ false
+scheme_after_a_letter = refl

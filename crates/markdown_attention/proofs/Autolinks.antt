@@ -15,11 +15,11 @@ use Rattle.markdown_attention.proofs.Barred.{TextFrom, text_from}
 
 -- ---- What stands before one
 
-pub follows_last : (w : List ℕ) → 0 < length w → may_come_before (slice_index w (length w - 1)) ≡ may_follow w
-follows_last [] some = absurd (omega (arith, some))
-follows_last (c ∷ w) some = sym (last_at may_come_before (c ∷ w) some)
+pub follows_last : (first : ℕ) (w : List ℕ) → 0 < length w → may_come_before first (slice_index w (length w - 1)) ≡ may_follow first w
+follows_last first [] some = absurd (omega (arith, some))
+follows_last first (c ∷ w) some = sym (last_at (may_come_before first) (c ∷ w) some)
 
-pub none_follows : (b : Bool) (content : List ℕ) (at : ℕ) → may_follow (take at content) ≡ false → HasNoExtendedAutolink b content at
+pub none_follows : (b : Bool) (content : List ℕ) (at : ℕ) → may_follow (slice_index content at) (take at content) ≡ false → HasNoExtendedAutolink b content at
 none_follows b content at other size it = (let k : true ≡ false = sym it.follows ∙ other in cc)
 
 -- ---- Its beginning
@@ -85,7 +85,7 @@ none_there b content at start begins none size it =
     ap (λ t. address b t (encode_utf8_all (segments it.characters))) (sym text) ∙ none it.characters it.scalars text in
     let k : Some it.domain_and_path ≡ None = sym it.there ∙ none_here in cc
 
-pub there : (b : Bool) (content : List ℕ) (at start size : ℕ) → IsUtf8 content → may_follow (take at content) ≡ true → Leaves extended_autolink_start (drop at content) (drop start (drop at content)) → at + start ≤ length content → IsCut content (at + start)
+pub there : (b : Bool) (content : List ℕ) (at start size : ℕ) → IsUtf8 content → may_follow (slice_index content at) (take at content) ≡ true → Leaves extended_autolink_start (drop at content) (drop start (drop at content)) → at + start ≤ length content → IsCut content (at + start)
     → size ≤ length content - (at + start) → HasAddress b (drop (at + start) content) size → IsExtendedAutolink b content at (start + size)
 there b content at start size valid follows begins within cut most has =
     let text : List ℕ = drop (at + start) content in

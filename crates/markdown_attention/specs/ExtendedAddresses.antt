@@ -1,12 +1,12 @@
 -- Extended autolinks (GFM): the address after www. or a scheme, which is a domain and a path, and the whole autolink.
 -- Each rule is in our words.
-use Rattle.std.specs.Prelude.{◌≡◌, ◌<◌, ◌≤◌, ◌+◌, ℕ, Bool, true, false, cond, not, ◌&&◌, ◌||◌, ◌==◌, nat_le, ◌++◌, List, [], ◌∷◌, Option, Some, None, codes, drop, length, take}
+use Rattle.std.specs.Prelude.{◌≡◌, ◌<◌, ◌≤◌, ◌+◌, ℕ, Bool, true, false, cond, not, ◌&&◌, ◌||◌, ◌==◌, nat_le, ◌++◌, List, [], ◌∷◌, Option, Some, None, codes, drop, length, slice_index, take}
 use Rattle.std.specs.Str.{IsUtf8, all_scalars, encode_utf8_all}
 use Rattle.commonmark_syntax.specs.Blocks.{has, without_last}
 use Rattle.commonmark_syntax.specs.ExtendedAutolinks.{how_many, is_trail, path, trimmed}
-use Rattle.commonmark_syntax.specs.Inlines.{begins_with, ends_with, extended_autolink_start, is_gfm_white_space}
+use Rattle.commonmark_syntax.specs.Inlines.{begins_with, ends_with, extended_autolink_start, is_gfm_white_space, is_in_any_case}
 use Rattle.commonmark_syntax.specs.Language.{Leaves}
-use Rattle.commonmark_syntax.specs.Syntax.{is_one_of}
+use Rattle.commonmark_syntax.specs.Syntax.{is_letter, is_one_of}
 use Rattle.markdown_attention.specs.Flanking.{kind_of}
 use Rattle.markdown_attention.specs.declared.character_kind.CharacterKind.{CharacterKind}
 use Rattle.markdown_attention.specs.declared.character_kind.CharacterKind.TheVariants.{Other}
@@ -63,19 +63,23 @@ abbrev pub address : (in_bracket : Bool) → (text whole : List ℕ) → Option 
 address in_bracket text whole =
     cond (is_domain (domain in_bracket text whole)) (Some (with_path in_bracket text (domain in_bracket text whole))) None
 
--- White space and the marks *, _, ~ and ( may come before an extended autolink.
-abbrev pub may_come_before : ℕ → Bool
-may_come_before c = is_gfm_white_space c || is_one_of (codes "*_~(") c
+-- White space and the marks *, _, ~ and ( may come before www. (GFM). Any byte but a letter may come before a scheme
+-- (micromark and cmark-gfm; GFM has the same rule for both), so that an address may be between quotation marks.
+abbrev pub may_come_before_www : ℕ → Bool
+may_come_before_www c = is_gfm_white_space c || is_one_of (codes "*_~(") c
 
--- An extended autolink may follow a text that is empty or ends with one of these.
-abbrev pub may_follow : List ℕ → Bool
-may_follow [] = true
-may_follow (c ∷ w) = ends_with may_come_before (c ∷ w)
+abbrev pub may_come_before : (first before : ℕ) → Bool
+may_come_before first before = cond (is_in_any_case 119 first) (may_come_before_www before) (not (is_letter before))
+
+-- An extended autolink with this first byte may follow a text that is empty or ends with one of these.
+abbrev pub may_follow : (first : ℕ) → List ℕ → Bool
+may_follow first [] = true
+may_follow first (c ∷ w) = ends_with (may_come_before first) (c ∷ w)
 
 -- This many bytes at an offset of a content are an extended autolink: it may follow what comes before it, it begins as it
 -- must, and an address comes after that beginning.
 pub record IsExtendedAutolink (in_bracket : Bool) (content : List ℕ) (at size : ℕ) : Type 0 where
-  pub follows : may_follow (take at content) ≡ true
+  pub follows : may_follow (slice_index content at) (take at content) ≡ true
   pub start : ℕ
   pub begins : Leaves extended_autolink_start (drop at content) (drop (at + start) content)
   pub characters : List ℕ

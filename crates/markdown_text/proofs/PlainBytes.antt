@@ -3,6 +3,9 @@ use Rattle.std.proofs.Common.{◌≡◌, ℕ, suc, zero, ◌+◌, ◌-◌, ◌<�
 use Rattle.std.proofs.lemmas.Bool.{cases_lt}
 use Rattle.std.proofs.lemmas.List.{get_or-drop, length-drop}
 use Rattle.std.proofs.Math.Seq.{take-length}
+use Rattle.std.proofs.lemmas.Bool.Decides.{nat_tests}
+use Rattle.commonmark_syntax.specs.Inlines.{is_in_any_case}
+use Rattle.markdown_text.specs.Plain.{is_scheme_letter}
 
 -- the bytes from a place on
 pub rest_at : (bytes : List ℕ) (at k : ℕ) → slice_index (take (length bytes - at) (drop at bytes)) k ≡ slice_index bytes (at + k)
@@ -33,15 +36,29 @@ pub after_first : (bytes : List ℕ) (k : ℕ) → slice_index (take (length byt
 after_first bytes k = rest_at bytes 1 k ∙ ap (slice_index bytes) (omega arith)
 
 -- the bit of a byte where a construct may begin
-pub with_literals : (a b d : Bool) → max (cond a 1 0) (min (cond b 1 0) (cond d 1 0)) ≡ cond (a || (true && (b && d))) 1 0
-with_literals true true true = refl
-with_literals true true false = refl
-with_literals true false true = refl
-with_literals true false false = refl
-with_literals false true true = refl
-with_literals false true false = refl
-with_literals false false true = refl
-with_literals false false false = refl
+pub with_literals : (a b : Bool) → max (cond a 1 0) (cond b 1 0) ≡ cond (a || (true && b)) 1 0
+with_literals true true = refl
+with_literals true false = refl
+with_literals false true = refl
+with_literals false false = refl
+
+-- the first letter of www. or of a scheme, after what may come before it
+pub of_both : (w s a b : Bool) → (w ≡ true → s ≡ false) → max (min (cond w 1 0) (cond a 1 0)) (min (cond s 1 0) (cond b 1 0)) ≡ cond ((w || s) && cond w a b) 1 0
+of_both true true a b apart = (let k : true ≡ false = apart refl in cc)
+of_both true false true true apart = refl
+of_both true false true false apart = refl
+of_both true false false true apart = refl
+of_both true false false false apart = refl
+of_both false true a true apart = refl
+of_both false true true false apart = refl
+of_both false true false false apart = refl
+of_both false false true true apart = refl
+of_both false false true false apart = refl
+of_both false false false true apart = refl
+of_both false false false false apart = refl
+
+pub scheme_is_no_www : (c : ℕ) → is_in_any_case 119 c ≡ true → is_scheme_letter c ≡ false
+scheme_is_no_www c e = grind (arith, nat_tests)
 
 pub without_literals : (a b : Bool) → ◌≡◌ {A = ℕ} (cond a 1 0) (cond (a || (false && b)) 1 0)
 without_literals true b = refl

@@ -70,8 +70,11 @@ module _ (bytes rest : List ℕ) (literals : Bool) (at count : ℕ) (is : rest �
       front : slice_index (drop k bytes) 0 ≡ slice_index bytes k
       front = let place : k + 0 ≡ k = omega arith in get_or-drop k bytes 0 0 ∙ ap (slice_index bytes) place
 
+      first : ℕ
+      first = slice_index bytes k
+
       by : (b : Bool) → is_first_letter (slice_index bytes k) ≡ b → HasNoExtendedAutolink in_bracket bytes k
       by true letter =
-          none_follows in_bracket bytes k (sym (follows_last (take k bytes) (omega (arith, size, more))) ∙ ap may_come_before last ∙ may_not_come _ _ _ clear letter)
+          none_follows in_bracket bytes k (sym (follows_last first (take k bytes) (omega (arith, size, more))) ∙ ap (may_come_before first) last ∙ may_not_come _ _ _ clear letter)
       by false other =
           none_begins in_bracket bytes k (λ t r. both_ways _ (ap is_first_letter front ∙ other) (first_letter (drop k bytes) t r))

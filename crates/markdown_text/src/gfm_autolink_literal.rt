@@ -2,7 +2,7 @@
 
 ghost use Rattle.std.specs.Prelude.{◌≡◌, ◌+◌, ◌⊎◌, IfSome, MatchOption, is_some, true};
 ghost use Rattle.std.specs.Str.{IsUtf8};
-ghost use Rattle.markdown_attention.specs.ExtendedAddresses.{HasNoExtendedAutolink, IsExtendedAutolink, IsRefused, may_come_before, may_follow};
+ghost use Rattle.markdown_attention.specs.ExtendedAddresses.{HasNoExtendedAutolink, IsExtendedAutolink, IsRefused, may_come_before, may_come_before_www, may_follow};
 ghost use Rattle.markdown_events.specs.declared.event.Name.TheVariants.{GfmAutolinkLiteralProtocol, GfmAutolinkLiteralWww};
 ghost use Rattle.markdown_options.specs.declared.Constructs.{Constructs};
 ghost use Rattle.markdown_text.specs.Constructs.{is_found_on};
@@ -28,7 +28,7 @@ pub fn scan(cursor: Cursor<'_>, in_bracket: bool, refused: &mut RefusedDomain) -
     ensures token { IfSome result (λ found. is_some found.kind ≡ true) }
     ensures on { IfSome result (λ found. (c : Constructs) → c.gfm_autolink_literal ≡ true → is_found_on c found.kind ≡ true) }
 {
-    if !may_follow(cursor.before()) {
+    if !may_follow(cursor.byte(), cursor.before()) {
         return None;
     }
     let start = extended_autolink_start::scan(cursor.rest())?;
@@ -48,19 +48,30 @@ fn name_of(first: u8) -> Name
     }
 }
 
-/// Whether a literal may follow a text.
-fn may_follow(before: &[u8]) -> bool
-    ensures { result ≡ may_follow before.now }
+/// Whether a literal with this first byte may follow a text.
+fn may_follow(first: u8, before: &[u8]) -> bool
+    ensures { result ≡ may_follow first before.now }
 {
     match before {
-        [.., last] => may_come_before(*last),
+        [.., last] => may_come_before(first, *last),
         [] => true,
     }
 }
 
-/// Whether a byte may come before a literal.
-pub fn may_come_before(byte: u8) -> bool
-    ensures { result ≡ may_come_before byte }
+/// Whether a byte may come before a literal with this first byte: GFM's rule before `www.`, and any
+/// byte but a letter before a scheme (micromark).
+pub fn may_come_before(first: u8, before: u8) -> bool
+    ensures { result ≡ may_come_before first before }
+{
+    match first {
+        b'w' | b'W' => may_come_before_www(before),
+        _ => !before.is_ascii_alphabetic(),
+    }
+}
+
+/// Whether a byte may come before `www.`.
+fn may_come_before_www(byte: u8) -> bool
+    ensures { result ≡ may_come_before_www byte }
 {
     is_white_space(byte) || matches!(byte, b'*' | b'_' | b'~' | b'(')
 }

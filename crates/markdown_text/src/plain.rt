@@ -1,9 +1,11 @@
 //! Plain bytes: those of a text at which no construct may begin.
 
 ghost use Rattle.std.specs.Int.{bit_at};
-ghost use Rattle.std.specs.Prelude.{◌≡◌, ◌≤◌, ◌<◌, ◌+◌, ℕ, cond, false, length, slice_index, true};
-ghost use Rattle.markdown_attention.specs.ExtendedAddresses.{may_come_before};
-ghost use Rattle.markdown_text.specs.Plain.{is_first_letter, is_mark, may_begin};
+ghost use Rattle.std.specs.Prelude.{◌≡◌, ◌≤◌, ◌<◌, ◌+◌, ℕ, ◌&&◌, cond, false, length, not, slice_index, true};
+ghost use Rattle.commonmark_syntax.specs.Inlines.{is_in_any_case};
+ghost use Rattle.commonmark_syntax.specs.Syntax.{is_letter};
+ghost use Rattle.markdown_attention.specs.ExtendedAddresses.{may_come_before, may_come_before_www};
+ghost use Rattle.markdown_text.specs.Plain.{is_first_letter, is_mark, is_scheme_letter, may_begin};
 
 use crate::gfm_autolink_literal::may_come_before;
 use byte_masks::first_of;
@@ -65,7 +67,7 @@ fn plain_length_of_few(text: &[u8], literals: bool) -> usize
 fn may_begin(literals: bool, before: u8, byte: u8) -> bool
     ensures { result ≡ may_begin literals before byte }
 {
-    is_mark(byte) || literals && is_first_letter(byte) && may_come_before(before)
+    is_mark(byte) || literals && is_first_letter(byte) && may_come_before(byte, before)
 }
 
 /// Whether a construct may begin at a byte wherever it is.
@@ -105,7 +107,7 @@ fn places(text: &[u8], literals: bool) -> u64
 {
     let bytes = &text[1..];
     if literals {
-        marks(bytes) | (first_letters(bytes) & may_follow(text))
+        marks(bytes) | literal_places(text)
     } else {
         marks(bytes)
     }
@@ -132,24 +134,56 @@ fn marks(text: &[u8]) -> u64
     hits.to_bitmask()
 }
 
-/// Returns the same of `is_first_letter`.
+/// Returns a number with a bit for each of 16 bytes, after the first of a text, which is set where
+/// an extended autolink may begin.
 #[inline(always)]
-fn first_letters(text: &[u8]) -> u64
+fn literal_places(text: &[u8]) -> u64
+    requires { 16 < length text.now }
+    ensures { (k : ℕ) → k < 16 → bit_at result k ≡ cond (is_first_letter (slice_index text.now (k + 1)) && may_come_before (slice_index text.now (k + 1)) (slice_index text.now k)) 1 0 }
+{
+    let bytes = &text[1..];
+    (www_letters(bytes) & www_may_follow(text)) | (scheme_letters(bytes) & scheme_may_follow(text))
+}
+
+/// Returns a number with a bit for each of the first 16 bytes, which is set where it is a `w`.
+#[inline(always)]
+fn www_letters(text: &[u8]) -> u64
     requires { 16 ≤ length text.now }
-    ensures { (k : ℕ) → k < 16 → bit_at result k ≡ cond (is_first_letter (slice_index text.now k)) 1 0 }
+    ensures { (k : ℕ) → k < 16 → bit_at result k ≡ cond (is_in_any_case 119 (slice_index text.now k)) 1 0 }
 {
     let bytes = u8x16::from_slice(text) | u8x16::splat(32);
-    let hits = bytes.simd_eq(u8x16::splat(b'f'))
-        | bytes.simd_eq(u8x16::splat(b'h'))
-        | bytes.simd_eq(u8x16::splat(b'w'));
+    let hits = bytes.simd_eq(u8x16::splat(b'w'));
     hits.to_bitmask()
 }
 
-/// Returns the same of what may come before an extended autolink.
+/// Returns the same of the letters that may begin a scheme.
 #[inline(always)]
-fn may_follow(text: &[u8]) -> u64
+fn scheme_letters(text: &[u8]) -> u64
     requires { 16 ≤ length text.now }
-    ensures { (k : ℕ) → k < 16 → bit_at result k ≡ cond (may_come_before (slice_index text.now k)) 1 0 }
+    ensures { (k : ℕ) → k < 16 → bit_at result k ≡ cond (is_scheme_letter (slice_index text.now k)) 1 0 }
+{
+    let bytes = u8x16::from_slice(text) | u8x16::splat(32);
+    let hits = bytes.simd_eq(u8x16::splat(b'f')) | bytes.simd_eq(u8x16::splat(b'h'));
+    hits.to_bitmask()
+}
+
+/// Returns the same of what may come before a scheme: the bytes that are no letters.
+#[inline(always)]
+fn scheme_may_follow(text: &[u8]) -> u64
+    requires { 16 ≤ length text.now }
+    ensures { (k : ℕ) → k < 16 → bit_at result k ≡ cond (not (is_letter (slice_index text.now k))) 1 0 }
+{
+    // From the byte after `z` on, around to the byte before `a`.
+    let bytes = (u8x16::from_slice(text) | u8x16::splat(32)) - u8x16::splat(b'{');
+    let hits = bytes.simd_lt(u8x16::splat(230));
+    hits.to_bitmask()
+}
+
+/// Returns the same of what may come before `www.`.
+#[inline(always)]
+fn www_may_follow(text: &[u8]) -> u64
+    requires { 16 ≤ length text.now }
+    ensures { (k : ℕ) → k < 16 → bit_at result k ≡ cond (may_come_before_www (slice_index text.now k)) 1 0 }
 {
     let bytes = u8x16::from_slice(text);
     let controls = (bytes - u8x16::splat(b'\t')).simd_lt(u8x16::splat(5));

@@ -156,7 +156,7 @@ fn autolinks(rt: HostRuntime) -> Result<(), AllocError> {
 
 /// Documents, and where the autolink literal in each begins and ends. Data comes before and after
 /// it.
-const LITERALS: [(&str, &str, usize, usize); 19] = [
+const LITERALS: [(&str, &str, usize, usize); 22] = [
     ("~http://a.b", "Protocol", 1, 11),
     ("a\u{b}www.a.b", "Www", 2, 9),
     ("http://a.b..c", "Protocol", 0, 13),
@@ -169,6 +169,9 @@ const LITERALS: [(&str, &str, usize, usize); 19] = [
     ("[ www.a.b_]", "Www", 2, 9),
     ("www.a.b/\"c;", "Www", 0, 10),
     ("http://a", "Protocol", 0, 8),
+    ("/http://a.b", "Protocol", 1, 11),
+    ("\"ftp://a.b", "Protocol", 1, 10),
+    ("]http://a.b", "Protocol", 1, 11),
     ("www.a", "Www", 0, 5),
     ("www.a._", "Www", 0, 5),
     ("http://a..b", "Protocol", 0, 11),
@@ -203,15 +206,14 @@ fn data_to(alloc: Global, end: usize, is_there: bool) -> Result<String, AllocErr
 }
 
 /// Documents that contain no autolink literal.
-const NO_LITERALS: [&str; 11] = [
+const NO_LITERALS: [&str; 10] = [
     "ftp://.a.b",
     "www.a.b_/c",
     "www.a_.b.*c",
-    "/http://a.b",
     "1www.a.b",
-    "\"ftp://a.b",
+    "\"www.a.b",
+    "ahttp://a.b",
     "[www.a.b",
-    "]http://a.b",
     "a@.b",
     "a@b.1-",
     "a@b..c",

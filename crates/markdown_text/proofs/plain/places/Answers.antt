@@ -1,5 +1,5 @@
-use Rattle.std.proofs.Common.{ap, ap₂, cond, max, min, slice_index, sym, ◌&&◌, ◌+◌, ◌∙◌}
-use Rattle.std.proofs.lemmas.Nat.Bits.{bit_at_and, bit_at_or}
+use Rattle.std.proofs.Common.{ap, ap₂, cond, max, slice_index, sym, ◌&&◌, ◌+◌, ◌∙◌}
+use Rattle.std.proofs.lemmas.Nat.Bits.{bit_at_or}
 use Rattle.markdown_attention.specs.ExtendedAddresses.{may_come_before}
 use Rattle.markdown_text.specs.Plain.{is_first_letter, is_mark, may_begin}
 use Rattle.markdown_text.proofs.PlainBytes.{after_first, with_literals, without_literals}
@@ -11,9 +11,7 @@ returns-then-literals c = λ k below.
     let before = slice_index text k in
     let byte = slice_index text (k + 1) in
     let mark = c.marks.ensures k below ∙ ap (λ x. cond (is_mark x) 1 0) (after_first text k) in
-    let letter = c.first_letters.ensures k below ∙ ap (λ x. cond (is_first_letter x) 1 0) (after_first text k) in
-    let both = bit_at_and c.first_letters.result c.may_follow.result k ∙ ap₂ min letter (c.may_follow.ensures k below) in
-    bit_at_or c.marks.result _ k ∙ ap₂ max mark both ∙ with_literals (is_mark byte) (is_first_letter byte) (may_come_before before)
+    bit_at_or c.marks.result _ k ∙ ap₂ max mark (c.literal_places.ensures k below) ∙ with_literals (is_mark byte) (is_first_letter byte && may_come_before byte before)
     ∙ ap (λ l. cond (may_begin l before byte) 1 0) (sym c.if-literals.true)
 
 pub returns-else-literals : goal.returns-else-literals
@@ -22,4 +20,4 @@ returns-else-literals c = λ k below.
     let before = slice_index text k in
     let byte = slice_index text (k + 1) in
     let mark = c.marks-else-literals.ensures k below ∙ ap (λ x. cond (is_mark x) 1 0) (after_first text k) in
-    mark ∙ without_literals (is_mark byte) (is_first_letter byte && may_come_before before) ∙ ap (λ l. cond (may_begin l before byte) 1 0) (sym c.if-literals.false)
+    mark ∙ without_literals (is_mark byte) (is_first_letter byte && may_come_before byte before) ∙ ap (λ l. cond (may_begin l before byte) 1 0) (sym c.if-literals.false)
