@@ -52,6 +52,29 @@ fn block_quotes(rt: HostRuntime) -> Result<(), AllocError> {
 }
 
 #[test]
+fn blank_lines_in_containers(rt: HostRuntime) -> Result<(), AllocError> {
+    let alloc = rt.alloc();
+    shows(
+        &rt,
+        alloc,
+        "- > a\n\n  b",
+        "(ListUnordered (ListItem (ListItemPrefix ListItemMarker:1 SpaceOrTab:2 ) (BlockQuote BlockQuotePrefix:4 (Paragraph Text:5 ) ) LineEnding:6 BlankLineEnding:7 SpaceOrTab:9 (Paragraph Text:10 ) ) ) ",
+    )?;
+    shows(
+        &rt,
+        alloc,
+        "> - a\n>\n>   b",
+        "(BlockQuote BlockQuotePrefix:2 (ListUnordered (ListItem (ListItemPrefix ListItemMarker:3 SpaceOrTab:4 ) (Paragraph Text:5 ) LineEnding:6 BlockQuotePrefix:7 BlankLineEnding:8 BlockQuotePrefix:10 SpaceOrTab:12 (Paragraph Text:13 ) ) ) ) ",
+    )?;
+    shows(
+        &rt,
+        alloc,
+        "[^a]: - b\n\n      c",
+        "(GfmFootnoteDefinition (GfmFootnoteDefinitionPrefix (GfmFootnoteDefinitionLabel GfmFootnoteDefinitionLabelMarker:1 GfmFootnoteDefinitionMarker:2 (GfmFootnoteDefinitionLabelString Text:3 ) GfmFootnoteDefinitionLabelMarker:4 ) DefinitionMarker:5 SpaceOrTab:6 ) (ListUnordered (ListItem (ListItemPrefix ListItemMarker:7 SpaceOrTab:8 ) (Paragraph Text:9 ) LineEnding:10 BlankLineEnding:11 SpaceOrTab:15 SpaceOrTab:17 (Paragraph Text:18 ) ) ) ) ",
+    )
+}
+
+#[test]
 fn lists(rt: HostRuntime) -> Result<(), AllocError> {
     let alloc = rt.alloc();
     shows(

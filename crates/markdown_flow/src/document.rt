@@ -40,9 +40,9 @@ pub struct Blocks {
 /// error is that memory ran out. A document of 2^61 bytes or more is refused as one for which
 /// memory ran out: its columns might not fit 64 bits.
 ///
-/// Offsets count bytes from 0. A construct that is off in the options has no span. Each line is
-/// matched against the containers that are open in it. All other work is linear in the size of the
-/// document.
+/// Offsets count bytes from 0. A construct that is off in the options has no span. A line asks one
+/// open container for each of the markers and indentations that it has, and one more. So the work
+/// is linear in the size of the document.
 ///
 /// The pieces of `# a` are those that [`Piece`] shows, and there are no identifiers.
 pub fn read(alloc: Global, document: &[u8], options: &ParseOptions) -> Result<Blocks, AllocError>
@@ -86,6 +86,8 @@ struct Reader<'d> {
     output: Output<'d>,
     /// The open containers, the innermost last.
     containers: Vec<Container>,
+    /// The numbers of the block quotes among them.
+    quotes: Vec<usize>,
     /// The open leaf, in the innermost container.
     flow: Flow<'d>,
 }
@@ -104,6 +106,7 @@ impl<'d> Reader<'d> {
         Reader {
             output: Output::new(alloc, source),
             containers: Vec::new(alloc),
+            quotes: Vec::new(alloc),
             flow: Flow::new(alloc),
         }
     }
@@ -195,12 +198,62 @@ impl<'d> Reader<'d> {
         ensures flow { self.new.flow ≡ self.old.flow }
         ensures opens { OnOk result (OpensAll self.new) }
     {
-        for number in 0..self.containers.len() {
+        let count = self.containers.len();
+        let mut number = 0;
+        let mut quotes = 0;
+        'containers: while number < count {
+            if input.line.rest().is_empty() {
+                return self.continue_at_end(number, quotes, input);
+            }
             if !self.continue_container(number, input)? {
                 return Ok(number);
             }
+            if matches!(self.containers[number], Container::BlockQuote) {
+                quotes = quotes.saturating_add(1);
+            }
+            number += 1;
         }
-        Ok(self.containers.len())
+        Ok(count)
+    }
+
+    /// Returns how many containers continue in a line of which nothing is left, after the first
+    /// `number`, with `quotes` block quotes among these. Items and footnote definitions continue
+    /// there, but a block quote does not, nor does an item that began blank, which is the last
+    /// container. So only one of them is asked, however many are open.
+    fn continue_at_end(
+        &mut self,
+        number: usize,
+        quotes: usize,
+        input: &mut Input<'d>,
+    ) -> Result<usize, AllocError>
+        requires within { number < length self.old.containers.items }
+        requires opens { OpensAll self.old }
+        ensures reads { (source : Source) → (from : Spot) → Reads source from input.old → OnOk result (Reads source from input.new) }
+        ensures moved { OnOk result (HasMoved input.old.line input.new.line) }
+        ensures output { self.new.output ≡ self.old.output }
+        ensures flow { self.new.flow ≡ self.old.flow }
+        ensures opens { OnOk result (OpensAll self.new) }
+        ensures least { IfOk result (λ continuing. number ≤ continuing) }
+    {
+        let count = self.containers.len();
+        let asked = self.first_to_end(number, quotes);
+        if self.continue_container(asked, input)? {
+            return Ok(count);
+        }
+        Ok(asked)
+    }
+
+    /// Returns the number of the first container that may end in a line of which nothing is left:
+    /// the first block quote after `quotes` others, or else the last container. It is not one of
+    /// the first `number`.
+    fn first_to_end(&self, number: usize, quotes: usize) -> usize
+        requires { number < length self.now.containers.items }
+        ensures least { number ≤ result }
+        ensures most { result < length self.now.containers.items }
+    {
+        let last = self.containers.len() - 1;
+        let next = self.quotes.get(quotes).copied().unwrap_or(last);
+        next.min(last).max(number)
     }
 
     /// Reads the prefix of the open container with that number, and returns whether it continues.
@@ -405,6 +458,7 @@ impl<'d> Reader<'d> {
         let outside = self.containers.len();
         match container {
             Container::BlockQuote => {
+                self.quotes.pop();
                 self.output.exit_container(Name::BlockQuote, outside)?;
                 Ok(false)
             }
@@ -456,6 +510,7 @@ impl<'d> Reader<'d> {
     {
         match start {
             ContainerStart::BlockQuote => {
+                self.quotes.push(self.containers.len())?;
                 block_quote::open(input, &mut self.output)?;
                 self.push(Container::BlockQuote, input)
             }
@@ -531,6 +586,7 @@ impl<'d> Reader<'d> {
         let Reader {
             output,
             containers: _,
+            quotes: _,
             flow: _,
         } = reader;
         let (pieces, identifiers) = output.finish()?;

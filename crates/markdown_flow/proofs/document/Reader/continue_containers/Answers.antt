@@ -2,10 +2,11 @@ use Rattle.std.proofs.Common.{◌∙◌}
 use Rattle.markdown_flow.proofs.Moves.{moved_on}
 use Rattle.markdown_flow.proofs.document.Reader.continue_containers.Goals as goal
 
-pub loop-number-preserved : goal.loop-number-preserved
-loop-number-preserved c =
-    let before = c.loop-number.invariant in
+pub containers-preserved : goal.containers-preserved
+containers-preserved c =
+    let before = c.containers.invariant in
     let step = c.in_ok-continue_container.ensures in record {
+      count = before.count;
       output = step.output ∙ before.output;
       flow = step.flow ∙ before.flow;
       number = step.number ∙ before.number;
