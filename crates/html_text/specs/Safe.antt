@@ -52,14 +52,15 @@ abbrev pub attributes_of : List ℕ → List (List ℕ)
 attributes_of name =
     if bytes_eq name (codes "a") then codes "href" ∷ codes "title" ∷ codes "id" ∷ codes "class" ∷ codes "data-footnote-ref" ∷ codes "data-footnote-backref" ∷ codes "aria-describedby" ∷ codes "aria-label" ∷ []
     else (if bytes_eq name (codes "img") then codes "src" ∷ codes "alt" ∷ codes "title" ∷ []
-    else (if bytes_eq name (codes "ol") then codes "start" ∷ []
-    else (if bytes_eq name (codes "li") || bytes_eq name (codes "sup") then codes "id" ∷ []
-    else (if bytes_eq name (codes "code") then codes "class" ∷ []
+    else (if bytes_eq name (codes "ol") then codes "start" ∷ codes "class" ∷ []
+    else (if bytes_eq name (codes "li") then codes "id" ∷ codes "class" ∷ []
+    else (if bytes_eq name (codes "sup") then codes "id" ∷ []
+    else (if bytes_eq name (codes "ul") || bytes_eq name (codes "code") then codes "class" ∷ []
     else (if bytes_eq name (codes "input") then codes "type" ∷ codes "checked" ∷ codes "disabled" ∷ []
     else (if bytes_eq name (codes "th") || bytes_eq name (codes "td") then codes "align" ∷ []
     else (if bytes_eq name (codes "section") then codes "data-footnotes" ∷ codes "class" ∷ []
     else (if bytes_eq name (codes "h2") then codes "class" ∷ codes "id" ∷ []
-    else []))))))))
+    else [])))))))))
 
 -- the rest of a text that begins with another one
 abbrev pub after_front : List ℕ → List ℕ → Option (List ℕ)
@@ -81,7 +82,7 @@ is_language_class value = elim (after_front (codes "language-") value) [ None �
 
 -- the other classes that are allowed
 abbrev pub classes : List (List ℕ)
-classes = codes "language-math math-inline" ∷ codes "language-math math-display" ∷ codes "footnotes" ∷ codes "sr-only" ∷ codes "data-footnote-backref" ∷ []
+classes = codes "contains-task-list" ∷ codes "task-list-item" ∷ codes "language-math math-inline" ∷ codes "language-math math-display" ∷ codes "footnotes" ∷ codes "sr-only" ∷ codes "data-footnote-backref" ∷ []
 
 -- attributes whose values are texts for people
 abbrev pub texts : List (List ℕ)

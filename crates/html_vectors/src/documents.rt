@@ -70,8 +70,32 @@ fn lists(rt: HostRuntime) -> Result<(), AllocError> {
     shows(
         &rt,
         alloc,
-        "1. [x] a\n2. [ ] b",
-        "<ol>\n<li><input type=\"checkbox\" checked=\"\" disabled=\"\" /> a</li>\n<li><input type=\"checkbox\" disabled=\"\" /> b</li>\n</ol>\n",
+        "7) a\n8) b",
+        "<ol start=\"7\">\n<li>a</li>\n<li>b</li>\n</ol>\n",
+    )
+}
+
+/// The classes and the place of the box are those of mdast-util-to-hast.
+#[test]
+fn tasks(rt: HostRuntime) -> Result<(), AllocError> {
+    let alloc = rt.alloc();
+    shows(
+        &rt,
+        alloc,
+        "2. [x] a\n3. [ ] b\n4. c",
+        "<ol start=\"2\" class=\"contains-task-list\">\n<li class=\"task-list-item\"><input type=\"checkbox\" checked=\"\" disabled=\"\" /> a</li>\n<li class=\"task-list-item\"><input type=\"checkbox\" disabled=\"\" /> b</li>\n<li>c</li>\n</ol>\n",
+    )?;
+    shows(
+        &rt,
+        alloc,
+        "- [ ] a\n\n  b\n- c",
+        "<ul class=\"contains-task-list\">\n<li class=\"task-list-item\">\n<p><input type=\"checkbox\" disabled=\"\" /> a</p>\n<p>b</p>\n</li>\n<li>\n<p>c</p>\n</li>\n</ul>\n",
+    )?;
+    shows(
+        &rt,
+        alloc,
+        "- a\n  - [x] b\n    - c",
+        "<ul>\n<li>a\n<ul class=\"contains-task-list\">\n<li class=\"task-list-item\"><input type=\"checkbox\" checked=\"\" disabled=\"\" /> b\n<ul>\n<li>c</li>\n</ul>\n</li>\n</ul>\n</li>\n</ul>\n",
     )
 }
 

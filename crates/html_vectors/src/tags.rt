@@ -16,9 +16,9 @@ static ELEMENTS: [(&str, &[&str]); 29] = [
     ("h4", &[]),
     ("h5", &[]),
     ("h6", &[]),
-    ("ol", &["start"]),
-    ("ul", &[]),
-    ("li", &["id"]),
+    ("ol", &["start", "class"]),
+    ("ul", &["class"]),
+    ("li", &["id", "class"]),
     ("pre", &[]),
     ("code", &["class"]),
     (

@@ -2,8 +2,8 @@
 
 use crate::expect::writes;
 use markdown_nodes::mdast::{
-    AlignKind, Code, Emphasis, FootnoteReference, Heading, Link, List, ListItem, Node, Paragraph,
-    Table, TableCell, TableRow, Text,
+    AlignKind, Blockquote, Code, Emphasis, FootnoteReference, Heading, Link, List, ListItem, Node,
+    Paragraph, Table, TableCell, TableRow, Text,
 };
 use std::alloc::{AllocError, Global};
 
@@ -171,6 +171,68 @@ fn blocks_in_blocks(rt: HostRuntime) -> Result<(), AllocError> {
         alloc,
         &outer,
         "<table>\n<thead>\n<tr>\n<th>a</th>\n</tr>\n</thead>\n</table>\n",
+    )
+}
+
+/// A list with one task, which has these children.
+fn task(alloc: Global, children: Vec<Node>, spread: bool) -> Result<Node, AllocError> {
+    let item = Node::ListItem(ListItem {
+        children,
+        position: None,
+        spread,
+        checked: Some(false),
+    });
+    Ok(Node::List(List {
+        children: one(alloc, item)?,
+        position: None,
+        ordered: false,
+        start: None,
+        spread: false,
+    }))
+}
+
+/// The pages of tasks that do not begin with a text.
+static TASKS: [(bool, &str, &str); 2] = [
+    (
+        false,
+        "<ul class=\"contains-task-list\">\n<li class=\"task-list-item\"><input type=\"checkbox\" disabled=\"\" /></li>\n</ul>\n",
+        "<ul class=\"contains-task-list\">\n<li class=\"task-list-item\"><input type=\"checkbox\" disabled=\"\" />\n<blockquote>\n<p>a</p>\n</blockquote>\n</li>\n</ul>\n",
+    ),
+    (
+        true,
+        "<ul class=\"contains-task-list\">\n<li class=\"task-list-item\">\n<p><input type=\"checkbox\" disabled=\"\" /></p>\n</li>\n</ul>\n",
+        "<ul class=\"contains-task-list\">\n<li class=\"task-list-item\">\n<p><input type=\"checkbox\" disabled=\"\" /></p>\n<blockquote>\n<p>a</p>\n</blockquote>\n</li>\n</ul>\n",
+    ),
+];
+
+/// A task that does not begin with a paragraph has one of its own, with the box. Before a text there
+/// is a blank.
+#[test]
+fn tasks_without_text(rt: HostRuntime) -> Result<(), AllocError> {
+    let alloc = rt.alloc();
+    for (spread, empty, quoting) in &TASKS {
+        let spread = *spread;
+        writes(&rt, alloc, &task(alloc, Vec::new(alloc), spread)?, empty)?;
+        let quote = Node::Blockquote(Blockquote {
+            children: one(alloc, paragraph(alloc, text(alloc, "a")?)?)?,
+            position: None,
+        });
+        writes(
+            &rt,
+            alloc,
+            &task(alloc, one(alloc, quote)?, spread)?,
+            quoting,
+        )?;
+    }
+    let empty = Node::Paragraph(Paragraph {
+        children: Vec::new(alloc),
+        position: None,
+    });
+    writes(
+        &rt,
+        alloc,
+        &task(alloc, one(alloc, empty)?, true)?,
+        "<ul class=\"contains-task-list\">\n<li class=\"task-list-item\">\n<p><input type=\"checkbox\" disabled=\"\" /></p>\n</li>\n</ul>\n",
     )
 }
 

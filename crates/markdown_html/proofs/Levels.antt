@@ -31,10 +31,10 @@ module _ (it : Source) where
   abbrev pub Writes : Page → (at around : Place) → List Node → Node → List Frame → Page → Type 0
   Writes page at around level parent frames whole = resume frames (finish at around level parent page) ≡ whole
 
-  one_more : (at : Place) (x : Node) (xs : List Node) (page : Page) → nodes_page it at (views (x ∷ xs)) page ≡ (let here = followed at (views xs) in let down = inside here (label_of x) (views (nodes_in x)) in nodes_page it (after at) (views xs) (left it here (label_of x) (views (nodes_in x)) (nodes_page it down (views (nodes_in x)) (entered it here (label_of x) page))))
+  one_more : (at : Place) (x : Node) (xs : List Node) (page : Page) → nodes_page it at (views (x ∷ xs)) page ≡ (let here = followed at (views xs) in let down = inside here (label_of x) (views (nodes_in x)) in nodes_page it (after at) (views xs) (left it here (label_of x) (views (nodes_in x)) (nodes_page it down (views (nodes_in x)) (entered it here (label_of x) (views (nodes_in x)) page))))
   one_more at x xs page = ap (λ (t : Tree). nodes_page it (after at) (views xs) (tree_page it (followed at (views xs)) t page)) (view-is x)
 
-  pub writes_first : (place : Place) (node : Node) (start page : Page) (at around : Place) (level : List Node) (frames : List Frame) → page ≡ entered it place (label_of node) start → around ≡ place → at ≡ inside around (label_of node) (views (nodes_in node)) → level ≡ nodes_in node → frames ≡ [] → Writes page at around level node frames (tree_page it place (view node) start)
+  pub writes_first : (place : Place) (node : Node) (start page : Page) (at around : Place) (level : List Node) (frames : List Frame) → page ≡ entered it place (label_of node) (views (nodes_in node)) start → around ≡ place → at ≡ inside around (label_of node) (views (nodes_in node)) → level ≡ nodes_in node → frames ≡ [] → Writes page at around level node frames (tree_page it place (view node) start)
   writes_first place node start page at around level frames begun top stands holds none =
       ap (λ (fs : List Frame). resume fs (finish at around level node page)) none
       ∙ ap (λ (l : List Node). finish at around l node page) holds
@@ -43,9 +43,9 @@ module _ (it : Source) where
       ∙ ap (λ (p : Page). finish (inside place (label_of node) (views (nodes_in node))) place (nodes_in node) node p) begun
       ∙ sym (ap (λ (t : Tree). tree_page it place t start) (view-is node))
 
-  pub writes_down : (page written whole : Page) (at around below next here : Place) (level rest inner : List Node) (parent first : Node) (frames pushed : List Frame) (top : Frame) → Writes page at around level parent frames whole → level ≡ first ∷ rest → here ≡ followed at (views rest) → inner ≡ nodes_in first → below ≡ inside here (label_of first) (views (nodes_in first)) → next ≡ after at → pushed ≡ frames ++ top ∷ [] → top.rest.now ≡ rest → top.parent.now ≡ parent → place_of top.around ≡ around → place_of top.at ≡ next → written ≡ entered it here (label_of first) page → Writes written below here inner first pushed whole
+  pub writes_down : (page written whole : Page) (at around below next here : Place) (level rest inner : List Node) (parent first : Node) (frames pushed : List Frame) (top : Frame) → Writes page at around level parent frames whole → level ≡ first ∷ rest → here ≡ followed at (views rest) → inner ≡ nodes_in first → below ≡ inside here (label_of first) (views (nodes_in first)) → next ≡ after at → pushed ≡ frames ++ top ∷ [] → top.rest.now ≡ rest → top.parent.now ≡ parent → place_of top.around ≡ around → place_of top.at ≡ next → written ≡ entered it here (label_of first) (views (nodes_in first)) page → Writes written below here inner first pushed whole
   writes_down page written whole at around below next here level rest inner parent first frames pushed top so_far is stands holds inside_is follows stack same_rest same_parent same_around same_at added =
-      let done = left it here (label_of first) (views (nodes_in first)) (nodes_page it (inside here (label_of first) (views (nodes_in first))) (views (nodes_in first)) (entered it here (label_of first) page)) in
+      let done = left it here (label_of first) (views (nodes_in first)) (nodes_page it (inside here (label_of first) (views (nodes_in first))) (views (nodes_in first)) (entered it here (label_of first) (views (nodes_in first)) page)) in
       ap (λ (fs : List Frame). resume fs (finish below here inner first written)) stack
       ∙ resume-snoc frames top (finish below here inner first written)
       ∙ ap (λ (l : List Node). resume frames (finish_frame top (finish below here l first written))) holds
@@ -55,7 +55,7 @@ module _ (it : Source) where
       ∙ ap (λ (n : Node). resume frames (finish (place_of top.at) (place_of top.around) rest n done)) same_parent
       ∙ ap (λ (p : Place). resume frames (finish (place_of top.at) p rest parent done)) same_around
       ∙ ap (λ (p : Place). resume frames (finish p around rest parent done)) (same_at ∙ follows)
-      ∙ ap (λ (h : Place). resume frames (left it around (label_of parent) (views (nodes_in parent)) (nodes_page it (after at) (views rest) (left it h (label_of first) (views (nodes_in first)) (nodes_page it (inside h (label_of first) (views (nodes_in first))) (views (nodes_in first)) (entered it h (label_of first) page)))))) stands
+      ∙ ap (λ (h : Place). resume frames (left it around (label_of parent) (views (nodes_in parent)) (nodes_page it (after at) (views rest) (left it h (label_of first) (views (nodes_in first)) (nodes_page it (inside h (label_of first) (views (nodes_in first))) (views (nodes_in first)) (entered it h (label_of first) (views (nodes_in first)) page)))))) stands
       ∙ ap (λ (p : Page). resume frames (left it around (label_of parent) (views (nodes_in parent)) p)) (sym (one_more at first rest page))
       ∙ ap (λ (l : List Node). resume frames (finish at around l parent page)) (sym is)
       ∙ so_far

@@ -12,29 +12,30 @@ use Rattle.std.proofs.lemmas.Option.{none-some}
 use Rattle.markdown_nodes.specs.Walk.{walk, walks}
 use Rattle.mdast_util.specs.Definitions.{definition_in}
 use Rattle.markdown_html.specs.declared.place.Kind.{Kind}
-use Rattle.markdown_html.specs.declared.place.Kind.TheVariants.{Text, Linked, Flow, Tight, LooseItem, TightItem, Hidden, FirstRow, SecondRow, LaterRow, HeaderCell, Cell, Note, Tail}
-use Rattle.markdown_html.specs.Elements.{back_references, call_text, cell_end, cell_start, check_box, empty_cells, heading_name, image_tag, linked_call_text, note_start, passes, raw_html, reference_end, section_start}
-use Rattle.markdown_html.specs.Html.{Source, allowed_of, back_page, cell_name, checked_of, closed, count, ends_with_paragraph, entered, footnote_end, footnote_in, footnote_start, html, is_footnote, is_free, is_free_tree, is_no_html, left, link_back, link_front, most_notes, nodes_page, notes_page, opened, paragraph_end, paragraph_start, phrase_closed, phrase_opened, row_end, table_end, title_of, tree_page, url_of}
+use Rattle.markdown_html.specs.declared.place.Kind.TheVariants.{Text, Linked, Flow, Tight, LooseItem, TightItem, Hidden, FirstRow, SecondRow, LaterRow, HeaderCell, Cell, Note, Tail, Task}
+use Rattle.markdown_html.specs.Elements.{back_references, call_text, cell_end, cell_start, empty_cells, heading_name, image_tag, linked_call_text, note_start, passes, raw_html, reference_end, section_start, task_start}
+use Rattle.markdown_html.specs.Html.{Source, allowed_of, back_page, any_task, begins_with_paragraph, begins_with_text, cell_name, closed, count, ends_with_paragraph, entered, first_box, footnote_end, footnote_in, footnote_start, has_nodes, html, is_footnote, is_free, is_free_tree, is_no_html, left, link_back, link_front, listed_closed, listed_opened, most_notes, nodes_page, notes_page, opened, paragraph_end, paragraph_start, phrase_closed, phrase_opened, row_end, table_end, title_of, tree_page, url_of}
 use Rattle.markdown_html.specs.Page.{Call, Page, blank, block, fresh_line, is_fresh, on_new_line, put, say}
-use Rattle.markdown_html.specs.Places.{Place, after, any_spread, below, followed, in_cell as cell_place, in_footnote, in_item, in_list, in_text, inside, place, unended}
-use Rattle.markdown_html.proofs.Tokens.{InList, Linkless, TakesBlocks, backs_read, call_reads, cell_ends, cell_reads, check_box_reads, code_reads, code_text_reads, empty_cells_read, heading_ends, heading_linkless, heading_reads, image_reads, in_cell, link_reads, linked_call_reads, list_ends, list_is_in, list_linkless, list_name, list_reads, list_takes_blocks, math_reads, math_text_reads, note_reads, raw_reads, section_reads, td_starts, th_starts}
+use Rattle.markdown_html.specs.Places.{Place, after, any_spread, below, checked_of, followed, in_cell as cell_place, in_footnote, in_item, in_list, in_listed, in_text, inside, place, unended}
+use Rattle.markdown_html.proofs.Tokens.{InList, Linkless, TakesBlocks, backs_read, call_reads, cell_ends, cell_reads, check_box_reads, code_reads, code_text_reads, empty_cells_read, heading_ends, heading_linkless, heading_reads, image_reads, in_cell, link_reads, linked_call_reads, list_ends, list_is_in, list_linkless, list_name, list_reads, list_takes_blocks, math_reads, math_text_reads, note_reads, raw_reads, section_reads, task_reads, td_starts, th_starts}
 
 -- what holds of each kind of place holds of any
-by_kind : (P : Kind → Type 0) → P Text → P Linked → P Flow → P Tight → P LooseItem → P TightItem → P Hidden → P FirstRow → P SecondRow → P LaterRow → P HeaderCell → P Cell → ((n : ℕ) → P (Note n)) → ((n : ℕ) → P (Tail n)) → (kind : Kind) → P kind
-by_kind P of_text of_linked of_flow of_tight of_loose of_tight_item of_hidden of_first of_second of_later of_header of_cell of_note of_tail Text = of_text
-by_kind P of_text of_linked of_flow of_tight of_loose of_tight_item of_hidden of_first of_second of_later of_header of_cell of_note of_tail Linked = of_linked
-by_kind P of_text of_linked of_flow of_tight of_loose of_tight_item of_hidden of_first of_second of_later of_header of_cell of_note of_tail Flow = of_flow
-by_kind P of_text of_linked of_flow of_tight of_loose of_tight_item of_hidden of_first of_second of_later of_header of_cell of_note of_tail Tight = of_tight
-by_kind P of_text of_linked of_flow of_tight of_loose of_tight_item of_hidden of_first of_second of_later of_header of_cell of_note of_tail LooseItem = of_loose
-by_kind P of_text of_linked of_flow of_tight of_loose of_tight_item of_hidden of_first of_second of_later of_header of_cell of_note of_tail TightItem = of_tight_item
-by_kind P of_text of_linked of_flow of_tight of_loose of_tight_item of_hidden of_first of_second of_later of_header of_cell of_note of_tail Hidden = of_hidden
-by_kind P of_text of_linked of_flow of_tight of_loose of_tight_item of_hidden of_first of_second of_later of_header of_cell of_note of_tail FirstRow = of_first
-by_kind P of_text of_linked of_flow of_tight of_loose of_tight_item of_hidden of_first of_second of_later of_header of_cell of_note of_tail SecondRow = of_second
-by_kind P of_text of_linked of_flow of_tight of_loose of_tight_item of_hidden of_first of_second of_later of_header of_cell of_note of_tail LaterRow = of_later
-by_kind P of_text of_linked of_flow of_tight of_loose of_tight_item of_hidden of_first of_second of_later of_header of_cell of_note of_tail HeaderCell = of_header
-by_kind P of_text of_linked of_flow of_tight of_loose of_tight_item of_hidden of_first of_second of_later of_header of_cell of_note of_tail Cell = of_cell
-by_kind P of_text of_linked of_flow of_tight of_loose of_tight_item of_hidden of_first of_second of_later of_header of_cell of_note of_tail (Note n) = of_note n
-by_kind P of_text of_linked of_flow of_tight of_loose of_tight_item of_hidden of_first of_second of_later of_header of_cell of_note of_tail (Tail n) = of_tail n
+by_kind : (P : Kind → Type 0) → P Text → P Linked → P Flow → P Tight → P LooseItem → P TightItem → P Hidden → P FirstRow → P SecondRow → P LaterRow → P HeaderCell → P Cell → ((n : ℕ) → P (Note n)) → ((n : ℕ) → P (Tail n)) → ((c : Bool) → P (Task c)) → (kind : Kind) → P kind
+by_kind P of_text of_linked of_flow of_tight of_loose of_tight_item of_hidden of_first of_second of_later of_header of_cell of_note of_tail of_task Text = of_text
+by_kind P of_text of_linked of_flow of_tight of_loose of_tight_item of_hidden of_first of_second of_later of_header of_cell of_note of_tail of_task Linked = of_linked
+by_kind P of_text of_linked of_flow of_tight of_loose of_tight_item of_hidden of_first of_second of_later of_header of_cell of_note of_tail of_task Flow = of_flow
+by_kind P of_text of_linked of_flow of_tight of_loose of_tight_item of_hidden of_first of_second of_later of_header of_cell of_note of_tail of_task Tight = of_tight
+by_kind P of_text of_linked of_flow of_tight of_loose of_tight_item of_hidden of_first of_second of_later of_header of_cell of_note of_tail of_task LooseItem = of_loose
+by_kind P of_text of_linked of_flow of_tight of_loose of_tight_item of_hidden of_first of_second of_later of_header of_cell of_note of_tail of_task TightItem = of_tight_item
+by_kind P of_text of_linked of_flow of_tight of_loose of_tight_item of_hidden of_first of_second of_later of_header of_cell of_note of_tail of_task Hidden = of_hidden
+by_kind P of_text of_linked of_flow of_tight of_loose of_tight_item of_hidden of_first of_second of_later of_header of_cell of_note of_tail of_task FirstRow = of_first
+by_kind P of_text of_linked of_flow of_tight of_loose of_tight_item of_hidden of_first of_second of_later of_header of_cell of_note of_tail of_task SecondRow = of_second
+by_kind P of_text of_linked of_flow of_tight of_loose of_tight_item of_hidden of_first of_second of_later of_header of_cell of_note of_tail of_task LaterRow = of_later
+by_kind P of_text of_linked of_flow of_tight of_loose of_tight_item of_hidden of_first of_second of_later of_header of_cell of_note of_tail of_task HeaderCell = of_header
+by_kind P of_text of_linked of_flow of_tight of_loose of_tight_item of_hidden of_first of_second of_later of_header of_cell of_note of_tail of_task Cell = of_cell
+by_kind P of_text of_linked of_flow of_tight of_loose of_tight_item of_hidden of_first of_second of_later of_header of_cell of_note of_tail of_task (Note n) = of_note n
+by_kind P of_text of_linked of_flow of_tight of_loose of_tight_item of_hidden of_first of_second of_later of_header of_cell of_note of_tail of_task (Tail n) = of_tail n
+by_kind P of_text of_linked of_flow of_tight of_loose of_tight_item of_hidden of_first of_second of_later of_header of_cell of_note of_tail of_task (Task c) = of_task c
 
 -- what is open around a place, from what is open around the table or the row that it is in
 abbrev base : Kind → List (List ℕ) → List (List ℕ)
@@ -67,11 +68,13 @@ Fits HeaderCell up = Linkless up
 Fits Cell up = Linkless up
 Fits (Note _) up = InList up × Blocks up
 Fits (Tail _) up = Blocks up
+Fits (Task _) up = Blocks up
 
 -- the kind of place of the next sibling, and of what follows some nodes
 abbrev next : Kind → Kind
 next FirstRow = SecondRow
 next SecondRow = LaterRow
+next (Task _) = Flow
 next kind = kind
 
 abbrev ends : Kind → Trees → Kind
@@ -79,10 +82,10 @@ ends kind nothing = kind
 ends kind (node _ _ _ rest) = ends (next kind) rest
 
 after_kind : (kind : Kind) (columns : Option (List AlignKind)) → (after (record { kind = kind; columns = columns })).kind ≡ next kind
-after_kind kind columns = by_kind (λ k. (after (record { kind = k; columns = columns })).kind ≡ next k) refl refl refl refl refl refl refl refl refl refl refl refl (λ n. refl) (λ n. refl) kind
+after_kind kind columns = by_kind (λ k. (after (record { kind = k; columns = columns })).kind ≡ next k) refl refl refl refl refl refl refl refl refl refl refl refl (λ n. refl) (λ n. refl) (λ c. refl) kind
 
 next_fits : (kind : Kind) (up : List (List ℕ)) → Fits kind up → Fits (next kind) up
-next_fits kind up = by_kind (λ k. Fits k up → Fits (next k) up) (λ f. f) (λ f. f) (λ f. f) (λ f. f) (λ f. f) (λ f. f) (λ f. f) (λ f. f) (λ f. f) (λ f. f) (λ f. f) (λ f. f) (λ _ f. f) (λ _ f. f) kind
+next_fits kind up = by_kind (λ k. Fits k up → Fits (next k) up) (λ f. f) (λ f. f) (λ f. f) (λ f. f) (λ f. f) (λ f. f) (λ f. f) (λ f. f) (λ f. f) (λ f. f) (λ f. f) (λ f. f) (λ _ f. f) (λ _ f. f) (λ _ f. f) kind
 
 -- a kind of place whose nodes leave open what was open
 record Steady (kind : Kind) : Type 0 where
@@ -176,11 +179,15 @@ module _ (it : Source) where
   MayNote (Note _) up = InList up
   MayNote _ up = Unit {0}
 
-  paragraph_opens : (kind : Kind) (page : Page) (up : List (List ℕ)) → TakesBlocks up → At page up → At (put page (paragraph_start kind page.text)) (in_paragraph kind up)
-  paragraph_opens kind page up takes p =
-      let begin : Read (content up) (codes "<p>") (content (codes "p" ∷ up)) = record { is = rw takes refl } in
+  paragraph_begins : (up : List (List ℕ)) → TakesBlocks up → Read (content up) (codes "<p>") (content (codes "p" ∷ up))
+  paragraph_begins up takes = record { is = rw takes refl }
+
+  paragraph_opens : (kind : Kind) (children : Trees) (page : Page) (up : List (List ℕ)) → TakesBlocks up → At page up → At (put page (paragraph_start kind children page.text)) (in_paragraph kind up)
+  paragraph_opens kind children page up takes p =
+      let begin = paragraph_begins up takes in
       let other : Read (content []) (fresh_line page.text ++ codes "<p>") (content (codes "p" ∷ up)) = both (allowed_of it) (fresh p) begin in
-      by_kind (λ k. At (put page (paragraph_start k page.text)) (in_paragraph k up)) other other other p other other other other other other other other (λ _. other) (λ _. other) kind
+      by_kind (λ k. At (put page (paragraph_start k children page.text)) (in_paragraph k up)) other other other p other other other other other other other other (λ _. other) (λ _. other)
+      (λ c. both (allowed_of it) (fresh p) (both (allowed_of it) begin (check_box_reads it.raw it.id_prefix (codes "p" ∷ up) c (has_nodes children)))) kind
 
   held_back : (passing : Bool) → (not passing || false) ≡ true → passing ≡ false
   held_back true fine = absurd (false≢true fine)
@@ -225,7 +232,7 @@ module _ (it : Source) where
   footnote_opens : (kind : Kind) (page : Page) (up : List (List ℕ)) → MayNote kind up → At page up → At (footnote_start it kind page) (in_note kind up)
   footnote_opens kind page up may p =
       by_kind (λ k. MayNote k up → At (footnote_start it k page) (in_note k up)) (λ _. p) (λ _. p) (λ _. p) (λ _. p) (λ _. p) (λ _. p) (λ _. p) (λ _. p) (λ _. p) (λ _. p) (λ _. p) (λ _. p)
-      (λ n. λ listed. says page p (note_opens (slice_get page.calls n) up listed)) (λ _. λ _. p) kind may
+      (λ n. λ listed. says page p (note_opens (slice_get page.calls n) up listed)) (λ _. λ _. p) (λ _. λ _. p) kind may
 
   back_pages : (call : Option Call) (number : ℕ) (page : Page) (up : List (List ℕ)) → Linkless up → At page up → At (elim call [ None ↦ page | Some c ↦ say page (back_references it.id_prefix c.identifier (number + 1) c.count) ]) up
   back_pages None number page up linkless p = p
@@ -238,7 +245,7 @@ module _ (it : Source) where
   paragraph_closes kind page up linkless =
       let end : Read (content (codes "p" ∷ up)) (codes "</p>\n") (content up) = reads (content (codes "p" ∷ up)) (codes "</p>\n") in
       let other : At page (codes "p" ∷ up) → At (say page (codes "</p>\n")) up = λ p. says page p end in
-      by_kind (λ k. At page (in_paragraph k up) → At (paragraph_end it k page) up) other other other (λ p. p) other other other other other other other other (λ _. other) (λ n. λ p. says (back_page it n page) (backs n page (codes "p" ∷ up) linkless p) end) kind
+      by_kind (λ k. At page (in_paragraph k up) → At (paragraph_end it k page) up) other other other (λ p. p) other other other other other other other other (λ _. other) (λ n. λ p. says (back_page it n page) (backs n page (codes "p" ∷ up) linkless p) end) (λ _. other) kind
 
   note_closes : (has_paragraph : Bool) (number : ℕ) (page : Page) (up : List (List ℕ)) → Linkless up → At page (codes "li" ∷ up) → At (say (if has_paragraph then page else say (back_page it number (on_new_line page)) (codes "\n")) (codes "</li>\n")) up
   note_closes true number page up linkless p = says page p (reads (content (codes "li" ∷ up)) (codes "</li>\n"))
@@ -247,7 +254,7 @@ module _ (it : Source) where
       says (say (back_page it number (on_new_line page)) (codes "\n")) (says (back_page it number (on_new_line page)) (backs number (on_new_line page) inside linkless (fresh p)) (reads (content inside) (codes "\n"))) (reads (content inside) (codes "</li>\n"))
 
   footnote_closes : (kind : Kind) (children : Trees) (page : Page) (up : List (List ℕ)) → Linkless up → At page (in_note kind up) → At (footnote_end it kind children page) up
-  footnote_closes kind children page up linkless = by_kind (λ k. At page (in_note k up) → At (footnote_end it k children page) up) (λ p. p) (λ p. p) (λ p. p) (λ p. p) (λ p. p) (λ p. p) (λ p. p) (λ p. p) (λ p. p) (λ p. p) (λ p. p) (λ p. p) (λ n. note_closes (ends_with_paragraph children) n page up linkless) (λ _. λ p. p) kind
+  footnote_closes kind children page up linkless = by_kind (λ k. At page (in_note k up) → At (footnote_end it k children page) up) (λ p. p) (λ p. p) (λ p. p) (λ p. p) (λ p. p) (λ p. p) (λ p. p) (λ p. p) (λ p. p) (λ p. p) (λ p. p) (λ p. p) (λ n. note_closes (ends_with_paragraph children) n page up linkless) (λ _. λ p. p) (λ _. λ p. p) kind
 
   -- what stands before the children of a node in a text opens its element
   phrase_opens : (linked : Bool) (label : Label) (page : Page) (up : List (List ℕ)) → MayLink linked up → Fine (is_no_html label) → At page up → At (phrase_opened it linked label page) (phrase_in linked label up)
@@ -314,36 +321,36 @@ module _ (it : Source) where
   phrase_closes linked (definition _ _ _ _) page up p = p
 
   -- the same for a node among blocks
-  opens : (kind : Kind) (label : Label) (page : Page) (up : List (List ℕ)) → Blocks up → MayNote kind up → Fine (is_no_html label) → At page up → At (opened it kind label page) (open_in kind label up)
-  opens kind root page up may note fine p = phrase_opens false root page up may.0 fine p
-  opens kind paragraph page up may note fine p = paragraph_opens kind page up may.1 p
-  opens kind blockquote page up may note fine p = blocks page p (record { is = rw may.1 refl })
-  opens kind emphasis page up may note fine p = phrase_opens false emphasis page up may.0 fine p
-  opens kind strong page up may note fine p = phrase_opens false strong page up may.0 fine p
-  opens kind delete page up may note fine p = phrase_opens false delete page up may.0 fine p
-  opens kind table_row page up may note fine p = phrase_opens false table_row page up may.0 fine p
-  opens kind table_cell page up may note fine p = phrase_opens false table_cell page up may.0 fine p
-  opens kind thematic_break page up may note fine p = blocks page p (record { is = rw may.1 refl })
-  opens kind «break» page up may note fine p = phrase_opens false «break» page up may.0 fine p
-  opens kind (text v) page up may note fine p = phrase_opens false (text v) page up may.0 fine p
-  opens kind (raw_node value) page up may note fine p = fresh (both (allowed_of it) (fresh p) (raw_texts value up fine))
-  opens kind (inline_code v) page up may note fine p = phrase_opens false (inline_code v) page up may.0 fine p
-  opens kind (inline_math v) page up may note fine p = phrase_opens false (inline_math v) page up may.0 fine p
-  opens kind (yaml v) page up may note fine p = phrase_opens false (yaml v) page up may.0 fine p
-  opens kind (toml v) page up may note fine p = phrase_opens false (toml v) page up may.0 fine p
-  opens kind (heading depth) page up may note fine p = blocks page p (heading_reads it.raw it.id_prefix up depth may.1)
-  opens kind (list ordered start _) page up may note fine p = blocks page p (list_reads it.raw it.id_prefix up ordered start may.1)
-  opens kind (list_item s c) page up may note fine p = phrase_opens false (list_item s c) page up may.0 fine p
-  opens kind (table _) page up may note fine p = blocks page p (record { is = rw may.1 refl })
-  opens kind (code value lang _) page up may note fine p = blocks page p (code_reads it.raw it.id_prefix up lang value may.1)
-  opens kind (math value _) page up may note fine p = blocks page p (math_reads it.raw it.id_prefix up value may.1)
-  opens kind (link u t) page up may note fine p = phrase_opens false (link u t) page up may.0 fine p
-  opens kind (image a u t) page up may note fine p = phrase_opens false (image a u t) page up may.0 fine p
-  opens kind (link_reference k i l) page up may note fine p = phrase_opens false (link_reference k i l) page up may.0 fine p
-  opens kind (image_reference a k i l) page up may note fine p = phrase_opens false (image_reference a k i l) page up may.0 fine p
-  opens kind (footnote_reference i l) page up may note fine p = phrase_opens false (footnote_reference i l) page up may.0 fine p
-  opens kind (footnote_definition _ _) page up may note fine p = footnote_opens kind page up note p
-  opens kind (definition u t i l) page up may note fine p = phrase_opens false (definition u t i l) page up may.0 fine p
+  opens : (kind : Kind) (label : Label) (children : Trees) (page : Page) (up : List (List ℕ)) → Blocks up → MayNote kind up → Fine (is_no_html label) → At page up → At (opened it kind label children page) (open_in kind label up)
+  opens kind root children page up may note fine p = phrase_opens false root page up may.0 fine p
+  opens kind paragraph children page up may note fine p = paragraph_opens kind children page up may.1 p
+  opens kind blockquote children page up may note fine p = blocks page p (record { is = rw may.1 refl })
+  opens kind emphasis children page up may note fine p = phrase_opens false emphasis page up may.0 fine p
+  opens kind strong children page up may note fine p = phrase_opens false strong page up may.0 fine p
+  opens kind delete children page up may note fine p = phrase_opens false delete page up may.0 fine p
+  opens kind table_row children page up may note fine p = phrase_opens false table_row page up may.0 fine p
+  opens kind table_cell children page up may note fine p = phrase_opens false table_cell page up may.0 fine p
+  opens kind thematic_break children page up may note fine p = blocks page p (record { is = rw may.1 refl })
+  opens kind «break» children page up may note fine p = phrase_opens false «break» page up may.0 fine p
+  opens kind (text v) children page up may note fine p = phrase_opens false (text v) page up may.0 fine p
+  opens kind (raw_node value) children page up may note fine p = fresh (both (allowed_of it) (fresh p) (raw_texts value up fine))
+  opens kind (inline_code v) children page up may note fine p = phrase_opens false (inline_code v) page up may.0 fine p
+  opens kind (inline_math v) children page up may note fine p = phrase_opens false (inline_math v) page up may.0 fine p
+  opens kind (yaml v) children page up may note fine p = phrase_opens false (yaml v) page up may.0 fine p
+  opens kind (toml v) children page up may note fine p = phrase_opens false (toml v) page up may.0 fine p
+  opens kind (heading depth) children page up may note fine p = blocks page p (heading_reads it.raw it.id_prefix up depth may.1)
+  opens kind (list ordered start _) children page up may note fine p = blocks page p (list_reads it.raw it.id_prefix up ordered (any_task children) start may.1)
+  opens kind (list_item s c) children page up may note fine p = phrase_opens false (list_item s c) page up may.0 fine p
+  opens kind (table _) children page up may note fine p = blocks page p (record { is = rw may.1 refl })
+  opens kind (code value lang _) children page up may note fine p = blocks page p (code_reads it.raw it.id_prefix up lang value may.1)
+  opens kind (math value _) children page up may note fine p = blocks page p (math_reads it.raw it.id_prefix up value may.1)
+  opens kind (link u t) children page up may note fine p = phrase_opens false (link u t) page up may.0 fine p
+  opens kind (image a u t) children page up may note fine p = phrase_opens false (image a u t) page up may.0 fine p
+  opens kind (link_reference k i l) children page up may note fine p = phrase_opens false (link_reference k i l) page up may.0 fine p
+  opens kind (image_reference a k i l) children page up may note fine p = phrase_opens false (image_reference a k i l) page up may.0 fine p
+  opens kind (footnote_reference i l) children page up may note fine p = phrase_opens false (footnote_reference i l) page up may.0 fine p
+  opens kind (footnote_definition _ _) children page up may note fine p = footnote_opens kind page up note p
+  opens kind (definition u t i l) children page up may note fine p = phrase_opens false (definition u t i l) page up may.0 fine p
 
   -- the elements that are open after the children of a node: a table may have its body open
   abbrev within : Kind → Label → Trees → List (List ℕ) → List (List ℕ)
@@ -368,7 +375,7 @@ module _ (it : Source) where
       let end : Read (content inside) (codes "</tr>\n") (content up) = reads (content inside) (codes "</tr>\n") in
       let header = empty_cells_read it.raw it.id_prefix inside (codes "th") (th_starts it.raw it.id_prefix up) (reads (content inside) (codes "<th>")) (reads (content (codes "th" ∷ inside)) (codes "</th>\n")) columns in
       let other = empty_cells_read it.raw it.id_prefix inside (codes "td") (td_starts it.raw it.id_prefix up) (reads (content inside) (codes "<td>")) (reads (content (codes "td" ∷ inside)) (codes "</td>\n")) columns in
-      both (allowed_of it) (by_kind (λ k. Read (content inside) (empty_cells (cell_name k) columns) (content inside)) other other other other other other other header other other other other (λ _. other) (λ _. other) at.kind) end
+      both (allowed_of it) (by_kind (λ k. Read (content inside) (empty_cells (cell_name k) columns) (content inside)) other other other other other other other header other other other other (λ _. other) (λ _. other) (λ _. other) at.kind) end
 
   closes : (kind : Kind) (label : Label) (children : Trees) (page : Page) (up : List (List ℕ)) → Linkless up → At page (within kind label children up) → At (closed it kind label children page) up
   closes kind root children page up linkless p = phrase_closes false root page up p
@@ -481,19 +488,19 @@ module _ (it : Source) where
   item_down kind children page up level fits p =
       let Claim : Kind → Type 0 = λ k. Level (in_item k) children → At (nodes_page it (in_item k) children page) up in
       let other : Level (place Flow) children → At (nodes_page it (place Flow) children page) up = λ l. flow_down Flow children page up l (steady Flow refl (λ u. refl)) fits p in
-      by_kind Claim other other other (λ l. flow_down Tight children page up l (steady Tight refl (λ u. refl)) fits p) other other other other other other other other (λ _. other) (λ _. other) kind level
+      by_kind Claim other other other (λ l. flow_down Tight children page up l (steady Tight refl (λ u. refl)) fits p) other other other other other other other other (λ _. other) (λ _. other) (λ _. other) kind level
 
   footnote_down : (kind : Kind) (children : Trees) (page : Page) (up : List (List ℕ)) → Level (in_footnote kind) children → Blocks up → At page (in_note kind up) → At (nodes_page it (in_footnote kind) children page) (in_note kind up)
   footnote_down kind children page up level fits p =
       let Claim : Kind → Type 0 = λ k. Level (in_footnote k) children → At page (in_note k up) → At (nodes_page it (in_footnote k) children page) (in_note k up) in
       let other : Level (place Hidden) children → At page up → At (nodes_page it (place Hidden) children page) up = λ l q. hidden_down children page up l q in
-      by_kind Claim other other other other other other other other other other other other (λ n. λ l q. flow_down (Tail n) children page (codes "li" ∷ up) l (steady (Tail n) refl (λ u. refl)) fits q) (λ _. other) kind level p
+      by_kind Claim other other other other other other other other other other other other (λ n. λ l q. flow_down (Tail n) children page (codes "li" ∷ up) l (steady (Tail n) refl (λ u. refl)) fits q) (λ _. other) (λ _. other) kind level p
 
   paragraph_down : (kind : Kind) (children : Trees) (page : Page) (up : List (List ℕ)) → Level (place Text) children → Linkless up → At page (in_paragraph kind up) → At (nodes_page it (place Text) children page) (in_paragraph kind up)
   paragraph_down kind children page up level linkless p =
       let Claim : Kind → Type 0 = λ k. At page (in_paragraph k up) → At (nodes_page it (place Text) children page) (in_paragraph k up) in
       let other : At page (codes "p" ∷ up) → At (nodes_page it (place Text) children page) (codes "p" ∷ up) = λ q. text_down false children page (codes "p" ∷ up) level linkless q in
-      by_kind Claim other other other (λ q. text_down false children page up level linkless q) other other other other other other other other (λ _. other) (λ _. other) kind p
+      by_kind Claim other other other (λ q. text_down false children page up level linkless q) other other other other other other other other (λ _. other) (λ _. other) (λ _. other) kind p
 
   down : (kind : Kind) (label : Label) (children : Trees) (page : Page) (up : List (List ℕ)) → Level (below kind label children) children → Blocks up → At page (open_in kind label up) → At (nodes_page it (below kind label children) children page) (within kind label children up)
   down kind root children page up level may p = flow_down Flow children page up level (steady Flow refl (λ u. refl)) may p
@@ -526,22 +533,49 @@ module _ (it : Source) where
   down kind (footnote_definition i l) children page up level may p = footnote_down kind children page up level may p
   down kind (definition u t i l) children page up level may p = phrase_down false (definition u t i l) children page up level may.0 p
 
-  plainly : (kind : Kind) (label : Label) (children : Trees) (page : Page) (up : List (List ℕ)) → Fine (is_no_html label) → Level (below kind label children) children → Blocks up → MayNote kind up → At page up → At (closed it kind label children (nodes_page it (below kind label children) children (opened it kind label page))) up
-  plainly kind label children page up fine level may note p = closes kind label children _ up may.0 (down kind label children (opened it kind label page) up level may (opens kind label page up may note fine p))
+  plainly : (kind : Kind) (label : Label) (children : Trees) (page : Page) (up : List (List ℕ)) → Fine (is_no_html label) → Level (below kind label children) children → Blocks up → MayNote kind up → At page up → At (closed it kind label children (nodes_page it (below kind label children) children (opened it kind label children page))) up
+  plainly kind label children page up fine level may note p = closes kind label children _ up may.0 (down kind label children (opened it kind label children page) up level may (opens kind label children page up may note fine p))
 
   -- a node in an item of its own
   item_begins : (up : List (List ℕ)) → InList up → Read (content up) (codes "<li>") (content (codes "li" ∷ up))
   item_begins up listed = record { is = rw listed refl }
 
-  item_opens : (checked : Option Bool) (up : List (List ℕ)) → InList up → Read (content up) (codes "<li>" ++ check_box checked) (content (codes "li" ∷ up))
-  item_opens checked up listed = both (allowed_of it) (item_begins up listed) (check_box_reads it.raw it.id_prefix (codes "li" ∷ up) checked)
-
-  item_read : (kind : Kind) (label : Label) (children : Trees) (page : Page) (up : List (List ℕ)) → Fine (is_no_html label) → Level (below kind label children) children → InList up × Blocks up → MayNote kind (codes "li" ∷ up) → At page up → At (say (closed it kind label children (nodes_page it (below kind label children) children (opened it kind label (block page (codes "<li>" ++ check_box (checked_of label)))))) (codes "</li>\n")) up
+  item_read : (kind : Kind) (label : Label) (children : Trees) (page : Page) (up : List (List ℕ)) → Fine (is_no_html label) → Level (below kind label children) children → InList up × Blocks up → MayNote kind (codes "li" ∷ up) → At page up → At (say (closed it kind label children (nodes_page it (below kind label children) children (opened it kind label children (block page (codes "<li>"))))) (codes "</li>\n")) up
   item_read kind label children page up fine level fits note p =
-      let begun = block page (codes "<li>" ++ check_box (checked_of label)) in
-      says (closed it kind label children (nodes_page it (below kind label children) children (opened it kind label begun)))
-      (plainly kind label children begun (codes "li" ∷ up) fine level fits.1 note (blocks page p (item_opens (checked_of label) up fits.0)))
+      let begun = block page (codes "<li>") in
+      says (closed it kind label children (nodes_page it (below kind label children) children (opened it kind label children begun)))
+      (plainly kind label children begun (codes "li" ∷ up) fine level fits.1 note (blocks page p (item_begins up fits.0)))
       (reads (content (codes "li" ∷ up)) (codes "</li>\n"))
+
+  -- a task
+  line_begins : (up : List (List ℕ)) → TakesBlocks up → Read (content up) (codes "\n<p>") (content (codes "p" ∷ up))
+  line_begins up takes = record { is = rw takes refl }
+
+  first_box_reads : (tight checked : Bool) (children : Trees) (up : List (List ℕ)) → TakesBlocks up → Read (content up) (first_box tight checked children) (content up)
+  first_box_reads true checked children up takes = check_box_reads it.raw it.id_prefix up checked (begins_with_text children)
+  first_box_reads false checked children up takes =
+      let alone = both (allowed_of it) (both (allowed_of it) (line_begins up takes) (check_box_reads it.raw it.id_prefix (codes "p" ∷ up) checked false)) (reads (content (codes "p" ∷ up)) (codes "</p>\n")) in
+      cond_both (begins_with_paragraph children) _ _ (λ t. Read (content up) t (content up)) (λ _. same (content up)) (λ _. alone)
+
+  task_ends : (checked : Bool) (children : Trees) (up : List (List ℕ)) → base (ends (Task checked) children) up ≡ up
+  task_ends checked nothing up = refl
+  task_ends checked (node _ _ _ rest) up = ap (λ (k : Kind). base k up) (ends_same Flow rest refl)
+
+  task_down : (tight checked : Bool) (label : Label) (children : Trees) (page : Page) (up : List (List ℕ)) → Level (in_listed tight (Some checked) label children) children → Blocks up → At page up → At (nodes_page it (in_listed tight (Some checked) label children) children page) up
+  task_down true checked label children page up level fits p = flow_down Tight children page up level (steady Tight refl (λ u. refl)) fits p
+  task_down false checked label children page up level fits p = subst (λ (names : List (List ℕ)). At (nodes_page it (place (Task checked)) children page) names) (task_ends checked children up) (level page up fits p)
+
+  task_read : (tight checked : Bool) (label : Label) (children : Trees) (page : Page) (up : List (List ℕ)) → Level (in_listed tight (Some checked) label children) children → InList up × Blocks up → At page up → At (say (nodes_page it (in_listed tight (Some checked) label children) children (block page (task_start ++ first_box tight checked children))) (codes "</li>\n")) up
+  task_read tight checked label children page up level fits p =
+      let begun = block page (task_start ++ first_box tight checked children) in
+      says (nodes_page it (in_listed tight (Some checked) label children) children begun)
+      (task_down tight checked label children begun (codes "li" ∷ up) level fits.1 (blocks page p (both (allowed_of it) (task_reads it.raw it.id_prefix up fits.0) (first_box_reads tight checked children (codes "li" ∷ up) fits.1.1))))
+      (reads (content (codes "li" ∷ up)) (codes "</li>\n"))
+
+  listed_read : (tight : Bool) (checked : Option Bool) (label : Label) (children : Trees) (page : Page) (up : List (List ℕ)) → Fine (is_no_html label) → Level (in_listed tight checked label children) children → InList up × Blocks up → At page up → At (listed_closed it tight checked label children (nodes_page it (in_listed tight checked label children) children (listed_opened it tight checked label children page))) up
+  listed_read true None label children page up fine level fits p = item_read Tight label children page up fine level fits tt p
+  listed_read false None label children page up fine level fits p = item_read Flow label children page up fine level fits tt p
+  listed_read tight (Some checked) label children page up fine level fits p = task_read tight checked label children page up level fits p
 
   -- a row: its cells leave it open
   row_open : (kind : Kind) (cells : Trees) (up : List (List ℕ)) → next kind ≡ kind → base kind up ≡ codes "tr" ∷ up → base (ends kind cells) up ≡ codes "tr" ∷ up
@@ -602,7 +636,7 @@ module _ (it : Source) where
 
   -- a node where its place is of a kind
   abbrev whole : Place → Label → Trees → Page → Page
-  whole at label children page = left it at label children (nodes_page it (inside at label children) children (entered it at label page))
+  whole at label children page = left it at label children (nodes_page it (inside at label children) children (entered it at label children page))
 
   abbrev Whole : Label → Trees → Page → List (List ℕ) → Option (List AlignKind) → Kind → Type 0
   Whole label children page up columns kind =
@@ -617,8 +651,8 @@ module _ (it : Source) where
       (λ level fits p. phrase_plainly true label children page up fine level fits p)
       (λ level fits p. plainly Flow label children page up fine level fits tt p)
       (λ level fits p. plainly Tight label children page up fine level fits tt p)
-      (λ level fits p. item_read Flow label children page up fine level fits tt p)
-      (λ level fits p. item_read Tight label children page up fine level fits tt p)
+      (λ level fits p. listed_read false (checked_of label) label children page up fine level fits p)
+      (λ level fits p. listed_read true (checked_of label) label children page up fine level fits p)
       (λ level fits p. hidden_down children page up level p)
       (λ level fits p. header_read (place_of_kind FirstRow) children page up level fits p)
       (λ level fits p. row_read (place_of_kind SecondRow) children page up (codes "table" ∷ up) (codes "<tbody>\n<tr>\n") level fits (reads (content (codes "table" ∷ up)) (codes "<tbody>\n<tr>\n")) p)
@@ -627,18 +661,19 @@ module _ (it : Source) where
       (λ level fits p. cell_read columns children page up (td_in up columns) (cell_start (codes "td") columns) (cell_end (codes "td") columns) level (td_linkless up columns fits) (td_reads up columns) (td_ends up columns) p)
       (λ n. λ level fits p. plainly (Note n) label children page up fine level fits.1 fits.0 p)
       (λ n. λ level fits p. plainly (Tail n) label children page up fine level fits tt p)
+      (λ c. λ level fits p. plainly (Task c) label children page up fine level fits tt p)
       kind
 
   -- a place before others leaves open what it does alone
   unended_base : (kind : Kind) (columns : Option (List AlignKind)) (up : List (List ℕ)) → (base (unended (record { kind = kind; columns = columns })).kind up ≡ base kind up) × (base (next (unended (record { kind = kind; columns = columns })).kind) up ≡ base (next kind) up)
-  unended_base kind columns up = by_kind (λ k. (base (unended (record { kind = k; columns = columns })).kind up ≡ base k up) × (base (next (unended (record { kind = k; columns = columns })).kind) up ≡ base (next k) up)) (refl, refl) (refl, refl) (refl, refl) (refl, refl) (refl, refl) (refl, refl) (refl, refl) (refl, refl) (refl, refl) (refl, refl) (refl, refl) (refl, refl) (λ n. (refl, refl)) (λ n. (refl, refl)) kind
+  unended_base kind columns up = by_kind (λ k. (base (unended (record { kind = k; columns = columns })).kind up ≡ base k up) × (base (next (unended (record { kind = k; columns = columns })).kind) up ≡ base (next k) up)) (refl, refl) (refl, refl) (refl, refl) (refl, refl) (refl, refl) (refl, refl) (refl, refl) (refl, refl) (refl, refl) (refl, refl) (refl, refl) (refl, refl) (λ n. (refl, refl)) (λ n. (refl, refl)) (λ c. (refl, refl)) kind
 
   followed_base : (at : Place) (rest : Trees) (up : List (List ℕ)) → (base (followed at rest).kind up ≡ base at.kind up) × (base (next (followed at rest).kind) up ≡ base (next at.kind) up)
   followed_base at nothing up = (refl, refl)
   followed_base at (node _ _ _ _) up = unended_base at.kind at.columns up
 
   unended_fits : (kind : Kind) (columns : Option (List AlignKind)) (up : List (List ℕ)) → Fits kind up → Fits (unended (record { kind = kind; columns = columns })).kind up
-  unended_fits kind columns up = by_kind (λ k. Fits k up → Fits (unended (record { kind = k; columns = columns })).kind up) (λ f. f) (λ f. f) (λ f. f) (λ f. f) (λ f. f) (λ f. f) (λ f. f) (λ f. f) (λ f. f) (λ f. f) (λ f. f) (λ f. f) (λ _ f. f) (λ _ f. f) kind
+  unended_fits kind columns up = by_kind (λ k. Fits k up → Fits (unended (record { kind = k; columns = columns })).kind up) (λ f. f) (λ f. f) (λ f. f) (λ f. f) (λ f. f) (λ f. f) (λ f. f) (λ f. f) (λ f. f) (λ f. f) (λ f. f) (λ f. f) (λ _ f. f) (λ _ f. f) (λ _ f. f) kind
 
   followed_fits : (at : Place) (rest : Trees) (up : List (List ℕ)) → Fits at.kind up → Fits (followed at rest).kind up
   followed_fits at nothing up fits = fits

@@ -9,7 +9,7 @@ use Rattle.markdown_events.specs.declared.infer.AlignKind.{AlignKind}
 use Rattle.markdown_events.specs.declared.infer.AlignKind.TheVariants as align
 use Rattle.markdown_html.specs.declared.source.Raw.{Raw}
 use Rattle.markdown_html.specs.declared.source.Raw.TheVariants.{Omit, Escape, Filter, Pass}
-use Rattle.markdown_html.specs.Elements.{align_attribute, arrow, attribute, back_attributes, back_label, back_reference, back_references, call_attributes, call_id, call_links, call_text, cell_end, cell_start, check_box, code_block, code_lines, code_text, empty_cell, empty_cells, heading_name, image_tag, image_url, is_class, label_id, language_attribute, link_start, link_url, linked_call_text, list_end, list_start, math_block, math_text, note_id, note_start, numeral, passes, raw_html, repeat_mark, repeat_text, section_heading, section_start, start_attribute, title_attribute}
+use Rattle.markdown_html.specs.Elements.{align_attribute, arrow, attribute, back_attributes, back_label, back_reference, back_references, call_attributes, call_id, call_links, call_text, cell_end, cell_start, check_box, code_block, code_lines, code_text, empty_cell, empty_cells, heading_name, image_tag, image_url, is_class, label_id, language_attribute, link_start, link_url, linked_call_text, list_end, list_start, math_block, math_text, note_id, note_start, numeral, passes, raw_html, repeat_mark, repeat_text, section_heading, section_start, start_attribute, task_start, tasks_attribute, title_attribute}
 
 -- a link may begin where these elements are open, or a block, or an item
 abbrev pub Linkless : List (List ℕ) → Type 0
@@ -70,19 +70,39 @@ module _ (raw : Raw) (prefix : List ℕ) where
   numeral_fits n = digits_are (min n (2 ^ 64 - 1)) (omega arith)
 
   module _ (up : List (List ℕ)) (may_begin : TakesBlocks up) where
-    ol_with : {m : State} {x : List ℕ} → Read (start_tag up (codes "ol")) x m → Read m (codes ">\n") (content (codes "ol" ∷ up)) → Read (content up) (codes "<ol" ++ x ++ codes ">\n") (content (codes "ol" ∷ up))
-    ol_with p q = both may (both may (fixed may (content up) (codes "<ol")) p) q
-
     ol_plain : Read (start_tag up (codes "ol")) (codes ">\n") (content (codes "ol" ∷ up))
     ol_plain = record { is = rw may_begin refl }
 
-    ol_reads : (start : Option ℕ) → Read (content up) (codes "<ol" ++ start_attribute start ++ codes ">\n") (content (codes "ol" ∷ up))
+    ol_start : Read (start_tag up (codes "ol")) (codes " " ++ codes "start" ++ codes "=\"") (in_value up (codes "ol") (codes "start") [])
+    ol_start = record { is = rw may_begin refl }
+
+    ol_class : Read (start_tag up (codes "ol")) (codes " " ++ codes "class" ++ codes "=\"") (in_value up (codes "ol") (codes "class") [])
+    ol_class = record { is = rw may_begin refl }
+
+    ul_plain : Read (start_tag up (codes "ul")) (codes ">\n") (content (codes "ul" ∷ up))
+    ul_plain = record { is = rw may_begin refl }
+
+    ul_class : Read (start_tag up (codes "ul")) (codes " " ++ codes "class" ++ codes "=\"") (in_value up (codes "ul") (codes "class") [])
+    ul_class = record { is = rw may_begin refl }
+
+    -- the end of a tag that may have the class of tasks
+    ol_with : (s : State) (x : List ℕ) (has_tasks : Bool) → Read (start_tag up (codes "ol")) x s → Read s (codes " " ++ codes "class" ++ codes "=\"") (in_value up (codes "ol") (codes "class") []) → Read s (codes ">\n") (content (codes "ol" ∷ up)) → Read (content up) (codes "<ol" ++ x ++ tasks_attribute has_tasks ++ codes ">\n") (content (codes "ol" ∷ up))
+    unfolding tasks_attribute
+    ol_with s x true p class plain = both may (both may (both may (fixed may (content up) (codes "<ol")) p) (attribute_reads up (codes "ol") (codes "class") s (codes "contains-task-list") class refl)) (fixed may (after_value up (codes "ol")) (codes ">\n"))
+    ol_with s x false p class plain = both may (both may (both may (fixed may (content up) (codes "<ol")) p) (fixed may s [])) plain
+
+    ol_reads : (has_tasks : Bool) (start : Option ℕ) → Read (content up) (codes "<ol" ++ start_attribute start ++ tasks_attribute has_tasks ++ codes ">\n") (content (codes "ol" ∷ up))
     unfolding start_attribute
-    ol_reads None = ol_with (fixed may (start_tag up (codes "ol")) []) ol_plain
-    ol_reads (Some start) =
-        cond_both (start == 1) _ _ (λ x. Read (content up) (codes "<ol" ++ x ++ codes ">\n") (content (codes "ol" ∷ up)))
-        (λ _. ol_with (fixed may (start_tag up (codes "ol")) []) ol_plain)
-        (λ _. ol_with (attribute_reads up (codes "ol") (codes "start") (start_tag up (codes "ol")) (numeral start) (record { is = rw may_begin refl }) (numeral_fits start)) (fixed may (after_value up (codes "ol")) (codes ">\n")))
+    ol_reads has_tasks None = ol_with (start_tag up (codes "ol")) [] has_tasks (fixed may (start_tag up (codes "ol")) []) ol_class ol_plain
+    ol_reads has_tasks (Some start) =
+        cond_both (start == 1) _ _ (λ x. Read (content up) (codes "<ol" ++ x ++ tasks_attribute has_tasks ++ codes ">\n") (content (codes "ol" ∷ up)))
+        (λ _. ol_with (start_tag up (codes "ol")) [] has_tasks (fixed may (start_tag up (codes "ol")) []) ol_class ol_plain)
+        (λ _. ol_with (after_value up (codes "ol")) (attribute (codes "start") (numeral start)) has_tasks (attribute_reads up (codes "ol") (codes "start") (start_tag up (codes "ol")) (numeral start) ol_start (numeral_fits start)) (fixed may _ _) (fixed may (after_value up (codes "ol")) (codes ">\n")))
+
+    ul_reads : (has_tasks : Bool) → Read (content up) (codes "<ul" ++ tasks_attribute has_tasks ++ codes ">\n") (content (codes "ul" ∷ up))
+    unfolding tasks_attribute
+    ul_reads true = both may (both may (fixed may (content up) (codes "<ul")) (attribute_reads up (codes "ul") (codes "class") (start_tag up (codes "ul")) (codes "contains-task-list") ul_class refl)) (fixed may (after_value up (codes "ul")) (codes ">\n"))
+    ul_reads false = both may (both may (fixed may (content up) (codes "<ul")) (fixed may (start_tag up (codes "ul")) [])) ul_plain
 
   -- the element of a list
   abbrev pub list_name : Bool → List ℕ
@@ -101,21 +121,32 @@ module _ (raw : Raw) (prefix : List ℕ) where
   list_is_in up true = refl
   list_is_in up false = refl
 
-  pub list_reads : (up : List (List ℕ)) (ordered : Bool) (start : Option ℕ) → TakesBlocks up → Read (content up) (list_start ordered start) (content (list_name ordered ∷ up))
+  pub list_reads : (up : List (List ℕ)) (ordered has_tasks : Bool) (start : Option ℕ) → TakesBlocks up → Read (content up) (list_start ordered has_tasks start) (content (list_name ordered ∷ up))
   unfolding list_start
-  list_reads up true start may_begin = ol_reads up may_begin start
-  list_reads up false start may_begin = record { is = rw may_begin refl }
+  list_reads up true has_tasks start may_begin = ol_reads up may_begin has_tasks start
+  list_reads up false has_tasks start may_begin = ul_reads up may_begin has_tasks
 
   pub list_ends : (up : List (List ℕ)) (ordered : Bool) → Read (content (list_name ordered ∷ up)) (list_end ordered) (content up)
   unfolding list_end
   list_ends up true = fixed may (content (codes "ol" ∷ up)) (codes "</ol>\n")
   list_ends up false = fixed may (content (codes "ul" ∷ up)) (codes "</ul>\n")
 
-  pub check_box_reads : (up : List (List ℕ)) (checked : Option Bool) → Read (content up) (check_box checked) (content up)
+  -- tasks
+  pub check_box_reads : (up : List (List ℕ)) (checked before_text : Bool) → Read (content up) (check_box checked before_text) (content up)
   unfolding check_box
-  check_box_reads up None = fixed may (content up) []
-  check_box_reads up (Some true) = fixed may (content up) (codes "<input type=\"checkbox\" checked=\"\" disabled=\"\" /> ")
-  check_box_reads up (Some false) = fixed may (content up) (codes "<input type=\"checkbox\" disabled=\"\" /> ")
+  check_box_reads up true true = fixed may (content up) (codes "<input type=\"checkbox\" checked=\"\" disabled=\"\" /> ")
+  check_box_reads up true false = fixed may (content up) (codes "<input type=\"checkbox\" checked=\"\" disabled=\"\" />")
+  check_box_reads up false true = fixed may (content up) (codes "<input type=\"checkbox\" disabled=\"\" /> ")
+  check_box_reads up false false = fixed may (content up) (codes "<input type=\"checkbox\" disabled=\"\" />")
+
+  task_class : (up : List (List ℕ)) → InList up → Read (start_tag up (codes "li")) (codes " " ++ codes "class" ++ codes "=\"") (in_value up (codes "li") (codes "class") [])
+  task_class up listed = record { is = rw listed refl }
+
+  pub task_reads : (up : List (List ℕ)) → InList up → Read (content up) task_start (content (codes "li" ∷ up))
+  unfolding task_start
+  task_reads up listed =
+      both may (both may (fixed may (content up) (codes "<li")) (attribute_reads up (codes "li") (codes "class") (start_tag up (codes "li")) (codes "task-list-item") (task_class up listed) refl))
+      (fixed may (after_value up (codes "li")) (codes ">"))
 
   -- code and math
   lines_read : (up : List (List ℕ)) (value : List ℕ) → Read (content up) (code_lines value) (content up)

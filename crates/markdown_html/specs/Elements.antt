@@ -68,21 +68,31 @@ unfoldable pub start_attribute : Option ℕ → List ℕ
 start_attribute None = []
 start_attribute (Some start) = if start == 1 then [] else attribute (codes "start") (numeral start)
 
+-- the class of a list that has tasks
+unfoldable pub tasks_attribute : (has_tasks : Bool) → List ℕ
+tasks_attribute true = attribute (codes "class") (codes "contains-task-list")
+tasks_attribute false = []
+
 -- the start of a list
-unfoldable pub list_start : Bool → Option ℕ → List ℕ
-list_start true start = codes "<ol" ++ start_attribute start ++ codes ">\n"
-list_start false start = codes "<ul>\n"
+unfoldable pub list_start : (ordered has_tasks : Bool) → Option ℕ → List ℕ
+list_start true has_tasks start = codes "<ol" ++ start_attribute start ++ tasks_attribute has_tasks ++ codes ">\n"
+list_start false has_tasks start = codes "<ul" ++ tasks_attribute has_tasks ++ codes ">\n"
 
 -- the end of a list
 unfoldable pub list_end : Bool → List ℕ
 list_end true = codes "</ol>\n"
 list_end false = codes "</ul>\n"
 
--- the check box of a task
-unfoldable pub check_box : Option Bool → List ℕ
-check_box None = []
-check_box (Some true) = codes "<input type=\"checkbox\" checked=\"\" disabled=\"\" /> "
-check_box (Some false) = codes "<input type=\"checkbox\" disabled=\"\" /> "
+-- the start of an item that is a task
+unfoldable pub task_start : List ℕ
+task_start = codes "<li" ++ attribute (codes "class") (codes "task-list-item") ++ codes ">"
+
+-- the check box of a task, and a blank between it and the text after it
+unfoldable pub check_box : (checked before_text : Bool) → List ℕ
+check_box true true = codes "<input type=\"checkbox\" checked=\"\" disabled=\"\" /> "
+check_box true false = codes "<input type=\"checkbox\" checked=\"\" disabled=\"\" />"
+check_box false true = codes "<input type=\"checkbox\" disabled=\"\" /> "
+check_box false false = codes "<input type=\"checkbox\" disabled=\"\" />"
 
 -- a text that can be one class
 abbrev pub is_class : List ℕ → Bool

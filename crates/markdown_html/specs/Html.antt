@@ -1,24 +1,24 @@
 -- A tree as HTML: the elements that mdast-util-to-hast makes, on lines as in the examples of CommonMark.
-use Rattle.std.specs.Prelude.{ℕ, ◌+◌, ◌-◌, ◌^◌, zero, suc, ◌&&◌, Bool, List, [], ◌∷◌, ◌++◌, Option, Some, None, codes, if◌then◌else◌, drop, nat_le, slice_get, unwrap_or, true, false}
+use Rattle.std.specs.Prelude.{ℕ, ◌+◌, ◌-◌, ◌^◌, zero, suc, ◌&&◌, ◌||◌, Bool, List, [], ◌∷◌, ◌++◌, Option, Some, None, codes, if◌then◌else◌, drop, is_some, nat_le, slice_get, unwrap_or, true, false}
 use Rattle.std.specs.List.{find}
 use Rattle.std.specs.Option.{option_eq}
 use Rattle.std.specs.Str.{bytes_eq}
 use Rattle.html_text.specs.Escapes.{escaped}
 use Rattle.html_text.specs.Safe.{Allowed}
 use Rattle.markdown_kinds.specs.declared.ReferenceKind.{ReferenceKind}
-use Rattle.markdown_nodes.specs.Tree.{Label, Tree, Trees, nothing, node, paragraph, blockquote, emphasis, strong, delete, thematic_break, «break», text, html as raw, inline_code, inline_math, heading, list, list_item, table, code, math, link, image, link_reference, image_reference, footnote_reference, footnote_definition, definition}
+use Rattle.markdown_nodes.specs.Tree.{Label, Tree, Trees, nothing, node, paragraph, blockquote, emphasis, strong, delete, thematic_break, «break», text, html as raw, inline_code, inline_math, heading, list, table, code, math, link, image, link_reference, image_reference, footnote_reference, footnote_definition, definition}
 use Rattle.mdast_check.specs.References.{footnote_identifier_of}
 use Rattle.markdown_nodes.specs.Walk.{walk}
 use Rattle.mdast_util.specs.Definitions.{definition_in}
 use Rattle.markdown_html.specs.declared.place.Kind.{Kind}
-use Rattle.markdown_html.specs.declared.place.Kind.TheVariants.{Text, Linked, Flow, Tight, LooseItem, TightItem, Hidden, FirstRow, SecondRow, LaterRow, HeaderCell, Cell, Note, Tail}
+use Rattle.markdown_html.specs.declared.place.Kind.TheVariants.{Text, Linked, Flow, Tight, LooseItem, TightItem, Hidden, FirstRow, SecondRow, LaterRow, HeaderCell, Cell, Note, Tail, Task}
 use Rattle.markdown_html.specs.declared.html.RawHtml.{RawHtml}
 use Rattle.markdown_html.specs.declared.html.RawHtml.TheVariants as raw_htmls
 use Rattle.markdown_html.specs.declared.source.Raw.{Raw}
 use Rattle.markdown_html.specs.declared.source.Raw.TheVariants as raws
-use Rattle.markdown_html.specs.Elements.{back_references, call_text, cell_end, cell_start, check_box, code_block, code_text, empty_cells, heading_name, image_tag, link_start, linked_call_text, list_end, list_start, math_block, math_text, note_start, passes, raw_html, reference_end, section_start}
+use Rattle.markdown_html.specs.Elements.{back_references, call_text, cell_end, cell_start, check_box, code_block, code_text, empty_cells, heading_name, image_tag, link_start, linked_call_text, list_end, list_start, math_block, math_text, note_start, passes, task_start, raw_html, reference_end, section_start}
 use Rattle.markdown_html.specs.Page.{Page, blank, block, count_of, fresh_line, more, number_of, on_new_line, put, say, with_call}
-use Rattle.markdown_html.specs.Places.{Place, after, followed, inside, place}
+use Rattle.markdown_html.specs.Places.{Place, after, checked_of, followed, inside, listed_kind, place}
 
 -- how raw HTML that does not pass is treated
 abbrev pub raw_of : RawHtml → Raw
@@ -80,19 +80,41 @@ cell_name _ = codes "td"
 abbrev pub row_end : Place → Trees → List ℕ
 row_end at cells = empty_cells (cell_name at.kind) (drop (count cells) (unwrap_or at.columns [])) ++ codes "</tr>\n"
 
--- the start of a paragraph
-abbrev pub paragraph_start : Kind → List ℕ → List ℕ
-paragraph_start Tight written = written
-paragraph_start _ written = fresh_line written ++ codes "<p>"
+-- whether there is any node
+abbrev pub has_nodes : Trees → Bool
+has_nodes nodes = nat_le 1 (count nodes)
+
+-- whether the first of some nodes is a paragraph, and whether it is one that is not empty
+abbrev pub begins_with_paragraph : Trees → Bool
+begins_with_paragraph nothing = false
+begins_with_paragraph (node label _ _ _) = is_paragraph label
+
+abbrev pub begins_with_text : Trees → Bool
+begins_with_text nothing = false
+begins_with_text (node label children _ _) = is_paragraph label && has_nodes children
+
+-- whether any of some nodes is a task
+abbrev pub is_task : Label → Bool
+is_task label = is_some (checked_of label)
+
+abbrev pub any_task : Trees → Bool
+any_task nothing = false
+any_task (node label _ _ rest) = is_task label || any_task rest
+
+-- the start of a paragraph with these children
+abbrev pub paragraph_start : Kind → Trees → List ℕ → List ℕ
+paragraph_start Tight children written = written
+paragraph_start (Task checked) children written = fresh_line written ++ (codes "<p>" ++ check_box checked (has_nodes children))
+paragraph_start _ children written = fresh_line written ++ codes "<p>"
+
+-- the check box before the children of a task; where the first is the paragraph of a loose task, it has the box itself
+abbrev pub first_box : (tight checked : Bool) → Trees → List ℕ
+first_box true checked children = check_box checked (begins_with_text children)
+first_box false checked children = if begins_with_paragraph children then [] else codes "\n<p>" ++ check_box checked false ++ codes "</p>\n"
 
 -- raw HTML among blocks, on lines of its own
 abbrev pub raw_lines : Raw → List ℕ → List ℕ → List ℕ
 raw_lines how value written = fresh_line (fresh_line written ++ raw_html how value)
-
--- whether an item has a check mark, and which
-abbrev pub checked_of : Label → Option Bool
-checked_of (list_item _ checked) = checked
-checked_of _ = None
 
 -- whether a node is not raw HTML; whether there is none in some nodes, and none in a tree
 abbrev pub is_no_html : Label → Bool
@@ -208,18 +230,18 @@ module _ (it : Source) where
   phrase_closed linked _ page = page
 
   -- these pages for a node among blocks; items, rows and cells have their elements from their places
-  abbrev pub opened : Kind → Label → Page → Page
-  opened kind paragraph page = put page (paragraph_start kind page.text)
-  opened kind blockquote page = block page (codes "<blockquote>\n")
-  opened kind thematic_break page = block page (codes "<hr />\n")
-  opened kind (raw value) page = put page (raw_lines it.raw value page.text)
-  opened kind (heading depth) page = block page (codes "<" ++ heading_name depth ++ codes ">")
-  opened kind (list ordered start _) page = block page (list_start ordered start)
-  opened kind (table _) page = block page (codes "<table>\n")
-  opened kind (code value lang _) page = block page (code_block lang value)
-  opened kind (math value _) page = block page (math_block value)
-  opened kind (footnote_definition _ _) page = footnote_start kind page
-  opened kind label page = phrase_opened false label page
+  abbrev pub opened : Kind → Label → Trees → Page → Page
+  opened kind paragraph children page = put page (paragraph_start kind children page.text)
+  opened kind blockquote children page = block page (codes "<blockquote>\n")
+  opened kind thematic_break children page = block page (codes "<hr />\n")
+  opened kind (raw value) children page = put page (raw_lines it.raw value page.text)
+  opened kind (heading depth) children page = block page (codes "<" ++ heading_name depth ++ codes ">")
+  opened kind (list ordered start _) children page = block page (list_start ordered (any_task children) start)
+  opened kind (table _) children page = block page (codes "<table>\n")
+  opened kind (code value lang _) children page = block page (code_block lang value)
+  opened kind (math value _) children page = block page (math_block value)
+  opened kind (footnote_definition _ _) children page = footnote_start kind page
+  opened kind label children page = phrase_opened false label page
 
   abbrev pub closed : Kind → Label → Trees → Page → Page
   closed kind paragraph children page = paragraph_end kind page
@@ -230,10 +252,19 @@ module _ (it : Source) where
   closed kind (footnote_definition _ _) children page = footnote_end kind children page
   closed kind label children page = phrase_closed false label page
 
+  -- these pages for a node in a list, by its check mark if it is a task: each is in an item
+  abbrev pub listed_opened : (tight : Bool) → Option Bool → Label → Trees → Page → Page
+  listed_opened tight None label children page = opened (listed_kind tight) label children (block page (codes "<li>"))
+  listed_opened tight (Some checked) label children page = block page (task_start ++ first_box tight checked children)
+
+  abbrev pub listed_closed : (tight : Bool) → Option Bool → Label → Trees → Page → Page
+  listed_closed tight None label children page = say (closed (listed_kind tight) label children page) (codes "</li>\n")
+  listed_closed tight (Some _) label children page = say page (codes "</li>\n")
+
   -- these pages for a node in any place: each child of a list is in an item, each child of a table is a row, and each child
   -- of a row is a cell
-  abbrev pub entered : Place → Label → Page → Page
-  entered at label page = elim at.kind [
+  abbrev pub entered : Place → Label → Trees → Page → Page
+  entered at label children page = elim at.kind [
     | Hidden ↦ page
     | FirstRow ↦ say page (codes "<thead>\n<tr>\n")
     | SecondRow ↦ say page (codes "<tbody>\n<tr>\n")
@@ -242,9 +273,9 @@ module _ (it : Source) where
     | Cell ↦ say page (cell_start (codes "td") at.columns)
     | Text ↦ phrase_opened false label page
     | Linked ↦ phrase_opened true label page
-    | LooseItem ↦ opened Flow label (block page (codes "<li>" ++ check_box (checked_of label)))
-    | TightItem ↦ opened Tight label (block page (codes "<li>" ++ check_box (checked_of label)))
-    | kind ↦ opened kind label page
+    | LooseItem ↦ listed_opened false (checked_of label) label children page
+    | TightItem ↦ listed_opened true (checked_of label) label children page
+    | kind ↦ opened kind label children page
   ]
 
   abbrev pub left : Place → Label → Trees → Page → Page
@@ -257,8 +288,8 @@ module _ (it : Source) where
     | Cell ↦ say page (cell_end (codes "td") at.columns)
     | Text ↦ phrase_closed false label page
     | Linked ↦ phrase_closed true label page
-    | LooseItem ↦ say (closed Flow label children page) (codes "</li>\n")
-    | TightItem ↦ say (closed Tight label children page) (codes "</li>\n")
+    | LooseItem ↦ listed_closed false (checked_of label) label children page
+    | TightItem ↦ listed_closed true (checked_of label) label children page
     | kind ↦ closed kind label children page
   ]
 
@@ -267,11 +298,11 @@ module _ (it : Source) where
   nodes_page at nothing page = page
   nodes_page at (node label children _ rest) page =
       let here = followed at rest in
-      nodes_page (after at) rest (left here label children (nodes_page (inside here label children) children (entered here label page)))
+      nodes_page (after at) rest (left here label children (nodes_page (inside here label children) children (entered here label children page)))
 
   -- a node with everything in it
   abbrev pub tree_page : Place → Tree → Page → Page
-  tree_page at tree page = left at tree.label tree.children (nodes_page (inside at tree.label tree.children) tree.children (entered at tree.label page))
+  tree_page at tree page = left at tree.label tree.children (nodes_page (inside at tree.label tree.children) tree.children (entered at tree.label tree.children page))
 
   -- the footnotes that are called, from a number on, counted from 0, and at most `most` of them;
   -- one that is first called in another footnote comes after it

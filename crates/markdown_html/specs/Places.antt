@@ -1,11 +1,11 @@
 -- The place of a node in a page, which its HTML depends on.
-use Rattle.std.specs.Prelude.{Bool, false, ◌||◌, List, [], ◌∷◌, Option, Some, None, if◌then◌else◌, option_map}
+use Rattle.std.specs.Prelude.{Bool, false, true, ◌||◌, List, [], ◌∷◌, Option, Some, None, if◌then◌else◌, option_map}
 use denote.Ref.{Bor}
 use Rattle.markdown_events.specs.declared.infer.AlignKind.{AlignKind}
 use Rattle.markdown_nodes.specs.Tree.{Label, Trees, nothing, node, root, blockquote, list, list_item, table, link, link_reference, footnote_definition}
 use Rattle.markdown_html.specs.declared.place.Kind.{Kind}
 use Rattle.markdown_html.specs.declared.place.Place.{Place as PlaceHere}
-use Rattle.markdown_html.specs.declared.place.Kind.TheVariants.{Text, Linked, Flow, Tight, LooseItem, TightItem, Hidden, FirstRow, SecondRow, LaterRow, HeaderCell, Cell, Note, Tail}
+use Rattle.markdown_html.specs.declared.place.Kind.TheVariants.{Text, Linked, Flow, Tight, LooseItem, TightItem, Hidden, FirstRow, SecondRow, LaterRow, HeaderCell, Cell, Note, Tail, Task}
 
 -- a place: its kind, and the alignments of the columns from here on, if there are columns
 pub record Place : Type 0 where
@@ -31,6 +31,11 @@ is_spread _ = false
 abbrev pub any_spread : Trees → Bool
 any_spread nothing = false
 any_spread (node label _ _ rest) = is_spread label || any_spread rest
+
+-- whether a list item is a task, and if so, whether it is checked
+abbrev pub checked_of : Label → Option Bool
+checked_of (list_item _ checked) = checked
+checked_of _ = None
 
 -- the columns of a table; without alignments, it has as many as each row has cells
 abbrev pub columns_of : List AlignKind → Option (List AlignKind)
@@ -77,6 +82,18 @@ below kind (table align) children = in_table align
 below kind (footnote_definition _ _) children = in_footnote kind
 below kind label children = in_text Text label
 
+-- what a node in a list is in, if it is no task, and what the children of a task are in
+abbrev pub listed_kind : (tight : Bool) → Kind
+listed_kind tight = if tight then Tight else Flow
+
+abbrev pub task_kind : (tight checked : Bool) → Kind
+task_kind tight checked = if tight then Tight else Task checked
+
+-- the place of the children of a node that is in a list; the first paragraph of a loose task has its check box
+abbrev pub in_listed : (tight : Bool) → Option Bool → Label → Trees → Place
+in_listed tight None label children = below (listed_kind tight) label children
+in_listed tight (Some checked) label children = place (task_kind tight checked)
+
 -- the place of a node's children; each child of a table is a row, and each child of a row is a cell
 abbrev pub inside : Place → Label → Trees → Place
 inside at label children = elim at.kind [
@@ -88,8 +105,8 @@ inside at label children = elim at.kind [
   | Cell ↦ in_cell at.columns
   | Text ↦ in_text Text label
   | Linked ↦ in_text Linked label
-  | LooseItem ↦ below Flow label children
-  | TightItem ↦ below Tight label children
+  | LooseItem ↦ in_listed false (checked_of label) label children
+  | TightItem ↦ in_listed true (checked_of label) label children
   | kind ↦ below kind label children
 ]
 
@@ -103,6 +120,7 @@ abbrev pub after : Place → Place
 after at = elim at.kind [
   | FirstRow ↦ record at { kind = SecondRow }
   | SecondRow ↦ record at { kind = LaterRow }
+  | Task _ ↦ record at { kind = Flow }
   | HeaderCell ↦ record at { columns = next_column at.columns }
   | Cell ↦ record at { columns = next_column at.columns }
   | _ ↦ at

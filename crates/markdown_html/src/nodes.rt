@@ -1,22 +1,22 @@
 //! The text before and after the children of each kind of node.
 
-ghost use Rattle.std.specs.Prelude.{◌≡◌, ◌++◌, [], OnOk, codes, drop, option_map, string_bytes, unwrap_or};
+ghost use Rattle.std.specs.Prelude.{◌≡◌, ◌&&◌, ◌++◌, [], OnOk, codes, drop, option_map, string_bytes, unwrap_or};
 ghost use Rattle.markdown_nodes.specs.Access.{label_of, nodes_in};
 ghost use Rattle.markdown_nodes.specs.View.{view, views};
 ghost use Rattle.html_text.specs.Escapes.{escaped};
-ghost use Rattle.markdown_html.specs.Elements.{check_box, heading_name};
-ghost use Rattle.markdown_html.specs.Html.{back_page, call_page, cell_name, checked_of, closed, count, ends_with_paragraph, entered, footnote_end, footnote_start, image_reference_text, is_paragraph, left, link_back, link_front, link_reference_end, link_reference_start, opened, paragraph_end, paragraph_start, phrase_closed, phrase_opened, raw_lines, row_end, table_end, title_of, url_of};
+ghost use Rattle.markdown_html.specs.Elements.{check_box, heading_name, task_start};
+ghost use Rattle.markdown_html.specs.Html.{any_task, back_page, begins_with_paragraph, begins_with_text, call_page, cell_name, closed, count, ends_with_paragraph, entered, first_box, footnote_end, footnote_start, has_nodes, image_reference_text, is_paragraph, is_task, left, link_back, link_front, link_reference_end, link_reference_start, listed_closed, listed_opened, opened, paragraph_end, paragraph_start, phrase_closed, phrase_opened, raw_lines, row_end, table_end, title_of, url_of};
 ghost use Rattle.markdown_html.specs.Page.{fresh_line};
-ghost use Rattle.markdown_html.specs.Places.{place_of, seen};
+ghost use Rattle.markdown_html.specs.Places.{checked_of, place_of, seen};
 ghost use Rattle.markdown_html.specs.Pages.{page_of};
 ghost use Rattle.markdown_html.specs.Given.{source_of};
 
 use crate::code::{push_code_block, push_code_text, push_math_block, push_math_text, push_raw};
 use crate::footnotes::{push_back_references, push_call, push_linked_call, push_note_start};
 use crate::links::{push_image, push_link_start, reference_end};
-use crate::lists::{check_box, heading_name, list_end, push_list_start};
+use crate::lists::{check_box, heading_name, list_end, push_list_start, push_task_start};
 use crate::page::{Page, push_block, push_fresh};
-use crate::place::{Kind, Place};
+use crate::place::{Kind, Place, checked, listed_kind};
 use crate::source::Source;
 use crate::tables::{push_cell_end, push_cell_start, push_empty_cells};
 use html_text::escapes::push_escaped;
@@ -31,7 +31,7 @@ impl<'a> Source<'a> {
         at: Place<'a>,
         node: &'a Node,
     ) -> Result<(), AllocError>
-        ensures { OnOk result (page_of page.new ≡ entered (source_of self.now) (place_of at.entry) (label_of node.now) (page_of page.old)) }
+        ensures { OnOk result (page_of page.new ≡ entered (source_of self.now) (place_of at.entry) (label_of node.now) (views (nodes_in node.now)) (page_of page.old)) }
     {
         let out = &mut page.text;
         match at.kind {
@@ -43,14 +43,8 @@ impl<'a> Source<'a> {
             Kind::Cell => push_cell_start(out, "td", at.columns),
             Kind::Text => self.open_phrase(page, false, node),
             Kind::Linked => self.open_phrase(page, true, node),
-            Kind::LooseItem => {
-                push_item_start(out, node)?;
-                self.open(page, Kind::Flow, node)
-            }
-            Kind::TightItem => {
-                push_item_start(out, node)?;
-                self.open(page, Kind::Tight, node)
-            }
+            Kind::LooseItem => self.open_listed(page, false, node),
+            Kind::TightItem => self.open_listed(page, true, node),
             _ => self.open(page, at.kind, node),
         }
     }
@@ -76,32 +70,64 @@ impl<'a> Source<'a> {
             Kind::Cell => push_cell_end(out, "td", at.columns),
             Kind::Text => self.close_phrase(page, false, node),
             Kind::Linked => self.close_phrase(page, true, node),
-            Kind::LooseItem => {
-                self.close(page, Kind::Flow, node)?;
-                page.text.push_str("</li>\n")
-            }
-            Kind::TightItem => {
-                self.close(page, Kind::Tight, node)?;
-                page.text.push_str("</li>\n")
-            }
+            Kind::LooseItem => self.close_listed(page, false, node),
+            Kind::TightItem => self.close_listed(page, true, node),
             _ => self.close(page, at.kind, node),
         }
     }
 
+    /// Appends the start of the item of a node in a list, and of its own element unless it is a task.
+    fn open_listed(
+        &self,
+        page: &mut Page<'a>,
+        tight: bool,
+        node: &'a Node,
+    ) -> Result<(), AllocError>
+        ensures { OnOk result (page_of page.new ≡ listed_opened (source_of self.now) tight (checked_of (label_of node.now)) (label_of node.now) (views (nodes_in node.now)) (page_of page.old)) }
+    {
+        let out = &mut page.text;
+        push_fresh(out)?;
+        match checked(node) {
+            None => {
+                out.push_str("<li>")?;
+                self.open(page, listed_kind(tight), node)
+            }
+            Some(checked) => {
+                push_task_start(out)?;
+                push_first_box(out, tight, checked, node.child_nodes())
+            }
+        }
+    }
+
+    /// Appends the end of the item.
+    fn close_listed(
+        &self,
+        page: &mut Page<'a>,
+        tight: bool,
+        node: &'a Node,
+    ) -> Result<(), AllocError>
+        ensures { OnOk result (page_of page.new ≡ listed_closed (source_of self.now) tight (checked_of (label_of node.now)) (label_of node.now) (views (nodes_in node.now)) (page_of page.old)) }
+    {
+        if checked(node).is_none() {
+            self.close(page, listed_kind(tight), node)?;
+        }
+        page.text.push_str("</li>\n")
+    }
+
     /// Appends the start of the element of a block, or all of a block that has no children.
     fn open(&self, page: &mut Page<'a>, kind: Kind, node: &'a Node) -> Result<(), AllocError>
-        ensures { OnOk result (page_of page.new ≡ opened (source_of self.now) kind (label_of node.now) (page_of page.old)) }
+        ensures { OnOk result (page_of page.new ≡ opened (source_of self.now) kind (label_of node.now) (views (nodes_in node.now)) (page_of page.old)) }
     {
         let out = &mut page.text;
         match node {
-            Node::Paragraph(_) => push_paragraph_start(out, kind),
+            Node::Paragraph(node) => push_paragraph_start(out, kind, &node.children),
             Node::Blockquote(_) => push_block(out, "<blockquote>\n"),
             Node::ThematicBreak(_) => push_block(out, "<hr />\n"),
             Node::Html(node) => self.push_html(out, node.value.as_str()),
             Node::Heading(node) => push_heading_start(out, node.depth),
             Node::List(node) => {
                 push_fresh(out)?;
-                push_list_start(out, node.ordered, node.start)
+                push_list_start(out, node.ordered, has_task(&node.children), node.start)
             }
             Node::Table(_) => push_block(out, "<table>\n"),
             Node::Code(node) => {
@@ -385,30 +411,89 @@ fn link_back(linked: bool) -> &'static str
     if linked { "" } else { "</a>" }
 }
 
-/// Appends the start of an item.
-fn push_item_start(out: &mut String, node: &Node) -> Result<(), AllocError>
-    ensures { OnOk result (string_bytes out.new ≡ fresh_line (string_bytes out.old) ++ (codes "<li>" ++ check_box (checked_of (label_of node.now)))) }
+/// Appends the check box before the children of a task, unless the first of them has it.
+fn push_first_box(
+    out: &mut String,
+    tight: bool,
+    checked: bool,
+    children: &[Node],
+) -> Result<(), AllocError>
+    ensures { OnOk result (string_bytes out.new ≡ string_bytes out.old ++ first_box tight checked (views children.now)) }
 {
-    push_block(out, "<li>")?;
-    out.push_str(check_box(checked(node)))
+    if tight {
+        return out.push_str(check_box(checked, begins_with_text(children)));
+    }
+    if begins_with_paragraph(children) {
+        return Ok(());
+    }
+    out.push_str("\n<p>")?;
+    out.push_str(check_box(checked, false))?;
+    out.push_str("</p>\n")
 }
 
-/// Returns the check mark of an item.
-fn checked(node: &Node) -> Option<bool>
-    ensures { result ≡ checked_of (label_of node.now) }
+/// Whether the first of the nodes is a paragraph.
+fn begins_with_paragraph(nodes: &[Node]) -> bool
+    ensures { result ≡ begins_with_paragraph (views nodes.now) }
 {
-    match node {
-        Node::ListItem(item) => item.checked,
-        _ => None,
+    match nodes.split_first() {
+        Some((first, _)) => is_paragraph(first),
+        None => false,
     }
 }
 
-/// Appends the start of a paragraph.
-fn push_paragraph_start(out: &mut String, kind: Kind) -> Result<(), AllocError>
-    ensures { OnOk result (string_bytes out.new ≡ paragraph_start kind (string_bytes out.old)) }
+/// Whether the first of the nodes is a paragraph that is not empty.
+fn begins_with_text(nodes: &[Node]) -> bool
+    ensures { result ≡ begins_with_text (views nodes.now) }
+{
+    match nodes.split_first() {
+        Some((first, _)) => has_text(first),
+        None => false,
+    }
+}
+
+/// Whether a node is a paragraph that is not empty.
+fn has_text(node: &Node) -> bool
+    ensures { result ≡ is_paragraph (label_of node.now) && has_nodes (views (nodes_in node.now)) }
+{
+    is_paragraph(node) && has_nodes(node.child_nodes())
+}
+
+/// Whether there is any node.
+fn has_nodes(nodes: &[Node]) -> bool
+    ensures { result ≡ has_nodes (views nodes.now) }
+{
+    count(nodes) >= 1
+}
+
+/// Whether one of the nodes is a task.
+fn has_task(nodes: &[Node]) -> bool
+    ensures { result ≡ any_task (views nodes.now) }
+{
+    for node in nodes {
+        if is_task(node) {
+            return true;
+        }
+    }
+    false
+}
+
+/// Whether a node is a task.
+fn is_task(node: &Node) -> bool
+    ensures { result ≡ is_task (label_of node.now) }
+{
+    checked(node).is_some()
+}
+
+/// Appends the start of a paragraph with these children.
+fn push_paragraph_start(out: &mut String, kind: Kind, children: &[Node]) -> Result<(), AllocError>
+    ensures { OnOk result (string_bytes out.new ≡ paragraph_start kind (views children.now) (string_bytes out.old)) }
 {
     match kind {
         Kind::Tight => Ok(()),
+        Kind::Task(checked) => {
+            push_block(out, "<p>")?;
+            out.push_str(check_box(checked, has_nodes(children)))
+        }
         _ => push_block(out, "<p>"),
     }
 }

@@ -3,7 +3,7 @@
 ghost use Rattle.std.specs.Prelude.{◌≡◌};
 ghost use Rattle.markdown_nodes.specs.Access.{label_of, nodes_in};
 ghost use Rattle.markdown_nodes.specs.View.{views};
-ghost use Rattle.markdown_html.specs.Places.{after, any_spread, below, followed, in_cell, in_footnote, in_item, in_list, in_table, in_text, inside, is_spread, next_column, place, place_of, seen, unended};
+ghost use Rattle.markdown_html.specs.Places.{after, any_spread, below, checked_of, followed, in_cell, in_footnote, in_item, in_list, in_listed, in_table, in_text, inside, is_spread, listed_kind, next_column, place, place_of, seen, task_kind, unended};
 
 use markdown_nodes::mdast::{AlignKind, Node};
 
@@ -38,6 +38,9 @@ pub(crate) enum Kind {
     Note(usize),
     /// The footnote with this number, at its end.
     Tail(usize),
+    /// A loose task, as its first child. The first paragraph has the check box, which is checked or
+    /// not.
+    Task(bool),
 }
 
 /// The place of a node.
@@ -70,8 +73,8 @@ impl<'a> Place<'a> {
             Kind::SecondRow | Kind::LaterRow => self.with(Kind::Cell),
             Kind::HeaderCell | Kind::Cell => self.in_cell(),
             Kind::Text | Kind::Linked => in_text(self.kind, node),
-            Kind::LooseItem => below(Kind::Flow, node),
-            Kind::TightItem => below(Kind::Tight, node),
+            Kind::LooseItem => in_listed(false, node),
+            Kind::TightItem => in_listed(true, node),
             _ => below(self.kind, node),
         }
     }
@@ -108,6 +111,10 @@ impl<'a> Place<'a> {
             },
             Kind::SecondRow => Place {
                 kind: Kind::LaterRow,
+                columns,
+            },
+            Kind::Task(_) => Place {
+                kind: Kind::Flow,
                 columns,
             },
             Kind::HeaderCell | Kind::Cell => Place {
@@ -161,6 +168,44 @@ fn below(kind: Kind, node: &Node) -> Place<'_>
         Node::Table(table) => in_table(&table.align),
         Node::FootnoteDefinition(_) => in_footnote(kind),
         _ => in_text(Kind::Text, node),
+    }
+}
+
+/// Returns the place of the children of a node that is in a list.
+fn in_listed(tight: bool, node: &Node) -> Place<'_>
+    ensures { place_of result ≡ in_listed tight (checked_of (label_of node.now)) (label_of node.now) (views (nodes_in node.now)) }
+{
+    match checked(node) {
+        None => below(listed_kind(tight), node),
+        Some(checked) => Place::new(task_kind(tight, checked)),
+    }
+}
+
+/// Returns what a node in a list is in, if it is no task.
+pub(crate) fn listed_kind(tight: bool) -> Kind
+    ensures { result ≡ listed_kind tight }
+{
+    if tight { Kind::Tight } else { Kind::Flow }
+}
+
+/// Returns what the children of a task are in.
+fn task_kind(tight: bool, checked: bool) -> Kind
+    ensures { result ≡ task_kind tight checked }
+{
+    if tight {
+        Kind::Tight
+    } else {
+        Kind::Task(checked)
+    }
+}
+
+/// Returns whether a task is checked, if the node is one.
+pub(crate) fn checked(node: &Node) -> Option<bool>
+    ensures { result ≡ checked_of (label_of node.now) }
+{
+    match node {
+        Node::ListItem(item) => item.checked,
+        _ => None,
     }
 }
 
