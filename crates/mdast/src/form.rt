@@ -167,7 +167,7 @@ fn render_tree<'a>(
     alloc: Global,
     request: &Request,
     source: &Source,
-    text: &str,
+    text: &'a str,
     tree: &'a Node,
 ) -> Result<Output<'a>, AllocError>
     requires events { request.now.form ≢ Events }

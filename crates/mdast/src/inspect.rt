@@ -5,11 +5,15 @@ use markdown::Walk;
 use markdown::mdast::Node;
 use std::alloc::{AllocError, Global};
 
+/// How many levels of a tree are drawn on the left of a line.
+const DRAWN_LEVELS: usize = 32;
+
 /// Returns the outline of a tree: one line for each node, as unist-util-inspect draws it.
 ///
 /// A line has the kind of the node, how many children it has, its position and its fields, the
-/// value last. If a width is given, longer lines are cut to that many characters. The only error is
-/// that memory ran out.
+/// value last. On its left are the outer 32 levels of the tree that the node is in; if there are
+/// more, their number is in their place. If a width is given, longer lines are cut to that many
+/// characters. The only error is that memory ran out.
 ///
 /// For the document `# Hi` the first two lines are `root[1] (1:1-1:5, 0-4)` and
 /// `└─0 heading[1] (1:1-1:5, 0-4) depth: 1`.
@@ -91,15 +95,24 @@ fn line(
     line.finish()
 }
 
-/// Appends the trunks on the left of the nodes in levels, until the line is full.
+/// Appends the trunks on the left of the nodes in levels: those of the outer levels, until the line
+/// is full, and the number of the others.
 fn push_trunks(levels: &[Level], line: &mut Line) -> Result<(), AllocError> {
-    for level in levels {
+    for level in levels.iter().take(DRAWN_LEVELS) {
         if line.is_full() {
             break;
         }
         level.push_trunk(line)?;
     }
-    Ok(())
+    match levels.len().saturating_sub(DRAWN_LEVELS) {
+        0 => Ok(()),
+        1 => line.push("…[1 level] "),
+        hidden => {
+            line.push("…[")?;
+            line.push_shown(&hidden)?;
+            line.push(" levels] ")
+        }
+    }
 }
 
 /// Leaves the innermost levels whose children all have lines.

@@ -68,6 +68,30 @@ fn pads_indexes(rt: HostRuntime) -> Result<(), AllocError> {
     Ok(())
 }
 
+/// The lines of the last four nodes in 34 block quotes: 33 to 36 levels are around them, and the
+/// outer 32 are drawn.
+#[test]
+fn counts_deep_levels(rt: HostRuntime) -> Result<(), AllocError> {
+    let alloc = rt.alloc();
+    let mut document = ">".repeat(alloc, 34)?;
+    document.push_str("a")?;
+    let tree = to_mdast(alloc, document.as_str(), &ParseOptions::default())?;
+    let text = inspect(alloc, &tree, None)?;
+    let mut end = String::new(alloc);
+    let trunks = "    ".repeat(alloc, 32)?;
+    for line in [
+        "└─0 blockquote[1] (1:33-1:36, 32-35)\n",
+        "…[1 level] └─0 blockquote[1] (1:34-1:36, 33-35)\n",
+        "…[2 levels] └─0 paragraph[1] (1:35-1:36, 34-35)\n",
+        "…[3 levels] └─0 text (1:35-1:36, 34-35) \"a\"\n",
+    ] {
+        end.push_str(trunks.as_str())?;
+        end.push_str(line)?;
+    }
+    assert!(rt; text.as_str().ends_with(end.as_str()));
+    Ok(())
+}
+
 /// Returns what arguments request, or the status with which they end the program.
 fn asked(rt: &HostRuntime, arguments: &[&str]) -> Result<Request, u8> {
     let Ok(words) = words(rt.alloc(), arguments) else {

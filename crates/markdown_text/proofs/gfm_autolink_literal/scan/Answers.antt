@@ -1,4 +1,4 @@
-use Rattle.std.proofs.Common.{Bool, List, None, Option, Some, arith, drop, length, subst, sym, ◌+◌, ◌<◌, ◌≡◌, ◌≤◌, ◌∙◌, ap, ℕ}
+use Rattle.std.proofs.Common.{Bool, List, None, Option, Some, arith, drop, length, subst, sym, ◌+◌, ◌<◌, ◌≡◌, ◌≤◌, ◌∙◌, ap, ap₂, ℕ}
 use Rattle.std.specs.Prelude.{MatchOption, slice_index}
 use Rattle.commonmark_syntax.specs.Cuts.{IsCut, IsInLine}
 use Rattle.commonmark_syntax.specs.Inlines.{extended_autolink_start}
@@ -41,7 +41,7 @@ returns-clause-found c =
 pub returns-then-not-may_follow-clause-exact : goal.returns-then-not-may_follow-clause-exact
 returns-then-not-may_follow-clause-exact c = λ valid.
     let cursor = c.args.cursor in
-    none_follows c.args.in_bracket cursor.content.now cursor.at (ap may_follow (sym c.before-2.ensures) ∙ sym c.may_follow.ensures ∙ c.if-not-may_follow.true)
+    none_follows c.args.in_bracket cursor.content.now cursor.at (ap₂ may_follow (sym c.byte.ensures) (sym c.before-2.ensures) ∙ sym c.may_follow.ensures ∙ c.if-not-may_follow.true)
 
 pub returns-in_err-start-clause-exact : goal.returns-in_err-start-clause-exact
 returns-in_err-start-clause-exact c = λ valid.
@@ -72,7 +72,7 @@ returns-clause-exact c = λ valid.
     let rest = c.rest.ensures.length in
     let reach = c.in_ok-start.ensures.most in
     let within = cursor.within in
-    let follows = ap may_follow (sym c.before-2.ensures) ∙ sym c.may_follow.ensures ∙ c.if-not-may_follow.false in
+    let follows = ap₂ may_follow (sym c.byte.ensures) (sym c.before-2.ensures) ∙ sym c.may_follow.ensures ∙ c.if-not-may_follow.false in
     let begins = leaves_rest content c.rest.result.now at start c.rest.ensures.rest c.in_ok-start.ensures.exact in
     let cut = cut_after_start cursor c.rest.result.now start c.rest.ensures.rest reach c.in_ok-start.ensures.least c.in_ok-start.ensures.exact in
     subst (λ (n : ℕ). IsExtendedAutolink c.args.in_bracket content at n) (sym c.token.ensures.size)
