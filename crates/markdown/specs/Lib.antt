@@ -6,3 +6,4 @@ pub mod Blocks
 pub mod TreeSinks
 pub mod OutlineSinks
 pub mod TextSinks
+pub mod Documents

@@ -3,16 +3,18 @@
 ghost use Rattle.std.specs.Prelude.{◌≡◌, IfOk, length};
 ghost use Rattle.markdown.specs.Hidden.{flags_at};
 
+use crate::events::recorded;
 use crate::hidden::{flags_at, offsets_in_cells};
+use crate::hidden_sink::HiddenSink;
 use markdown_events::search::first_equal;
-use markdown_flow::document::Blocks;
+use markdown_flow::document::{Blocks, read};
 use markdown_options::ParseOptions;
 use std::alloc::{AllocError, Global};
 
 /// The bytes of a document that its events are expected to hide.
 ///
-/// They are those that the cells of its tables hide. That a label hides the marker of a block quote is rare, and
-/// known only when the events are.
+/// First they are those that the cells of its tables hide. A label that hides the marker of a block quote
+/// is rare, and is known only when the events are. A document that has one is read again.
 #[derive(Drop)]
 pub struct Expected {
     /// Their offsets, in order.
@@ -37,7 +39,30 @@ impl Expected {
         } else {
             Vec::new(alloc)
         };
-        let flags = flags_at(alloc, bytes.len(), &offsets)?;
+        Expected::at(alloc, bytes.len(), offsets)
+    }
+
+    /// Returns what the events of a document hide. The document is read, and nothing but the offsets of
+    /// these bytes is kept. The only error is that memory ran out.
+    pub fn of_document(
+        alloc: Global,
+        value: &str,
+        options: &ParseOptions,
+    ) -> Result<Expected, AllocError>
+        ensures { IfOk result (λ expected. expected.flags.items ≡ flags_at (length value.now) expected.offsets.items) }
+    {
+        let bytes = value.as_bytes();
+        let blocks = read(alloc, bytes, options)?;
+        let sink = HiddenSink::new(alloc, bytes);
+        let sink = recorded(alloc, bytes, options, blocks, sink)?;
+        Expected::at(alloc, bytes.len(), sink.into_offsets())
+    }
+
+    /// Returns that the bytes at these offsets are hidden in a document of `count` bytes.
+    fn at(alloc: Global, count: usize, offsets: Vec<usize>) -> Result<Expected, AllocError>
+        ensures { IfOk result (λ expected. expected.flags.items ≡ flags_at count expected.offsets.items) }
+    {
+        let flags = flags_at(alloc, count, &offsets)?;
         Ok(Expected { offsets, flags })
     }
 }

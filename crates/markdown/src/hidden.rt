@@ -62,7 +62,7 @@ pub(crate) fn offsets_in_cells(
 
 /// Adds the offsets that an event hides, given how many labels are open and where the open cell
 /// began.
-fn add_hidden(
+pub(crate) fn add_hidden(
     offsets: &mut Vec<usize>,
     bytes: &[u8],
     labels: usize,
@@ -119,7 +119,7 @@ pub(crate) fn is_label(name: Name) -> bool
 }
 
 /// Returns where the cell began that is open after an event.
-fn cell_after(cell: usize, event: &Event) -> usize
+pub(crate) fn cell_after(cell: usize, event: &Event) -> usize
     ensures { result ≡ cell_after cell event.now.kind event.now.name event.now.point.index }
 {
     match (event.kind, event.name) {

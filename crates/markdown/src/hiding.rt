@@ -145,7 +145,7 @@ fn cell_entered(cell: usize, name: Name, index: usize) -> usize
 
 /// Returns how many labels are open after the enter of a span, or none if that is no `usize`.
 #[inline(always)]
-fn labels_entered(labels: usize, name: Name) -> Option<usize>
+pub(crate) fn labels_entered(labels: usize, name: Name) -> Option<usize>
     ensures { SomeIff result (labels_after labels Enter name < 2 ^ 64) (labels_after labels Enter name) }
 {
     if is_label(name) {
@@ -175,7 +175,7 @@ fn expected_after<'e>(
 
 /// Returns how many labels are open after the exit of a span.
 #[inline(always)]
-fn labels_left(labels: usize, name: Name) -> usize
+pub(crate) fn labels_left(labels: usize, name: Name) -> usize
     ensures { result ≡ labels_after labels Exit name }
 {
     if is_label(name) {

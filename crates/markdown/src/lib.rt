@@ -13,6 +13,7 @@
 mod events;
 mod expected;
 mod hidden;
+mod hidden_sink;
 mod hiding;
 pub mod laws;
 mod outline;

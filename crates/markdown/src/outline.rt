@@ -1,26 +1,27 @@
 //! The outline of a document.
 
-ghost use Rattle.std.specs.Prelude.{IfOk, List, false, string_bytes, ◌≡◌};
+ghost use Rattle.std.specs.Prelude.{IfOk, IfSome, List, false, length, string_bytes, ◌≡◌};
 ghost use Rattle.character_references.specs.Html.{html};
 ghost use Rattle.event_writer.specs.Finished.{IsFinished};
 ghost use Rattle.markdown_events.specs.declared.event.Event.{Event};
-ghost use Rattle.markdown.specs.Hidden.{hidden};
+ghost use Rattle.markdown.specs.Blocks.{AreBlocks};
+ghost use Rattle.markdown.specs.Documents.{IsReadAsOutline};
+ghost use Rattle.markdown.specs.Hidden.{flags_at, hidden};
 ghost use Rattle.markdown_grammar.specs.Document.{source, source_hiding};
 ghost use Rattle.markdown_options.specs.Spans.{AreOn};
 ghost use Rattle.markdown_outline.specs.Outlines.{HasOutline};
 
-use crate::events::{recorded, to_events};
+use crate::events::recorded;
 use crate::expected::Expected;
 use crate::outline_sink::OutlineSink;
-use crate::tree::{memory_error, tree_of};
-use markdown_flow::document::read;
+use crate::tree::{memory_error, to_mdast};
+use markdown_flow::document::{Blocks, read};
 use markdown_options::ParseOptions;
 use mdast_util::outline::outline;
 use std::alloc::{AllocError, Global};
 
 /// Returns the headings of a document, one on each line, as `outline` of `mdast_util` writes those of
-/// its tree. Only headings become nodes, unless a label of the document hides a byte (see
-/// [`hidden_bytes`](crate::hidden_bytes)).
+/// its tree. Only headings become nodes.
 ///
 /// The only error is that memory ran out, as in [`to_events`](crate::to_events).
 ///
@@ -36,13 +37,49 @@ pub fn to_outline(alloc: Global, value: &str, options: &ParseOptions) -> Result<
     let bytes = value.as_bytes();
     let blocks = read(alloc, bytes, options)?;
     let expected = Expected::new(alloc, bytes, options, &blocks)?;
-    let sink = OutlineSink::new(alloc, value, &expected)?;
-    let sink = recorded(alloc, bytes, options, blocks, sink)?;
-    if sink.hides_as_expected() && !sink.loses() {
-        return built_outline(alloc, sink);
+    if let Some(text) = outline_hiding(alloc, value, options, blocks, &expected)? {
+        return Ok(text);
     }
-    let events = to_events(alloc, value, options)?;
-    outline(alloc, &tree_of(alloc, value, &events)?)
+    outline_again(alloc, value, options)
+}
+
+/// Returns the outline of a document of which labels hide bytes. It is read twice: to collect these, and
+/// to build the headings.
+fn outline_again(
+    alloc: Global,
+    value: &str,
+    options: &ParseOptions,
+) -> Result<String, AllocError>
+    ensures { IfOk result (λ text. IsReadAsOutline options.now.constructs value.now (string_bytes text)) }
+{
+    let expected = Expected::of_document(alloc, value, options)?;
+    let blocks = read(alloc, value.as_bytes(), options)?;
+    if let Some(text) = outline_hiding(alloc, value, options, blocks, &expected)? {
+        return Ok(text);
+    }
+    outline(alloc, &to_mdast(alloc, value, options)?)
+}
+
+/// Returns the outline of a document with these blocks, unless its events hide other bytes than those
+/// that they are expected to hide, or a heading is lost.
+fn outline_hiding(
+    alloc: Global,
+    value: &str,
+    options: &ParseOptions,
+    blocks: Blocks,
+    expected: &Expected,
+) -> Result<Option<String>, AllocError>
+    requires blocks { AreBlocks value.now options.now.constructs blocks }
+    requires expected { expected.now.flags.items ≡ flags_at (length value.now) expected.now.offsets.items }
+    ensures { IfOk result (λ found. IfSome found (λ text. IsReadAsOutline options.now.constructs value.now (string_bytes text))) }
+{
+    let sink = OutlineSink::new(alloc, value, expected)?;
+    let sink = recorded(alloc, value.as_bytes(), options, blocks, sink)?;
+    if sink.hides_as_expected() && !sink.loses() {
+        let text = built_outline(alloc, sink)?;
+        return Ok(Some(text));
+    }
+    Ok(None)
 }
 
 /// Returns the outline of the headings that a sink has built, if its events hide what they were expected

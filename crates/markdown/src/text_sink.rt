@@ -1,13 +1,14 @@
 //! A sink of events that says their words.
 
-ghost use Rattle.std.specs.Prelude.{◌≡◌, ◌++◌, ◌∷◌, [], IfOk, OnErr, OnOk, Some, false, string_bytes, true};
+ghost use Rattle.std.specs.Prelude.{◌≡◌, ◌++◌, ◌∷◌, [], IfOk, OnErr, OnOk, Some, false, length, string_bytes, true};
 ghost use Rattle.markdown_events.specs.Forest.{enter, exit};
 ghost use Rattle.character_references.specs.Html.{html};
 ghost use Rattle.event_writer.specs.Finished.{IsFinished};
 ghost use Rattle.markdown_grammar.specs.Document.{source_hiding};
 ghost use Rattle.markdown_words.specs.Texts.{HasText};
-ghost use Rattle.markdown.specs.Hidden.{hidden};
+ghost use Rattle.markdown.specs.Hidden.{flags_at, hidden};
 
+use crate::expected::Expected;
 use crate::hiding::Hiding;
 use event_writer::sink::{Sink, enter_event, exit_event};
 use markdown_events::event::{Name, Point};
@@ -23,7 +24,7 @@ pub struct TextSink<'d> {
     bytes: &'d [u8],
     /// The words so far. They stay in place while the sink is handed on.
     words: Box<Words<'d>>,
-    /// Whether the events so far hide a byte.
+    /// Whether the events so far hide what they are expected to hide.
     hiding: Hiding<'d>,
     /// The events so far.
     history: History,
@@ -34,21 +35,26 @@ impl<'d> Model for TextSink<'d> {
 
     ghost Value = { TextOf };
 
-    ghost view = { λ t. record { document = t.bytes.now; events = t.history.events; strange = t.words.value.strange } };
+    ghost view = { λ t. record { document = t.bytes.now; hidden = t.words.value.document.hidden; events = t.history.events; strange = t.words.value.strange } };
 
-    ghost invariant = { λ t. IsTextOf t.bytes.now t.history.events t.words.value t.hiding };
+    ghost invariant = { λ t. IsTextOf t.bytes.now t.words.value.document.hidden t.history.events t.words.value t.hiding };
 }
 
 impl<'d> TextSink<'d> {
-    /// Returns a sink that has taken no event.
-    pub fn new(alloc: Global, text: &'d str) -> Result<TextSink<'d>, AllocError>
+    /// Returns a sink that has taken no event, for events that are expected to hide these bytes.
+    pub fn new(
+        alloc: Global,
+        text: &'d str,
+        expected: &'d Expected,
+    ) -> Result<TextSink<'d>, AllocError>
+        requires expected { expected.now.flags.items ≡ flags_at (length text.now) expected.now.offsets.items }
         ensures document { IfOk result (λ sink. sink.document ≡ text.now) }
         ensures events { IfOk result (λ sink. sink.events ≡ []) }
     {
         Ok(TextSink {
             bytes: text.as_bytes(),
-            words: Box::new(alloc, Words::new(alloc, text))?,
-            hiding: Hiding::new(&[]),
+            words: Box::new(alloc, Words::hiding(alloc, text, &expected.flags))?,
+            hiding: Hiding::new(&expected.offsets),
             history: History::none(),
         })
     }
@@ -60,9 +66,10 @@ impl<'d> TextSink<'d> {
         self.words.is_strange()
     }
 
-    /// Whether the events hide no byte, so that the words are those of the document.
-    pub fn hides_none(&self) -> bool
-        ensures { result ≡ true → hidden self.now.document self.now.events ≡ [] }
+    /// Whether the events hide what they were expected to hide, so that the words are those of the
+    /// document.
+    pub fn hides_as_expected(&self) -> bool
+        ensures { result ≡ true → self.now.hidden ≡ hidden self.now.document self.now.events }
     {
         self.hiding.is_as_expected()
     }
@@ -116,11 +123,11 @@ impl<'d> TextSink<'d> {
         Ok(())
     }
 
-    /// Returns the words of the events, as if no byte were hidden.
+    /// Returns the words of the events, where those bytes are hidden that were expected to be.
     pub fn finish(self) -> Result<String, AllocError>
         requires known { self.strange ≡ false }
-        ensures { IsFinished (source_hiding [] self.entry.document html) self.entry.events
-            → IfOk result (λ text. HasText (string_bytes text) self.entry.events (source_hiding [] self.entry.document html)) }
+        ensures { IsFinished (source_hiding self.entry.hidden self.entry.document html) self.entry.events
+            → IfOk result (λ text. HasText (string_bytes text) self.entry.events (source_hiding self.entry.hidden self.entry.document html)) }
     {
         let TextSink { words, .. } = self;
         Box::into_inner(words).into_text()

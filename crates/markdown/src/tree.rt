@@ -1,11 +1,13 @@
 //! The tree of a document.
 
-ghost use Rattle.std.specs.Prelude.{IfErr, IfOk, List, Some, [], ◌≡◌, ◌≢◌};
+ghost use Rattle.std.specs.Prelude.{IfErr, IfOk, IfSome, List, Some, [], length, ◌≡◌, ◌≢◌};
 ghost use Rattle.character_references.specs.Html.{html};
 ghost use Rattle.event_writer.specs.Finished.{IsFinished};
 ghost use Rattle.markdown_events.specs.declared.event.Event.{Event};
 ghost use Rattle.markdown_grammar.specs.Correct.{FailsRightly, IsMeaning};
-ghost use Rattle.markdown.specs.Hidden.{hidden};
+ghost use Rattle.markdown.specs.Blocks.{AreBlocks};
+ghost use Rattle.markdown.specs.Documents.{IsReadAsTree};
+ghost use Rattle.markdown.specs.Hidden.{flags_at, hidden};
 ghost use Rattle.markdown.specs.Roots.{whole_document};
 ghost use Rattle.markdown_grammar.specs.Document.{source, source_hiding};
 ghost use Rattle.markdown_grammar.specs.Ordered.{IsOrdered, NeverGoesBack};
@@ -22,7 +24,7 @@ use crate::tree_sink::TreeSink;
 use character_references::html::HtmlReferences;
 use event_writer::laws::{no_message_comes, offsets_never_go_back};
 use markdown_events::event::Event;
-use markdown_flow::document::read;
+use markdown_flow::document::{Blocks, read};
 use markdown_nodes::mdast::Node;
 use markdown_nodes::message::Fault;
 use markdown_options::ParseOptions;
@@ -55,13 +57,51 @@ pub fn to_mdast(alloc: Global, value: &str, options: &ParseOptions) -> Result<No
     let bytes = value.as_bytes();
     let blocks = read(alloc, bytes, options)?;
     let expected = Expected::new(alloc, bytes, options, &blocks)?;
-    let sink = TreeSink::new(alloc, value, &expected)?;
-    let sink = recorded(alloc, bytes, options, blocks, sink)?;
-    if sink.hides_as_expected() {
-        return built_tree(sink);
+    if let Some(tree) = tree_hiding(alloc, value, options, blocks, &expected)? {
+        return Ok(tree);
     }
+    tree_again(alloc, value, options)
+}
+
+/// Returns the tree of a document of which labels hide bytes. It is read twice: to collect these, and to
+/// build the tree.
+fn tree_again(alloc: Global, value: &str, options: &ParseOptions) -> Result<Node, AllocError>
+    ensures tree { IfOk result (λ tree. IsReadAsTree options.now.constructs value.now tree) }
+    ensures root { IfOk result (λ tree. (view tree).position ≡ Some (whole_document value.now)) }
+    ensures ordered { IfOk result (λ tree. IsOrdered (only (view tree))) }
+{
+    let expected = Expected::of_document(alloc, value, options)?;
+    let blocks = read(alloc, value.as_bytes(), options)?;
+    if let Some(tree) = tree_hiding(alloc, value, options, blocks, &expected)? {
+        return Ok(tree);
+    }
+    // That all readings have the same events is not proved, so this case stays.
     let events = to_events(alloc, value, options)?;
     tree_of(alloc, value, &events)
+}
+
+/// Returns the tree of a document with these blocks, unless its events hide other bytes than those that
+/// they are expected to hide.
+fn tree_hiding(
+    alloc: Global,
+    value: &str,
+    options: &ParseOptions,
+    blocks: Blocks,
+    expected: &Expected,
+) -> Result<Option<Node>, AllocError>
+    requires blocks { AreBlocks value.now options.now.constructs blocks }
+    requires expected { expected.now.flags.items ≡ flags_at (length value.now) expected.now.offsets.items }
+    ensures tree { IfOk result (λ found. IfSome found (λ tree. IsReadAsTree options.now.constructs value.now tree)) }
+    ensures root { IfOk result (λ found. IfSome found (λ tree. (view tree).position ≡ Some (whole_document value.now))) }
+    ensures ordered { IfOk result (λ found. IfSome found (λ tree. IsOrdered (only (view tree)))) }
+{
+    let sink = TreeSink::new(alloc, value, expected)?;
+    let sink = recorded(alloc, value.as_bytes(), options, blocks, sink)?;
+    if sink.hides_as_expected() {
+        let tree = built_tree(sink)?;
+        return Ok(Some(tree));
+    }
+    Ok(None)
 }
 
 /// Returns the tree that a sink has built, if its events hide what they were expected to hide.
@@ -82,7 +122,7 @@ fn built_tree(sink: TreeSink<'_>) -> Result<Node, AllocError>
 }
 
 /// Returns the tree of a document and its events.
-pub(crate) fn tree_of(alloc: Global, value: &str, events: &[Event]) -> Result<Node, AllocError>
+fn tree_of(alloc: Global, value: &str, events: &[Event]) -> Result<Node, AllocError>
     requires { IsFinished (source value.now html) events.now }
     ensures tree { IfOk result (λ tree. IsMeaning tree events.now (source_hiding (hidden value.now events.now) value.now html)) }
     ensures root { IfOk result (λ tree. (view tree).position ≡ Some (whole_document value.now)) }

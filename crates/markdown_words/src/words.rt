@@ -51,14 +51,24 @@ pub struct Words<'d> {
 }
 
 impl<'d> Words<'d> {
-    /// Returns the words before the first event: none.
+    /// Returns the words before the first event: none. No byte of the document is hidden.
     pub fn new(alloc: Global, text: &'d str) -> Words<'d>
         ensures shows { Shows result at_first }
         ensures document { result.document.bytes ≡ text.now }
         ensures hidden { result.document.hidden ≡ [] }
     {
+        Words::hiding(alloc, text, &[])
+    }
+
+    /// Returns the words before the first event, in a document of which some bytes are hidden, as
+    /// `Document::of_text` says.
+    pub fn hiding(alloc: Global, text: &'d str, hidden: &'d [bool]) -> Words<'d>
+        ensures shows { Shows result at_first }
+        ensures document { result.document.bytes ≡ text.now }
+        ensures hidden { result.document.hidden ≡ hidden.now }
+    {
         Words {
-            document: Document::of_text(text, &[]),
+            document: Document::of_text(text, hidden),
             speech: Speech::new(alloc),
             setting: Setting::of_root(),
             outer: Vec::new(alloc),

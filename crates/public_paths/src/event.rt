@@ -57,6 +57,21 @@ fn words_are_said(rt: HostRuntime) -> Result<(), AllocError> {
 }
 
 #[test]
+fn hidden_bytes_are_not_said(rt: HostRuntime) -> Result<(), AllocError> {
+    let end = Point {
+        column: 5,
+        index: 4,
+        ..START
+    };
+    let mut words = Words::hiding(rt.alloc(), "a\\|b", &[false, true, false, false]);
+    words.enter(Name::Paragraph)?;
+    words.token(Name::Data, &START, &end)?;
+    words.exit(Name::Paragraph, &end)?;
+    holds(&rt, words.into_text()?.as_str() == "a|b\n");
+    Ok(())
+}
+
+#[test]
 fn names_are_texts_and_points_are_those_of_unist(rt: HostRuntime) {
     holds(&rt, Name::Data.text() == "Data");
     holds(&rt, Name::find("Data") == Some(Name::Data));

@@ -1,4 +1,4 @@
-use Rattle.std.proofs.Common.{IfOk, [], ap, subst, ◌∙◌, ◌≡◌, false}
+use Rattle.std.proofs.Common.{IfOk, ap, subst, ◌∙◌, ◌≡◌, false}
 use Rattle.std.specs.Prelude.{string_bytes}
 use Rattle.character_references.specs.Html.{html}
 use Rattle.event_writer.specs.Finished.{IsFinished}
@@ -13,7 +13,7 @@ pub returns : goal.returns
 returns c =
     let t = c.self.inside in
     let known : t.words.value.strange ≡ false = ap (λ (x : TextOf). x.strange) c.self.view_is ∙ c.requires.known in
-    let text = λ (f : IsFinished (source_hiding [] t.bytes.now html) t.history.events).
-    if-ok (λ text. string_bytes text ≡ ended c.into_inner.result.speech.text) (λ text. HasText (string_bytes text) t.history.events (source_hiding [] t.bytes.now html))
+    let text = λ (f : IsFinished (source_hiding t.words.value.document.hidden t.bytes.now html) t.history.events).
+    if-ok (λ text. string_bytes text ≡ ended c.into_inner.result.speech.text) (λ text. HasText (string_bytes text) t.history.events (source_hiding t.words.value.document.hidden t.bytes.now html))
     (λ text is. finished-text t.bytes.now t.history.events t.words.value t.hiding (string_bytes text) f c.self.invariant known (is ∙ ap (λ w. ended w.speech.text) c.into_inner.ensures)) c.into_text.result c.into_text.ensures in
-    subst (λ (x : TextOf). IsFinished (source_hiding [] x.document html) x.events → IfOk c.into_text.result (λ text. HasText (string_bytes text) x.events (source_hiding [] x.document html))) c.self.view_is text
+    subst (λ (x : TextOf). IsFinished (source_hiding x.hidden x.document html) x.events → IfOk c.into_text.result (λ text. HasText (string_bytes text) x.events (source_hiding x.hidden x.document html))) c.self.view_is text
