@@ -1,6 +1,5 @@
 -- Events that hide what they are expected to hide.
-use Rattle.std.proofs.Common.{Bool, List, [], ap, append-nil, false, length, refl, subst, sym, true, ℕ, ◌++◌, ◌∙◌, ◌∷◌, ◌≡◌}
-use Rattle.std.specs.Prelude.{◌||◌}
+use Rattle.std.proofs.Common.{Bool, List, [], ap, append-nil, false, length, refl, subst, sym, ℕ, ◌++◌, ◌∙◌, ◌∷◌, ◌≡◌}
 use Rattle.std.proofs.lemmas.List.{append_assoc}
 use Rattle.markdown_events.specs.declared.event.Event.{Event}
 use Rattle.character_references.specs.declared.html.HtmlReferences.{HtmlReferences}
@@ -10,15 +9,6 @@ use Rattle.markdown.specs.TreeSinks.{IsTreeOf, hiding_document}
 use Rattle.markdown.specs.Hidden.{cell_after, flags_at, hidden, hidden_by, hidden_from, labels_after}
 use Rattle.markdown.specs.Hiding.{Passes, Tells, cell_in, labels_in}
 use Rattle.markdown.specs.declared.hiding.Hiding.{Hiding}
-
--- neither of two flags is set
-pub or-left : (a b : Bool) → (a || b) ≡ false → a ≡ false
-or-left true b h = absurd (cc h)
-or-left false b h = refl
-
-pub or-right : (a b : Bool) → (a || b) ≡ false → b ≡ false
-or-right true b h = absurd (cc h)
-or-right false b h = h
 
 -- what the events before the last one hide, and then the last one
 hidden-more : (bytes : List ℕ) (labels cell : ℕ) (es : List Event) (e : Event) → hidden_from bytes labels cell (es ++ e ∷ []) ≡ hidden_from bytes labels cell es ++ (hidden_by bytes (labels_in labels es) (cell_in cell es) e.kind e.name e.point.index ++ [])

@@ -1,5 +1,5 @@
 -- A sink of events that builds their tree.
-use Rattle.std.specs.Prelude.{Bool, List, [], ℕ, ◌≡◌}
+use Rattle.std.specs.Prelude.{Bool, List, ℕ, ◌≡◌}
 use Rattle.character_references.specs.declared.html.HtmlReferences.{HtmlReferences}
 use Rattle.markdown_events.specs.declared.event.Event.{Event}
 use Rattle.markdown_grammar.specs.Document.{Given}

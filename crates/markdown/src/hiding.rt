@@ -72,15 +72,17 @@ impl<'e> Hiding<'e> {
     fn pass_enter(&mut self, name: Name, at: &Point)
         ensures { (bytes : List ℕ) → Passes bytes Enter name at.now.index self.old self.new }
     {
-        let differs = self.differs | marks_quote(self.labels, name);
         self.cell = cell_entered(self.cell, name, at.index);
-        match labels_entered(self.labels, name) {
-            Some(labels) => {
-                self.labels = labels;
-                self.differs = differs;
-            }
-            None => self.differs = true,
-        }
+        let Some(later) = expected_inside(self.labels, name, at.index, self.expected) else {
+            self.differs = true;
+            return;
+        };
+        let Some(labels) = labels_entered(self.labels, name) else {
+            self.differs = true;
+            return;
+        };
+        self.expected = later;
+        self.labels = labels;
     }
 
     /// Takes the exit of any span in a document.
@@ -121,14 +123,20 @@ fn is_plain(name: Name) -> bool
     }
 }
 
-/// Whether the enter of a span hides a byte, with this many open labels.
+/// Returns the offsets that are expected after the enter of a span at an index, with this many open
+/// labels, if that of the byte that it hides comes first.
 #[inline(always)]
-fn marks_quote(labels: usize, name: Name) -> bool
-    ensures { result ≡ false → (bytes : List ℕ) → (cell index : ℕ) → hidden_by bytes labels cell Enter name index ≡ [] }
+fn expected_inside(
+    labels: usize,
+    name: Name,
+    index: usize,
+    expected: &[usize],
+) -> Option<&[usize]>
+    ensures { IfSome result (λ later. (bytes : List ℕ) → (cell : ℕ) → expected.now ≡ hidden_by bytes labels cell Enter name index ++ later.now) }
 {
     match name {
-        Name::BlockQuoteMarker => labels > 0,
-        _ => false,
+        Name::BlockQuoteMarker if labels > 0 => after_offset(expected, index),
+        _ => Some(expected),
     }
 }
 
