@@ -24,6 +24,7 @@ pub mod Switches
 pub mod AttentionEvents
 pub mod AttentionRuns
 pub mod AttentionWalk
+pub mod Blanks
 pub mod AttentionTokens
 pub mod AttentionBegun
 pub mod Parted

@@ -132,6 +132,12 @@ pub record IsSomewhere {R : Type 0} (w : Written R) : Type 0 where
   pub outer : List Enclosing
   pub at : IsAt w stage outer
 
+-- a writer is where inlines may come
+pub record IsAmongInlines {R : Type 0} (w : Written R) : Type 0 where
+  pub in_heading : Bool
+  pub outer : List Enclosing
+  pub at : IsAt w (inlines in_heading) outer
+
 -- a piece of this kind may be written
 pub record MayStep {R : Type 0} (w : Written R) (kind : PieceKind) : Type 0 where
   pub before : State

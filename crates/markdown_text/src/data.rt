@@ -32,6 +32,7 @@ pub fn write<R: References, S: Sink>(
     ensures attention { OnOk result (attention_of output.new ≡ attention_of output.old) }
 {
     let constructs = &output.source().reading.options.constructs;
+    let is_after_mark = output.is_after_mark();
     let space = whitespace::scan(
         output.rest_to(end),
         output.kind(),
@@ -40,6 +41,7 @@ pub fn write<R: References, S: Sink>(
         constructs.hard_break_trailing,
     );
     output.fill_to(Name::SpaceOrTab, output.offset_after(space.leading))?;
+    output.begin_text(is_after_mark)?;
     write_text(output, end - space.trailing)?;
     output.fill_to(Name::SpaceOrTab, end - space.hard_break)?;
     write_break(output, end, next)

@@ -55,7 +55,9 @@ pub fn write<R: References, S: Sink>(
     output.token(Name::GfmTaskListItemMarker, 1)?;
     write_value(output, value_name(is_checked))?;
     output.token(Name::GfmTaskListItemMarker, 1)?;
-    output.exit()
+    output.exit()?;
+    output.begin_task();
+    Ok(())
 }
 
 /// Returns the name of the value of a mark, which may be checked.

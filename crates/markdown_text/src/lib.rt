@@ -9,6 +9,7 @@
 mod attention;
 mod attention_names;
 mod autolink;
+mod blank;
 mod brackets;
 mod calls;
 mod character_escape;

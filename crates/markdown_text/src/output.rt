@@ -16,11 +16,12 @@ ghost use Rattle.markdown_text.specs.Standings.{IsAt, IsSomewhere, MayEndLine, M
 ghost use Rattle.markdown_text.specs.declared.output.Next.TheVariants.{LineEnding};
 
 use crate::content::{between, line_feed_in};
-use crate::pieces::{Lines, write_to_text};
+use crate::pieces::{BeforeText, Lines, before_text, write_to_blank, write_to_text};
 use crate::source::Source;
-use crate::{calls, data, string};
+use crate::{blank, calls, data, string};
 use character_references::references::References;
 use commonmark_syntax::bytes::{after, count_while, is_space_or_tab};
+use commonmark_syntax::spaces_break;
 use event_writer::recorder::Recorder;
 use event_writer::sink::Sink;
 use markdown_events::event::Name;
@@ -64,6 +65,8 @@ pub struct Output<'c, 'd, R: References, S: Sink> {
     data: usize,
     /// Whether nothing of this line is written yet.
     is_line_start: bool,
+    /// Whether the text after the mark of a task begins here.
+    is_after_mark: bool,
     /// What may occur here.
     kind: ContentKind,
     /// How many links are open.
@@ -112,6 +115,7 @@ impl<'c, 'd, R: References, S: Sink> Output<'c, 'd, R, S> {
             at: 0,
             data: 0,
             is_line_start: kind == ContentKind::Text,
+            is_after_mark: false,
             kind,
             links: 0,
         })
@@ -162,6 +166,22 @@ impl<'c, 'd, R: References, S: Sink> Output<'c, 'd, R, S> {
     /// ending.
     pub fn is_line_start(&self) -> bool {
         self.is_line_start
+    }
+
+    /// Whether the text after the mark of a task begins here.
+    pub fn is_after_mark(&self) -> bool {
+        self.is_after_mark
+    }
+
+    /// Records that the text after the mark of a task begins here.
+    pub fn begin_task(&mut self)
+        requires { Stands self.old }
+        ensures writer { self.new.writer.value ≡ self.old.writer.value }
+        ensures goes_on { GoesOn self.old self.new }
+        ensures at { self.new.at ≡ self.old.at }
+        ensures data_end { self.new.data ≡ self.old.data }
+    {
+        self.is_after_mark = true;
     }
 
     /// Whether email addresses are links here.
@@ -340,6 +360,7 @@ impl<'c, 'd, R: References, S: Sink> Output<'c, 'd, R, S> {
         self.at = end;
         self.data = end;
         self.is_line_start = false;
+        self.is_after_mark = false;
         to
     }
 
@@ -353,9 +374,85 @@ impl<'c, 'd, R: References, S: Sink> Output<'c, 'd, R, S> {
         ensures stage { KeepsInlines result self.old self.new }
         ensures attention { OnOk result (attention_of self.new ≡ attention_of self.old) }
     {
+        if self.is_after_mark && self.is_mark_alone() {
+            return self.mark_line_ending();
+        }
         self.flush(Next::LineEnding)?;
         self.line_ending_as(Name::LineEnding)?;
         Ok(())
+    }
+
+    /// Whether the line ending after the waiting data is no part of the text after the mark of a task:
+    /// before it are blanks alone, and something comes between it and the text. If that is no white
+    /// space, the text must not begin with a blank, since a tree leaves that out.
+    fn is_mark_alone(&self) -> bool {
+        let blanks = self.rest_to(self.data);
+        let has_break = self.source.reading.options.constructs.hard_break_trailing
+            && spaces_break::scan_back(blanks).is_some();
+        count_while(blanks, is_space_or_tab) == blanks.len()
+            && !has_break
+            && match before_text(self.lines.later) {
+                BeforeText::LineEnding => false,
+                BeforeText::Prefix => !may_be_blank(after(self.source.bytes, self.data)),
+                BeforeText::Space => true,
+            }
+    }
+
+    /// Writes the line ending of a line with a mark alone, and what comes before the text of the
+    /// next line. The last column of white space there is data. Blanks wait.
+    fn mark_line_ending(&mut self) -> Result<(), AllocError>
+        requires stands { Stands self.old }
+        requires feed { slice_get (bytes_of self.old) self.old.data ≡ Some 10 }
+        requires inlines { AtInlines self.old }
+        ensures given { self.new.writer.value.given ≡ self.old.writer.value.given }
+        ensures writes { OnOk result (WritesTo self.old self.new (self.old.data + 1)) }
+        ensures stage { KeepsInlines result self.old self.new }
+        ensures attention { OnOk result (attention_of self.new ≡ attention_of self.old) }
+    {
+        self.fill_to(Name::SpaceOrTab, self.data)?;
+        self.line_ending_to_blank()
+    }
+
+    /// Writes a line ending that is no part of the text, and what comes before the text of the next
+    /// line. The last column of white space there is data. No data waits.
+    fn line_ending_to_blank(&mut self) -> Result<(), AllocError>
+        requires stands { Stands self.old }
+        requires none_waits { self.old.data ≡ self.old.at }
+        requires feed { slice_get (bytes_of self.old) self.old.at ≡ Some 10 }
+        requires inlines { AtInlines self.old }
+        ensures given { self.new.writer.value.given ≡ self.old.writer.value.given }
+        ensures writes { OnOk result (WritesTo self.old self.new (self.old.at + 1)) }
+        ensures stage { KeepsInlines result self.old self.new }
+        ensures attention { OnOk result (attention_of self.new ≡ attention_of self.old) }
+    {
+        let Some((_, next)) = self.lines.later.split_first() else {
+            unreachable!()
+        };
+        let reading = self.source.reading;
+        calls::line_ending(&mut *self.writer, Name::BlankLineEnding)?;
+        self.lines = write_to_blank(&mut *self.writer, reading.document, next)?;
+        self.at = later(self.at, 1, self.source.bytes.len());
+        self.data = self.at;
+        self.is_line_start = true;
+        self.is_after_mark = false;
+        Ok(())
+    }
+
+    /// Begins a text. After the mark of a task, a tab is entered at its last column.
+    pub fn begin_text(&mut self, is_after_mark: bool) -> Result<(), AllocError>
+        requires stands { Stands self.old }
+        requires none_waits { self.old.data ≡ self.old.at }
+        requires inlines { AtInlines self.old }
+        ensures given { self.new.writer.value.given ≡ self.old.writer.value.given }
+        ensures writes { OnOk result (WritesTo self.old self.new self.old.at) }
+        ensures stage { KeepsInlines result self.old self.new }
+        ensures attention { OnOk result (attention_of self.new ≡ attention_of self.old) }
+    {
+        if !is_after_mark || self.writer.cursor().index >= self.lines.end {
+            return Ok(());
+        }
+        let reading = self.source.reading;
+        blank::enter_tab(&mut *self.writer, reading.document)
     }
 
     /// Writes a line ending as a token of this name, and what comes before the text of the next
@@ -379,6 +476,7 @@ impl<'c, 'd, R: References, S: Sink> Output<'c, 'd, R, S> {
         self.at = later(self.at, 1, self.source.bytes.len());
         self.data = self.at;
         self.is_line_start = true;
+        self.is_after_mark = false;
         Ok(())
     }
 
@@ -517,6 +615,12 @@ impl<'c, 'd, R: References, S: Sink> Output<'c, 'd, R, S> {
         let Output { writer, .. } = self;
         Ok(writer)
     }
+}
+
+/// Whether a character reference that may stand for a blank comes after the line feed that a text
+/// begins with: one by number, `&Tab;` or `&NewLine;`.
+fn may_be_blank(text: &[u8]) -> bool {
+    matches!(text, [_, b'&', b'#' | b'T' | b'N', ..])
 }
 
 /// Returns the offset `size` bytes after another. It is not after `_end`.

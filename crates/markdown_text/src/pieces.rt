@@ -1,10 +1,10 @@
 //! Pieces, as the writer receives them.
 
-ghost use Rattle.std.specs.Prelude.{IfOk, IsTrue, List, OnOk, true, ◌≡◌, ◌≢◌};
+ghost use Rattle.std.specs.Prelude.{Bool, IfOk, IsTrue, List, OnOk, true, ◌≡◌, ◌≢◌};
 ghost use Rattle.std.specs.Str.{IsCharBoundary};
 ghost use Rattle.commonmark_syntax.specs.Cuts.{IsCut};
 ghost use Rattle.event_writer.specs.Calls.{CanReach};
-ghost use Rattle.event_writer.specs.Stages.{Enclosing, Stage};
+ghost use Rattle.event_writer.specs.Stages.{Enclosing, Stage, inlines};
 ghost use Rattle.markdown_options.specs.declared.Constructs.{Constructs};
 ghost use Rattle.markdown_pieces.specs.Spans.{IsOn};
 ghost use Rattle.markdown_pieces.specs.Tilings.{Goes, Tiles, end_from, end_of, point};
@@ -13,9 +13,9 @@ ghost use Rattle.markdown_pieces.specs.declared.piece.PieceKind.TheVariants.{Blo
 ghost use Rattle.markdown_text.specs.AttentionEvents.{attention_events, is_between_texts};
 ghost use Rattle.markdown_text.specs.Contents.{IsContent, IsLeft, joined, left, spot, whole};
 ghost use Rattle.markdown_text.specs.Spans.{IsWithin};
-ghost use Rattle.markdown_text.specs.Standings.{IsAt, IsSomewhere, MayStep};
+ghost use Rattle.markdown_text.specs.Standings.{IsAmongInlines, IsAt, IsSomewhere, MayStep};
 
-use crate::calls;
+use crate::{blank, calls};
 use character_references::references::References;
 use event_writer::recorder::Recorder;
 use event_writer::sink::Sink;
@@ -72,6 +72,91 @@ pub fn write_to_text<'c, R: References, S: Sink>(
     unreachable!()
 }
 
+/// What comes directly before the text of a line.
+#[derive(Clone, Copy, PartialEq, Eq)]
+pub enum BeforeText {
+    /// The line ending before it.
+    LineEnding,
+    /// The prefix of a block quote.
+    Prefix,
+    /// White space.
+    Space,
+}
+
+/// Returns what comes directly before the next text of a content.
+pub fn before_text(pieces: &[Piece]) -> BeforeText {
+    let mut before = BeforeText::LineEnding;
+    for piece in pieces {
+        before = match piece.kind {
+            PieceKind::Text => return before,
+            PieceKind::Token(_) => BeforeText::Space,
+            PieceKind::BlockQuotePrefix => BeforeText::Prefix,
+            _ => BeforeText::LineEnding,
+        };
+    }
+    before
+}
+
+/// Does what `write_to_text` does among inlines, but the last column of white space before the text
+/// is data.
+pub fn write_to_blank<'c, R: References, S: Sink>(
+    writer: &mut Recorder<'_, R, S>,
+    document: &[u8],
+    pieces: &'c [Piece],
+) -> Result<Lines<'c>, AllocError>
+    requires document { document.now ≡ writer.old.given.bytes }
+    requires content { IsContent pieces.now }
+    requires tiles { Tiles writer.old.given.bytes (spot writer.old.cursor) pieces.now (end_from (spot writer.old.cursor) pieces.now) }
+    requires at { IsAmongInlines writer.old }
+    ensures given { writer.new.given ≡ writer.old.given }
+    ensures left { IfOk result (λ lines. IsLeft writer.old.given.bytes (spot writer.new.cursor) lines.end lines.later.now) }
+    ensures bytes { IfOk result (λ lines. left writer.old.given.bytes writer.new.cursor.index lines.end lines.later.now ≡ joined writer.old.given.bytes writer.old.cursor.index pieces.now) }
+    ensures end { IfOk result (λ lines. end_from (whole lines.end) lines.later.now ≡ end_from (spot writer.old.cursor) pieces.now) }
+    ensures at { (h : Bool) → (outer : List Enclosing) → IsAt writer.old (inlines h) outer → OnOk result (IsAt writer.new (inlines h) outer) }
+    ensures within { (c : Constructs) → IsWithin c writer.old → OnOk result (IsWithin c writer.new) }
+    ensures attention { OnOk result (attention_events writer.new.events ≡ attention_events writer.old.events) }
+{
+    let mut rest = pieces;
+    'pieces: while let Some((piece, later)) = rest.split_first() {
+        if is_text(piece.kind) {
+            return Ok(Lines {
+                end: piece.end,
+                later,
+            });
+        }
+        write_between(writer, document, piece, before_text(later) == BeforeText::LineEnding)?;
+        rest = later;
+    }
+    unreachable!()
+}
+
+/// Writes a piece between two texts of a content. The last column of white space is data, if the
+/// white space is the last piece.
+fn write_between<R: References, S: Sink>(
+    writer: &mut Recorder<'_, R, S>,
+    document: &[u8],
+    piece: &Piece,
+    is_last: bool,
+) -> Result<(), AllocError>
+    requires document { document.now ≡ writer.old.given.bytes }
+    requires goes { Goes writer.old.given.bytes piece.now.kind (spot writer.old.cursor) (end_of piece.now) }
+    requires between { is_between_texts piece.now.kind ≡ true }
+    requires at { IsAmongInlines writer.old }
+    ensures given { writer.new.given ≡ writer.old.given }
+    ensures spot { OnOk result (spot writer.new.cursor ≡ end_of piece.now) }
+    ensures at { (h : Bool) → (outer : List Enclosing) → IsAt writer.old (inlines h) outer → OnOk result (IsAt writer.new (inlines h) outer) }
+    ensures within { (c : Constructs) → IsWithin c writer.old → OnOk result (IsWithin c writer.new) }
+    ensures attention { OnOk result (attention_events writer.new.events ≡ attention_events writer.old.events) }
+{
+    match piece.kind {
+        PieceKind::Token(_) if is_last => {
+            let virtual_spaces = usize::from(piece.virtual_spaces);
+            blank::write(writer, document, piece.end, virtual_spaces)
+        }
+        _ => write_piece(writer, piece),
+    }
+}
+
 /// Writes a piece that is not a text.
 #[inline(always)]
 pub fn write_piece<R: References, S: Sink>(
@@ -126,7 +211,7 @@ fn write_block_quote_prefix<R: References, S: Sink>(
 
 /// Writes white space up to an offset, and a number of columns into the tab there, unless it is
 /// empty.
-fn write_space<R: References, S: Sink>(
+pub fn write_space<R: References, S: Sink>(
     writer: &mut Recorder<'_, R, S>,
     to: usize,
     virtual_spaces: usize,
