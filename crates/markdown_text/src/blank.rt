@@ -1,10 +1,10 @@
 //! White space before a text whose last column is data: a tree leaves out the blank that the text
 //! after the mark of a task begins with, so that the text begins in the next column.
 
-ghost use Rattle.std.specs.Prelude.{Bool, List, OnOk, length, ◌≡◌, ◌≤◌, ◌<◌, ◌+◌};
+ghost use Rattle.std.specs.Prelude.{Bool, List, OnOk, Some, length, slice_get, ◌≡◌, ◌≤◌, ◌<◌, ◌+◌};
 ghost use Rattle.commonmark_syntax.specs.Cuts.{IsCut};
 ghost use Rattle.event_writer.specs.Calls.{CanReach};
-ghost use Rattle.event_writer.specs.Places.{after_tab};
+ghost use Rattle.event_writer.specs.Places.{after_tab, column_at};
 ghost use Rattle.event_writer.specs.Stages.{Enclosing, Stage, inlines};
 ghost use Rattle.markdown_options.specs.declared.Constructs.{Constructs};
 ghost use Rattle.markdown_pieces.specs.Tilings.{point};
@@ -143,6 +143,7 @@ pub fn enter_tab<R: References, S: Sink>(
     requires at { IsSomewhere writer.old }
     ensures given { writer.new.given ≡ writer.old.given }
     ensures index { OnOk result (writer.new.cursor.index ≡ writer.old.cursor.index) }
+    ensures last { slice_get writer.old.given.bytes writer.old.cursor.index ≡ Some 9 → OnOk result (column_at writer.old.given.bytes writer.old.cursor.index + writer.new.cursor.vs + 1 ≡ after_tab (column_at writer.old.given.bytes writer.old.cursor.index)) }
     ensures at { (a : Stage) → (outer : List Enclosing) → IsAt writer.old a outer → OnOk result (IsAt writer.new a outer) }
     ensures within { (c : Constructs) → IsWithin c writer.old → OnOk result (IsWithin c writer.new) }
     ensures attention { OnOk result (attention_events writer.new.events ≡ attention_events writer.old.events) }

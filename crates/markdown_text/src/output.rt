@@ -393,7 +393,7 @@ impl<'c, 'd, R: References, S: Sink> Output<'c, 'd, R, S> {
             && !has_break
             && match before_text(self.lines.later) {
                 BeforeText::LineEnding => false,
-                BeforeText::Prefix => !may_be_blank(after(self.source.bytes, self.data)),
+                BeforeText::Marker => !may_be_blank(after(self.source.bytes, self.data)),
                 BeforeText::Space => true,
             }
     }

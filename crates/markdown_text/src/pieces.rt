@@ -77,8 +77,8 @@ pub fn write_to_text<'c, R: References, S: Sink>(
 pub enum BeforeText {
     /// The line ending before it.
     LineEnding,
-    /// The prefix of a block quote.
-    Prefix,
+    /// The marker of a block quote.
+    Marker,
     /// White space.
     Space,
 }
@@ -86,15 +86,26 @@ pub enum BeforeText {
 /// Returns what comes directly before the next text of a content.
 pub fn before_text(pieces: &[Piece]) -> BeforeText {
     let mut before = BeforeText::LineEnding;
+    let mut start = 0;
     for piece in pieces {
+        let is_byte = piece.end.saturating_sub(start) == 1 && piece.virtual_spaces == 0;
         before = match piece.kind {
             PieceKind::Text => return before,
-            PieceKind::Token(_) => BeforeText::Space,
-            PieceKind::BlockQuotePrefix => BeforeText::Prefix,
+            PieceKind::BlockQuotePrefix if is_byte => BeforeText::Marker,
+            PieceKind::Token(_) | PieceKind::BlockQuotePrefix => BeforeText::Space,
             _ => BeforeText::LineEnding,
         };
+        start = piece.end;
     }
     before
+}
+
+/// Whether pieces begin with a text.
+fn begin_with_text(pieces: &[Piece]) -> bool {
+    match pieces.first() {
+        Some(piece) => is_text(piece.kind),
+        None => false,
+    }
 }
 
 /// Does what `write_to_text` does among inlines, but the last column of white space before the text
@@ -124,14 +135,14 @@ pub fn write_to_blank<'c, R: References, S: Sink>(
                 later,
             });
         }
-        write_between(writer, document, piece, before_text(later) == BeforeText::LineEnding)?;
+        write_between(writer, document, piece, begin_with_text(later))?;
         rest = later;
     }
     unreachable!()
 }
 
-/// Writes a piece between two texts of a content. The last column of white space is data, if the
-/// white space is the last piece.
+/// Writes a piece between two texts of a content. If it is the last one, its last column of white
+/// space is data.
 fn write_between<R: References, S: Sink>(
     writer: &mut Recorder<'_, R, S>,
     document: &[u8],
@@ -148,13 +159,40 @@ fn write_between<R: References, S: Sink>(
     ensures within { (c : Constructs) → IsWithin c writer.old → OnOk result (IsWithin c writer.new) }
     ensures attention { OnOk result (attention_events writer.new.events ≡ attention_events writer.old.events) }
 {
+    let virtual_spaces = usize::from(piece.virtual_spaces);
     match piece.kind {
         PieceKind::Token(_) if is_last => {
-            let virtual_spaces = usize::from(piece.virtual_spaces);
             blank::write(writer, document, piece.end, virtual_spaces)
+        }
+        PieceKind::BlockQuotePrefix if is_last => {
+            write_prefix_to_blank(writer, document, piece.end, virtual_spaces)
         }
         _ => write_piece(writer, piece),
     }
+}
+
+/// Writes the prefix of a block quote up to a place. The last column of white space in it is data.
+fn write_prefix_to_blank<R: References, S: Sink>(
+    writer: &mut Recorder<'_, R, S>,
+    document: &[u8],
+    end: usize,
+    virtual_spaces: usize,
+) -> Result<(), AllocError>
+    requires document { document.now ≡ writer.old.given.bytes }
+    requires goes { Goes writer.old.given.bytes BlockQuotePrefix (spot writer.old.cursor) (record { offset = end; virtual_spaces = virtual_spaces }) }
+    requires at { IsAmongInlines writer.old }
+    ensures given { writer.new.given ≡ writer.old.given }
+    ensures spot { OnOk result (spot writer.new.cursor ≡ record { offset = end; virtual_spaces = virtual_spaces }) }
+    ensures at { (h : Bool) → (outer : List Enclosing) → IsAt writer.old (inlines h) outer → OnOk result (IsAt writer.new (inlines h) outer) }
+    ensures within { (c : Constructs) → IsWithin c writer.old → OnOk result (IsWithin c writer.new) }
+    ensures attention { OnOk result (attention_events writer.new.events ≡ attention_events writer.old.events) }
+{
+    let marker_end = writer.cursor().index + 1;
+    write_block_quote_prefix(writer, marker_end, 0)?;
+    if marker_end == end && virtual_spaces == 0 {
+        return Ok(());
+    }
+    blank::write(writer, document, end, virtual_spaces)
 }
 
 /// Writes a piece that is not a text.
