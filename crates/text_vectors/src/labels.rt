@@ -140,6 +140,42 @@ fn marks_of_tasks_over_two_lines(rt: HostRuntime) -> Result<(), AllocError> {
     )
 }
 
+/// The blank that a tree leaves out ends where the text begins.
+#[test]
+fn texts_after_marks_of_tasks(rt: HostRuntime) -> Result<(), AllocError> {
+    let alloc = rt.alloc();
+    shows(
+        &rt,
+        alloc,
+        "* [x]\ta",
+        "(ListUnordered (ListItem (ListItemPrefix ListItemMarker:1 SpaceOrTab:2 ) (Paragraph (GfmTaskListItemCheck GfmTaskListItemMarker:3 GfmTaskListItemValueChecked:4 GfmTaskListItemMarker:5 ) SpaceOrTab:5 Data:7 ) ) ) ",
+    )?;
+    shows(
+        &rt,
+        alloc,
+        "* [ ] \n  a",
+        "(ListUnordered (ListItem (ListItemPrefix ListItemMarker:1 SpaceOrTab:2 ) (Paragraph (GfmTaskListItemCheck GfmTaskListItemMarker:3 GfmTaskListItemValueUnchecked:4 GfmTaskListItemMarker:5 ) SpaceOrTab:6 BlankLineEnding:7 SpaceOrTab:8 Data:9 Data:10 ) ) ) ",
+    )?;
+    shows(
+        &rt,
+        alloc,
+        "* [ ]\n\ta",
+        "(ListUnordered (ListItem (ListItemPrefix ListItemMarker:1 SpaceOrTab:2 ) (Paragraph (GfmTaskListItemCheck GfmTaskListItemMarker:3 GfmTaskListItemValueUnchecked:4 GfmTaskListItemMarker:5 ) BlankLineEnding:6 SpaceOrTab:6 SpaceOrTab:6 Data:7 Data:8 ) ) ) ",
+    )?;
+    shows(
+        &rt,
+        alloc,
+        "* [ ]\na",
+        "(ListUnordered (ListItem (ListItemPrefix ListItemMarker:1 SpaceOrTab:2 ) (Paragraph (GfmTaskListItemCheck GfmTaskListItemMarker:3 GfmTaskListItemValueUnchecked:4 GfmTaskListItemMarker:5 ) LineEnding:6 Data:7 ) ) ) ",
+    )?;
+    shows(
+        &rt,
+        alloc,
+        "> * [ ]\n> a",
+        "(BlockQuote (BlockQuotePrefix BlockQuoteMarker:1 SpaceOrTab:2 ) (ListUnordered (ListItem (ListItemPrefix ListItemMarker:3 SpaceOrTab:4 ) (Paragraph (GfmTaskListItemCheck GfmTaskListItemMarker:5 GfmTaskListItemValueUnchecked:6 GfmTaskListItemMarker:7 ) BlankLineEnding:8 (BlockQuotePrefix BlockQuoteMarker:9 ) Data:10 Data:11 ) ) ) ) ",
+    )
+}
+
 #[test]
 fn strings_have_escapes_and_references_alone(rt: HostRuntime) -> Result<(), AllocError> {
     let alloc = rt.alloc();
