@@ -9,6 +9,8 @@ mod expect;
 #[cfg(test)]
 mod footnotes;
 #[cfg(test)]
+mod limits;
+#[cfg(test)]
 mod random;
 #[cfg(test)]
 mod safety;

@@ -6,7 +6,7 @@ use Rattle.markdown_nodes.specs.Tree.{Tree}
 use Rattle.markdown_nodes.specs.View.{view, views}
 use Rattle.markdown_nodes.proofs.Views.{view-is}
 use Rattle.markdown_html.specs.declared.html.Frame.{Frame}
-use Rattle.markdown_html.specs.Html.{Source, entered, left, nodes_page, tree_page}
+use Rattle.markdown_html.specs.Html.{Source, entered, left, nodes_page, settled, tree_page}
 use Rattle.markdown_html.specs.Page.{Page}
 use Rattle.markdown_html.specs.Places.{Place, after, followed, inside, place_of}
 
@@ -31,19 +31,19 @@ module _ (it : Source) where
   abbrev pub Writes : Page → (at around : Place) → List Node → Node → List Frame → Page → Type 0
   Writes page at around level parent frames whole = resume frames (finish at around level parent page) ≡ whole
 
-  one_more : (at : Place) (x : Node) (xs : List Node) (page : Page) → nodes_page it at (views (x ∷ xs)) page ≡ (let here = followed at (views xs) in let down = inside here (label_of x) (views (nodes_in x)) in nodes_page it (after at) (views xs) (left it here (label_of x) (views (nodes_in x)) (nodes_page it down (views (nodes_in x)) (entered it here (label_of x) (views (nodes_in x)) page))))
+  one_more : (at : Place) (x : Node) (xs : List Node) (page : Page) → nodes_page it at (views (x ∷ xs)) page ≡ (let here = settled it (followed at (views xs)) (label_of x) page in let down = inside here (label_of x) (views (nodes_in x)) in nodes_page it (after at) (views xs) (left it here (label_of x) (views (nodes_in x)) (nodes_page it down (views (nodes_in x)) (entered it here (label_of x) (views (nodes_in x)) page))))
   one_more at x xs page = ap (λ (t : Tree). nodes_page it (after at) (views xs) (tree_page it (followed at (views xs)) t page)) (view-is x)
 
-  pub writes_first : (place : Place) (node : Node) (start page : Page) (at around : Place) (level : List Node) (frames : List Frame) → page ≡ entered it place (label_of node) (views (nodes_in node)) start → around ≡ place → at ≡ inside around (label_of node) (views (nodes_in node)) → level ≡ nodes_in node → frames ≡ [] → Writes page at around level node frames (tree_page it place (view node) start)
+  pub writes_first : (place : Place) (node : Node) (start page : Page) (at around : Place) (level : List Node) (frames : List Frame) → page ≡ entered it around (label_of node) (views (nodes_in node)) start → around ≡ settled it place (label_of node) start → at ≡ inside around (label_of node) (views (nodes_in node)) → level ≡ nodes_in node → frames ≡ [] → Writes page at around level node frames (tree_page it place (view node) start)
   writes_first place node start page at around level frames begun top stands holds none =
       ap (λ (fs : List Frame). resume fs (finish at around level node page)) none
       ∙ ap (λ (l : List Node). finish at around l node page) holds
       ∙ ap (λ (p : Place). finish p around (nodes_in node) node page) stands
-      ∙ ap (λ (p : Place). finish (inside p (label_of node) (views (nodes_in node))) p (nodes_in node) node page) top
-      ∙ ap (λ (p : Page). finish (inside place (label_of node) (views (nodes_in node))) place (nodes_in node) node p) begun
+      ∙ ap (λ (p : Page). finish (inside around (label_of node) (views (nodes_in node))) around (nodes_in node) node p) begun
+      ∙ ap (λ (p : Place). finish (inside p (label_of node) (views (nodes_in node))) p (nodes_in node) node (entered it p (label_of node) (views (nodes_in node)) start)) top
       ∙ sym (ap (λ (t : Tree). tree_page it place t start) (view-is node))
 
-  pub writes_down : (page written whole : Page) (at around below next here : Place) (level rest inner : List Node) (parent first : Node) (frames pushed : List Frame) (top : Frame) → Writes page at around level parent frames whole → level ≡ first ∷ rest → here ≡ followed at (views rest) → inner ≡ nodes_in first → below ≡ inside here (label_of first) (views (nodes_in first)) → next ≡ after at → pushed ≡ frames ++ top ∷ [] → top.rest.now ≡ rest → top.parent.now ≡ parent → place_of top.around ≡ around → place_of top.at ≡ next → written ≡ entered it here (label_of first) (views (nodes_in first)) page → Writes written below here inner first pushed whole
+  pub writes_down : (page written whole : Page) (at around below next here : Place) (level rest inner : List Node) (parent first : Node) (frames pushed : List Frame) (top : Frame) → Writes page at around level parent frames whole → level ≡ first ∷ rest → here ≡ settled it (followed at (views rest)) (label_of first) page → inner ≡ nodes_in first → below ≡ inside here (label_of first) (views (nodes_in first)) → next ≡ after at → pushed ≡ frames ++ top ∷ [] → top.rest.now ≡ rest → top.parent.now ≡ parent → place_of top.around ≡ around → place_of top.at ≡ next → written ≡ entered it here (label_of first) (views (nodes_in first)) page → Writes written below here inner first pushed whole
   writes_down page written whole at around below next here level rest inner parent first frames pushed top so_far is stands holds inside_is follows stack same_rest same_parent same_around same_at added =
       let done = left it here (label_of first) (views (nodes_in first)) (nodes_page it (inside here (label_of first) (views (nodes_in first))) (views (nodes_in first)) (entered it here (label_of first) (views (nodes_in first)) page)) in
       ap (λ (fs : List Frame). resume fs (finish below here inner first written)) stack

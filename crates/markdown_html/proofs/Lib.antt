@@ -1,3 +1,4 @@
+pub mod Sums
 pub mod Siblings
 pub mod Maps
 pub mod Indexes

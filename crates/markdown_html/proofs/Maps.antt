@@ -1,5 +1,5 @@
 -- Maps whose keys are texts.
-use Rattle.std.proofs.Common.{◌≡◌, ℕ, Bool, true, false, cond, List, ◌∷◌, Option, None, Some, Bor, if◌then◌else◌, refl, sym, ap, ◌∙◌}
+use Rattle.std.proofs.Common.{◌≡◌, ℕ, Bool, true, false, cond, List, [], ◌∷◌, Option, None, Some, Bor, if◌then◌else◌, refl, sym, ap, ◌∙◌}
 use Rattle.std.specs.Prelude.{is_some, option_map}
 use Rattle.std.specs.List.{find}
 use Rattle.std.specs.Option.{option_eq}
@@ -63,3 +63,8 @@ gathers identifier_of node key before after text old new total next is puts so_f
     ∙ ap (λ (o : Option (List ℕ)). first_of old (cond (option_eq bytes_eq o (Some text)) (Some (view node)) (among after))) (is ∙ sym (ap identifier_of (label-is node)))
     ∙ ap (λ (l : List Tree). first_of old (among l)) (sym next)
     ∙ so_far
+
+-- once nothing is to come, what was gathered is the whole
+pub gathered : (test : Tree → Bool) (coming : List Tree) (old total : Option Tree) → coming ≡ [] → first_of old (find test coming) ≡ total → old ≡ total
+gathered test coming None total none so_far = sym (ap (λ (l : List Tree). find test l) none) ∙ so_far
+gathered test coming (Some tree) total none so_far = so_far

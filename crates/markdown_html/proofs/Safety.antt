@@ -1,5 +1,5 @@
 -- A page whose raw HTML does not pass is safe.
-use Rattle.std.proofs.Common.{◌≡◌, ℕ, ◌+◌, ◌||◌, ◌&&◌, zero, suc, not, cond, Bool, true, false, nat_le, List, [], ◌∷◌, ◌++◌, Option, None, Some, if◌then◌else◌, codes, drop, arith, refl, sym, ap, subst, ◌∙◌, slice_get, unwrap_or}
+use Rattle.std.proofs.Common.{◌≡◌, ℕ, ◌+◌, ◌*◌, ◌||◌, ◌&&◌, zero, suc, not, cond, Bool, true, false, nat_le, List, [], ◌∷◌, ◌++◌, Option, None, Some, if◌then◌else◌, codes, drop, length, arith, refl, sym, ap, subst, ◌∙◌, slice_get, unwrap_or}
 use Rattle.std.proofs.lemmas.Bool.{and_from, and_parts, cond_both, false≢true, le-leb}
 use Rattle.html_text.specs.Escapes.{escaped}
 use Rattle.html_text.specs.Safe.{IsSafe, State, content, has_link, run}
@@ -13,10 +13,11 @@ use Rattle.markdown_nodes.specs.Walk.{walk, walks}
 use Rattle.mdast_util.specs.Definitions.{definition_in}
 use Rattle.markdown_html.specs.declared.place.Kind.{Kind}
 use Rattle.markdown_html.specs.declared.place.Kind.TheVariants.{Text, Linked, Flow, Tight, LooseItem, TightItem, Hidden, FirstRow, SecondRow, LaterRow, HeaderCell, Cell, Note, Tail, Task}
-use Rattle.markdown_html.specs.Elements.{back_references, call_text, cell_end, cell_start, empty_cells, heading_name, image_tag, linked_call_text, note_start, passes, raw_html, reference_end, section_start, task_start}
-use Rattle.markdown_html.specs.Html.{Source, allowed_of, back_page, any_task, begins_with_paragraph, begins_with_text, cell_name, closed, count, ends_with_paragraph, entered, first_box, footnote_end, footnote_in, footnote_start, has_nodes, html, is_footnote, is_free, is_free_tree, is_no_html, left, link_back, link_front, listed_closed, listed_opened, most_notes, nodes_page, notes_page, opened, paragraph_end, paragraph_start, phrase_closed, phrase_opened, row_end, table_end, title_of, tree_page, url_of}
-use Rattle.markdown_html.specs.Page.{Call, Page, blank, block, fresh_line, is_fresh, on_new_line, put, say}
+use Rattle.markdown_html.specs.Elements.{back_references, call_text, cell_end, cell_start, empty_cells, heading_name, image_tag, link_start, linked_call_text, note_start, passes, raw_html, reference_end, section_start, task_start}
+use Rattle.markdown_html.specs.Html.{Source, allowed_of, back_page, any_task, begins_with_paragraph, begins_with_text, cell_cost, cell_name, closed, count, definition_cost, ends_with_paragraph, entered, first_box, footnote_end, footnote_in, footnote_start, has_nodes, html, is_footnote, is_free, is_free_tree, is_no_html, left, link_back, link_front, listed_closed, listed_opened, missing_cells, most_notes, nodes_page, notes_page, opened, paragraph_end, paragraph_start, phrase_closed, phrase_opened, row_end, settled, table_end, title_of, tree_page, url_of}
+use Rattle.markdown_html.specs.Page.{Call, Page, affords, blank, block, copy, fresh_line, is_fresh, on_new_line, put, say}
 use Rattle.markdown_html.specs.Places.{Place, after, any_spread, below, checked_of, followed, in_cell as cell_place, in_footnote, in_item, in_list, in_listed, in_text, inside, place, unended}
+use Rattle.markdown_html.specs.Texts.{budget_of}
 use Rattle.markdown_html.proofs.Tokens.{InList, Linkless, TakesBlocks, backs_read, call_reads, cell_ends, cell_reads, check_box_reads, code_reads, code_text_reads, empty_cells_read, heading_ends, heading_linkless, heading_reads, image_reads, in_cell, link_reads, linked_call_reads, list_ends, list_is_in, list_linkless, list_name, list_reads, list_takes_blocks, math_reads, math_text_reads, note_reads, raw_reads, section_reads, task_reads, td_starts, th_starts}
 
 -- what holds of each kind of place holds of any
@@ -81,8 +82,8 @@ abbrev ends : Kind → Trees → Kind
 ends kind nothing = kind
 ends kind (node _ _ _ rest) = ends (next kind) rest
 
-after_kind : (kind : Kind) (columns : Option (List AlignKind)) → (after (record { kind = kind; columns = columns })).kind ≡ next kind
-after_kind kind columns = by_kind (λ k. (after (record { kind = k; columns = columns })).kind ≡ next k) refl refl refl refl refl refl refl refl refl refl refl refl (λ n. refl) (λ n. refl) (λ c. refl) kind
+after_kind : (kind : Kind) (columns : Option (List AlignKind)) (bare : Bool) → (after (record { kind = kind; columns = columns; is_bare = bare })).kind ≡ next kind
+after_kind kind columns bare = by_kind (λ k. (after (record { kind = k; columns = columns; is_bare = bare })).kind ≡ next k) refl refl refl refl refl refl refl refl refl refl refl refl (λ n. refl) (λ n. refl) (λ c. refl) kind
 
 next_fits : (kind : Kind) (up : List (List ℕ)) → Fits kind up → Fits (next kind) up
 next_fits kind up = by_kind (λ k. Fits k up → Fits (next k) up) (λ f. f) (λ f. f) (λ f. f) (λ f. f) (λ f. f) (λ f. f) (λ f. f) (λ f. f) (λ f. f) (λ f. f) (λ f. f) (λ f. f) (λ _ f. f) (λ _ f. f) (λ _ f. f) kind
@@ -157,22 +158,22 @@ module _ (it : Source) where
   in_reference linked None up = up
   in_reference linked (Some _) up = in_link linked up
 
-  abbrev phrase_in : (linked : Bool) → Label → List (List ℕ) → List (List ℕ)
-  phrase_in linked emphasis up = codes "em" ∷ up
-  phrase_in linked strong up = codes "strong" ∷ up
-  phrase_in linked delete up = codes "del" ∷ up
-  phrase_in linked (link _ _) up = in_link linked up
-  phrase_in linked (link_reference _ identifier _) up = in_reference linked (definition_in it.tree identifier) up
-  phrase_in linked _ up = up
+  abbrev phrase_in : (linked bare : Bool) → Label → List (List ℕ) → List (List ℕ)
+  phrase_in linked bare emphasis up = codes "em" ∷ up
+  phrase_in linked bare strong up = codes "strong" ∷ up
+  phrase_in linked bare delete up = codes "del" ∷ up
+  phrase_in linked bare (link _ _) up = in_link linked up
+  phrase_in linked bare (link_reference _ identifier _) up = in_reference (linked || bare) (definition_in it.tree identifier) up
+  phrase_in linked bare _ up = up
 
-  abbrev open_in : Kind → Label → List (List ℕ) → List (List ℕ)
-  open_in kind paragraph up = in_paragraph kind up
-  open_in kind blockquote up = codes "blockquote" ∷ up
-  open_in kind (heading depth) up = heading_name depth ∷ up
-  open_in kind (list ordered _ _) up = list_name it.raw it.id_prefix ordered ∷ up
-  open_in kind (table _) up = codes "table" ∷ up
-  open_in kind (footnote_definition _ _) up = in_note kind up
-  open_in kind label up = phrase_in false label up
+  abbrev open_in : (bare : Bool) → Kind → Label → List (List ℕ) → List (List ℕ)
+  open_in bare kind paragraph up = in_paragraph kind up
+  open_in bare kind blockquote up = codes "blockquote" ∷ up
+  open_in bare kind (heading depth) up = heading_name depth ∷ up
+  open_in bare kind (list ordered _ _) up = list_name it.raw it.id_prefix ordered ∷ up
+  open_in bare kind (table _) up = codes "table" ∷ up
+  open_in bare kind (footnote_definition _ _) up = in_note kind up
+  open_in bare kind label up = phrase_in false bare label up
 
   -- a footnote may begin in a place
   abbrev MayNote : Kind → List (List ℕ) → Type 0
@@ -200,7 +201,7 @@ module _ (it : Source) where
   calls_read true identifier number times up may = linked_call_reads it.raw it.id_prefix up identifier number times
   calls_read false identifier number times up may = call_reads it.raw it.id_prefix up identifier number times may
 
-  call_pages : (linked : Bool) (found : Option Tree) (identifier : List ℕ) (label : Option (List ℕ)) (number times : ℕ) (calls : List Call) (page : Page) (up : List (List ℕ)) → MayLink linked up → At page up → At (elim found [ None ↦ say page (codes "[^" ++ escaped (unwrap_or label identifier) ++ codes "]") | Some _ ↦ record { text = page.text ++ (if linked then linked_call_text it.id_prefix identifier number times else call_text it.id_prefix identifier number times); calls = calls } ]) up
+  call_pages : (linked : Bool) (found : Option Tree) (identifier : List ℕ) (label : Option (List ℕ)) (number times : ℕ) (calls : List Call) (page : Page) (up : List (List ℕ)) → MayLink linked up → At page up → At (elim found [ None ↦ say page (codes "[^" ++ escaped (unwrap_or label identifier) ++ codes "]") | Some _ ↦ record page { text = page.text ++ (if linked then linked_call_text it.id_prefix identifier number times else call_text it.id_prefix identifier number times); calls = calls } ]) up
   call_pages linked None identifier label number times calls page up may p = says page p (both (allowed_of it) (both (allowed_of it) (reads (content up) (codes "[^")) (text_reads (allowed_of it) up (unwrap_or label identifier))) (reads (content up) (codes "]")))
   call_pages linked (Some _) identifier label number times calls page up may p = both (allowed_of it) p (calls_read linked identifier number times up may)
 
@@ -212,18 +213,25 @@ module _ (it : Source) where
   link_closes true up = same (content up)
   link_closes false up = reads (content (codes "a" ∷ up)) (codes "</a>")
 
-  reference_opens : (linked : Bool) (found : Option Tree) (up : List (List ℕ)) → MayLink linked up → Read (content up) (elim found [ None ↦ codes "[" | Some tree ↦ link_front it linked (url_of tree.label) (title_of tree.label) ]) (content (in_reference linked found up))
-  reference_opens linked None up may = reads (content up) (codes "[")
-  reference_opens linked (Some tree) up may = link_opens linked (url_of tree.label) (title_of tree.label) up may
+  may_more : (linked bare : Bool) (up : List (List ℕ)) → MayLink linked up → MayLink (linked || bare) up
+  may_more true bare up may = refl
+  may_more false true up may = refl
+  may_more false false up may = may
+
+  reference_opens : (linked : Bool) (found : Option Tree) (page : Page) (up : List (List ℕ)) → MayLink linked up → At page up → At (elim found [ None ↦ say page (codes "[") | Some tree ↦ if linked then page else copy page (link_start it.raw (url_of tree.label) (title_of tree.label)) (definition_cost tree.label) ]) (in_reference linked found up)
+  reference_opens linked None page up may p = says page p (reads (content up) (codes "["))
+  reference_opens true (Some tree) page up may p = p
+  reference_opens false (Some tree) page up may p = says page p (link_reads it.raw it.id_prefix up (url_of tree.label) (title_of tree.label) may)
 
   reference_closes : (linked : Bool) (found : Option Tree) (kind : ReferenceKind) (identifier : List ℕ) (label : Option (List ℕ)) (up : List (List ℕ)) → Read (content (in_reference linked found up)) (elim found [ None ↦ escaped (reference_end kind identifier label) | Some _ ↦ link_back linked ]) (content up)
   reference_closes linked None kind identifier label up = text_reads (allowed_of it) up (reference_end kind identifier label)
   reference_closes linked (Some _) kind identifier label up = link_closes linked up
 
-  image_reference_reads : (found : Option Tree) (alt : List ℕ) (kind : ReferenceKind) (identifier : List ℕ) (label : Option (List ℕ)) (up : List (List ℕ)) → Read (content up) (elim found [ None ↦ codes "![" ++ escaped alt ++ escaped (reference_end kind identifier label) | Some tree ↦ image_tag it.raw alt (url_of tree.label) (title_of tree.label) ]) (content up)
-  image_reference_reads None alt kind identifier label up =
-      both (allowed_of it) (both (allowed_of it) (reads (content up) (codes "![")) (text_reads (allowed_of it) up alt)) (text_reads (allowed_of it) up (reference_end kind identifier label))
-  image_reference_reads (Some tree) alt kind identifier label up = image_reads it.raw it.id_prefix up alt (url_of tree.label) (title_of tree.label)
+  image_reference_reads : (bare : Bool) (found : Option Tree) (alt : List ℕ) (kind : ReferenceKind) (identifier : List ℕ) (label : Option (List ℕ)) (page : Page) (up : List (List ℕ)) → At page up → At (elim found [ None ↦ say page (codes "![" ++ escaped alt ++ escaped (reference_end kind identifier label)) | Some tree ↦ if bare then say page (escaped alt) else copy page (image_tag it.raw alt (url_of tree.label) (title_of tree.label)) (definition_cost tree.label) ]) up
+  image_reference_reads bare None alt kind identifier label page up p =
+      says page p (both (allowed_of it) (both (allowed_of it) (reads (content up) (codes "![")) (text_reads (allowed_of it) up alt)) (text_reads (allowed_of it) up (reference_end kind identifier label)))
+  image_reference_reads true (Some tree) alt kind identifier label page up p = says page p (text_reads (allowed_of it) up alt)
+  image_reference_reads false (Some tree) alt kind identifier label page up p = says page p (image_reads it.raw it.id_prefix up alt (url_of tree.label) (title_of tree.label))
 
   note_opens : (call : Option Call) (up : List (List ℕ)) → InList up → Read (content up) (elim call [ None ↦ codes "<li>\n" | Some c ↦ note_start it.id_prefix c.identifier ]) (content (codes "li" ∷ up))
   note_opens None up listed = record { is = rw listed refl }
@@ -257,105 +265,105 @@ module _ (it : Source) where
   footnote_closes kind children page up linkless = by_kind (λ k. At page (in_note k up) → At (footnote_end it k children page) up) (λ p. p) (λ p. p) (λ p. p) (λ p. p) (λ p. p) (λ p. p) (λ p. p) (λ p. p) (λ p. p) (λ p. p) (λ p. p) (λ p. p) (λ n. note_closes (ends_with_paragraph children) n page up linkless) (λ _. λ p. p) (λ _. λ p. p) kind
 
   -- what stands before the children of a node in a text opens its element
-  phrase_opens : (linked : Bool) (label : Label) (page : Page) (up : List (List ℕ)) → MayLink linked up → Fine (is_no_html label) → At page up → At (phrase_opened it linked label page) (phrase_in linked label up)
-  phrase_opens linked root page up may fine p = p
-  phrase_opens linked paragraph page up may fine p = p
-  phrase_opens linked blockquote page up may fine p = p
-  phrase_opens linked emphasis page up may fine p = says page p (reads (content up) (codes "<em>"))
-  phrase_opens linked strong page up may fine p = says page p (reads (content up) (codes "<strong>"))
-  phrase_opens linked delete page up may fine p = says page p (reads (content up) (codes "<del>"))
-  phrase_opens linked table_row page up may fine p = p
-  phrase_opens linked table_cell page up may fine p = p
-  phrase_opens linked thematic_break page up may fine p = p
-  phrase_opens linked «break» page up may fine p = says page p (reads (content up) (codes "<br />\n"))
-  phrase_opens linked (text value) page up may fine p = says page p (text_reads (allowed_of it) up value)
-  phrase_opens linked (raw_node value) page up may fine p = says page p (raw_texts value up fine)
-  phrase_opens linked (inline_code value) page up may fine p = says page p (code_text_reads it.raw it.id_prefix up value)
-  phrase_opens linked (inline_math value) page up may fine p = says page p (math_text_reads it.raw it.id_prefix up value)
-  phrase_opens linked (yaml _) page up may fine p = p
-  phrase_opens linked (toml _) page up may fine p = p
-  phrase_opens linked (heading _) page up may fine p = p
-  phrase_opens linked (list _ _ _) page up may fine p = p
-  phrase_opens linked (list_item _ _) page up may fine p = p
-  phrase_opens linked (table _) page up may fine p = p
-  phrase_opens linked (code value _ _) page up may fine p = says page p (code_text_reads it.raw it.id_prefix up value)
-  phrase_opens linked (math value _) page up may fine p = says page p (math_text_reads it.raw it.id_prefix up value)
-  phrase_opens linked (link url title) page up may fine p = says page p (link_opens linked url title up may)
-  phrase_opens linked (image alt url title) page up may fine p = says page p (image_reads it.raw it.id_prefix up alt url title)
-  phrase_opens linked (link_reference _ identifier _) page up may fine p = says page p (reference_opens linked (definition_in it.tree identifier) up may)
-  phrase_opens linked (image_reference alt reference_kind identifier label) page up may fine p = says page p (image_reference_reads (definition_in it.tree identifier) alt reference_kind identifier label up)
-  phrase_opens linked (footnote_reference identifier label) page up may fine p = call_pages linked (footnote_in it.tree identifier) identifier label _ _ _ page up may p
-  phrase_opens linked (footnote_definition _ _) page up may fine p = p
-  phrase_opens linked (definition _ _ _ _) page up may fine p = p
+  phrase_opens : (linked bare : Bool) (label : Label) (page : Page) (up : List (List ℕ)) → MayLink linked up → Fine (is_no_html label) → At page up → At (phrase_opened it linked bare label page) (phrase_in linked bare label up)
+  phrase_opens linked bare root page up may fine p = p
+  phrase_opens linked bare paragraph page up may fine p = p
+  phrase_opens linked bare blockquote page up may fine p = p
+  phrase_opens linked bare emphasis page up may fine p = says page p (reads (content up) (codes "<em>"))
+  phrase_opens linked bare strong page up may fine p = says page p (reads (content up) (codes "<strong>"))
+  phrase_opens linked bare delete page up may fine p = says page p (reads (content up) (codes "<del>"))
+  phrase_opens linked bare table_row page up may fine p = p
+  phrase_opens linked bare table_cell page up may fine p = p
+  phrase_opens linked bare thematic_break page up may fine p = p
+  phrase_opens linked bare «break» page up may fine p = says page p (reads (content up) (codes "<br />\n"))
+  phrase_opens linked bare (text value) page up may fine p = says page p (text_reads (allowed_of it) up value)
+  phrase_opens linked bare (raw_node value) page up may fine p = says page p (raw_texts value up fine)
+  phrase_opens linked bare (inline_code value) page up may fine p = says page p (code_text_reads it.raw it.id_prefix up value)
+  phrase_opens linked bare (inline_math value) page up may fine p = says page p (math_text_reads it.raw it.id_prefix up value)
+  phrase_opens linked bare (yaml _) page up may fine p = p
+  phrase_opens linked bare (toml _) page up may fine p = p
+  phrase_opens linked bare (heading _) page up may fine p = p
+  phrase_opens linked bare (list _ _ _) page up may fine p = p
+  phrase_opens linked bare (list_item _ _) page up may fine p = p
+  phrase_opens linked bare (table _) page up may fine p = p
+  phrase_opens linked bare (code value _ _) page up may fine p = says page p (code_text_reads it.raw it.id_prefix up value)
+  phrase_opens linked bare (math value _) page up may fine p = says page p (math_text_reads it.raw it.id_prefix up value)
+  phrase_opens linked bare (link url title) page up may fine p = says page p (link_opens linked url title up may)
+  phrase_opens linked bare (image alt url title) page up may fine p = says page p (image_reads it.raw it.id_prefix up alt url title)
+  phrase_opens linked bare (link_reference _ identifier _) page up may fine p = reference_opens (linked || bare) (definition_in it.tree identifier) page up (may_more linked bare up may) p
+  phrase_opens linked bare (image_reference alt reference_kind identifier label) page up may fine p = image_reference_reads bare (definition_in it.tree identifier) alt reference_kind identifier label page up p
+  phrase_opens linked bare (footnote_reference identifier label) page up may fine p = call_pages linked (footnote_in it.tree identifier) identifier label _ _ _ page up may p
+  phrase_opens linked bare (footnote_definition _ _) page up may fine p = p
+  phrase_opens linked bare (definition _ _ _ _) page up may fine p = p
 
   -- what stands after the children closes it
-  phrase_closes : (linked : Bool) (label : Label) (page : Page) (up : List (List ℕ)) → At page (phrase_in linked label up) → At (phrase_closed it linked label page) up
-  phrase_closes linked root page up p = p
-  phrase_closes linked paragraph page up p = p
-  phrase_closes linked blockquote page up p = p
-  phrase_closes linked emphasis page up p = says page p (reads (content (codes "em" ∷ up)) (codes "</em>"))
-  phrase_closes linked strong page up p = says page p (reads (content (codes "strong" ∷ up)) (codes "</strong>"))
-  phrase_closes linked delete page up p = says page p (reads (content (codes "del" ∷ up)) (codes "</del>"))
-  phrase_closes linked table_row page up p = p
-  phrase_closes linked table_cell page up p = p
-  phrase_closes linked thematic_break page up p = p
-  phrase_closes linked «break» page up p = p
-  phrase_closes linked (text _) page up p = p
-  phrase_closes linked (raw_node _) page up p = p
-  phrase_closes linked (inline_code _) page up p = p
-  phrase_closes linked (inline_math _) page up p = p
-  phrase_closes linked (yaml _) page up p = p
-  phrase_closes linked (toml _) page up p = p
-  phrase_closes linked (heading _) page up p = p
-  phrase_closes linked (list _ _ _) page up p = p
-  phrase_closes linked (list_item _ _) page up p = p
-  phrase_closes linked (table _) page up p = p
-  phrase_closes linked (code _ _ _) page up p = p
-  phrase_closes linked (math _ _) page up p = p
-  phrase_closes linked (link _ _) page up p = says page p (link_closes linked up)
-  phrase_closes linked (image _ _ _) page up p = p
-  phrase_closes linked (link_reference kind identifier label) page up p = says page p (reference_closes linked (definition_in it.tree identifier) kind identifier label up)
-  phrase_closes linked (image_reference _ _ _ _) page up p = p
-  phrase_closes linked (footnote_reference _ _) page up p = p
-  phrase_closes linked (footnote_definition _ _) page up p = p
-  phrase_closes linked (definition _ _ _ _) page up p = p
+  phrase_closes : (linked bare : Bool) (label : Label) (page : Page) (up : List (List ℕ)) → At page (phrase_in linked bare label up) → At (phrase_closed it linked bare label page) up
+  phrase_closes linked bare root page up p = p
+  phrase_closes linked bare paragraph page up p = p
+  phrase_closes linked bare blockquote page up p = p
+  phrase_closes linked bare emphasis page up p = says page p (reads (content (codes "em" ∷ up)) (codes "</em>"))
+  phrase_closes linked bare strong page up p = says page p (reads (content (codes "strong" ∷ up)) (codes "</strong>"))
+  phrase_closes linked bare delete page up p = says page p (reads (content (codes "del" ∷ up)) (codes "</del>"))
+  phrase_closes linked bare table_row page up p = p
+  phrase_closes linked bare table_cell page up p = p
+  phrase_closes linked bare thematic_break page up p = p
+  phrase_closes linked bare «break» page up p = p
+  phrase_closes linked bare (text _) page up p = p
+  phrase_closes linked bare (raw_node _) page up p = p
+  phrase_closes linked bare (inline_code _) page up p = p
+  phrase_closes linked bare (inline_math _) page up p = p
+  phrase_closes linked bare (yaml _) page up p = p
+  phrase_closes linked bare (toml _) page up p = p
+  phrase_closes linked bare (heading _) page up p = p
+  phrase_closes linked bare (list _ _ _) page up p = p
+  phrase_closes linked bare (list_item _ _) page up p = p
+  phrase_closes linked bare (table _) page up p = p
+  phrase_closes linked bare (code _ _ _) page up p = p
+  phrase_closes linked bare (math _ _) page up p = p
+  phrase_closes linked bare (link _ _) page up p = says page p (link_closes linked up)
+  phrase_closes linked bare (image _ _ _) page up p = p
+  phrase_closes linked bare (link_reference kind identifier label) page up p = says page p (reference_closes (linked || bare) (definition_in it.tree identifier) kind identifier label up)
+  phrase_closes linked bare (image_reference _ _ _ _) page up p = p
+  phrase_closes linked bare (footnote_reference _ _) page up p = p
+  phrase_closes linked bare (footnote_definition _ _) page up p = p
+  phrase_closes linked bare (definition _ _ _ _) page up p = p
 
   -- the same for a node among blocks
-  opens : (kind : Kind) (label : Label) (children : Trees) (page : Page) (up : List (List ℕ)) → Blocks up → MayNote kind up → Fine (is_no_html label) → At page up → At (opened it kind label children page) (open_in kind label up)
-  opens kind root children page up may note fine p = phrase_opens false root page up may.0 fine p
-  opens kind paragraph children page up may note fine p = paragraph_opens kind children page up may.1 p
-  opens kind blockquote children page up may note fine p = blocks page p (record { is = rw may.1 refl })
-  opens kind emphasis children page up may note fine p = phrase_opens false emphasis page up may.0 fine p
-  opens kind strong children page up may note fine p = phrase_opens false strong page up may.0 fine p
-  opens kind delete children page up may note fine p = phrase_opens false delete page up may.0 fine p
-  opens kind table_row children page up may note fine p = phrase_opens false table_row page up may.0 fine p
-  opens kind table_cell children page up may note fine p = phrase_opens false table_cell page up may.0 fine p
-  opens kind thematic_break children page up may note fine p = blocks page p (record { is = rw may.1 refl })
-  opens kind «break» children page up may note fine p = phrase_opens false «break» page up may.0 fine p
-  opens kind (text v) children page up may note fine p = phrase_opens false (text v) page up may.0 fine p
-  opens kind (raw_node value) children page up may note fine p = fresh (both (allowed_of it) (fresh p) (raw_texts value up fine))
-  opens kind (inline_code v) children page up may note fine p = phrase_opens false (inline_code v) page up may.0 fine p
-  opens kind (inline_math v) children page up may note fine p = phrase_opens false (inline_math v) page up may.0 fine p
-  opens kind (yaml v) children page up may note fine p = phrase_opens false (yaml v) page up may.0 fine p
-  opens kind (toml v) children page up may note fine p = phrase_opens false (toml v) page up may.0 fine p
-  opens kind (heading depth) children page up may note fine p = blocks page p (heading_reads it.raw it.id_prefix up depth may.1)
-  opens kind (list ordered start _) children page up may note fine p = blocks page p (list_reads it.raw it.id_prefix up ordered (any_task children) start may.1)
-  opens kind (list_item s c) children page up may note fine p = phrase_opens false (list_item s c) page up may.0 fine p
-  opens kind (table _) children page up may note fine p = blocks page p (record { is = rw may.1 refl })
-  opens kind (code value lang _) children page up may note fine p = blocks page p (code_reads it.raw it.id_prefix up lang value may.1)
-  opens kind (math value _) children page up may note fine p = blocks page p (math_reads it.raw it.id_prefix up value may.1)
-  opens kind (link u t) children page up may note fine p = phrase_opens false (link u t) page up may.0 fine p
-  opens kind (image a u t) children page up may note fine p = phrase_opens false (image a u t) page up may.0 fine p
-  opens kind (link_reference k i l) children page up may note fine p = phrase_opens false (link_reference k i l) page up may.0 fine p
-  opens kind (image_reference a k i l) children page up may note fine p = phrase_opens false (image_reference a k i l) page up may.0 fine p
-  opens kind (footnote_reference i l) children page up may note fine p = phrase_opens false (footnote_reference i l) page up may.0 fine p
-  opens kind (footnote_definition _ _) children page up may note fine p = footnote_opens kind page up note p
-  opens kind (definition u t i l) children page up may note fine p = phrase_opens false (definition u t i l) page up may.0 fine p
+  opens : (bare : Bool) (kind : Kind) (label : Label) (children : Trees) (page : Page) (up : List (List ℕ)) → Blocks up → MayNote kind up → Fine (is_no_html label) → At page up → At (opened it bare kind label children page) (open_in bare kind label up)
+  opens bare kind root children page up may note fine p = phrase_opens false bare root page up may.0 fine p
+  opens bare kind paragraph children page up may note fine p = paragraph_opens kind children page up may.1 p
+  opens bare kind blockquote children page up may note fine p = blocks page p (record { is = rw may.1 refl })
+  opens bare kind emphasis children page up may note fine p = phrase_opens false bare emphasis page up may.0 fine p
+  opens bare kind strong children page up may note fine p = phrase_opens false bare strong page up may.0 fine p
+  opens bare kind delete children page up may note fine p = phrase_opens false bare delete page up may.0 fine p
+  opens bare kind table_row children page up may note fine p = phrase_opens false bare table_row page up may.0 fine p
+  opens bare kind table_cell children page up may note fine p = phrase_opens false bare table_cell page up may.0 fine p
+  opens bare kind thematic_break children page up may note fine p = blocks page p (record { is = rw may.1 refl })
+  opens bare kind «break» children page up may note fine p = phrase_opens false bare «break» page up may.0 fine p
+  opens bare kind (text v) children page up may note fine p = phrase_opens false bare (text v) page up may.0 fine p
+  opens bare kind (raw_node value) children page up may note fine p = fresh (both (allowed_of it) (fresh p) (raw_texts value up fine))
+  opens bare kind (inline_code v) children page up may note fine p = phrase_opens false bare (inline_code v) page up may.0 fine p
+  opens bare kind (inline_math v) children page up may note fine p = phrase_opens false bare (inline_math v) page up may.0 fine p
+  opens bare kind (yaml v) children page up may note fine p = phrase_opens false bare (yaml v) page up may.0 fine p
+  opens bare kind (toml v) children page up may note fine p = phrase_opens false bare (toml v) page up may.0 fine p
+  opens bare kind (heading depth) children page up may note fine p = blocks page p (heading_reads it.raw it.id_prefix up depth may.1)
+  opens bare kind (list ordered start _) children page up may note fine p = blocks page p (list_reads it.raw it.id_prefix up ordered (any_task children) start may.1)
+  opens bare kind (list_item s c) children page up may note fine p = phrase_opens false bare (list_item s c) page up may.0 fine p
+  opens bare kind (table _) children page up may note fine p = blocks page p (record { is = rw may.1 refl })
+  opens bare kind (code value lang _) children page up may note fine p = blocks page p (code_reads it.raw it.id_prefix up lang value may.1)
+  opens bare kind (math value _) children page up may note fine p = blocks page p (math_reads it.raw it.id_prefix up value may.1)
+  opens bare kind (link u t) children page up may note fine p = phrase_opens false bare (link u t) page up may.0 fine p
+  opens bare kind (image a u t) children page up may note fine p = phrase_opens false bare (image a u t) page up may.0 fine p
+  opens bare kind (link_reference k i l) children page up may note fine p = phrase_opens false bare (link_reference k i l) page up may.0 fine p
+  opens bare kind (image_reference a k i l) children page up may note fine p = phrase_opens false bare (image_reference a k i l) page up may.0 fine p
+  opens bare kind (footnote_reference i l) children page up may note fine p = phrase_opens false bare (footnote_reference i l) page up may.0 fine p
+  opens bare kind (footnote_definition _ _) children page up may note fine p = footnote_opens kind page up note p
+  opens bare kind (definition u t i l) children page up may note fine p = phrase_opens false bare (definition u t i l) page up may.0 fine p
 
   -- the elements that are open after the children of a node: a table may have its body open
-  abbrev within : Kind → Label → Trees → List (List ℕ) → List (List ℕ)
-  within kind (table _) children up = base (ends FirstRow children) up
-  within kind label children up = open_in kind label up
+  abbrev within : (bare : Bool) → Kind → Label → Trees → List (List ℕ) → List (List ℕ)
+  within bare kind (table _) children up = base (ends FirstRow children) up
+  within bare kind label children up = open_in bare kind label up
 
   later_rows : (rest : Trees) (up : List (List ℕ)) → base (ends LaterRow rest) up ≡ codes "tbody" ∷ codes "table" ∷ up
   later_rows rest up = ap (λ (k : Kind). base k up) (ends_same LaterRow rest refl)
@@ -368,45 +376,52 @@ module _ (it : Source) where
       let body : At page (codes "tbody" ∷ (codes "table" ∷ up)) = subst (λ (names : List (List ℕ)). At page names) (later_rows rest up) p in
       says page body (rw many (reads (content (codes "tbody" ∷ (codes "table" ∷ up))) (codes "</tbody>\n</table>\n")))
 
-  row_closes : (at : Place) (cells : Trees) (up : List (List ℕ)) → Read (content (codes "tr" ∷ up)) (row_end at cells) (content up)
-  row_closes at cells up =
+  cells_read : (at : Place) (columns : List AlignKind) (up : List (List ℕ)) → Read (content (codes "tr" ∷ up)) (empty_cells (cell_name at.kind) columns) (content (codes "tr" ∷ up))
+  cells_read at columns up =
       let inside = codes "tr" ∷ up in
-      let columns = drop (count cells) (unwrap_or at.columns []) in
-      let end : Read (content inside) (codes "</tr>\n") (content up) = reads (content inside) (codes "</tr>\n") in
       let header = empty_cells_read it.raw it.id_prefix inside (codes "th") (th_starts it.raw it.id_prefix up) (reads (content inside) (codes "<th>")) (reads (content (codes "th" ∷ inside)) (codes "</th>\n")) columns in
       let other = empty_cells_read it.raw it.id_prefix inside (codes "td") (td_starts it.raw it.id_prefix up) (reads (content inside) (codes "<td>")) (reads (content (codes "td" ∷ inside)) (codes "</td>\n")) columns in
-      both (allowed_of it) (by_kind (λ k. Read (content inside) (empty_cells (cell_name k) columns) (content inside)) other other other other other other other header other other other other (λ _. other) (λ _. other) (λ _. other) at.kind) end
+      by_kind (λ k. Read (content inside) (empty_cells (cell_name k) columns) (content inside)) other other other other other other other header other other other other (λ _. other) (λ _. other) (λ _. other) at.kind
 
-  closes : (kind : Kind) (label : Label) (children : Trees) (page : Page) (up : List (List ℕ)) → Linkless up → At page (within kind label children up) → At (closed it kind label children page) up
-  closes kind root children page up linkless p = phrase_closes false root page up p
-  closes kind paragraph children page up linkless p = paragraph_closes kind page up linkless p
-  closes kind blockquote children page up linkless p = blocks page p (reads (content (codes "blockquote" ∷ up)) (codes "</blockquote>\n"))
-  closes kind emphasis children page up linkless p = phrase_closes false emphasis page up p
-  closes kind strong children page up linkless p = phrase_closes false strong page up p
-  closes kind delete children page up linkless p = phrase_closes false delete page up p
-  closes kind table_row children page up linkless p = phrase_closes false table_row page up p
-  closes kind table_cell children page up linkless p = phrase_closes false table_cell page up p
-  closes kind thematic_break children page up linkless p = phrase_closes false thematic_break page up p
-  closes kind «break» children page up linkless p = phrase_closes false «break» page up p
-  closes kind (text v) children page up linkless p = phrase_closes false (text v) page up p
-  closes kind (raw_node v) children page up linkless p = phrase_closes false (raw_node v) page up p
-  closes kind (inline_code v) children page up linkless p = phrase_closes false (inline_code v) page up p
-  closes kind (inline_math v) children page up linkless p = phrase_closes false (inline_math v) page up p
-  closes kind (yaml v) children page up linkless p = phrase_closes false (yaml v) page up p
-  closes kind (toml v) children page up linkless p = phrase_closes false (toml v) page up p
-  closes kind (heading depth) children page up linkless p = says page p (heading_ends it.raw it.id_prefix up depth)
-  closes kind (list ordered start _) children page up linkless p = says page p (list_ends it.raw it.id_prefix up ordered)
-  closes kind (list_item s c) children page up linkless p = phrase_closes false (list_item s c) page up p
-  closes kind (table _) children page up linkless p = table_closes children page up p
-  closes kind (code v g m) children page up linkless p = phrase_closes false (code v g m) page up p
-  closes kind (math v m) children page up linkless p = phrase_closes false (math v m) page up p
-  closes kind (link u t) children page up linkless p = phrase_closes false (link u t) page up p
-  closes kind (image a u t) children page up linkless p = phrase_closes false (image a u t) page up p
-  closes kind (link_reference k i l) children page up linkless p = phrase_closes false (link_reference k i l) page up p
-  closes kind (image_reference a k i l) children page up linkless p = phrase_closes false (image_reference a k i l) page up p
-  closes kind (footnote_reference i l) children page up linkless p = phrase_closes false (footnote_reference i l) page up p
-  closes kind (footnote_definition _ _) children page up linkless p = footnote_closes kind children page up linkless p
-  closes kind (definition u t i l) children page up linkless p = phrase_closes false (definition u t i l) page up p
+  missing_read : (affords : Bool) (at : Place) (columns : List AlignKind) (cost : ℕ) (page : Page) (up : List (List ℕ)) → At page (codes "tr" ∷ up) → At (if affords then copy page (empty_cells (cell_name at.kind) columns) cost else page) (codes "tr" ∷ up)
+  missing_read true at columns cost page up p = says page p (cells_read at columns up)
+  missing_read false at columns cost page up p = p
+
+  row_closes : (at : Place) (cells : Trees) (page : Page) (up : List (List ℕ)) → At page (codes "tr" ∷ up) → At (row_end at cells page) up
+  row_closes at cells page up p =
+      let columns = drop (count cells) (unwrap_or at.columns []) in
+      says (missing_cells (cell_name at.kind) columns page) (missing_read (affords page (length columns * cell_cost)) at columns (length columns * cell_cost) page up p) (reads (content (codes "tr" ∷ up)) (codes "</tr>\n"))
+
+  closes : (bare : Bool) (kind : Kind) (label : Label) (children : Trees) (page : Page) (up : List (List ℕ)) → Linkless up → At page (within bare kind label children up) → At (closed it bare kind label children page) up
+  closes bare kind root children page up linkless p = phrase_closes false bare root page up p
+  closes bare kind paragraph children page up linkless p = paragraph_closes kind page up linkless p
+  closes bare kind blockquote children page up linkless p = blocks page p (reads (content (codes "blockquote" ∷ up)) (codes "</blockquote>\n"))
+  closes bare kind emphasis children page up linkless p = phrase_closes false bare emphasis page up p
+  closes bare kind strong children page up linkless p = phrase_closes false bare strong page up p
+  closes bare kind delete children page up linkless p = phrase_closes false bare delete page up p
+  closes bare kind table_row children page up linkless p = phrase_closes false bare table_row page up p
+  closes bare kind table_cell children page up linkless p = phrase_closes false bare table_cell page up p
+  closes bare kind thematic_break children page up linkless p = phrase_closes false bare thematic_break page up p
+  closes bare kind «break» children page up linkless p = phrase_closes false bare «break» page up p
+  closes bare kind (text v) children page up linkless p = phrase_closes false bare (text v) page up p
+  closes bare kind (raw_node v) children page up linkless p = phrase_closes false bare (raw_node v) page up p
+  closes bare kind (inline_code v) children page up linkless p = phrase_closes false bare (inline_code v) page up p
+  closes bare kind (inline_math v) children page up linkless p = phrase_closes false bare (inline_math v) page up p
+  closes bare kind (yaml v) children page up linkless p = phrase_closes false bare (yaml v) page up p
+  closes bare kind (toml v) children page up linkless p = phrase_closes false bare (toml v) page up p
+  closes bare kind (heading depth) children page up linkless p = says page p (heading_ends it.raw it.id_prefix up depth)
+  closes bare kind (list ordered start _) children page up linkless p = says page p (list_ends it.raw it.id_prefix up ordered)
+  closes bare kind (list_item s c) children page up linkless p = phrase_closes false bare (list_item s c) page up p
+  closes bare kind (table _) children page up linkless p = table_closes children page up p
+  closes bare kind (code v g m) children page up linkless p = phrase_closes false bare (code v g m) page up p
+  closes bare kind (math v m) children page up linkless p = phrase_closes false bare (math v m) page up p
+  closes bare kind (link u t) children page up linkless p = phrase_closes false bare (link u t) page up p
+  closes bare kind (image a u t) children page up linkless p = phrase_closes false bare (image a u t) page up p
+  closes bare kind (link_reference k i l) children page up linkless p = phrase_closes false bare (link_reference k i l) page up p
+  closes bare kind (image_reference a k i l) children page up linkless p = phrase_closes false bare (image_reference a k i l) page up p
+  closes bare kind (footnote_reference i l) children page up linkless p = phrase_closes false bare (footnote_reference i l) page up p
+  closes bare kind (footnote_definition _ _) children page up linkless p = footnote_closes kind children page up linkless p
+  closes bare kind (definition u t i l) children page up linkless p = phrase_closes false bare (definition u t i l) page up p
 
   -- what the children of a node leave open, where they stand among others that leave open what was open
   abbrev Level : Place → Trees → Type 0
@@ -442,39 +457,39 @@ module _ (it : Source) where
   hidden_down : (children : Trees) (page : Page) (up : List (List ℕ)) → Level (place Hidden) children → At page up → At (nodes_page it (place Hidden) children page) up
   hidden_down children page up level p = steadily (place Hidden) children page up level (steady Hidden refl (λ u. refl)) tt p
 
-  phrase_down : (linked : Bool) (label : Label) (children : Trees) (page : Page) (up : List (List ℕ)) → Level (in_text (text_kind linked) label) children → MayLink linked up → At page (phrase_in linked label up) → At (nodes_page it (in_text (text_kind linked) label) children page) (phrase_in linked label up)
-  phrase_down linked root children page up level may p = text_down linked children page up level may p
-  phrase_down linked paragraph children page up level may p = text_down linked children page up level may p
-  phrase_down linked blockquote children page up level may p = text_down linked children page up level may p
-  phrase_down linked emphasis children page up level may p = text_down linked children page (codes "em" ∷ up) level may p
-  phrase_down linked strong children page up level may p = text_down linked children page (codes "strong" ∷ up) level may p
-  phrase_down linked delete children page up level may p = text_down linked children page (codes "del" ∷ up) level may p
-  phrase_down linked table_row children page up level may p = text_down linked children page up level may p
-  phrase_down linked table_cell children page up level may p = text_down linked children page up level may p
-  phrase_down linked thematic_break children page up level may p = text_down linked children page up level may p
-  phrase_down linked «break» children page up level may p = text_down linked children page up level may p
-  phrase_down linked (text v) children page up level may p = text_down linked children page up level may p
-  phrase_down linked (raw_node v) children page up level may p = text_down linked children page up level may p
-  phrase_down linked (inline_code v) children page up level may p = text_down linked children page up level may p
-  phrase_down linked (inline_math v) children page up level may p = text_down linked children page up level may p
-  phrase_down linked (yaml v) children page up level may p = text_down linked children page up level may p
-  phrase_down linked (toml v) children page up level may p = text_down linked children page up level may p
-  phrase_down linked (heading d) children page up level may p = text_down linked children page up level may p
-  phrase_down linked (list o s t) children page up level may p = text_down linked children page up level may p
-  phrase_down linked (list_item s c) children page up level may p = text_down linked children page up level may p
-  phrase_down linked (table a) children page up level may p = text_down linked children page up level may p
-  phrase_down linked (code v l m) children page up level may p = text_down linked children page up level may p
-  phrase_down linked (math v m) children page up level may p = text_down linked children page up level may p
-  phrase_down linked (link u t) children page up level may p = linked_down children page (in_link linked up) level p
-  phrase_down linked (image a u t) children page up level may p = text_down linked children page up level may p
-  phrase_down linked (link_reference k i l) children page up level may p = linked_down children page (phrase_in linked (link_reference k i l) up) level p
-  phrase_down linked (image_reference a k i l) children page up level may p = text_down linked children page up level may p
-  phrase_down linked (footnote_reference i l) children page up level may p = text_down linked children page up level may p
-  phrase_down linked (footnote_definition i l) children page up level may p = hidden_down children page up level p
-  phrase_down linked (definition u t i l) children page up level may p = text_down linked children page up level may p
+  phrase_down : (linked bare : Bool) (label : Label) (children : Trees) (page : Page) (up : List (List ℕ)) → Level (in_text (text_kind linked) label) children → MayLink linked up → At page (phrase_in linked bare label up) → At (nodes_page it (in_text (text_kind linked) label) children page) (phrase_in linked bare label up)
+  phrase_down linked bare root children page up level may p = text_down linked children page up level may p
+  phrase_down linked bare paragraph children page up level may p = text_down linked children page up level may p
+  phrase_down linked bare blockquote children page up level may p = text_down linked children page up level may p
+  phrase_down linked bare emphasis children page up level may p = text_down linked children page (codes "em" ∷ up) level may p
+  phrase_down linked bare strong children page up level may p = text_down linked children page (codes "strong" ∷ up) level may p
+  phrase_down linked bare delete children page up level may p = text_down linked children page (codes "del" ∷ up) level may p
+  phrase_down linked bare table_row children page up level may p = text_down linked children page up level may p
+  phrase_down linked bare table_cell children page up level may p = text_down linked children page up level may p
+  phrase_down linked bare thematic_break children page up level may p = text_down linked children page up level may p
+  phrase_down linked bare «break» children page up level may p = text_down linked children page up level may p
+  phrase_down linked bare (text v) children page up level may p = text_down linked children page up level may p
+  phrase_down linked bare (raw_node v) children page up level may p = text_down linked children page up level may p
+  phrase_down linked bare (inline_code v) children page up level may p = text_down linked children page up level may p
+  phrase_down linked bare (inline_math v) children page up level may p = text_down linked children page up level may p
+  phrase_down linked bare (yaml v) children page up level may p = text_down linked children page up level may p
+  phrase_down linked bare (toml v) children page up level may p = text_down linked children page up level may p
+  phrase_down linked bare (heading d) children page up level may p = text_down linked children page up level may p
+  phrase_down linked bare (list o s t) children page up level may p = text_down linked children page up level may p
+  phrase_down linked bare (list_item s c) children page up level may p = text_down linked children page up level may p
+  phrase_down linked bare (table a) children page up level may p = text_down linked children page up level may p
+  phrase_down linked bare (code v l m) children page up level may p = text_down linked children page up level may p
+  phrase_down linked bare (math v m) children page up level may p = text_down linked children page up level may p
+  phrase_down linked bare (link u t) children page up level may p = linked_down children page (in_link linked up) level p
+  phrase_down linked bare (image a u t) children page up level may p = text_down linked children page up level may p
+  phrase_down linked bare (link_reference k i l) children page up level may p = linked_down children page (phrase_in linked bare (link_reference k i l) up) level p
+  phrase_down linked bare (image_reference a k i l) children page up level may p = text_down linked children page up level may p
+  phrase_down linked bare (footnote_reference i l) children page up level may p = text_down linked children page up level may p
+  phrase_down linked bare (footnote_definition i l) children page up level may p = hidden_down children page up level p
+  phrase_down linked bare (definition u t i l) children page up level may p = text_down linked children page up level may p
 
-  phrase_plainly : (linked : Bool) (label : Label) (children : Trees) (page : Page) (up : List (List ℕ)) → Fine (is_no_html label) → Level (in_text (text_kind linked) label) children → MayLink linked up → At page up → At (phrase_closed it linked label (nodes_page it (in_text (text_kind linked) label) children (phrase_opened it linked label page))) up
-  phrase_plainly linked label children page up fine level may p = phrase_closes linked label _ up (phrase_down linked label children (phrase_opened it linked label page) up level may (phrase_opens linked label page up may fine p))
+  phrase_plainly : (linked bare : Bool) (label : Label) (children : Trees) (page : Page) (up : List (List ℕ)) → Fine (is_no_html label) → Level (in_text (text_kind linked) label) children → MayLink linked up → At page up → At (phrase_closed it linked bare label (nodes_page it (in_text (text_kind linked) label) children (phrase_opened it linked bare label page))) up
+  phrase_plainly linked bare label children page up fine level may p = phrase_closes linked bare label _ up (phrase_down linked bare label children (phrase_opened it linked bare label page) up level may (phrase_opens linked bare label page up may fine p))
 
   -- the children of a node among blocks
   flow_down : (kind : Kind) (children : Trees) (page : Page) (up : List (List ℕ)) → Level (place kind) children → Steady kind → Fits kind up → At page up → At (nodes_page it (place kind) children page) up
@@ -502,49 +517,49 @@ module _ (it : Source) where
       let other : At page (codes "p" ∷ up) → At (nodes_page it (place Text) children page) (codes "p" ∷ up) = λ q. text_down false children page (codes "p" ∷ up) level linkless q in
       by_kind Claim other other other (λ q. text_down false children page up level linkless q) other other other other other other other other (λ _. other) (λ _. other) (λ _. other) kind p
 
-  down : (kind : Kind) (label : Label) (children : Trees) (page : Page) (up : List (List ℕ)) → Level (below kind label children) children → Blocks up → At page (open_in kind label up) → At (nodes_page it (below kind label children) children page) (within kind label children up)
-  down kind root children page up level may p = flow_down Flow children page up level (steady Flow refl (λ u. refl)) may p
-  down kind paragraph children page up level may p = paragraph_down kind children page up level may.0 p
-  down kind blockquote children page up level may p = flow_down Flow children page (codes "blockquote" ∷ up) level (steady Flow refl (λ u. refl)) may p
-  down kind emphasis children page up level may p = phrase_down false emphasis children page up level may.0 p
-  down kind strong children page up level may p = phrase_down false strong children page up level may.0 p
-  down kind delete children page up level may p = phrase_down false delete children page up level may.0 p
-  down kind table_row children page up level may p = phrase_down false table_row children page up level may.0 p
-  down kind table_cell children page up level may p = phrase_down false table_cell children page up level may.0 p
-  down kind thematic_break children page up level may p = phrase_down false thematic_break children page up level may.0 p
-  down kind «break» children page up level may p = phrase_down false «break» children page up level may.0 p
-  down kind (text v) children page up level may p = phrase_down false (text v) children page up level may.0 p
-  down kind (raw_node v) children page up level may p = phrase_down false (raw_node v) children page up level may.0 p
-  down kind (inline_code v) children page up level may p = phrase_down false (inline_code v) children page up level may.0 p
-  down kind (inline_math v) children page up level may p = phrase_down false (inline_math v) children page up level may.0 p
-  down kind (yaml v) children page up level may p = phrase_down false (yaml v) children page up level may.0 p
-  down kind (toml v) children page up level may p = phrase_down false (toml v) children page up level may.0 p
-  down kind (heading d) children page up level may p = text_down false children page (heading_name d ∷ up) level (heading_linkless it.raw it.id_prefix up d may.0) p
-  down kind (list o s t) children page up level may p = list_down (t || any_spread children) children page (list_name it.raw it.id_prefix o ∷ up) level (list_is_in it.raw it.id_prefix up o, (list_linkless it.raw it.id_prefix up o may.0, list_takes_blocks it.raw it.id_prefix up o may.1)) p
-  down kind (list_item s c) children page up level may p = item_down kind children page up level may p
-  down kind (table a) children page up level may p = level page up may.0 p
-  down kind (code v l m) children page up level may p = phrase_down false (code v l m) children page up level may.0 p
-  down kind (math v m) children page up level may p = phrase_down false (math v m) children page up level may.0 p
-  down kind (link u t) children page up level may p = phrase_down false (link u t) children page up level may.0 p
-  down kind (image a u t) children page up level may p = phrase_down false (image a u t) children page up level may.0 p
-  down kind (link_reference k i l) children page up level may p = phrase_down false (link_reference k i l) children page up level may.0 p
-  down kind (image_reference a k i l) children page up level may p = phrase_down false (image_reference a k i l) children page up level may.0 p
-  down kind (footnote_reference i l) children page up level may p = phrase_down false (footnote_reference i l) children page up level may.0 p
-  down kind (footnote_definition i l) children page up level may p = footnote_down kind children page up level may p
-  down kind (definition u t i l) children page up level may p = phrase_down false (definition u t i l) children page up level may.0 p
+  down : (bare : Bool) (kind : Kind) (label : Label) (children : Trees) (page : Page) (up : List (List ℕ)) → Level (below kind label children) children → Blocks up → At page (open_in bare kind label up) → At (nodes_page it (below kind label children) children page) (within bare kind label children up)
+  down bare kind root children page up level may p = flow_down Flow children page up level (steady Flow refl (λ u. refl)) may p
+  down bare kind paragraph children page up level may p = paragraph_down kind children page up level may.0 p
+  down bare kind blockquote children page up level may p = flow_down Flow children page (codes "blockquote" ∷ up) level (steady Flow refl (λ u. refl)) may p
+  down bare kind emphasis children page up level may p = phrase_down false bare emphasis children page up level may.0 p
+  down bare kind strong children page up level may p = phrase_down false bare strong children page up level may.0 p
+  down bare kind delete children page up level may p = phrase_down false bare delete children page up level may.0 p
+  down bare kind table_row children page up level may p = phrase_down false bare table_row children page up level may.0 p
+  down bare kind table_cell children page up level may p = phrase_down false bare table_cell children page up level may.0 p
+  down bare kind thematic_break children page up level may p = phrase_down false bare thematic_break children page up level may.0 p
+  down bare kind «break» children page up level may p = phrase_down false bare «break» children page up level may.0 p
+  down bare kind (text v) children page up level may p = phrase_down false bare (text v) children page up level may.0 p
+  down bare kind (raw_node v) children page up level may p = phrase_down false bare (raw_node v) children page up level may.0 p
+  down bare kind (inline_code v) children page up level may p = phrase_down false bare (inline_code v) children page up level may.0 p
+  down bare kind (inline_math v) children page up level may p = phrase_down false bare (inline_math v) children page up level may.0 p
+  down bare kind (yaml v) children page up level may p = phrase_down false bare (yaml v) children page up level may.0 p
+  down bare kind (toml v) children page up level may p = phrase_down false bare (toml v) children page up level may.0 p
+  down bare kind (heading d) children page up level may p = text_down false children page (heading_name d ∷ up) level (heading_linkless it.raw it.id_prefix up d may.0) p
+  down bare kind (list o s t) children page up level may p = list_down (t || any_spread children) children page (list_name it.raw it.id_prefix o ∷ up) level (list_is_in it.raw it.id_prefix up o, (list_linkless it.raw it.id_prefix up o may.0, list_takes_blocks it.raw it.id_prefix up o may.1)) p
+  down bare kind (list_item s c) children page up level may p = item_down kind children page up level may p
+  down bare kind (table a) children page up level may p = level page up may.0 p
+  down bare kind (code v l m) children page up level may p = phrase_down false bare (code v l m) children page up level may.0 p
+  down bare kind (math v m) children page up level may p = phrase_down false bare (math v m) children page up level may.0 p
+  down bare kind (link u t) children page up level may p = phrase_down false bare (link u t) children page up level may.0 p
+  down bare kind (image a u t) children page up level may p = phrase_down false bare (image a u t) children page up level may.0 p
+  down bare kind (link_reference k i l) children page up level may p = phrase_down false bare (link_reference k i l) children page up level may.0 p
+  down bare kind (image_reference a k i l) children page up level may p = phrase_down false bare (image_reference a k i l) children page up level may.0 p
+  down bare kind (footnote_reference i l) children page up level may p = phrase_down false bare (footnote_reference i l) children page up level may.0 p
+  down bare kind (footnote_definition i l) children page up level may p = footnote_down kind children page up level may p
+  down bare kind (definition u t i l) children page up level may p = phrase_down false bare (definition u t i l) children page up level may.0 p
 
-  plainly : (kind : Kind) (label : Label) (children : Trees) (page : Page) (up : List (List ℕ)) → Fine (is_no_html label) → Level (below kind label children) children → Blocks up → MayNote kind up → At page up → At (closed it kind label children (nodes_page it (below kind label children) children (opened it kind label children page))) up
-  plainly kind label children page up fine level may note p = closes kind label children _ up may.0 (down kind label children (opened it kind label children page) up level may (opens kind label children page up may note fine p))
+  plainly : (bare : Bool) (kind : Kind) (label : Label) (children : Trees) (page : Page) (up : List (List ℕ)) → Fine (is_no_html label) → Level (below kind label children) children → Blocks up → MayNote kind up → At page up → At (closed it bare kind label children (nodes_page it (below kind label children) children (opened it bare kind label children page))) up
+  plainly bare kind label children page up fine level may note p = closes bare kind label children _ up may.0 (down bare kind label children (opened it bare kind label children page) up level may (opens bare kind label children page up may note fine p))
 
   -- a node in an item of its own
   item_begins : (up : List (List ℕ)) → InList up → Read (content up) (codes "<li>") (content (codes "li" ∷ up))
   item_begins up listed = record { is = rw listed refl }
 
-  item_read : (kind : Kind) (label : Label) (children : Trees) (page : Page) (up : List (List ℕ)) → Fine (is_no_html label) → Level (below kind label children) children → InList up × Blocks up → MayNote kind (codes "li" ∷ up) → At page up → At (say (closed it kind label children (nodes_page it (below kind label children) children (opened it kind label children (block page (codes "<li>"))))) (codes "</li>\n")) up
-  item_read kind label children page up fine level fits note p =
+  item_read : (bare : Bool) (kind : Kind) (label : Label) (children : Trees) (page : Page) (up : List (List ℕ)) → Fine (is_no_html label) → Level (below kind label children) children → InList up × Blocks up → MayNote kind (codes "li" ∷ up) → At page up → At (say (closed it bare kind label children (nodes_page it (below kind label children) children (opened it bare kind label children (block page (codes "<li>"))))) (codes "</li>\n")) up
+  item_read bare kind label children page up fine level fits note p =
       let begun = block page (codes "<li>") in
-      says (closed it kind label children (nodes_page it (below kind label children) children (opened it kind label children begun)))
-      (plainly kind label children begun (codes "li" ∷ up) fine level fits.1 note (blocks page p (item_begins up fits.0)))
+      says (closed it bare kind label children (nodes_page it (below kind label children) children (opened it bare kind label children begun)))
+      (plainly bare kind label children begun (codes "li" ∷ up) fine level fits.1 note (blocks page p (item_begins up fits.0)))
       (reads (content (codes "li" ∷ up)) (codes "</li>\n"))
 
   -- a task
@@ -572,29 +587,29 @@ module _ (it : Source) where
       (task_down tight checked label children begun (codes "li" ∷ up) level fits.1 (blocks page p (both (allowed_of it) (task_reads it.raw it.id_prefix up fits.0) (first_box_reads tight checked children (codes "li" ∷ up) fits.1.1))))
       (reads (content (codes "li" ∷ up)) (codes "</li>\n"))
 
-  listed_read : (tight : Bool) (checked : Option Bool) (label : Label) (children : Trees) (page : Page) (up : List (List ℕ)) → Fine (is_no_html label) → Level (in_listed tight checked label children) children → InList up × Blocks up → At page up → At (listed_closed it tight checked label children (nodes_page it (in_listed tight checked label children) children (listed_opened it tight checked label children page))) up
-  listed_read true None label children page up fine level fits p = item_read Tight label children page up fine level fits tt p
-  listed_read false None label children page up fine level fits p = item_read Flow label children page up fine level fits tt p
-  listed_read tight (Some checked) label children page up fine level fits p = task_read tight checked label children page up level fits p
+  listed_read : (bare tight : Bool) (checked : Option Bool) (label : Label) (children : Trees) (page : Page) (up : List (List ℕ)) → Fine (is_no_html label) → Level (in_listed tight checked label children) children → InList up × Blocks up → At page up → At (listed_closed it bare tight checked label children (nodes_page it (in_listed tight checked label children) children (listed_opened it bare tight checked label children page))) up
+  listed_read bare true None label children page up fine level fits p = item_read bare Tight label children page up fine level fits tt p
+  listed_read bare false None label children page up fine level fits p = item_read bare Flow label children page up fine level fits tt p
+  listed_read bare tight (Some checked) label children page up fine level fits p = task_read tight checked label children page up level fits p
 
   -- a row: its cells leave it open
   row_open : (kind : Kind) (cells : Trees) (up : List (List ℕ)) → next kind ≡ kind → base kind up ≡ codes "tr" ∷ up → base (ends kind cells) up ≡ codes "tr" ∷ up
   row_open kind cells up same is = ap (λ (k : Kind). base k up) (ends_same kind cells same) ∙ is
 
-  header_read : (at : Place) (cells : Trees) (page : Page) (up : List (List ℕ)) → Level (record at { kind = HeaderCell }) cells → Linkless up → At page (codes "table" ∷ up) → At (say (nodes_page it (record at { kind = HeaderCell }) cells (say page (codes "<thead>\n<tr>\n"))) (row_end at cells ++ codes "</thead>\n")) (codes "table" ∷ up)
+  header_read : (at : Place) (cells : Trees) (page : Page) (up : List (List ℕ)) → Level (record at { kind = HeaderCell }) cells → Linkless up → At page (codes "table" ∷ up) → At (say (row_end at cells (nodes_page it (record at { kind = HeaderCell }) cells (say page (codes "<thead>\n<tr>\n")))) (codes "</thead>\n")) (codes "table" ∷ up)
   header_read at cells page up level linkless p =
       let inner = codes "thead" ∷ codes "table" ∷ up in
       let begun = say page (codes "<thead>\n<tr>\n") in
       let all = nodes_page it (record at { kind = HeaderCell }) cells begun in
       let done : At all (codes "tr" ∷ inner) = subst (λ (names : List (List ℕ)). At all names) (row_open HeaderCell cells inner refl refl) (level begun inner linkless (says page p (reads (content (codes "table" ∷ up)) (codes "<thead>\n<tr>\n")))) in
-      says all done (both (allowed_of it) (row_closes at cells inner) (reads (content inner) (codes "</thead>\n")))
+      says (row_end at cells all) (row_closes at cells all inner done) (reads (content inner) (codes "</thead>\n"))
 
-  row_read : (at : Place) (cells : Trees) (page : Page) (up from : List (List ℕ)) (start : List ℕ) → Level (record at { kind = Cell }) cells → Linkless up → Read (content from) start (content (codes "tr" ∷ codes "tbody" ∷ codes "table" ∷ up)) → At page from → At (say (nodes_page it (record at { kind = Cell }) cells (say page start)) (row_end at cells)) (codes "tbody" ∷ codes "table" ∷ up)
+  row_read : (at : Place) (cells : Trees) (page : Page) (up from : List (List ℕ)) (start : List ℕ) → Level (record at { kind = Cell }) cells → Linkless up → Read (content from) start (content (codes "tr" ∷ codes "tbody" ∷ codes "table" ∷ up)) → At page from → At (row_end at cells (nodes_page it (record at { kind = Cell }) cells (say page start))) (codes "tbody" ∷ codes "table" ∷ up)
   row_read at cells page up from start level linkless starts p =
       let inner = codes "tbody" ∷ codes "table" ∷ up in
       let all = nodes_page it (record at { kind = Cell }) cells (say page start) in
       let done : At all (codes "tr" ∷ inner) = subst (λ (names : List (List ℕ)). At all names) (row_open Cell cells inner refl refl) (level (say page start) inner linkless (says page p starts)) in
-      says all done (row_closes at cells inner)
+      row_closes at cells all inner done
 
   -- a cell, in a row
   abbrev th_in : List (List ℕ) → Option (List AlignKind) → List (List ℕ)
@@ -638,46 +653,46 @@ module _ (it : Source) where
   abbrev whole : Place → Label → Trees → Page → Page
   whole at label children page = left it at label children (nodes_page it (inside at label children) children (entered it at label children page))
 
-  abbrev Whole : Label → Trees → Page → List (List ℕ) → Option (List AlignKind) → Kind → Type 0
-  Whole label children page up columns kind =
-      let at : Place = record { kind = kind; columns = columns } in
+  abbrev Whole : Label → Trees → Page → List (List ℕ) → Option (List AlignKind) → Bool → Kind → Type 0
+  Whole label children page up columns bare kind =
+      let at : Place = record { kind = kind; columns = columns; is_bare = bare } in
       Level (inside at label children) children → Fits kind up → At page (base kind up) → At (whole at label children page) (base (next kind) up)
 
-  node_read : (columns : Option (List AlignKind)) (label : Label) (children : Trees) (page : Page) (up : List (List ℕ)) (kind : Kind) → Fine (is_no_html label) → Whole label children page up columns kind
-  node_read columns label children page up kind fine =
-      let place_of_kind : Kind → Place = λ k. record { kind = k; columns = columns } in
-      by_kind (Whole label children page up columns)
-      (λ level fits p. phrase_plainly false label children page up fine level fits p)
-      (λ level fits p. phrase_plainly true label children page up fine level fits p)
-      (λ level fits p. plainly Flow label children page up fine level fits tt p)
-      (λ level fits p. plainly Tight label children page up fine level fits tt p)
-      (λ level fits p. listed_read false (checked_of label) label children page up fine level fits p)
-      (λ level fits p. listed_read true (checked_of label) label children page up fine level fits p)
+  node_read : (columns : Option (List AlignKind)) (bare : Bool) (label : Label) (children : Trees) (page : Page) (up : List (List ℕ)) (kind : Kind) → Fine (is_no_html label) → Whole label children page up columns bare kind
+  node_read columns bare label children page up kind fine =
+      let place_of_kind : Kind → Place = λ k. record { kind = k; columns = columns; is_bare = bare } in
+      by_kind (Whole label children page up columns bare)
+      (λ level fits p. phrase_plainly false bare label children page up fine level fits p)
+      (λ level fits p. phrase_plainly true bare label children page up fine level fits p)
+      (λ level fits p. plainly bare Flow label children page up fine level fits tt p)
+      (λ level fits p. plainly bare Tight label children page up fine level fits tt p)
+      (λ level fits p. listed_read bare false (checked_of label) label children page up fine level fits p)
+      (λ level fits p. listed_read bare true (checked_of label) label children page up fine level fits p)
       (λ level fits p. hidden_down children page up level p)
       (λ level fits p. header_read (place_of_kind FirstRow) children page up level fits p)
       (λ level fits p. row_read (place_of_kind SecondRow) children page up (codes "table" ∷ up) (codes "<tbody>\n<tr>\n") level fits (reads (content (codes "table" ∷ up)) (codes "<tbody>\n<tr>\n")) p)
       (λ level fits p. row_read (place_of_kind LaterRow) children page up (codes "tbody" ∷ codes "table" ∷ up) (codes "<tr>\n") level fits (reads (content (codes "tbody" ∷ codes "table" ∷ up)) (codes "<tr>\n")) p)
       (λ level fits p. cell_read columns children page up (th_in up columns) (cell_start (codes "th") columns) (cell_end (codes "th") columns) level (th_linkless up columns fits) (th_reads up columns) (th_ends up columns) p)
       (λ level fits p. cell_read columns children page up (td_in up columns) (cell_start (codes "td") columns) (cell_end (codes "td") columns) level (td_linkless up columns fits) (td_reads up columns) (td_ends up columns) p)
-      (λ n. λ level fits p. plainly (Note n) label children page up fine level fits.1 fits.0 p)
-      (λ n. λ level fits p. plainly (Tail n) label children page up fine level fits tt p)
-      (λ c. λ level fits p. plainly (Task c) label children page up fine level fits tt p)
+      (λ n. λ level fits p. plainly bare (Note n) label children page up fine level fits.1 fits.0 p)
+      (λ n. λ level fits p. plainly bare (Tail n) label children page up fine level fits tt p)
+      (λ c. λ level fits p. plainly bare (Task c) label children page up fine level fits tt p)
       kind
 
   -- a place before others leaves open what it does alone
-  unended_base : (kind : Kind) (columns : Option (List AlignKind)) (up : List (List ℕ)) → (base (unended (record { kind = kind; columns = columns })).kind up ≡ base kind up) × (base (next (unended (record { kind = kind; columns = columns })).kind) up ≡ base (next kind) up)
-  unended_base kind columns up = by_kind (λ k. (base (unended (record { kind = k; columns = columns })).kind up ≡ base k up) × (base (next (unended (record { kind = k; columns = columns })).kind) up ≡ base (next k) up)) (refl, refl) (refl, refl) (refl, refl) (refl, refl) (refl, refl) (refl, refl) (refl, refl) (refl, refl) (refl, refl) (refl, refl) (refl, refl) (refl, refl) (λ n. (refl, refl)) (λ n. (refl, refl)) (λ c. (refl, refl)) kind
+  unended_base : (kind : Kind) (columns : Option (List AlignKind)) (bare : Bool) (up : List (List ℕ)) → (base (unended (record { kind = kind; columns = columns; is_bare = bare })).kind up ≡ base kind up) × (base (next (unended (record { kind = kind; columns = columns; is_bare = bare })).kind) up ≡ base (next kind) up)
+  unended_base kind columns bare up = by_kind (λ k. (base (unended (record { kind = k; columns = columns; is_bare = bare })).kind up ≡ base k up) × (base (next (unended (record { kind = k; columns = columns; is_bare = bare })).kind) up ≡ base (next k) up)) (refl, refl) (refl, refl) (refl, refl) (refl, refl) (refl, refl) (refl, refl) (refl, refl) (refl, refl) (refl, refl) (refl, refl) (refl, refl) (refl, refl) (λ n. (refl, refl)) (λ n. (refl, refl)) (λ c. (refl, refl)) kind
 
   followed_base : (at : Place) (rest : Trees) (up : List (List ℕ)) → (base (followed at rest).kind up ≡ base at.kind up) × (base (next (followed at rest).kind) up ≡ base (next at.kind) up)
   followed_base at nothing up = (refl, refl)
-  followed_base at (node _ _ _ _) up = unended_base at.kind at.columns up
+  followed_base at (node _ _ _ _) up = unended_base at.kind at.columns at.is_bare up
 
-  unended_fits : (kind : Kind) (columns : Option (List AlignKind)) (up : List (List ℕ)) → Fits kind up → Fits (unended (record { kind = kind; columns = columns })).kind up
-  unended_fits kind columns up = by_kind (λ k. Fits k up → Fits (unended (record { kind = k; columns = columns })).kind up) (λ f. f) (λ f. f) (λ f. f) (λ f. f) (λ f. f) (λ f. f) (λ f. f) (λ f. f) (λ f. f) (λ f. f) (λ f. f) (λ f. f) (λ _ f. f) (λ _ f. f) (λ _ f. f) kind
+  unended_fits : (kind : Kind) (columns : Option (List AlignKind)) (bare : Bool) (up : List (List ℕ)) → Fits kind up → Fits (unended (record { kind = kind; columns = columns; is_bare = bare })).kind up
+  unended_fits kind columns bare up = by_kind (λ k. Fits k up → Fits (unended (record { kind = k; columns = columns; is_bare = bare })).kind up) (λ f. f) (λ f. f) (λ f. f) (λ f. f) (λ f. f) (λ f. f) (λ f. f) (λ f. f) (λ f. f) (λ f. f) (λ f. f) (λ f. f) (λ _ f. f) (λ _ f. f) (λ _ f. f) kind
 
   followed_fits : (at : Place) (rest : Trees) (up : List (List ℕ)) → Fits at.kind up → Fits (followed at rest).kind up
   followed_fits at nothing up fits = fits
-  followed_fits at (node _ _ _ _) up fits = unended_fits at.kind at.columns up fits
+  followed_fits at (node _ _ _ _) up fits = unended_fits at.kind at.columns at.is_bare up fits
 
   -- nodes in order
   nodes_read : (at : Place) (nodes : Trees) → Fine (is_free nodes) → Level at nodes
@@ -685,18 +700,19 @@ module _ (it : Source) where
   nodes_read at (node label children _ rest) fine page up fits p =
       let held = not (passes it.raw) in
       let more = second_part held (is_no_html label) (is_free children && is_free rest) fine in
-      let here = followed at rest in
+      let here = settled it (followed at rest) label page in
       let same = followed_base at rest up in
       let first : At page (base here.kind up) = subst (λ (names : List (List ℕ)). At page names) (sym same.0) p in
-      let done : At (whole here label children page) (base (next here.kind) up) = node_read here.columns label children page up here.kind (first_part held (is_no_html label) (is_free children && is_free rest) fine) (nodes_read (inside here label children) children (first_part held (is_free children) (is_free rest) more)) (followed_fits at rest up fits) first in
-      let now : At (whole here label children page) (base (after at).kind up) = subst (λ (names : List (List ℕ)). At (whole here label children page) names) (same.1 ∙ ap (λ (k : Kind). base k up) (sym (after_kind at.kind at.columns))) done in
-      let fits_now : Fits (after at).kind up = subst (λ (k : Kind). Fits k up) (sym (after_kind at.kind at.columns)) (next_fits at.kind up fits) in
-      subst (λ (k : Kind). At (nodes_page it (after at) rest (whole here label children page)) (base (ends k rest) up)) (after_kind at.kind at.columns) (nodes_read (after at) rest (second_part held (is_free children) (is_free rest) more) (whole here label children page) up fits_now now)
+      let done : At (whole here label children page) (base (next here.kind) up) = node_read here.columns here.is_bare label children page up here.kind (first_part held (is_no_html label) (is_free children && is_free rest) fine) (nodes_read (inside here label children) children (first_part held (is_free children) (is_free rest) more)) (followed_fits at rest up fits) first in
+      let now : At (whole here label children page) (base (after at).kind up) = subst (λ (names : List (List ℕ)). At (whole here label children page) names) (same.1 ∙ ap (λ (k : Kind). base k up) (sym (after_kind at.kind at.columns at.is_bare))) done in
+      let fits_now : Fits (after at).kind up = subst (λ (k : Kind). Fits k up) (sym (after_kind at.kind at.columns at.is_bare)) (next_fits at.kind up fits) in
+      subst (λ (k : Kind). At (nodes_page it (after at) rest (whole here label children page)) (base (ends k rest) up)) (after_kind at.kind at.columns at.is_bare) (nodes_read (after at) rest (second_part held (is_free children) (is_free rest) more) (whole here label children page) up fits_now now)
 
   tree_read : (at : Place) (tree : Tree) (page : Page) (up : List (List ℕ)) → Fine (is_free_tree tree) → Fits at.kind up → At page (base at.kind up) → At (tree_page it at tree page) (base (next at.kind) up)
   tree_read at tree page up fine fits p =
       let held = not (passes it.raw) in
-      node_read at.columns tree.label tree.children page up at.kind (first_part held (is_no_html tree.label) (is_free tree.children) fine) (nodes_read (inside at tree.label tree.children) tree.children (second_part held (is_no_html tree.label) (is_free tree.children) fine)) fits p
+      let here = settled it at tree.label page in
+      node_read here.columns here.is_bare tree.label tree.children page up here.kind (first_part held (is_no_html tree.label) (is_free tree.children) fine) (nodes_read (inside here tree.label tree.children) tree.children (second_part held (is_no_html tree.label) (is_free tree.children) fine)) fits p
 
   -- the nodes of a tree are as the tree is
   abbrev AllFine : List Tree → Type 0
@@ -757,5 +773,5 @@ module _ (it : Source) where
     pub html_safe : IsSafe (allowed_of it) (html it)
     unfolding IsSafe
     html_safe =
-        let tree : At (tree_page it (place Flow) it.tree blank) [] = tree_read (place Flow) it.tree blank [] fine (refl, refl) (reads (content []) []) in
-        (with_section (tree_page it (place Flow) it.tree blank).calls (tree_page it (place Flow) it.tree blank) tree).is
+        let tree : At (tree_page it (place Flow) it.tree (blank (budget_of it.tree))) [] = tree_read (place Flow) it.tree (blank (budget_of it.tree)) [] fine (refl, refl) (reads (content []) []) in
+        (with_section (tree_page it (place Flow) it.tree (blank (budget_of it.tree))).calls (tree_page it (place Flow) it.tree (blank (budget_of it.tree))) tree).is

@@ -14,6 +14,7 @@ use Rattle.mdast_util.specs.Definitions.{defines}
 use Rattle.markdown_html.specs.declared.calls.Call.{Call as CallHere}
 use Rattle.markdown_html.specs.Html.{is_footnote}
 use Rattle.markdown_html.specs.Page.{Call, index_of}
+use Rattle.markdown_html.specs.Texts.{budget_of}
 
 -- the value that a map has for a text
 abbrev pub held : {X : Type 0} → BTreeMap (Bor (List ℕ)) X → List ℕ → Option X
@@ -23,10 +24,12 @@ held map text = get_by (λ key. slice_cmp nat_cmp text key.now) map
 abbrev pub found : BTreeMap (Bor (List ℕ)) (Bor Node) → List ℕ → Option Tree
 found map text = option_map (λ node. view node.now) (held map text)
 
--- the maps have, for each identifier, the first definition and the first footnote definition of a tree
-pub record Gathers (links notes : BTreeMap (Bor (List ℕ)) (Bor Node)) (root : Node) : Type 0 where
+-- the maps have, for each identifier, the first definition and the first footnote definition of a tree, and the budget is
+-- that of its page
+pub record Gathers (links notes : BTreeMap (Bor (List ℕ)) (Bor Node)) (budget : ℕ) (root : Node) : Type 0 where
   pub definitions : (identifier : List ℕ) → found links identifier ≡ find (defines identifier) (walk (view root))
   pub footnotes : (identifier : List ℕ) → found notes identifier ≡ find (is_footnote identifier) (walk (view root))
+  pub budget_is : budget ≡ budget_of (view root)
 
 -- a call in the code, as one of the definitions
 abbrev pub call_of : CallHere → Call

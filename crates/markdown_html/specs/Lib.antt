@@ -1,3 +1,4 @@
+pub mod Texts
 pub mod Page
 pub mod Places
 pub mod Elements

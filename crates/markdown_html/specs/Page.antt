@@ -1,5 +1,5 @@
 -- A page that is being written.
-use Rattle.std.specs.Prelude.{ℕ, ◌+◌, ◌-◌, ◌^◌, Bool, true, List, [], ◌∷◌, ◌++◌, Option, None, Some, codes, length, slice_get, if◌then◌else◌, ◌==◌, min, option_map, suc, unwrap_or, zero}
+use Rattle.std.specs.Prelude.{ℕ, ◌+◌, ◌-◌, ◌^◌, Bool, true, List, [], ◌∷◌, ◌++◌, Option, None, Some, codes, length, slice_get, if◌then◌else◌, ◌==◌, min, nat_le, option_map, suc, unwrap_or, zero}
 use Rattle.std.specs.Str.{bytes_eq}
 
 -- a footnote that is called, and the number of its calls
@@ -7,22 +7,32 @@ pub record Call : Type 0 where
   pub identifier : List ℕ
   pub count : ℕ
 
--- a page so far: its text, and the footnotes that are called in it, in the order of their first calls
+-- a page so far: its text, the footnotes that are called in it, in the order of their first calls, and its budget: how
+-- many bytes it may still copy
 pub record Page : Type 0 where
   pub text : List ℕ
   pub calls : List Call
+  pub budget : ℕ
 
--- an empty page
-abbrev pub blank : Page
-blank = record { text = []; calls = [] }
+-- an empty page with a budget
+abbrev pub blank : ℕ → Page
+blank budget = record { text = []; calls = []; budget = budget }
 
 -- a page with another text
 abbrev pub put : Page → List ℕ → Page
-put page text = record { text = text; calls = page.calls }
+put page text = record page { text = text }
 
 -- a page with a text added at its end
 abbrev pub say : Page → List ℕ → Page
 say page text = put page (page.text ++ text)
+
+-- whether a page may still copy this many bytes
+abbrev pub affords : Page → ℕ → Bool
+affords page cost = nat_le cost page.budget
+
+-- a page with a text added at its end that copies this many bytes
+abbrev pub copy : Page → List ℕ → (cost : ℕ) → Page
+copy page text cost = record (say page text) { budget = page.budget - cost }
 
 -- whether a text is empty or ends with an LF
 abbrev pub is_fresh : List ℕ → Bool

@@ -7,20 +7,22 @@ use Rattle.markdown_html.specs.declared.place.Kind.{Kind}
 use Rattle.markdown_html.specs.declared.place.Place.{Place as PlaceHere}
 use Rattle.markdown_html.specs.declared.place.Kind.TheVariants.{Text, Linked, Flow, Tight, LooseItem, TightItem, Hidden, FirstRow, SecondRow, LaterRow, HeaderCell, Cell, Note, Tail, Task}
 
--- a place: its kind, and the alignments of the columns from here on, if there are columns
+-- a place: its kind, the alignments of the columns from here on, if there are columns, and whether a reference that is
+-- here is bare: without its definition, which is more than the page may still copy
 pub record Place : Type 0 where
   pub kind : Kind
   pub columns : Option (List AlignKind)
+  pub is_bare : Bool
 
 abbrev pub place : Kind → Place
-place kind = record { kind = kind; columns = None }
+place kind = record { kind = kind; columns = None; is_bare = false }
 
 -- a place as the code has it
 abbrev pub seen : Option (Bor (List AlignKind)) → Option (List AlignKind)
 seen columns = option_map (λ c. c.now) columns
 
 abbrev pub place_of : PlaceHere → Place
-place_of at = record { kind = at.kind; columns = seen at.columns }
+place_of at = record { kind = at.kind; columns = seen at.columns; is_bare = at.is_bare }
 
 -- whether a node is a spread list item
 abbrev pub is_spread : Label → Bool
@@ -44,7 +46,7 @@ columns_of (first ∷ rest) = Some (first ∷ rest)
 
 -- the place of the first row of a table
 abbrev pub in_table : List AlignKind → Place
-in_table align = record { kind = FirstRow; columns = columns_of align }
+in_table align = record { kind = FirstRow; columns = columns_of align; is_bare = false }
 
 -- the place of a cell's children: they are hidden beyond the last column
 abbrev pub in_cell : Option (List AlignKind) → Place

@@ -94,8 +94,8 @@ struct Frame<'a> {
 /// The elements are those of mdast-util-to-hast, on lines as in the examples of CommonMark. Links
 /// and images by reference are resolved by the first definition of their identifier, and the
 /// footnotes that are called are in a section at the end. An address whose scheme is not allowed is
-/// left out (`html_text::urls`). `docs/HTML.md` says what `safe` promises, and what it requires of
-/// the surrounding page.
+/// left out (`html_text::urls`). `docs/HTML.md` says what `safe` promises, what it requires of the
+/// surrounding page, and how much of definitions and of missing cells a page may copy.
 ///
 /// The only error is that memory ran out. It does not recurse: a tree may be nested to any depth.
 ///
@@ -155,6 +155,7 @@ fn written(alloc: Global, tree: &Node, raw: Raw, id_prefix: &str) -> Result<Stri
     let mut page = Page {
         text: String::new(alloc),
         calls: Calls::new(alloc),
+        budget: source.budget(),
     };
     source.push_tree(&mut page, Place::new(Kind::Flow), tree)?;
     source.push_section(&mut page)?;
@@ -203,13 +204,13 @@ impl<'a> Source<'a> {
     {
         let mut frames: Vec<Frame<'a>> = Vec::new(self.alloc);
         let mut parent = tree;
-        let mut around = place;
+        let mut around = self.settled(place, tree, page);
         self.enter(page, around, parent)?;
         let mut level = parent.child_nodes();
         let mut at = around.inside(parent);
         'walk: loop {
             if let Some((first, rest)) = level.split_first() {
-                let here = at.followed(rest);
+                let here = self.settled(at.followed(rest), first, page);
                 self.enter(page, here, first)?;
                 frames.push(Frame {
                     parent,

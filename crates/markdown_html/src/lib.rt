@@ -7,6 +7,7 @@
 mod attributes;
 mod calls;
 mod code;
+mod definitions;
 mod footnotes;
 mod html;
 mod links;
@@ -16,5 +17,6 @@ mod page;
 mod place;
 mod source;
 mod tables;
+mod texts;
 
 pub use html::{HtmlOptions, ID_PREFIX, RawHtml, UnsafeHtmlOptions, to_html, to_unsafe_html};

@@ -4,21 +4,22 @@ ghost use Rattle.std.specs.Prelude.{◌≡◌, ◌&&◌, ◌++◌, [], OnOk, cod
 ghost use Rattle.markdown_nodes.specs.Access.{label_of, nodes_in};
 ghost use Rattle.markdown_nodes.specs.View.{view, views};
 ghost use Rattle.html_text.specs.Escapes.{escaped};
-ghost use Rattle.markdown_html.specs.Elements.{check_box, heading_name, task_start};
-ghost use Rattle.markdown_html.specs.Html.{any_task, back_page, begins_with_paragraph, begins_with_text, call_page, cell_name, closed, count, ends_with_paragraph, entered, first_box, footnote_end, footnote_start, has_nodes, image_reference_text, is_paragraph, is_task, left, link_back, link_front, link_reference_end, link_reference_start, listed_closed, listed_opened, opened, paragraph_end, paragraph_start, phrase_closed, phrase_opened, raw_lines, row_end, table_end, title_of, url_of};
+ghost use Rattle.markdown_html.specs.Elements.{check_box, heading_name, reference_end, task_start};
+ghost use Rattle.markdown_html.specs.Html.{any_task, back_page, begins_with_paragraph, begins_with_text, call_page, cell_name, closed, count, ends_with_paragraph, entered, first_box, footnote_end, footnote_start, has_nodes, image_reference_page, is_paragraph, is_task, left, link_back, link_front, link_reference_end, link_reference_start, listed_closed, listed_opened, opened, paragraph_end, paragraph_start, phrase_closed, phrase_opened, raw_lines, row_end, table_end};
 ghost use Rattle.markdown_html.specs.Page.{fresh_line};
 ghost use Rattle.markdown_html.specs.Places.{checked_of, place_of, seen};
 ghost use Rattle.markdown_html.specs.Pages.{page_of};
 ghost use Rattle.markdown_html.specs.Given.{source_of};
 
 use crate::code::{push_code_block, push_code_text, push_math_block, push_math_text, push_raw};
+use crate::definitions::{definition_cost, title, url};
 use crate::footnotes::{push_back_references, push_call, push_linked_call, push_note_start};
 use crate::links::{push_image, push_link_start, reference_end};
 use crate::lists::{check_box, heading_name, list_end, push_list_start, push_task_start};
 use crate::page::{Page, push_block, push_fresh};
 use crate::place::{Kind, Place, checked, listed_kind};
 use crate::source::Source;
-use crate::tables::{push_cell_end, push_cell_start, push_empty_cells};
+use crate::tables::{push_cell_end, push_cell_start, push_missing_cells};
 use html_text::escapes::push_escaped;
 use markdown_nodes::mdast::{AlignKind, FootnoteReference, ImageReference, LinkReference, Node};
 use std::alloc::AllocError;
@@ -41,11 +42,11 @@ impl<'a> Source<'a> {
             Kind::LaterRow => out.push_str("<tr>\n"),
             Kind::HeaderCell => push_cell_start(out, "th", at.columns),
             Kind::Cell => push_cell_start(out, "td", at.columns),
-            Kind::Text => self.open_phrase(page, false, node),
-            Kind::Linked => self.open_phrase(page, true, node),
-            Kind::LooseItem => self.open_listed(page, false, node),
-            Kind::TightItem => self.open_listed(page, true, node),
-            _ => self.open(page, at.kind, node),
+            Kind::Text => self.open_phrase(page, false, at.is_bare, node),
+            Kind::Linked => self.open_phrase(page, true, at.is_bare, node),
+            Kind::LooseItem => self.open_listed(page, at.is_bare, false, node),
+            Kind::TightItem => self.open_listed(page, at.is_bare, true, node),
+            _ => self.open(page, at.is_bare, at.kind, node),
         }
     }
 
@@ -62,17 +63,17 @@ impl<'a> Source<'a> {
         match at.kind {
             Kind::Hidden => Ok(()),
             Kind::FirstRow => {
-                push_row_end(out, at, node.child_nodes())?;
-                out.push_str("</thead>\n")
+                push_row_end(page, at, node.child_nodes())?;
+                page.text.push_str("</thead>\n")
             }
-            Kind::SecondRow | Kind::LaterRow => push_row_end(out, at, node.child_nodes()),
+            Kind::SecondRow | Kind::LaterRow => push_row_end(page, at, node.child_nodes()),
             Kind::HeaderCell => push_cell_end(out, "th", at.columns),
             Kind::Cell => push_cell_end(out, "td", at.columns),
-            Kind::Text => self.close_phrase(page, false, node),
-            Kind::Linked => self.close_phrase(page, true, node),
-            Kind::LooseItem => self.close_listed(page, false, node),
-            Kind::TightItem => self.close_listed(page, true, node),
-            _ => self.close(page, at.kind, node),
+            Kind::Text => self.close_phrase(page, false, at.is_bare, node),
+            Kind::Linked => self.close_phrase(page, true, at.is_bare, node),
+            Kind::LooseItem => self.close_listed(page, at.is_bare, false, node),
+            Kind::TightItem => self.close_listed(page, at.is_bare, true, node),
+            _ => self.close(page, at.is_bare, at.kind, node),
         }
     }
 
@@ -80,17 +81,18 @@ impl<'a> Source<'a> {
     fn open_listed(
         &self,
         page: &mut Page<'a>,
+        bare: bool,
         tight: bool,
         node: &'a Node,
     ) -> Result<(), AllocError>
-        ensures { OnOk result (page_of page.new ≡ listed_opened (source_of self.now) tight (checked_of (label_of node.now)) (label_of node.now) (views (nodes_in node.now)) (page_of page.old)) }
+        ensures { OnOk result (page_of page.new ≡ listed_opened (source_of self.now) bare tight (checked_of (label_of node.now)) (label_of node.now) (views (nodes_in node.now)) (page_of page.old)) }
     {
         let out = &mut page.text;
         push_fresh(out)?;
         match checked(node) {
             None => {
                 out.push_str("<li>")?;
-                self.open(page, listed_kind(tight), node)
+                self.open(page, bare, listed_kind(tight), node)
             }
             Some(checked) => {
                 push_task_start(out)?;
@@ -103,20 +105,27 @@ impl<'a> Source<'a> {
     fn close_listed(
         &self,
         page: &mut Page<'a>,
+        bare: bool,
         tight: bool,
         node: &'a Node,
     ) -> Result<(), AllocError>
-        ensures { OnOk result (page_of page.new ≡ listed_closed (source_of self.now) tight (checked_of (label_of node.now)) (label_of node.now) (views (nodes_in node.now)) (page_of page.old)) }
+        ensures { OnOk result (page_of page.new ≡ listed_closed (source_of self.now) bare tight (checked_of (label_of node.now)) (label_of node.now) (views (nodes_in node.now)) (page_of page.old)) }
     {
         if checked(node).is_none() {
-            self.close(page, listed_kind(tight), node)?;
+            self.close(page, bare, listed_kind(tight), node)?;
         }
         page.text.push_str("</li>\n")
     }
 
     /// Appends the start of the element of a block, or all of a block that has no children.
-    fn open(&self, page: &mut Page<'a>, kind: Kind, node: &'a Node) -> Result<(), AllocError>
-        ensures { OnOk result (page_of page.new ≡ opened (source_of self.now) kind (label_of node.now) (views (nodes_in node.now)) (page_of page.old)) }
+    fn open(
+        &self,
+        page: &mut Page<'a>,
+        bare: bool,
+        kind: Kind,
+        node: &'a Node,
+    ) -> Result<(), AllocError>
+        ensures { OnOk result (page_of page.new ≡ opened (source_of self.now) bare kind (label_of node.now) (views (nodes_in node.now)) (page_of page.old)) }
     {
         let out = &mut page.text;
         match node {
@@ -139,7 +148,7 @@ impl<'a> Source<'a> {
                 push_math_block(out, node.value.as_str())
             }
             Node::FootnoteDefinition(_) => self.open_footnote(page, kind),
-            _ => self.open_phrase(page, false, node),
+            _ => self.open_phrase(page, false, bare, node),
         }
     }
 
@@ -149,9 +158,10 @@ impl<'a> Source<'a> {
         &self,
         page: &mut Page<'a>,
         linked: bool,
+        bare: bool,
         node: &'a Node,
     ) -> Result<(), AllocError>
-        ensures { OnOk result (page_of page.new ≡ phrase_opened (source_of self.now) linked (label_of node.now) (page_of page.old)) }
+        ensures { OnOk result (page_of page.new ≡ phrase_opened (source_of self.now) linked bare (label_of node.now) (page_of page.old)) }
     {
         let out = &mut page.text;
         match node {
@@ -176,8 +186,8 @@ impl<'a> Source<'a> {
                 node.url.as_str(),
                 node.title.as_deref(),
             ),
-            Node::LinkReference(node) => self.open_link_reference(out, linked, node),
-            Node::ImageReference(node) => self.push_image_reference(out, node),
+            Node::LinkReference(node) => self.open_link_reference(page, linked || bare, node),
+            Node::ImageReference(node) => self.push_image_reference(page, bare, node),
             Node::FootnoteReference(node) => self.push_footnote_reference(page, linked, node),
             _ => Ok(()),
         }
@@ -211,16 +221,26 @@ impl<'a> Source<'a> {
     /// Appends the start of a link by reference, or of its text if nothing defines it.
     fn open_link_reference(
         &self,
-        out: &mut String,
+        page: &mut Page<'a>,
         linked: bool,
         node: &'a LinkReference,
     ) -> Result<(), AllocError>
-        ensures { OnOk result (string_bytes out.new ≡ string_bytes out.old ++ link_reference_start (source_of self.now) linked (string_bytes node.now.identifier)) }
+        ensures { OnOk result (page_of page.new ≡ link_reference_start (source_of self.now) linked (string_bytes node.now.identifier) (page_of page.old)) }
     {
-        match self.definition(node.identifier.as_str()) {
-            None => out.push_str("["),
-            Some(found) => self.open_link(out, linked, url(found), title(found)),
+        let Some(found) = self.definition(node.identifier.as_str()) else {
+            return page.text.push_str("[");
+        };
+        if linked {
+            return Ok(());
         }
+        page.spend(definition_cost(found));
+        push_link_start(
+            self.alloc,
+            &mut page.text,
+            self.raw,
+            url(found),
+            title(found),
+        )
     }
 
     /// Appends its end.
@@ -246,35 +266,50 @@ impl<'a> Source<'a> {
         }
     }
 
-    /// Appends an image by reference, or its text if nothing defines it.
+    /// Appends an image by reference, or its text if it is bare or nothing defines it.
     fn push_image_reference(
+        &self,
+        page: &mut Page<'a>,
+        bare: bool,
+        node: &'a ImageReference,
+    ) -> Result<(), AllocError>
+        ensures { OnOk result (page_of page.new ≡ image_reference_page (source_of self.now) bare (string_bytes node.now.alt) node.now.reference_kind (string_bytes node.now.identifier) (option_map string_bytes node.now.label) (page_of page.old)) }
+    {
+        let alt = node.alt.as_str();
+        let Some(found) = self.definition(node.identifier.as_str()) else {
+            return self.push_undefined_image(&mut page.text, node);
+        };
+        if bare {
+            return push_escaped(&mut page.text, alt);
+        }
+        page.spend(definition_cost(found));
+        push_image(
+            self.alloc,
+            &mut page.text,
+            self.raw,
+            alt,
+            url(found),
+            title(found),
+        )
+    }
+
+    /// Appends the text of an image that nothing defines.
+    fn push_undefined_image(
         &self,
         out: &mut String,
         node: &'a ImageReference,
     ) -> Result<(), AllocError>
-        ensures { OnOk result (string_bytes out.new ≡ string_bytes out.old ++ image_reference_text (source_of self.now) (string_bytes node.now.alt) node.now.reference_kind (string_bytes node.now.identifier) (option_map string_bytes node.now.label)) }
+        ensures { OnOk result (string_bytes out.new ≡ string_bytes out.old ++ (codes "![" ++ escaped (string_bytes node.now.alt) ++ escaped (reference_end node.now.reference_kind (string_bytes node.now.identifier) (option_map string_bytes node.now.label)))) }
     {
-        match self.definition(node.identifier.as_str()) {
-            None => {
-                let end = reference_end(
-                    self.alloc,
-                    node.reference_kind,
-                    node.identifier.as_str(),
-                    node.label.as_deref(),
-                )?;
-                out.push_str("![")?;
-                push_escaped(out, node.alt.as_str())?;
-                push_escaped(out, end.as_str())
-            }
-            Some(found) => push_image(
-                self.alloc,
-                out,
-                self.raw,
-                node.alt.as_str(),
-                url(found),
-                title(found),
-            ),
-        }
+        let end = reference_end(
+            self.alloc,
+            node.reference_kind,
+            node.identifier.as_str(),
+            node.label.as_deref(),
+        )?;
+        out.push_str("![")?;
+        push_escaped(out, node.alt.as_str())?;
+        push_escaped(out, end.as_str())
     }
 
     /// Appends a call of a footnote, or its text if nothing defines it.
@@ -336,8 +371,14 @@ impl<'a> Source<'a> {
     }
 
     /// Appends the end of the element of a block.
-    fn close(&self, page: &mut Page<'a>, kind: Kind, node: &'a Node) -> Result<(), AllocError>
-        ensures { OnOk result (page_of page.new ≡ closed (source_of self.now) kind (label_of node.now) (views (nodes_in node.now)) (page_of page.old)) }
+    fn close(
+        &self,
+        page: &mut Page<'a>,
+        bare: bool,
+        kind: Kind,
+        node: &'a Node,
+    ) -> Result<(), AllocError>
+        ensures { OnOk result (page_of page.new ≡ closed (source_of self.now) bare kind (label_of node.now) (views (nodes_in node.now)) (page_of page.old)) }
     {
         let out = &mut page.text;
         match node {
@@ -347,7 +388,7 @@ impl<'a> Source<'a> {
             Node::List(node) => out.push_str(list_end(node.ordered)),
             Node::Table(node) => out.push_str(table_end(&node.children)),
             Node::FootnoteDefinition(node) => self.close_footnote(page, kind, &node.children),
-            _ => self.close_phrase(page, false, node),
+            _ => self.close_phrase(page, false, bare, node),
         }
     }
 
@@ -356,9 +397,10 @@ impl<'a> Source<'a> {
         &self,
         page: &mut Page<'a>,
         linked: bool,
+        bare: bool,
         node: &'a Node,
     ) -> Result<(), AllocError>
-        ensures { OnOk result (page_of page.new ≡ phrase_closed (source_of self.now) linked (label_of node.now) (page_of page.old)) }
+        ensures { OnOk result (page_of page.new ≡ phrase_closed (source_of self.now) linked bare (label_of node.now) (page_of page.old)) }
     {
         let out = &mut page.text;
         match node {
@@ -366,7 +408,7 @@ impl<'a> Source<'a> {
             Node::Strong(_) => out.push_str("</strong>"),
             Node::Delete(_) => out.push_str("</del>"),
             Node::Link(_) => out.push_str(link_back(linked)),
-            Node::LinkReference(node) => self.close_link_reference(out, linked, node),
+            Node::LinkReference(node) => self.close_link_reference(out, linked || bare, node),
             _ => Ok(()),
         }
     }
@@ -527,12 +569,16 @@ fn table_end(children: &[Node]) -> &'static str
     }
 }
 
-/// Appends the end of a row with these cells, and an empty cell in each remaining column.
-fn push_row_end(out: &mut String, at: Place<'_>, cells: &[Node]) -> Result<(), AllocError>
-    ensures { OnOk result (string_bytes out.new ≡ string_bytes out.old ++ row_end (place_of at.entry) (views cells.now)) }
+/// Appends the end of a row with these cells, and before it the cells in the remaining columns.
+fn push_row_end(page: &mut Page<'_>, at: Place<'_>, cells: &[Node]) -> Result<(), AllocError>
+    ensures { OnOk result (page_of page.new ≡ row_end (place_of at.entry) (views cells.now) (page_of page.old)) }
 {
-    push_empty_cells(out, cell_name(at.kind), left_over(at.columns, count(cells)))?;
-    out.push_str("</tr>\n")
+    push_missing_cells(
+        page,
+        cell_name(at.kind),
+        left_over(at.columns, count(cells)),
+    )?;
+    page.text.push_str("</tr>\n")
 }
 
 /// Returns the name of the cells of a row.
@@ -583,24 +629,4 @@ fn is_paragraph(node: &Node) -> bool
     ensures { result ≡ is_paragraph (label_of node.now) }
 {
     matches!(node, Node::Paragraph(_))
-}
-
-/// Returns the address of a definition.
-fn url(node: &Node) -> &str
-    ensures { result.now ≡ url_of (view node.now).label }
-{
-    match node {
-        Node::Definition(node) => node.url.as_str(),
-        _ => "",
-    }
-}
-
-/// Returns the title of a definition.
-fn title(node: &Node) -> Option<&str>
-    ensures { option_map (λ text. text.now) result ≡ title_of (view node.now).label }
-{
-    match node {
-        Node::Definition(node) => node.title.as_deref(),
-        _ => None,
-    }
 }

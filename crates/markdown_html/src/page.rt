@@ -1,7 +1,8 @@
 //! A page that is being written.
 
-ghost use Rattle.std.specs.Prelude.{◌≡◌, ◌++◌, OnOk, string_bytes};
+ghost use Rattle.std.specs.Prelude.{◌≡◌, ◌-◌, ◌++◌, OnOk, string_bytes};
 ghost use Rattle.markdown_html.specs.Page.{fresh_line, is_fresh};
+ghost use Rattle.markdown_html.specs.Pages.{page_of};
 
 use crate::calls::Calls;
 use std::alloc::AllocError;
@@ -13,6 +14,17 @@ pub(crate) struct Page<'a> {
     pub text: String,
     /// The footnotes that are called in it.
     pub calls: Calls<'a>,
+    /// How many bytes it may still copy.
+    pub budget: usize,
+}
+
+impl<'a> Page<'a> {
+    /// Copies this many bytes: takes them off the budget.
+    pub fn spend(&mut self, cost: usize)
+        ensures { page_of self.new ≡ record (page_of self.old) { budget = (page_of self.old).budget - cost } }
+    {
+        self.budget = self.budget.saturating_sub(cost);
+    }
 }
 
 /// Begins a new line, unless one has just begun.

@@ -50,6 +50,9 @@ pub(crate) struct Place<'a> {
     pub kind: Kind,
     /// The alignment of the columns from here on, if there are columns.
     pub columns: Option<&'a [AlignKind]>,
+    /// Whether a reference that is here is written without its definition, which is more than the
+    /// page may still copy.
+    pub is_bare: bool,
 }
 
 impl<'a> Place<'a> {
@@ -60,6 +63,7 @@ impl<'a> Place<'a> {
         Place {
             kind,
             columns: None,
+            is_bare: false,
         }
     }
 
@@ -83,10 +87,7 @@ impl<'a> Place<'a> {
     fn with(self, kind: Kind) -> Place<'a>
         ensures { place_of result ≡ record (place_of self.entry) { kind = kind } }
     {
-        Place {
-            kind,
-            columns: self.columns,
-        }
+        Place { kind, ..self }
     }
 
     /// Returns the place of the children of a cell.
@@ -103,23 +104,13 @@ impl<'a> Place<'a> {
     pub fn after(self) -> Place<'a>
         ensures { place_of result ≡ after (place_of self.entry) }
     {
-        let Place { kind, columns } = self;
-        match kind {
-            Kind::FirstRow => Place {
-                kind: Kind::SecondRow,
-                columns,
-            },
-            Kind::SecondRow => Place {
-                kind: Kind::LaterRow,
-                columns,
-            },
-            Kind::Task(_) => Place {
-                kind: Kind::Flow,
-                columns,
-            },
+        match self.kind {
+            Kind::FirstRow => self.with(Kind::SecondRow),
+            Kind::SecondRow => self.with(Kind::LaterRow),
+            Kind::Task(_) => self.with(Kind::Flow),
             Kind::HeaderCell | Kind::Cell => Place {
-                kind,
-                columns: next_column(columns),
+                columns: next_column(self.columns),
+                ..self
             },
             _ => self,
         }
@@ -248,6 +239,7 @@ fn in_table(align: &[AlignKind]) -> Place<'_>
     Place {
         kind: Kind::FirstRow,
         columns,
+        is_bare: false,
     }
 }
 

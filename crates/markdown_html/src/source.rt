@@ -5,9 +5,17 @@ ghost use Rattle.markdown_nodes.specs.Access.{label_of};
 ghost use Rattle.markdown_nodes.specs.View.{view};
 ghost use Rattle.mdast_check.specs.References.{definition_identifier_of, footnote_identifier_of};
 ghost use Rattle.mdast_util.specs.Definitions.{definition_in};
-ghost use Rattle.markdown_html.specs.Html.{footnote_in};
+ghost use Rattle.markdown_html.specs.Given.{source_of};
+ghost use Rattle.markdown_html.specs.Html.{footnote_in, reference_cost, settled};
 ghost use Rattle.markdown_html.specs.Gathered.{found, with_first};
+ghost use Rattle.markdown_html.specs.Pages.{page_of};
+ghost use Rattle.markdown_html.specs.Places.{place_of};
+ghost use Rattle.markdown_html.specs.Texts.{budget_of};
 
+use crate::definitions::{definition_cost, reference_identifier};
+use crate::page::Page;
+use crate::place::Place;
+use crate::texts::{budget, label_texts};
 use markdown_nodes::mdast::Node;
 use markdown_nodes::walk::Walk;
 use std::alloc::{AllocError, Global};
@@ -38,6 +46,8 @@ pub(crate) struct Source<'a> {
     definitions: BTreeMap<&'a str, &'a Node>,
     /// The footnotes by identifier. The first one of an identifier counts.
     footnotes: BTreeMap<&'a str, &'a Node>,
+    /// How many bytes the page may copy.
+    budget: usize,
 }
 
 impl<'a> Model for Source<'a> {
@@ -52,7 +62,7 @@ impl<'a> Model for Source<'a> {
 
     ghost view = { λ it. record { raw = it.raw; id_prefix = it.id_prefix.now; root = it.tree.now } };
 
-    ghost invariant = { λ it. Gathers it.definitions it.footnotes it.tree.now };
+    ghost invariant = { λ it. Gathers it.definitions it.footnotes it.budget it.tree.now };
 }
 
 impl<'a> Source<'a> {
@@ -67,10 +77,12 @@ impl<'a> Source<'a> {
     {
         let mut definitions = BTreeMap::new(alloc);
         let mut footnotes = BTreeMap::new(alloc);
+        let mut texts = 0_usize;
         let mut walk = Walk::new(alloc, tree);
         'nodes: while let Some(node) = walk.next()? {
             put_first(&mut definitions, definition_identifier(node), node)?;
             put_first(&mut footnotes, footnote_identifier(node), node)?;
+            texts = texts.saturating_add(label_texts(node));
         }
         Ok(Source {
             alloc,
@@ -79,6 +91,7 @@ impl<'a> Source<'a> {
             tree,
             definitions,
             footnotes,
+            budget: budget(texts),
         })
     }
 
@@ -87,6 +100,37 @@ impl<'a> Source<'a> {
         ensures { option_map (λ node. view node.now) result ≡ definition_in (view self.now.root) identifier.now }
     {
         self.definitions.get(&identifier).copied()
+    }
+
+    /// Returns how many bytes the page may copy.
+    pub fn budget(&self) -> usize
+        ensures { result ≡ budget_of (view self.now.root) }
+    {
+        self.budget
+    }
+
+    /// Returns the place of a node on a page so far: a reference is bare there if the page may not
+    /// copy its definition.
+    pub fn settled(&self, at: Place<'a>, node: &'a Node, page: &Page<'a>) -> Place<'a>
+        ensures { place_of result ≡ settled (source_of self.now) (place_of at.entry) (label_of node.now) (page_of page.now) }
+    {
+        Place {
+            is_bare: self.reference_cost(reference_identifier(node)) > page.budget,
+            ..at
+        }
+    }
+
+    /// Returns how many bytes a reference copies from its definition.
+    fn reference_cost(&self, identifier: Option<&'a str>) -> usize
+        ensures { result ≡ reference_cost (source_of self.now) (option_map (λ text. text.now) identifier.entry) }
+    {
+        let Some(identifier) = identifier else {
+            return 0;
+        };
+        match self.definition(identifier) {
+            None => 0,
+            Some(found) => definition_cost(found),
+        }
     }
 
     /// Returns the first footnote with an identifier.

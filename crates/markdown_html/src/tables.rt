@@ -2,8 +2,11 @@
 
 ghost use Rattle.std.specs.Prelude.{◌≡◌, ◌++◌, OnOk, string_bytes};
 ghost use Rattle.markdown_html.specs.Elements.{align_attribute, cell_end, cell_start, empty_cell, empty_cells};
+ghost use Rattle.markdown_html.specs.Html.{cell_cost, missing_cells};
+ghost use Rattle.markdown_html.specs.Pages.{page_of};
 ghost use Rattle.markdown_html.specs.Places.{seen};
 
+use crate::page::Page;
 use markdown_nodes::mdast::AlignKind;
 use std::alloc::AllocError;
 
@@ -57,12 +60,26 @@ fn align_attribute(align: AlignKind) -> &'static str
     }
 }
 
-/// Appends an empty cell in each of these columns.
-pub(crate) fn push_empty_cells(
-    out: &mut String,
+/// How many bytes an empty cell counts for. Its alignment is not counted.
+const CELL_COST: usize = 10;
+
+/// Appends an empty cell in each of these columns, if the page may copy so much.
+pub(crate) fn push_missing_cells(
+    page: &mut Page<'_>,
     name: &str,
     columns: &[AlignKind],
 ) -> Result<(), AllocError>
+    ensures { OnOk result (page_of page.new ≡ missing_cells name.now columns.now (page_of page.old)) }
+{
+    if columns.len() > page.budget / CELL_COST {
+        return Ok(());
+    }
+    page.budget -= columns.len() * CELL_COST;
+    push_empty_cells(&mut page.text, name, columns)
+}
+
+/// Appends an empty cell in each of these columns.
+fn push_empty_cells(out: &mut String, name: &str, columns: &[AlignKind]) -> Result<(), AllocError>
     ensures { OnOk result (string_bytes out.new ≡ string_bytes out.old ++ empty_cells name.now columns.now) }
 {
     for align in columns {

@@ -7,7 +7,7 @@ use Rattle.markdown_nodes.specs.View.{view}
 use Rattle.markdown_nodes.proofs.Views.{view-Definition}
 use Rattle.markdown_nodes.proofs.WalkSteps.{label-is}
 use Rattle.markdown_html.specs.Html.{url_of}
-use Rattle.markdown_html.proofs.nodes.url.Goals as goal
+use Rattle.markdown_html.proofs.definitions.url.Goals as goal
 
 pub returns-in-Definition : goal.returns-in-Definition
 returns-in-Definition c =
