@@ -1,4 +1,7 @@
 pub mod Sums
+pub mod PlaceKinds
+pub mod Short
+pub mod Growth
 pub mod Siblings
 pub mod Maps
 pub mod Indexes

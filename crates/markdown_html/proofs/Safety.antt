@@ -18,25 +18,8 @@ use Rattle.markdown_html.specs.Html.{Source, allowed_of, back_page, any_task, be
 use Rattle.markdown_html.specs.Page.{Call, Page, affords, blank, block, copy, fresh_line, is_fresh, on_new_line, put, say}
 use Rattle.markdown_html.specs.Places.{Place, after, any_spread, below, checked_of, followed, in_cell as cell_place, in_footnote, in_item, in_list, in_listed, in_text, inside, place, unended}
 use Rattle.markdown_html.specs.Texts.{budget_of}
+use Rattle.markdown_html.proofs.PlaceKinds.{by_kind}
 use Rattle.markdown_html.proofs.Tokens.{InList, Linkless, TakesBlocks, backs_read, call_reads, cell_ends, cell_reads, check_box_reads, code_reads, code_text_reads, empty_cells_read, heading_ends, heading_linkless, heading_reads, image_reads, in_cell, link_reads, linked_call_reads, list_ends, list_is_in, list_linkless, list_name, list_reads, list_takes_blocks, math_reads, math_text_reads, note_reads, raw_reads, section_reads, task_reads, td_starts, th_starts}
-
--- what holds of each kind of place holds of any
-by_kind : (P : Kind → Type 0) → P Text → P Linked → P Flow → P Tight → P LooseItem → P TightItem → P Hidden → P FirstRow → P SecondRow → P LaterRow → P HeaderCell → P Cell → ((n : ℕ) → P (Note n)) → ((n : ℕ) → P (Tail n)) → ((c : Bool) → P (Task c)) → (kind : Kind) → P kind
-by_kind P of_text of_linked of_flow of_tight of_loose of_tight_item of_hidden of_first of_second of_later of_header of_cell of_note of_tail of_task Text = of_text
-by_kind P of_text of_linked of_flow of_tight of_loose of_tight_item of_hidden of_first of_second of_later of_header of_cell of_note of_tail of_task Linked = of_linked
-by_kind P of_text of_linked of_flow of_tight of_loose of_tight_item of_hidden of_first of_second of_later of_header of_cell of_note of_tail of_task Flow = of_flow
-by_kind P of_text of_linked of_flow of_tight of_loose of_tight_item of_hidden of_first of_second of_later of_header of_cell of_note of_tail of_task Tight = of_tight
-by_kind P of_text of_linked of_flow of_tight of_loose of_tight_item of_hidden of_first of_second of_later of_header of_cell of_note of_tail of_task LooseItem = of_loose
-by_kind P of_text of_linked of_flow of_tight of_loose of_tight_item of_hidden of_first of_second of_later of_header of_cell of_note of_tail of_task TightItem = of_tight_item
-by_kind P of_text of_linked of_flow of_tight of_loose of_tight_item of_hidden of_first of_second of_later of_header of_cell of_note of_tail of_task Hidden = of_hidden
-by_kind P of_text of_linked of_flow of_tight of_loose of_tight_item of_hidden of_first of_second of_later of_header of_cell of_note of_tail of_task FirstRow = of_first
-by_kind P of_text of_linked of_flow of_tight of_loose of_tight_item of_hidden of_first of_second of_later of_header of_cell of_note of_tail of_task SecondRow = of_second
-by_kind P of_text of_linked of_flow of_tight of_loose of_tight_item of_hidden of_first of_second of_later of_header of_cell of_note of_tail of_task LaterRow = of_later
-by_kind P of_text of_linked of_flow of_tight of_loose of_tight_item of_hidden of_first of_second of_later of_header of_cell of_note of_tail of_task HeaderCell = of_header
-by_kind P of_text of_linked of_flow of_tight of_loose of_tight_item of_hidden of_first of_second of_later of_header of_cell of_note of_tail of_task Cell = of_cell
-by_kind P of_text of_linked of_flow of_tight of_loose of_tight_item of_hidden of_first of_second of_later of_header of_cell of_note of_tail of_task (Note n) = of_note n
-by_kind P of_text of_linked of_flow of_tight of_loose of_tight_item of_hidden of_first of_second of_later of_header of_cell of_note of_tail of_task (Tail n) = of_tail n
-by_kind P of_text of_linked of_flow of_tight of_loose of_tight_item of_hidden of_first of_second of_later of_header of_cell of_note of_tail of_task (Task c) = of_task c
 
 -- what is open around a place, from what is open around the table or the row that it is in
 abbrev base : Kind → List (List ℕ) → List (List ℕ)

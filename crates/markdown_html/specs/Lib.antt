@@ -3,6 +3,7 @@ pub mod Page
 pub mod Places
 pub mod Elements
 pub mod Html
+pub mod Bounds
 pub mod Gathered
 pub mod Given
 pub mod Pages
