@@ -126,12 +126,7 @@ fn is_plain(name: Name) -> bool
 /// Returns the offsets that are expected after the enter of a span at an index, with this many open
 /// labels, if that of the byte that it hides comes first.
 #[inline(always)]
-fn expected_inside(
-    labels: usize,
-    name: Name,
-    index: usize,
-    expected: &[usize],
-) -> Option<&[usize]>
+fn expected_inside(labels: usize, name: Name, index: usize, expected: &[usize]) -> Option<&[usize]>
     ensures { IfSome result (λ later. (bytes : List ℕ) → (cell : ℕ) → expected.now ≡ hidden_by bytes labels cell Enter name index ++ later.now) }
 {
     match name {

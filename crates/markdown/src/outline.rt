@@ -45,11 +45,7 @@ pub fn to_outline(alloc: Global, value: &str, options: &ParseOptions) -> Result<
 
 /// Returns the outline of a document of which labels hide bytes. It is read twice: to collect these, and
 /// to build the headings.
-fn outline_again(
-    alloc: Global,
-    value: &str,
-    options: &ParseOptions,
-) -> Result<String, AllocError>
+fn outline_again(alloc: Global, value: &str, options: &ParseOptions) -> Result<String, AllocError>
     ensures { IfOk result (λ text. IsReadAsOutline options.now.constructs value.now (string_bytes text)) }
 {
     let expected = Expected::of_document(alloc, value, options)?;
