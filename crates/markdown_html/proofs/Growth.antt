@@ -46,10 +46,10 @@ pub within : {u v : List Call → ℕ} {p q : Page} {m n : ℕ} → Goes u v p q
 within goes fits = record { grows = goes.grows; fits = omega (arith, goes.fits, fits) }
 
 -- a page with a text in place of its own
-puts : (w : List Call → ℕ) (page : Page) (written : List ℕ) (n : ℕ) → length written ≤ length page.text + n → Goes w w page (put page written) n
+pub puts : (w : List Call → ℕ) (page : Page) (written : List ℕ) (n : ℕ) → length written ≤ length page.text + n → Goes w w page (put page written) n
 puts w page written n fits = record { grows = same; fits = omega (arith, fits) }
 
-added : (before piece : List ℕ) {n : ℕ} → Short piece n → length (before ++ piece) ≤ length before + n
+pub added : (before piece : List ℕ) {n : ℕ} → Short piece n → length (before ++ piece) ≤ length before + n
 added before piece p = rw (length-append before piece) (omega (arith, p.is))
 
 pub says : (w : List Call → ℕ) (page : Page) {piece : List ℕ} {n : ℕ} → Short piece n → Goes w w page (say page piece) n
@@ -75,17 +75,17 @@ affordable : (page : Page) (cost : ℕ) → affords page cost ≡ true → cost 
 affordable page cost is = leb-true cost page.budget is
 
 -- what a label adds before its children and after them
-abbrev texts_before : (prefix : List ℕ) → Label → ℕ
+abbrev pub texts_before : (prefix : List ℕ) → Label → ℕ
 texts_before prefix (link_reference _ _ _) = 0
 texts_before prefix (footnote_reference identifier label) = 30 * label_texts (footnote_reference identifier label) + (30 * length prefix + 1100)
 texts_before prefix label = 6 * label_texts label
 
-abbrev texts_after : Label → ℕ
+abbrev pub texts_after : Label → ℕ
 texts_after (link_reference kind identifier label) = 6 * label_texts (link_reference kind identifier label)
 texts_after label = 0
 
 -- a node that copies something is on a page that affords it, unless it is bare
-abbrev Affordable : Source → (bare : Bool) → Label → Page → Type 0
+abbrev pub Affordable : Source → (bare : Bool) → Label → Page → Type 0
 Affordable it bare label page = bare ≡ false → reference_cost it (reference_identifier_of label) ≤ page.budget
 
 pub settled_affordable : (it : Source) (at : Place) (label : Label) (page : Page) → Affordable it (settled it at label page).is_bare label page
@@ -185,3 +185,145 @@ module _ (it : Source) (w : List Call → ℕ) (fair : (identifier : List ℕ) (
   phrase_closes linked bare (link url title) page = within (says w page (back_short linked)) (omega arith)
   phrase_closes linked bare (link_reference kind identifier label) page = within (says w page (reference_end_gains (linked || bare) (definition_in it.tree identifier) kind identifier label)) (omega arith)
   phrase_closes linked bare _ page = within (stays w page) (omega arith)
+
+  -- a node among blocks: a footnote is not written where it is defined
+  abbrev pub NotNote : Kind → Type 0
+  NotNote (Note _) = ⊥
+  NotNote _ = Unit {0}
+
+  pub paragraph_opens : (kind : Kind) (children : Trees) (page : Page) → Gains page (put page (paragraph_start kind children page.text)) 70
+  paragraph_opens kind children page =
+      let other : Gains page (block page (codes "<p>")) 70 = within (blocks w page (whole (codes "<p>"))) (omega arith) in
+      by_kind (λ k. Gains page (put page (paragraph_start k children page.text)) 70) other other other (within (stays w page) (omega arith)) other other other other other other other other (λ _. other) (λ _. other)
+      (λ c. within (blocks w page (both (whole (codes "<p>")) (check_box_short c (has_nodes children)))) (omega arith)) kind
+
+  footnote_opens : (kind : Kind) (page : Page) → NotNote kind → Gains page (footnote_start it kind page) 0
+  footnote_opens kind page ok = by_kind (λ k. NotNote k → Gains page (footnote_start it k page) 0) (λ _. stays w page) (λ _. stays w page) (λ _. stays w page) (λ _. stays w page) (λ _. stays w page) (λ _. stays w page) (λ _. stays w page) (λ _. stays w page) (λ _. stays w page) (λ _. stays w page) (λ _. stays w page) (λ _. stays w page) (λ _. λ none. absurd none) (λ _. λ _. stays w page) (λ _. λ _. stays w page) kind ok
+
+  raw_gains : (value : List ℕ) (page : Page) → Gains page (put page (raw_lines it.raw value page.text)) (6 * length value + 2)
+  raw_gains value page = within (goes_on (goes_on (freshens w page) (says w (on_new_line page) (raw_html_short it.raw value))) (freshens w (say (on_new_line page) _))) (omega arith)
+
+  pub opens : (bare : Bool) (kind : Kind) (label : Label) (children : Trees) (page : Page) → NotNote kind → Affordable it bare label page → Gains page (opened it bare kind label children page) (texts_before it.id_prefix label + 280)
+  opens bare kind paragraph children page ok fits = within (paragraph_opens kind children page) (omega arith)
+  opens bare kind blockquote children page ok fits = within (blocks w page (whole (codes "<blockquote>\n"))) (omega arith)
+  opens bare kind thematic_break children page ok fits = within (blocks w page (whole (codes "<hr />\n"))) (omega arith)
+  opens bare kind (raw_node value) children page ok fits = within (raw_gains value page) (omega arith)
+  opens bare kind (heading depth) children page ok fits = within (blocks w page (both (both (whole (codes "<")) (heading_name_short depth)) (whole (codes ">")))) (omega arith)
+  opens bare kind (list ordered start spread) children page ok fits = within (blocks w page (list_start_short ordered (any_task children) start)) (omega arith)
+  opens bare kind (table align) children page ok fits = within (blocks w page (whole (codes "<table>\n"))) (omega arith)
+  opens bare kind (code value lang meta) children page ok fits = within (blocks w page (code_block_short lang value)) (omega arith)
+  opens bare kind (math value meta) children page ok fits = within (blocks w page (math_block_short value)) (omega arith)
+  opens bare kind (footnote_definition identifier label) children page ok fits = within (footnote_opens kind page ok) (omega arith)
+  opens bare kind label children page ok fits = within (phrase_opens false bare label page fits) (omega arith)
+
+  table_end_short : (children : Trees) → Short (table_end children) 18
+  table_end_short children = either (nat_le 2 (count children)) (whole (codes "</tbody>\n</table>\n")) (loosely (whole (codes "</table>\n")) (omega arith))
+
+  abbrev pub ParagraphEnds : Kind → Label → Page → Type 0
+  ParagraphEnds kind paragraph page = Gains page (paragraph_end it kind page) 5
+  ParagraphEnds kind label page = Unit {0}
+
+  footnote_closes : (kind : Kind) (children : Trees) (page : Page) → NotNote kind → Gains page (footnote_end it kind children page) 0
+  footnote_closes kind children page ok = by_kind (λ k. NotNote k → Gains page (footnote_end it k children page) 0) (λ _. stays w page) (λ _. stays w page) (λ _. stays w page) (λ _. stays w page) (λ _. stays w page) (λ _. stays w page) (λ _. stays w page) (λ _. stays w page) (λ _. stays w page) (λ _. stays w page) (λ _. stays w page) (λ _. stays w page) (λ _. λ none. absurd none) (λ _. λ _. stays w page) (λ _. λ _. stays w page) kind ok
+
+  pub closes : (bare : Bool) (kind : Kind) (label : Label) (children : Trees) (page : Page) → NotNote kind → ParagraphEnds kind label page → Gains page (closed it bare kind label children page) (texts_after label + 60)
+  closes bare kind paragraph children page ok ends = within ends (omega arith)
+  closes bare kind blockquote children page ok ends = within (blocks w page (whole (codes "</blockquote>\n"))) (omega arith)
+  closes bare kind (heading depth) children page ok ends = within (says w page (both (both (whole (codes "</")) (heading_name_short depth)) (whole (codes ">\n")))) (omega arith)
+  closes bare kind (list ordered start spread) children page ok ends = within (says w page (list_end_short ordered)) (omega arith)
+  closes bare kind (table align) children page ok ends = within (says w page (table_end_short children)) (omega arith)
+  closes bare kind (footnote_definition identifier label) children page ok ends = within (footnote_closes kind children page ok) (omega arith)
+  closes bare kind label children page ok ends = within (phrase_closes false bare label page) (omega arith)
+
+  paragraph_closes : (kind : Kind) (page : Page) → Ordinary kind → Gains page (paragraph_end it kind page) 5
+  paragraph_closes kind page ordinary =
+      let other : Gains page (say page (codes "</p>\n")) 5 = says w page (whole (codes "</p>\n")) in
+      by_kind (λ k. Ordinary k → Gains page (paragraph_end it k page) 5) (λ _. other) (λ _. other) (λ _. other) (λ _. within (stays w page) (omega arith)) (λ _. other) (λ _. other) (λ _. other) (λ _. other) (λ _. other) (λ _. other) (λ _. other) (λ _. other) (λ _. λ none. absurd none) (λ _. λ none. absurd none) (λ _. λ _. other) kind ordinary
+
+  paragraph_ends : (kind : Kind) (label : Label) (page : Page) → Ordinary kind → ParagraphEnds kind label page
+  paragraph_ends kind paragraph page ordinary = paragraph_closes kind page ordinary
+  paragraph_ends kind _ page ordinary = tt
+
+  -- a node in a list
+  first_box_short : (tight checked : Bool) (children : Trees) → Short (first_box tight checked children) 70
+  first_box_short true checked children = loosely (check_box_short checked (begins_with_text children)) (omega arith)
+  first_box_short false checked children = either (begins_with_paragraph children) (record { is = omega arith }) (loosely (both (both (whole (codes "\n<p>")) (check_box_short checked false)) (whole (codes "</p>\n"))) (omega arith))
+
+  listed_opens : (bare tight : Bool) (checked : Option Bool) (label : Label) (children : Trees) (page : Page) → Affordable it bare label page → Gains page (listed_opened it bare tight checked label children page) (texts_before it.id_prefix label + 300)
+  listed_opens bare true None label children page fits = within (goes_on (blocks w page (whole (codes "<li>"))) (opens bare Tight label children (block page (codes "<li>")) tt fits)) (omega arith)
+  listed_opens bare false None label children page fits = within (goes_on (blocks w page (whole (codes "<li>"))) (opens bare Flow label children (block page (codes "<li>")) tt fits)) (omega arith)
+  listed_opens bare tight (Some checked) label children page fits = within (blocks w page (both task_start_short (first_box_short tight checked children))) (omega arith)
+
+  listed_closes : (bare tight : Bool) (checked : Option Bool) (label : Label) (children : Trees) (page : Page) → Gains page (listed_closed it bare tight checked label children page) (texts_after label + 100)
+  listed_closes bare true None label children page = within (goes_on (closes bare Tight label children page tt (paragraph_ends Tight label page tt)) (says w (closed it bare Tight label children page) (whole (codes "</li>\n")))) (omega arith)
+  listed_closes bare false None label children page = within (goes_on (closes bare Flow label children page tt (paragraph_ends Flow label page tt)) (says w (closed it bare Flow label children page) (whole (codes "</li>\n")))) (omega arith)
+  listed_closes bare tight (Some checked) label children page = within (says w page (whole (codes "</li>\n"))) (omega arith)
+
+  -- a row
+  name_short : (kind : Kind) → length (cell_name kind) ≤ 2
+  name_short kind = by_kind (λ k. length (cell_name k) ≤ 2) (omega arith) (omega arith) (omega arith) (omega arith) (omega arith) (omega arith) (omega arith) (omega arith) (omega arith) (omega arith) (omega arith) (omega arith) (λ _. omega arith) (λ _. omega arith) (λ _. omega arith) kind
+
+  missing_gain : (name : List ℕ) (columns : List AlignKind) (page : Page) → length name ≤ 2 → Gains page (missing_cells name columns page) 0
+  missing_gain name columns page two =
+      let cost = length columns * cell_cost in
+      cond_both (affords page cost) (copy page (empty_cells name columns) cost) page (λ p. Gains page p 0)
+      (λ e. copies w page (empty_cells name columns) cost 0 (loosely (empty_cells_short name columns two) (omega arith)) (affordable page cost e))
+      (λ _. stays w page)
+
+  row_gains : (at : Place) (cells : Trees) (page : Page) → Gains page (row_end at cells page) 6
+  row_gains at cells page =
+      let columns = drop (count cells) (unwrap_or at.columns []) in
+      within (goes_on (missing_gain (cell_name at.kind) columns page (name_short at.kind)) (says w (missing_cells (cell_name at.kind) columns page) (whole (codes "</tr>\n")))) (omega arith)
+
+  -- a node in any ordinary place
+  pub enters : (at : Place) (label : Label) (children : Trees) (page : Page) → Ordinary at.kind → Affordable it at.is_bare label page → Gains page (entered it at label children page) (texts_before it.id_prefix label + 300)
+  enters at label children page ordinary fits =
+      let bare = at.is_bare in
+      let columns = at.columns in
+      let Claim : Kind → Type 0 = λ k. Ordinary k → Gains page (entered it (record { kind = k; columns = columns; is_bare = bare }) label children page) (texts_before it.id_prefix label + 300) in
+      by_kind Claim
+      (λ _. within (phrase_opens false bare label page fits) (omega arith))
+      (λ _. within (phrase_opens true bare label page fits) (omega arith))
+      (λ _. within (opens bare Flow label children page tt fits) (omega arith))
+      (λ _. within (opens bare Tight label children page tt fits) (omega arith))
+      (λ _. listed_opens bare false (checked_of label) label children page fits)
+      (λ _. listed_opens bare true (checked_of label) label children page fits)
+      (λ _. within (stays w page) (omega arith))
+      (λ _. within (says w page (whole (codes "<thead>\n<tr>\n"))) (omega arith))
+      (λ _. within (says w page (whole (codes "<tbody>\n<tr>\n"))) (omega arith))
+      (λ _. within (says w page (whole (codes "<tr>\n"))) (omega arith))
+      (λ _. within (says w page (cell_start_short (codes "th") columns)) (omega arith))
+      (λ _. within (says w page (cell_start_short (codes "td") columns)) (omega arith))
+      (λ _. λ none. absurd none)
+      (λ _. λ none. absurd none)
+      (λ c. λ _. within (opens bare (Task c) label children page tt fits) (omega arith))
+      at.kind ordinary
+
+  pub leaves : (at : Place) (label : Label) (children : Trees) (page : Page) → Ordinary at.kind → Gains page (left it at label children page) (texts_after label + 100)
+  leaves at label children page ordinary =
+      let bare = at.is_bare in
+      let columns = at.columns in
+      let Claim : Kind → Type 0 = λ k. Ordinary k → Gains page (left it (record { kind = k; columns = columns; is_bare = bare }) label children page) (texts_after label + 100) in
+      let row : (k : Kind) → Gains page (row_end (record { kind = k; columns = columns; is_bare = bare }) children page) 6 = λ k. row_gains (record { kind = k; columns = columns; is_bare = bare }) children page in
+      by_kind Claim
+      (λ _. within (phrase_closes false bare label page) (omega arith))
+      (λ _. within (phrase_closes true bare label page) (omega arith))
+      (λ _. within (closes bare Flow label children page tt (paragraph_ends Flow label page tt)) (omega arith))
+      (λ _. within (closes bare Tight label children page tt (paragraph_ends Tight label page tt)) (omega arith))
+      (λ _. listed_closes bare false (checked_of label) label children page)
+      (λ _. listed_closes bare true (checked_of label) label children page)
+      (λ _. within (stays w page) (omega arith))
+      (λ _. within (goes_on (row FirstRow) (says w (row_end (record { kind = FirstRow; columns = columns; is_bare = bare }) children page) (whole (codes "</thead>\n")))) (omega arith))
+      (λ _. within (row SecondRow) (omega arith))
+      (λ _. within (row LaterRow) (omega arith))
+      (λ _. within (says w page (cell_end_short (codes "th") columns)) (omega arith))
+      (λ _. within (says w page (cell_end_short (codes "td") columns)) (omega arith))
+      (λ _. λ none. absurd none)
+      (λ _. λ none. absurd none)
+      (λ c. λ _. within (closes bare (Task c) label children page tt (paragraph_ends (Task c) label page tt)) (omega arith))
+      at.kind ordinary
+
+  pub node_most : (label : Label) → texts_before it.id_prefix label + texts_after label + 400 ≤ most_of it.id_prefix label
+  node_most (link_reference kind identifier label) = omega arith
+  node_most (footnote_reference identifier label) = omega arith
+  node_most _ = omega arith

@@ -23,7 +23,7 @@ index-within identifier (call ∷ calls) index is = by (index-within identifier 
     by within (inr (below, found, next)) = let inside = within below found in omega (arith, inside, next)
 
 -- the first of two that is there
-abbrev or_else : Option ℕ → Option ℕ → Option ℕ
+abbrev pub or_else : Option ℕ → Option ℕ → Option ℕ
 or_else None other = other
 or_else (Some i) other = Some i
 

@@ -2,6 +2,10 @@ pub mod Sums
 pub mod PlaceKinds
 pub mod Short
 pub mod Growth
+pub mod Amounts
+pub mod Owed
+pub mod Distinct
+pub mod Bounded
 pub mod Siblings
 pub mod Maps
 pub mod Indexes
