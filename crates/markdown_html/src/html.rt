@@ -1,6 +1,7 @@
 //! Renders a tree as HTML, without recursion.
 
-ghost use Rattle.std.specs.Prelude.{IfOk, OnOk, ◌≡◌, codes, false, string_bytes, true};
+ghost use Rattle.std.specs.Prelude.{IfOk, OnOk, ◌≡◌, ◌≤◌, codes, false, length, string_bytes, true};
+ghost use Rattle.markdown_html.specs.Bounds.{bound};
 ghost use Rattle.markdown_html.specs.Pages.{page_of};
 ghost use Rattle.markdown_html.specs.Given.{source_of};
 ghost use Rattle.markdown_html.specs.Html.{html, is_free_tree, most_notes, notes_page, raw_of, raw_passing, safe_html, section_page, tree_page, unsafe_html};
@@ -95,7 +96,8 @@ struct Frame<'a> {
 /// and images by reference are resolved by the first definition of their identifier, and the
 /// footnotes that are called are in a section at the end. An address whose scheme is not allowed is
 /// left out (`html_text::urls`). `docs/HTML.md` says what `safe` promises, what it requires of the
-/// surrounding page, and how much of definitions and of missing cells a page may copy.
+/// surrounding page, and how much of definitions and of missing cells a page may copy. So the page
+/// of a short tree is short (`bounded`).
 ///
 /// The only error is that memory ran out. It does not recurse: a tree may be nested to any depth.
 ///
@@ -104,6 +106,7 @@ struct Frame<'a> {
 pub fn to_html(alloc: Global, tree: &Node, options: &HtmlOptions<'_>) -> Result<String, AllocError>
     ensures exact { IfOk result (λ text. string_bytes text ≡ safe_html options.now.raw_html options.now.id_prefix.now (view tree.now)) }
     ensures safe { IfOk result (λ text. IsSafe (record { id_prefix = options.now.id_prefix.now; any_url = false }) (string_bytes text)) }
+    ensures bounded { IfOk result (λ text. length (string_bytes text) ≤ bound options.now.id_prefix.now (view tree.now)) }
 {
     let text = written(alloc, tree, raw(options.raw_html), options.id_prefix)?;
     Ok(text)
@@ -125,6 +128,7 @@ pub fn to_unsafe_html(
 ) -> Result<String, AllocError>
     ensures exact { IfOk result (λ text. string_bytes text ≡ unsafe_html options.now.tag_filter options.now.id_prefix.now (view tree.now)) }
     ensures markup { IfOk result (λ text. is_free_tree (view tree.now) ≡ true → IsSafe (record { id_prefix = options.now.id_prefix.now; any_url = true }) (string_bytes text)) }
+    ensures bounded { IfOk result (λ text. length (string_bytes text) ≤ bound options.now.id_prefix.now (view tree.now)) }
 {
     let text = written(alloc, tree, passing(options.tag_filter), options.id_prefix)?;
     Ok(text)
