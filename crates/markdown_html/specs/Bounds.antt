@@ -13,7 +13,7 @@ abbrev pub most_of_all : (id_prefix : List ℕ) → Trees → ℕ
 most_of_all prefix nothing = 0
 most_of_all prefix (node label children _ rest) = most_of prefix label + (most_of_all prefix children + most_of_all prefix rest)
 
--- no page is longer: each node is written up to four times, since a footnote that is a row or a cell of a table is written
--- there too; the page copies what it may; and the section of the footnotes begins and ends
+-- no page is longer: each node is counted four times, since a footnote that is a row or a cell of a table is written there and
+-- at the end; the page copies what it may; and the section of the footnotes begins and ends
 unfoldable pub bound : (id_prefix : List ℕ) → Tree → ℕ
 bound prefix tree = 4 * (most_of prefix tree.label + most_of_all prefix tree.children) + (6 * budget_of tree + (6 * length prefix + 500))
