@@ -1,0 +1,2 @@
+mod AllLines
+mod InPieces
