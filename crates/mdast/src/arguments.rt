@@ -5,6 +5,7 @@ use crate::form::Form;
 use crate::source::Source;
 use clap::error::ErrorKind;
 use clap::{Arg, ArgAction, ArgMatches, Command, Error, value_parser};
+use document_forms::TreeForm;
 use markdown::{Constructs, ParseOptions};
 use std::alloc::{AllocError, Global};
 use std::io::IsTerminal;
@@ -19,17 +20,17 @@ const TERMINAL_WIDTH: usize = 80;
 const FORMS: [(&str, Form, &str); 8] = [
     (
         "json",
-        Form::Json,
+        Form::Tree(TreeForm::Json),
         "Print the tree as JSON, with the names and fields of mdast [default]",
     ),
     (
         "tree",
-        Form::Tree,
+        Form::Tree(TreeForm::Drawn),
         "Print an outline of the tree for people, a line for each node",
     ),
     (
         "debug",
-        Form::Debug,
+        Form::Tree(TreeForm::Debug),
         "Print the tree as Debug of Rust writes it",
     ),
     (
@@ -39,16 +40,24 @@ const FORMS: [(&str, Form, &str); 8] = [
     ),
     (
         "outline",
-        Form::Outline,
+        Form::Tree(TreeForm::Outline),
         "Print the headings with their places",
     ),
-    ("text", Form::Text, "Print the plain text"),
+    (
+        "text",
+        Form::Tree(TreeForm::PlainText),
+        "Print the plain text",
+    ),
     (
         "html",
-        Form::Html,
+        Form::Tree(TreeForm::Html),
         "Print HTML that is safe in a page, without the HTML of the document",
     ),
-    ("check", Form::Check, "Print warnings, as linters do"),
+    (
+        "check",
+        Form::Tree(TreeForm::Warnings),
+        "Print warnings, as linters do",
+    ),
 ];
 
 /// What the arguments request.
@@ -101,9 +110,18 @@ fn requested(rt: &HostRuntime, matches: &ArgMatches<'_>) -> Result<Request, Allo
 }
 
 impl Request {
+    /// Returns what is printed of each document, where the HTML that passes is a form of its own.
+    pub fn printed_form(&self) -> Form {
+        match self.form {
+            Form::Tree(TreeForm::Html) if self.tag_filter => Form::Tree(TreeForm::FilteredHtml),
+            Form::Tree(TreeForm::Html) if self.is_unsafe => Form::Tree(TreeForm::UnsafeHtml),
+            form => form,
+        }
+    }
+
     /// Returns why the request is impossible, if it is.
     fn fault(&self) -> Option<&'static str> {
-        if self.is_unsafe && self.form != Form::Html {
+        if self.is_unsafe && self.form != Form::Tree(TreeForm::Html) {
             return Some("'--unsafe' goes with '--html' alone");
         }
         if self.tag_filter && !self.is_unsafe {
@@ -178,7 +196,7 @@ fn utf16<'a>(alloc: Global) -> Result<Arg<'a>, AllocError> {
     let help = "Count columns and offsets in UTF-16 units, as JavaScript does";
     let mut utf16 = flag(alloc, "utf16", help);
     for (name, form, _) in FORMS {
-        if form != Form::Json {
+        if form != Form::Tree(TreeForm::Json) {
             utf16 = utf16.conflicts_with(name)?;
         }
     }
@@ -229,14 +247,14 @@ fn construct<'a>(alloc: Global, name: &'a str, help: &'a str) -> Arg<'a> {
 /// Returns the requested form, or JSON if none is requested.
 fn form(matches: &ArgMatches<'_>) -> Form {
     if matches.get_flag("utf16") {
-        return Form::JsonUtf16;
+        return Form::Tree(TreeForm::JsonUtf16);
     }
     for (name, form, _) in FORMS {
         if matches.get_flag(name) {
             return form;
         }
     }
-    Form::Json
+    Form::Tree(TreeForm::Json)
 }
 
 /// Returns how wide the lines of an outline of a tree may be.

@@ -1,8 +1,7 @@
 //! Why a document has no output, or not all of it.
 
-use event_lines::lines::LinesError;
-use markdown_nodes::message::{Fault, Message};
-use std::alloc::{AllocError, AllocFailed};
+use crate::source::Source;
+use markdown_nodes::message::Message;
 use std::io::{self, ErrorKind};
 use std::{error, fmt};
 
@@ -24,11 +23,29 @@ pub enum DocumentError {
 }
 
 impl DocumentError {
+    /// Returns the error of a document that cannot be read.
+    pub fn of_document(error: io::Error) -> DocumentError {
+        match error.kind() {
+            ErrorKind::OutOfMemory => DocumentError::Memory,
+            kind => DocumentError::Unread(kind),
+        }
+    }
+
     /// Returns the error of events that cannot be read.
     pub fn of_events(error: io::Error) -> DocumentError {
         match error.kind() {
             ErrorKind::OutOfMemory => DocumentError::Memory,
             kind => DocumentError::UnreadEvents(kind),
+        }
+    }
+
+    /// Returns the source that it is about, of a document and that of its events, if there is one.
+    pub fn source<'a>(&self, document: &'a Source, events: Option<&'a Source>) -> &'a Source {
+        match self {
+            DocumentError::UnreadEvents(_) | DocumentError::EventLine(_) => {
+                events.unwrap_or(document)
+            }
+            _ => document,
         }
     }
 
@@ -42,51 +59,13 @@ impl DocumentError {
     }
 }
 
-impl From<AllocError> for DocumentError {
-    fn from(_error: AllocError) -> DocumentError {
-        DocumentError::Memory
-    }
-}
-
-impl<T: Drop> From<AllocFailed<T>> for DocumentError {
-    fn from(_error: AllocFailed<T>) -> DocumentError {
-        DocumentError::Memory
-    }
-}
-
-impl From<io::Error> for DocumentError {
-    fn from(error: io::Error) -> DocumentError {
-        match error.kind() {
-            ErrorKind::OutOfMemory => DocumentError::Memory,
-            kind => DocumentError::Unread(kind),
-        }
-    }
-}
-
-impl From<LinesError> for DocumentError {
-    fn from(error: LinesError) -> DocumentError {
-        match error {
-            LinesError::Unread(number) => DocumentError::EventLine(number),
-            LinesError::Memory(_) => DocumentError::Memory,
-        }
-    }
-}
-
-impl From<Fault> for DocumentError {
-    fn from(fault: Fault) -> DocumentError {
-        match fault {
-            Fault::Message(message) => DocumentError::Refused(message),
-            Fault::Memory(_) => DocumentError::Memory,
-        }
-    }
-}
-
 impl fmt::Display for DocumentError {
     fn fmt<W: fmt::Write>(&self, f: &mut fmt::Formatter<W>) -> fmt::Result {
         match self {
-            DocumentError::Unread(kind) => f.write_str(cause(*kind)),
+            DocumentError::Unread(kind) | DocumentError::UnreadEvents(kind) => {
+                f.write_str(cause(*kind))
+            }
             DocumentError::NotUtf8(offset) => write!(f, "byte {offset} is not UTF-8"),
-            DocumentError::UnreadEvents(kind) => write!(f, "events: {}", cause(*kind)),
             DocumentError::EventLine(number) => write!(f, "event line {number} cannot be read"),
             DocumentError::Refused(message) => write!(f, "{message}"),
             DocumentError::Memory => f.write_str("out of memory"),
@@ -101,8 +80,8 @@ impl error::Error for DocumentError {}
 pub enum PrintError {
     /// It has no output, or no more of it.
     Document(DocumentError),
-    /// The output cannot be written.
-    Unwritten(ErrorKind),
+    /// Standard output cannot be written.
+    Unwritten(io::Error),
 }
 
 impl From<DocumentError> for PrintError {
@@ -111,15 +90,21 @@ impl From<DocumentError> for PrintError {
     }
 }
 
-impl From<AllocError> for PrintError {
-    fn from(error: AllocError) -> PrintError {
-        PrintError::Document(DocumentError::from(error))
-    }
-}
-
-impl From<io::Error> for PrintError {
-    fn from(error: io::Error) -> PrintError {
-        PrintError::Unwritten(error.kind())
+impl From<document_forms::PrintError> for PrintError {
+    fn from(error: document_forms::PrintError) -> PrintError {
+        match error {
+            document_forms::PrintError::NotUtf8(offset) => {
+                PrintError::Document(DocumentError::NotUtf8(offset))
+            }
+            document_forms::PrintError::EventLine(number) => {
+                PrintError::Document(DocumentError::EventLine(number))
+            }
+            document_forms::PrintError::Refused(message) => {
+                PrintError::Document(DocumentError::Refused(message))
+            }
+            document_forms::PrintError::Memory => PrintError::Document(DocumentError::Memory),
+            document_forms::PrintError::Output(error) => PrintError::Unwritten(error),
+        }
     }
 }
 

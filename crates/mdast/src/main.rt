@@ -15,26 +15,27 @@ mod arguments;
 mod constructs;
 mod error;
 mod form;
-mod inspect;
-mod line;
+mod messages;
 mod progress;
+mod screen;
 mod source;
 mod task;
 #[cfg(test)]
 mod tests;
 
 use crate::arguments::{read_arguments, status};
+use crate::messages::{out_of_memory, unwritten, without_arguments};
+use clap::Error;
 use std::env;
-use std::io::ErrorKind;
 use std::process::ExitCode;
 
 fn main(rt: HostRuntime) -> ExitCode {
     ExitCode::from(match env::args(&rt) {
         Ok(arguments) => match arguments.collect(rt.alloc()) {
             Ok(words) => answer(&rt, &words),
-            Err(_) => refuse(&rt, ErrorKind::OutOfMemory),
+            Err(_) => out_of_memory(&rt),
         },
-        Err(error) => refuse(&rt, error.kind()),
+        Err(error) => without_arguments(&rt, &error),
     })
 }
 
@@ -42,19 +43,14 @@ fn main(rt: HostRuntime) -> ExitCode {
 fn answer(rt: &HostRuntime, words: &Vec<String>) -> u8 {
     match read_arguments(rt, words.as_slice()) {
         Ok(request) => task::run(rt, &request),
-        Err(error) => {
-            let _ = error.print(rt);
-            status(&error)
-        }
+        Err(error) => end(rt, &error),
     }
 }
 
-/// Reports why there are no arguments, and returns the status.
-fn refuse(rt: &HostRuntime, kind: ErrorKind) -> u8 {
-    let (cause, status) = match kind {
-        ErrorKind::OutOfMemory => ("out of memory", 3),
-        _ => ("the arguments are not UTF-8", 2),
-    };
-    let _ = rt.eprintln(format_args!("mdast: {cause}"));
-    status
+/// Prints the help, the version, or what is wrong with the arguments, and returns the status.
+fn end(rt: &HostRuntime, error: &Error) -> u8 {
+    match error.print(rt) {
+        Err(failure) if !error.use_stderr() => unwritten(rt, &failure),
+        _ => status(error),
+    }
 }

@@ -1,6 +1,5 @@
 //! Where a document, or its events, come from.
 
-use crate::error::DocumentError;
 use std::alloc::{AllocError, Global};
 use std::io::{self, Read};
 use std::{fmt, fs};
@@ -32,21 +31,18 @@ impl Source {
         }
     }
 
-    /// Returns all its text.
-    pub fn read_text(&self, rt: &HostRuntime) -> Result<String, DocumentError> {
-        match String::from_utf8(self.read(rt)?) {
-            Ok(text) => Ok(text),
-            Err(error) => Err(DocumentError::NotUtf8(error.utf8_error().valid_up_to())),
+    /// Returns its name in messages.
+    pub fn name(&self) -> &str {
+        match self {
+            Source::File(name) => name.as_str(),
+            Source::Input => "<stdin>",
         }
     }
 }
 
 impl fmt::Display for Source {
     fn fmt<W: fmt::Write>(&self, f: &mut fmt::Formatter<W>) -> fmt::Result {
-        match self {
-            Source::File(name) => f.write_str(name.as_str()),
-            Source::Input => f.write_str("<stdin>"),
-        }
+        f.write_str(self.name())
     }
 }
 

@@ -1,11 +1,12 @@
 //! The work of the program for each document.
 
 use crate::arguments::Request;
-use crate::error::PrintError;
+use crate::error::{DocumentError, PrintError};
 use crate::form::print_form;
+use crate::messages::unwritten;
 use crate::progress::Progress;
 use crate::source::Source;
-use std::io::ErrorKind;
+use std::io;
 
 /// Prints what is requested of each document, and returns the status: the greatest of theirs.
 ///
@@ -17,27 +18,28 @@ pub fn run(rt: &HostRuntime, request: &Request) -> u8 {
     for source in &request.documents {
         match print_document(rt, request, source, &mut progress) {
             Ok(found) => status = status.max(found),
-            Err(kind) => return status.max(unwritten(rt, kind)),
+            Err(error) => return status.max(unwritten(rt, &error)),
         }
     }
     status
 }
 
 /// Prints what is requested of a document, or why there is no output or no more of it, and returns
-/// the status. The error is that the output cannot be written.
+/// the status. The error says why standard output cannot be written.
 fn print_document(
     rt: &HostRuntime,
     request: &Request,
     source: &Source,
     progress: &mut Progress,
-) -> Result<u8, ErrorKind> {
+) -> io::Result<u8> {
     let printed = print(rt, request, source, progress);
     match printed {
         Ok(status) => Ok(status),
-        Err(PrintError::Unwritten(kind)) => Err(kind),
+        Err(PrintError::Unwritten(error)) => Err(error),
         Err(PrintError::Document(error)) => {
             progress.clear(rt);
-            let _ = rt.eprintln(format_args!("mdast: {source}: {error}"));
+            let place = error.source(source, request.events.as_ref());
+            let _ = rt.eprintln(format_args!("mdast: {place}: {error}"));
             Ok(error.status())
         }
     }
@@ -51,16 +53,10 @@ fn print(
     progress: &mut Progress,
 ) -> Result<u8, PrintError> {
     progress.next();
-    let text = source.read_text(rt)?;
-    progress.show(rt, source, text.len());
-    print_form(rt, request, source, text.as_str(), progress)
-}
-
-/// Reports why the output cannot be written, and returns the status.
-fn unwritten(rt: &HostRuntime, kind: ErrorKind) -> u8 {
-    if kind == ErrorKind::BrokenPipe {
-        return 0;
-    }
-    let _ = rt.eprintln(format_args!("mdast: cannot write the output: {kind}"));
-    2
+    let document = match source.read(rt) {
+        Ok(document) => document,
+        Err(error) => return Err(PrintError::Document(DocumentError::of_document(error))),
+    };
+    progress.show(rt, source, document.len());
+    print_form(rt, request, source, &document, progress)
 }

@@ -1,6 +1,0 @@
-use Rattle.std.proofs.Common.{length}
-use Rattle.markdown_nodes.specs.WalkLevels.{coming}
-use Rattle.mdast.proofs.inspect.inspect.Given as goal
-
-abbrev pub decreases-nodes : goal.decreases-nodes
-decreases-nodes l = length (coming l.walk)
