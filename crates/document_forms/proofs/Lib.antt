@@ -1,1 +1,2 @@
+mod EventLists
 mod Printing

@@ -7,10 +7,10 @@ ghost use Rattle.event_lines.specs.Written.{written};
 ghost use Rattle.document_forms.specs.Compiled.{IsCompiledForm, IsUnread, IsWhyNot, Means};
 
 use crate::error::PrintError;
+use crate::event_list::write_event_list;
 use crate::outcome::Printed;
-use crate::parsed::{text_of, write_text};
+use crate::parsed::text_of;
 use event_lines::lines::{LinesError, events};
-use event_lines::written::lines_of;
 use markdown::compile_events;
 use markdown_events::event::Event;
 use markdown_events::message::Fault;
@@ -64,7 +64,7 @@ pub fn write_event_lines<O: Write>(
 {
     text_of(document)?;
     let events = events_of(alloc, event_lines)?;
-    write_text(lines_of(alloc, &events), output)
+    write_event_list(alloc, &events, output)
 }
 
 /// Returns the tree of a text and its events.

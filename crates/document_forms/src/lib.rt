@@ -7,6 +7,7 @@
 
 mod compiled;
 mod error;
+mod event_list;
 mod outcome;
 mod parsed;
 #[cfg(test)]

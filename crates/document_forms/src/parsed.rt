@@ -6,8 +6,8 @@ ghost use Rattle.document_forms.specs.Documents.{IsTreeOf, AreEventsOf, IsPrinte
 ghost use Rattle.document_forms.specs.Errors.{IsNotUtf8, IsOfWriting};
 
 use crate::error::PrintError;
+use crate::event_list::write_event_list;
 use crate::outcome::Printed;
-use event_lines::written::lines_of;
 use markdown::{ParseOptions, to_events, to_mdast, to_outline, to_text};
 use markdown_nodes::mdast::Node;
 use std::alloc::{AllocError, Global};
@@ -62,7 +62,8 @@ pub fn write_events<O: Write>(
     // No error says that a document is not UTF-8 if it is.
     ensures error { IfErr result (IsNotUtf8 document.now) }
 {
-    write_text(event_lines(alloc, text_of(document)?, options), output)
+    let events = to_events(alloc, text_of(document)?, options)?;
+    write_event_list(alloc, &events, output)
 }
 
 /// Writes what is asked for of the tree of a text.
@@ -93,13 +94,6 @@ pub(crate) fn text_of(document: &[u8]) -> Result<&str, PrintError>
         Ok(text) => Ok(text),
         Err(error) => Err(PrintError::NotUtf8(error.valid_up_to())),
     }
-}
-
-/// Returns the events of a text, one on each line.
-fn event_lines(alloc: Global, document: &str, options: &ParseOptions) -> Result<String, AllocError>
-    ensures { IfOk result (λ text. AreEventsOf (string_bytes text) document.now options.now.constructs) }
-{
-    lines_of(alloc, &to_events(alloc, document, options)?)
 }
 
 /// Writes a text, unless memory ran out before there was one.

@@ -5,7 +5,7 @@ use crate::compiled::{write_compiled, write_event_lines};
 use crate::error::PrintError;
 use crate::parsed::{write_document, write_events};
 use markdown::ParseOptions;
-use std::alloc::Global;
+use std::alloc::{AllocError, Global};
 use std::io::{self, Write};
 use std::process::Abort;
 use tree_forms::{Asked, TreeForm};
@@ -159,6 +159,43 @@ fn writes_the_events_of_a_document(rt: HostRuntime) {
     let written = write_events(rt.alloc(), b"Hi", &ParseOptions::gfm(), &mut output);
     assert!(rt; written.is_ok());
     assert_eq!(rt; output.as_slice(), HI.as_bytes());
+}
+
+/// Returns the lines of the events of a text in a line that is `a`: where the line begins and ends.
+fn lines_of_a(alloc: Global, line: usize, offset: usize) -> Result<String, AllocError> {
+    let end = offset + 1;
+    format!(in alloc; "+Data {line}:1:{offset}\n-Data {line}:2:{end}\n")
+}
+
+/// Returns the lines of the events of the line ending after such a line.
+fn lines_of_its_end(alloc: Global, line: usize, offset: usize) -> Result<String, AllocError> {
+    let (end, next, after) = (offset + 1, line + 1, offset + 2);
+    format!(in alloc; "+LineEnding {line}:2:{end}\n-LineEnding {next}:1:{after}\n")
+}
+
+/// A paragraph of 400 lines has 1,602 events, more than are written at once.
+#[test]
+fn writes_events_in_pieces(rt: HostRuntime) -> Result<(), PrintError> {
+    let alloc = rt.alloc();
+    let mut document = String::new(alloc);
+    let mut wanted = String::from_str(alloc, "+Paragraph 1:1:0\n")?;
+    for line in 1..400 {
+        document.push_str("a\n")?;
+        wanted.push_str(lines_of_a(alloc, line, 2 * line - 2)?.as_str())?;
+        wanted.push_str(lines_of_its_end(alloc, line, 2 * line - 2)?.as_str())?;
+    }
+    document.push_str("a")?;
+    wanted.push_str(lines_of_a(alloc, 400, 798)?.as_str())?;
+    wanted.push_str("-Paragraph 400:2:799\n")?;
+    let mut output = Vec::new(alloc);
+    write_events(
+        alloc,
+        document.as_bytes(),
+        &ParseOptions::gfm(),
+        &mut output,
+    )?;
+    assert_eq!(rt; output.as_slice(), wanted.as_bytes());
+    Ok(())
 }
 
 #[test]

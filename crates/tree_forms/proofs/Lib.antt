@@ -1,2 +1,2 @@
 mod AllLines
-mod InPieces
+pub mod InPieces
