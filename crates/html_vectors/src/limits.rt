@@ -156,27 +156,31 @@ fn footnotes(rt: HostRuntime) -> Result<(), AllocError> {
 #[test]
 fn cells(rt: HostRuntime) -> Result<(), AllocError> {
     let alloc = rt.alloc();
+    let head = repeated(alloc, "|a", 1001)?;
+    let columns = repeated(alloc, "|-", 1001)?;
+    let rows = repeated(alloc, "|b|\n", 11)?;
     let document = joined(
         alloc,
-        &[
-            repeated(alloc, "|a", 1001)?.as_str(),
-            "|\n",
-            repeated(alloc, "|-", 1001)?.as_str(),
-            "|\n",
-            repeated(alloc, "|b|\n", 11)?.as_str(),
-        ],
+        &[head.as_str(), "|\n", columns.as_str(), "|\n", rows.as_str()],
     )?;
+    let page = page_of_rows(alloc)?;
+    shows(&rt, alloc, document.as_str(), page.as_str())
+}
+
+/// Returns the page of these rows.
+fn page_of_rows(alloc: Global) -> Result<String, AllocError> {
+    let head = repeated(alloc, "<th>a</th>\n", 1001)?;
     let cells = repeated(alloc, "<td></td>\n", 1000)?;
     let row = joined(alloc, &["<tr>\n<td>b</td>\n", cells.as_str(), "</tr>\n"])?;
-    let page = joined(
+    let rows = repeated(alloc, row.as_str(), 10)?;
+    joined(
         alloc,
         &[
             "<table>\n<thead>\n<tr>\n",
-            repeated(alloc, "<th>a</th>\n", 1001)?.as_str(),
+            head.as_str(),
             "</tr>\n</thead>\n<tbody>\n",
-            repeated(alloc, row.as_str(), 10)?.as_str(),
+            rows.as_str(),
             "<tr>\n<td>b</td>\n</tr>\n</tbody>\n</table>\n",
         ],
-    )?;
-    shows(&rt, alloc, document.as_str(), page.as_str())
+    )
 }
