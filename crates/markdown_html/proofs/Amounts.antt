@@ -1,9 +1,9 @@
 -- How much nodes add to a page in a place that is not the end of a footnote.
-use Rattle.std.proofs.Common.{◌≡◌, ℕ, ◌+◌, ◌-◌, ◌*◌, ◌≤◌, ◌<◌, ◌||◌, ◌⊎◌, inl, inr, zero, suc, Bool, true, false, List, [], ◌∷◌, Option, None, Some, arith, refl, sym, ap, subst, ◌∙◌}
+use Rattle.std.proofs.Common.{◌≡◌, ℕ, ◌+◌, ◌≤◌, ◌<◌, ◌||◌, ◌⊎◌, inl, inr, zero, suc, Bool, true, false, List, [], ◌∷◌, Option, None, Some, arith, refl, sym, ap, subst, ◌∙◌}
 use Rattle.markdown_events.specs.declared.infer.AlignKind.{AlignKind}
-use Rattle.markdown_nodes.specs.Tree.{Label, Tree, Trees, nothing, node, root, paragraph, blockquote, list, list_item, table, link, link_reference, footnote_definition}
+use Rattle.markdown_nodes.specs.Tree.{Label, Trees, nothing, node, root, blockquote, list, list_item, table, link, link_reference, footnote_definition}
 use Rattle.markdown_html.specs.declared.place.Kind.{Kind}
-use Rattle.markdown_html.specs.declared.place.Kind.TheVariants.{Text, Linked, Flow, Tight, LooseItem, TightItem, Hidden, FirstRow, SecondRow, LaterRow, HeaderCell, Cell, Note, Tail, Task}
+use Rattle.markdown_html.specs.declared.place.Kind.TheVariants.{Text, Linked, Flow, Tight, Hidden, HeaderCell, Cell, Task}
 use Rattle.markdown_html.specs.Bounds.{most_of}
 use Rattle.markdown_html.specs.Html.{Source, entered, left, nodes_page, settled}
 use Rattle.markdown_html.specs.Page.{Call, Page, with_call}

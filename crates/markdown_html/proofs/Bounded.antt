@@ -1,27 +1,26 @@
 -- The page of a tree has at most as many bytes as its bound.
-use Rattle.std.proofs.Common.{◌≡◌, ℕ, ◌+◌, ◌-◌, ◌*◌, ◌≤◌, ◌<◌, zero, suc, Bool, true, false, cond, if◌then◌else◌, ltb, List, [], ◌∷◌, ◌++◌, length, Option, None, Some, codes, arith, refl, sym, ap, subst, ◌∙◌, add-one, slice_get}
+use Rattle.std.proofs.Common.{◌≡◌, ℕ, ◌+◌, ◌*◌, ◌≤◌, zero, suc, Bool, true, false, cond, if◌then◌else◌, ltb, List, [], ◌∷◌, ◌++◌, length, Option, None, Some, codes, arith, refl, sym, ap, subst, ◌∙◌, add-one, slice_get}
 use Rattle.std.specs.List.{find}
 use Rattle.std.specs.Option.{option_eq}
 use Rattle.std.specs.Str.{bytes_eq}
-use Rattle.std.proofs.lemmas.Bool.{cond_both, false≢true, le-ltb, lt-ltb, ltb-true}
+use Rattle.std.proofs.lemmas.Bool.{false≢true, le-ltb, lt-ltb, ltb-true}
 use Rattle.std.proofs.lemmas.Option.{none-some}
 use Rattle.std.proofs.lemmas.Slice.Eq.{bytes_eq-Decides}
 use Rattle.markdown_nodes.specs.Tree.{Label, Tree, Trees, nothing, node, paragraph, footnote_definition}
 use Rattle.markdown_nodes.specs.Walk.{walk, walks}
 use Rattle.mdast_check.specs.References.{footnote_identifier_of}
-use Rattle.markdown_html.specs.declared.place.Kind.{Kind}
 use Rattle.markdown_html.specs.declared.place.Kind.TheVariants.{Flow, Note, Tail}
 use Rattle.markdown_html.specs.Bounds.{bound, most_of, most_of_all}
 use Rattle.markdown_html.specs.Elements.{back_references, note_start, section_start}
-use Rattle.markdown_html.specs.Html.{Source, back_page, closed, ends_with_paragraph, entered, footnote_end, footnote_in, html, is_footnote, is_paragraph, left, most_notes, nodes_page, notes_page, opened, paragraph_end, section_page, settled, tree_page}
-use Rattle.markdown_html.specs.Page.{Call, Page, blank, index_of, on_new_line, say, with_call}
-use Rattle.markdown_html.specs.Places.{Place, below, followed, inside, place}
+use Rattle.markdown_html.specs.Html.{Source, back_page, closed, ends_with_paragraph, entered, footnote_in, html, is_footnote, is_paragraph, left, most_notes, nodes_page, notes_page, opened, settled, tree_page}
+use Rattle.markdown_html.specs.Page.{Call, Page, blank, index_of, on_new_line, say}
+use Rattle.markdown_html.specs.Places.{Place, below, inside, place}
 use Rattle.markdown_html.specs.Texts.{budget_of}
-use Rattle.markdown_html.proofs.Amounts.{counted, flow_inner, inner_goes, level, node_goes, nodes_go, shown}
+use Rattle.markdown_html.proofs.Amounts.{counted, flow_inner, inner_goes, node_goes, nodes_go, shown}
 use Rattle.markdown_html.proofs.Distinct.{Distinct, distinct_kept, id_of_call, index_kept}
-use Rattle.markdown_html.proofs.Growth.{Affordable, Goes, Grows, added, closes, freshens, goes_on, node_most, opens, same, says, settled_affordable, size, stays, texts_after, texts_before, within}
-use Rattle.markdown_html.proofs.Owed.{begun, begun_ends, begun_fair, begun_less, begun_more, owed, owed_begins, owed_fair, start_size}
-use Rattle.markdown_html.proofs.Short.{Short, back_references_short, back_size, note_start_short, section_start_short, whole}
+use Rattle.markdown_html.proofs.Growth.{Goes, Grows, added, closes, freshens, goes_on, node_most, opens, same, says, settled_affordable, size, stays, texts_after, within}
+use Rattle.markdown_html.proofs.Owed.{begun, begun_ends, begun_fair, begun_less, begun_more, owed, owed_begins, owed_fair}
+use Rattle.markdown_html.proofs.Short.{back_references_short, note_start_short, section_start_short, whole}
 
 -- which footnotes are not yet written
 abbrev is_written : ℕ → List Call → List ℕ → Bool

@@ -1,9 +1,9 @@
 -- The calls of a page have distinct identifiers, and each keeps its index.
-use Rattle.std.proofs.Common.{◌≡◌, ℕ, ◌+◌, ◌≤◌, ◌<◌, ◌⊎◌, inl, inr, zero, suc, Bool, true, false, cond, if◌then◌else◌, List, [], ◌∷◌, ◌++◌, length, Option, None, Some, arith, refl, sym, ap, subst, ◌∙◌, slice_get}
+use Rattle.std.proofs.Common.{◌≡◌, ℕ, ◌⊎◌, inl, inr, zero, suc, Bool, if◌then◌else◌, List, [], ◌∷◌, ◌++◌, length, Option, None, Some, refl, sym, ap, ◌∙◌, slice_get}
 use Rattle.std.specs.Str.{bytes_eq}
 use Rattle.std.proofs.lemmas.Option.{none-some}
 use Rattle.std.proofs.lemmas.Slice.Eq.{bytes_eq-Decides}
-use Rattle.markdown_html.specs.Page.{Call, again, index_of, with_call}
+use Rattle.markdown_html.specs.Page.{Call, again, index_of}
 use Rattle.markdown_html.proofs.Growth.{Grows, same, called}
 use Rattle.markdown_html.proofs.Indexes.{index-again, index-snoc, or_else}
 

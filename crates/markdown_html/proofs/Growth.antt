@@ -1,19 +1,19 @@
 -- How much a page grows: each node adds as much as its texts and its kind allow.
-use Rattle.std.proofs.Common.{◌≡◌, ℕ, ◌+◌, ◌-◌, ◌*◌, ◌≤◌, ◌<◌, ◌||◌, zero, suc, Bool, true, false, not, cond, List, [], ◌∷◌, ◌++◌, length, Option, None, Some, if◌then◌else◌, codes, arith, refl, sym, ap, subst, ◌∙◌, unwrap_or, drop, slice_get, nat_le}
-use Rattle.std.proofs.lemmas.Bool.{cond_both, false≢true, leb-true, not-false}
+use Rattle.std.proofs.Common.{◌≡◌, ℕ, ◌+◌, ◌*◌, ◌≤◌, ◌||◌, Bool, true, false, List, [], ◌++◌, length, Option, None, Some, if◌then◌else◌, codes, arith, refl, unwrap_or, drop, nat_le}
+use Rattle.std.proofs.lemmas.Bool.{cond_both, leb-true, not-false}
 use Rattle.std.proofs.lemmas.List.{length-append}
 use Rattle.html_text.specs.Escapes.{escaped}
 use Rattle.markdown_events.specs.declared.infer.AlignKind.{AlignKind}
 use Rattle.markdown_kinds.specs.declared.ReferenceKind.{ReferenceKind}
-use Rattle.markdown_nodes.specs.Tree.{Label, Tree, Trees, nothing, node, root, paragraph, blockquote, emphasis, strong, delete, table_row, table_cell, thematic_break, «break», text, html as raw_node, inline_code, inline_math, yaml, toml, heading, list, list_item, table, code, math, link, image, link_reference, image_reference, footnote_reference, footnote_definition, definition}
+use Rattle.markdown_nodes.specs.Tree.{Label, Tree, Trees, root, paragraph, blockquote, emphasis, strong, delete, table_row, table_cell, thematic_break, «break», text, html as raw_node, inline_code, inline_math, yaml, toml, heading, list, list_item, table, code, math, link, image, link_reference, image_reference, footnote_reference, footnote_definition, definition}
 use Rattle.mdast_util.specs.Definitions.{definition_in}
 use Rattle.markdown_html.specs.declared.place.Kind.{Kind}
-use Rattle.markdown_html.specs.declared.place.Kind.TheVariants.{Text, Linked, Flow, Tight, LooseItem, TightItem, Hidden, FirstRow, SecondRow, LaterRow, HeaderCell, Cell, Note, Tail, Task}
+use Rattle.markdown_html.specs.declared.place.Kind.TheVariants.{Flow, Tight, FirstRow, SecondRow, LaterRow, Note, Tail, Task}
 use Rattle.markdown_html.specs.Bounds.{most_of}
-use Rattle.markdown_html.specs.Elements.{call_text, cell_end, cell_start, check_box, empty_cells, heading_name, image_tag, link_start, linked_call_text, list_end, list_start, reference_end, task_start}
-use Rattle.markdown_html.specs.Html.{Source, any_task, begins_with_paragraph, begins_with_text, call_page, cell_cost, cell_name, closed, count, definition_cost, entered, first_box, footnote_end, footnote_in, footnote_start, has_nodes, image_reference_page, left, link_back, link_front, link_reference_end, link_reference_start, listed_closed, listed_opened, missing_cells, nodes_page, opened, paragraph_end, paragraph_start, phrase_closed, phrase_opened, raw_lines, reference_cost, reference_identifier_of, row_end, settled, table_end, title_of, url_of}
-use Rattle.markdown_html.specs.Page.{Call, Page, affords, block, copy, fresh_line, is_fresh, more, on_new_line, put, say, with_call}
-use Rattle.markdown_html.specs.Places.{Place, checked_of, inside, listed_kind, place}
+use Rattle.markdown_html.specs.Elements.{call_text, empty_cells, image_tag, link_start, linked_call_text, reference_end}
+use Rattle.markdown_html.specs.Html.{Source, any_task, begins_with_paragraph, begins_with_text, cell_cost, cell_name, closed, count, definition_cost, entered, first_box, footnote_end, footnote_in, footnote_start, has_nodes, left, link_back, link_front, listed_closed, listed_opened, missing_cells, opened, paragraph_end, paragraph_start, phrase_closed, phrase_opened, raw_lines, reference_cost, reference_identifier_of, row_end, settled, table_end, title_of, url_of}
+use Rattle.markdown_html.specs.Page.{Call, Page, affords, block, copy, fresh_line, is_fresh, on_new_line, put, say, with_call}
+use Rattle.markdown_html.specs.Places.{Place, checked_of}
 use Rattle.markdown_html.specs.Texts.{label_texts, length_of}
 use Rattle.markdown_html.proofs.PlaceKinds.{by_kind}
 use Rattle.markdown_html.proofs.Short.{Short, both, call_text_short, cell_end_short, cell_start_short, check_box_short, code_block_short, code_text_short, either, empty_cells_short, escaped_short, heading_name_short, id_size, image_tag_short, link_start_short, linked_call_text_short, list_end_short, list_start_short, loosely, math_block_short, math_text_short, raw_html_short, reference_end_short, task_start_short, whole}

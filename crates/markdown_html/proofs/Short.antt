@@ -1,5 +1,5 @@
 -- How many bytes the pieces of a page have at most.
-use Rattle.std.proofs.Common.{◌≡◌, ℕ, ◌+◌, ◌-◌, ◌*◌, ◌^◌, ◌<◌, ◌≤◌, zero, suc, Bool, true, false, ◌&&◌, cond, min, List, [], ◌∷◌, ◌++◌, length, Option, None, Some, if◌then◌else◌, codes, arith, refl, sym, ap, subst, unwrap_or, ◌==◌, nat_le}
+use Rattle.std.proofs.Common.{◌≡◌, ℕ, ◌+◌, ◌-◌, ◌*◌, ◌^◌, ◌≤◌, zero, suc, Bool, true, false, ◌&&◌, min, List, [], ◌∷◌, ◌++◌, length, Option, None, Some, if◌then◌else◌, codes, arith, ◌==◌, nat_le}
 use Rattle.std.proofs.lemmas.Bool.{cond_both, eqb-true, leb-false, leb-true}
 use Rattle.std.proofs.lemmas.Fmt.{length-decimal-le}
 use Rattle.std.proofs.lemmas.Grind.{flat_map-append}
@@ -7,14 +7,14 @@ use Rattle.std.proofs.lemmas.List.{length-append}
 use Rattle.std.proofs.Math.Nat.{suc-mul}
 use Rattle.html_text.specs.Escapes.{escape, escaped}
 use Rattle.html_text.specs.Filter.{filtered, filtered_byte, is_filtered}
-use Rattle.html_text.specs.Urls.{encoded, is_safe_link, is_safe_source, is_url_byte, percent, upper_digit}
+use Rattle.html_text.specs.Urls.{encoded, is_url_byte, percent, upper_digit}
 use Rattle.markdown_events.specs.declared.infer.AlignKind.{AlignKind}
 use Rattle.markdown_events.specs.declared.infer.AlignKind.TheVariants as align
 use Rattle.markdown_kinds.specs.declared.ReferenceKind.{ReferenceKind}
 use Rattle.markdown_kinds.specs.declared.ReferenceKind.TheVariants.{Shortcut, Collapsed, Full}
 use Rattle.markdown_html.specs.declared.source.Raw.{Raw}
 use Rattle.markdown_html.specs.declared.source.Raw.TheVariants.{Omit, Escape, Filter, Pass}
-use Rattle.markdown_html.specs.Elements.{align_attribute, arrow, attribute, back_attributes, back_label, back_reference, back_references, call_attributes, call_id, call_links, call_text, cell_end, cell_start, check_box, code_block, code_lines, code_text, empty_cell, empty_cells, heading_name, image_tag, image_url, is_class, label_id, language_attribute, link_start, link_url, linked_call_text, list_end, list_start, math_block, math_text, note_id, note_start, numeral, passes, raw_html, reference_end, repeat_mark, repeat_text, section_heading, section_start, start_attribute, task_start, tasks_attribute, title_attribute}
+use Rattle.markdown_html.specs.Elements.{align_attribute, arrow, attribute, back_attributes, back_label, back_reference, back_references, call_attributes, call_id, call_links, call_text, cell_end, cell_start, check_box, code_block, code_lines, code_text, empty_cell, empty_cells, heading_name, image_tag, image_url, is_class, label_id, language_attribute, link_start, link_url, linked_call_text, list_end, list_start, math_block, math_text, note_id, note_start, numeral, raw_html, reference_end, repeat_mark, repeat_text, section_heading, section_start, start_attribute, task_start, tasks_attribute, title_attribute}
 use Rattle.markdown_html.specs.Texts.{length_of}
 
 -- a text has at most so many bytes
