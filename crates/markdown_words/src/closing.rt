@@ -3,6 +3,7 @@
 ghost use Rattle.std.specs.Prelude.{◌≡◌, ◌&&◌, IfOk, IfSome, [], true, unwrap_or};
 ghost use Rattle.character_references.specs.Html.{html};
 ghost use Rattle.markdown_events.specs.Texts.{raw, spaces, trim};
+ghost use Rattle.markdown_events.specs.declared.event.Point.{Point};
 ghost use Rattle.markdown_grammar.specs.Document.{source_of, text_read, value_between};
 ghost use Rattle.markdown_grammar.specs.Fenced.{is_line_begun};
 ghost use Rattle.markdown_grammar.specs.Hidden.{hides};
@@ -61,7 +62,7 @@ pub fn close(
         Voice::Text | Voice::First => {
             close_in(alloc, speech, document, true, setting, what, start, end)
         }
-        Voice::Marked => close_cut(speech, document, what, start, end),
+        Voice::Marked => close_cut(alloc, speech, document, what, start, end),
         Voice::Autolink => close_address(alloc, speech, document, what, start, end),
         Voice::Named => close_reference(alloc, speech, document, b'&', what, start, end),
         Voice::Numeric => close_reference(alloc, speech, document, b'#', what, start, end),
@@ -92,7 +93,7 @@ fn close_in(
         | Content::AutolinkLiteralEmail
         | Content::AutolinkLiteralWww
         | Content::AutolinkLiteralWhole => say_value(alloc, speech, document, start, end),
-        Content::LineEnding => say_ending_if(speech, document, endings, start, end),
+        Content::LineEnding => say_ending_if(alloc, speech, document, endings, start, end),
         Content::HardBreak => say_break(speech, setting.in_label),
         Content::CodeText | Content::MathText => {
             speech.end_inline(alloc, setting.in_table && !document.hides())
@@ -155,6 +156,7 @@ fn ending_of<'d>(document: &Document<'d>, start: &Point, end: &Point) -> Option<
 
 /// Says a line ending, if line endings are said.
 fn say_ending_if(
+    alloc: Global,
     speech: &mut Speech,
     document: &Document<'_>,
     endings: bool,
@@ -166,12 +168,13 @@ fn say_ending_if(
     if !endings {
         return Ok(true);
     }
-    say_ending(speech, document, start, end)
+    say_ending(alloc, speech, document, start, end)
 }
 
-/// Says a line ending, if it is a part of the document.
+/// Says a line ending.
 #[inline(always)]
 pub fn say_ending(
+    alloc: Global,
     speech: &mut Speech,
     document: &Document<'_>,
     start: &Point,
@@ -184,7 +187,28 @@ pub fn say_ending(
             speech.say(ending)?;
             Ok(true)
         }
-        None => Ok(false),
+        None => say_made_ending(alloc, speech, document, start, end),
+    }
+}
+
+/// Says a line ending in a document whose values differ from it, if it is valid.
+#[inline(never)]
+fn say_made_ending(
+    alloc: Global,
+    speech: &mut Speech,
+    document: &Document<'_>,
+    start: &Point,
+    end: &Point,
+) -> Result<bool, AllocError>
+    ensures { IfOk result (λ known. known ≡ true → speech.new ≡ add (ending_between document.now start.now end.now) speech.old) }
+{
+    match value_of(alloc, document, *start, *end) {
+        Ok(value) => {
+            speech.say(line_ending_of(document, value.as_str(), *end))?;
+            Ok(true)
+        }
+        Err(Stop::Refused(_)) => Ok(false),
+        Err(Stop::Memory(error)) => Err(error),
     }
 }
 
@@ -246,6 +270,7 @@ fn is_before_line(byte: u8) -> bool
 
 /// Says data or a line ending after a task mark, without the blank that it begins with.
 fn close_cut(
+    alloc: Global,
     speech: &mut Speech,
     document: &Document<'_>,
     what: ItemKind,
@@ -257,7 +282,37 @@ fn close_cut(
 {
     match plain_of(document, what, start, end) {
         Some(text) => say_cut(speech, text),
-        None => Ok(false),
+        None => say_made_cut(alloc, speech, document, what, start, end),
+    }
+}
+
+/// Does the same in a document whose values differ from it, if the value is valid.
+#[inline(never)]
+fn say_made_cut(
+    alloc: Global,
+    speech: &mut Speech,
+    document: &Document<'_>,
+    what: ItemKind,
+    start: &Point,
+    end: &Point,
+) -> Result<bool, AllocError>
+    ensures said { IfOk result (λ known. known ≡ true → speech.new ≡ add (cut (plain_read (source_of document.now html) what start.now end.now)) speech.old) }
+    ensures suits { IfOk result (λ known. known ≡ true → has_blank (plain_read (source_of document.now html) what start.now end.now) ≡ true) }
+{
+    match value_of(alloc, document, *start, *end) {
+        Ok(value) => say_cut(speech, plain_as(document, what, value.as_str(), end)),
+        Err(Stop::Refused(_)) => Ok(false),
+        Err(Stop::Memory(error)) => Err(error),
+    }
+}
+
+/// Returns the text of data or of a line ending, from its value.
+fn plain_as<'v>(document: &Document<'_>, what: ItemKind, value: &'v str, end: &Point) -> &'v str
+    ensures { (start : Point) → value.now ≡ value_between document.now start end.now → result.now ≡ plain_read (source_of document.now html) what start end.now }
+{
+    match what {
+        ItemKind::Content(Content::LineEnding) => line_ending_of(document, value, *end),
+        _ => value,
     }
 }
 
@@ -369,7 +424,7 @@ fn close_code(
     match what {
         ItemKind::Content(Content::Data) => say_in_code(alloc, speech, document, start, end),
         ItemKind::Content(Content::LineEnding) => {
-            say_ending_in_code(speech, document, start, end)
+            say_ending_in_code(alloc, speech, document, start, end)
         }
         _ => Ok(true),
     }
@@ -416,9 +471,10 @@ fn say_made_in_code(
     }
 }
 
-/// Says a line ending in code, if it is a part of the document.
+/// Says a line ending in code.
 #[inline(always)]
 pub fn say_ending_in_code(
+    alloc: Global,
     speech: &mut Speech,
     document: &Document<'_>,
     start: &Point,
@@ -431,6 +487,27 @@ pub fn say_ending_in_code(
             speech.say_in_code(ending, end)?;
             Ok(true)
         }
-        None => Ok(false),
+        None => say_made_ending_in_code(alloc, speech, document, start, end),
+    }
+}
+
+/// Says a line ending in code in a document whose values differ from it, if it is valid.
+#[inline(never)]
+fn say_made_ending_in_code(
+    alloc: Global,
+    speech: &mut Speech,
+    document: &Document<'_>,
+    start: &Point,
+    end: &Point,
+) -> Result<bool, AllocError>
+    ensures { IfOk result (λ known. known ≡ true → speech.new ≡ add_code (ending_between document.now start.now end.now) end.now speech.old) }
+{
+    match value_of(alloc, document, *start, *end) {
+        Ok(value) => {
+            speech.say_in_code(line_ending_of(document, value.as_str(), *end), end)?;
+            Ok(true)
+        }
+        Err(Stop::Refused(_)) => Ok(false),
+        Err(Stop::Memory(error)) => Err(error),
     }
 }

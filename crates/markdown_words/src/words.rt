@@ -186,7 +186,7 @@ impl<'d> Words<'d> {
         ensures passes { OnOk result (self.new.strange ≡ false → Passes (item_kinds.Content contents.LineEnding) start.now end.now self.old self.new) }
         ensures document { self.new.document ≡ self.old.document }
     {
-        if !say_ending(&mut self.speech, &self.document, start, end)? {
+        if !say_ending(self.alloc, &mut self.speech, &self.document, start, end)? {
             self.strange = true;
         }
         Ok(())
@@ -199,7 +199,7 @@ impl<'d> Words<'d> {
         ensures passes { OnOk result (self.new.strange ≡ false → Passes (item_kinds.Content contents.LineEnding) start.now end.now self.old self.new) }
         ensures document { self.new.document ≡ self.old.document }
     {
-        if !say_ending_in_code(&mut self.speech, &self.document, start, end)? {
+        if !say_ending_in_code(self.alloc, &mut self.speech, &self.document, start, end)? {
             self.strange = true;
         }
         Ok(())

@@ -39,6 +39,8 @@ fn a_document_has_a_text(rt: HostRuntime) -> Result<(), AllocError> {
         &ParseOptions::default(),
     )?;
     holds(&rt, text.as_str() == "Hi Earth!\nNext\n");
+    let text = to_text(rt.alloc(), "a\0b\nc", &ParseOptions::default())?;
+    holds(&rt, text.as_str() == "a\u{fffd}b\nc\n");
     Ok(())
 }
 
