@@ -163,13 +163,15 @@ fn writes_the_events_of_a_document(rt: HostRuntime) {
 
 /// Returns the lines of the events of a text in a line that is `a`: where the line begins and ends.
 fn lines_of_a(alloc: Global, line: usize, offset: usize) -> Result<String, AllocError> {
-    let end = offset + 1;
+    let end = offset.saturating_add(1);
     format!(in alloc; "+Data {line}:1:{offset}\n-Data {line}:2:{end}\n")
 }
 
 /// Returns the lines of the events of the line ending after such a line.
 fn lines_of_its_end(alloc: Global, line: usize, offset: usize) -> Result<String, AllocError> {
-    let (end, next, after) = (offset + 1, line + 1, offset + 2);
+    let end = offset.saturating_add(1);
+    let after = end.saturating_add(1);
+    let next = line.saturating_add(1);
     format!(in alloc; "+LineEnding {line}:2:{end}\n-LineEnding {next}:1:{after}\n")
 }
 
