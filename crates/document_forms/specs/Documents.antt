@@ -3,10 +3,10 @@ use Rattle.std.specs.Prelude.{◌≡◌, ◌≢◌, ◌↔◌, ℕ, Bool, IsFals
 use Rattle.character_references.specs.Html.{html}
 use Rattle.event_lines.specs.Written.{written}
 use Rattle.event_writer.specs.Finished.{IsFinished}
+use Rattle.markdown.specs.Documents.{IsReadAsOutline, IsReadAsText, IsReadAsTree}
 use Rattle.markdown.specs.Hidden.{hidden}
 use Rattle.markdown.specs.Roots.{whole_document}
 use Rattle.markdown_events.specs.declared.event.Event.{Event}
-use Rattle.markdown_grammar.specs.Correct.{IsMeaning}
 use Rattle.markdown_grammar.specs.Document.{Source, source, source_hiding}
 use Rattle.markdown_grammar.specs.Ordered.{IsOrdered}
 use Rattle.markdown_nodes.specs.declared.mdast.Node.{Node}
@@ -14,8 +14,6 @@ use Rattle.markdown_nodes.specs.Tree.{only}
 use Rattle.markdown_nodes.specs.View.{view}
 use Rattle.markdown_options.specs.declared.Constructs.{Constructs}
 use Rattle.markdown_options.specs.Spans.{AreOn}
-use Rattle.markdown_outline.specs.Outlines.{HasOutline}
-use Rattle.markdown_words.specs.Texts.{HasText}
 use Rattle.mdast_check.specs.Warnings.{warnings_of}
 use Rattle.tree_forms.specs.declared.form.TreeForm.{TreeForm}
 use Rattle.tree_forms.specs.declared.form.TreeForm.TheVariants.{Outline, PlainText, Warnings}
@@ -33,11 +31,9 @@ AreOf events document constructs = IsFinished (source document html) events × A
 abbrev pub AreEventsOf : List ℕ → List ℕ → Constructs → Type 0
 AreEventsOf text document constructs = (events : List Event) × AreOf events document constructs × (text ≡ written events)
 
--- a tree of a document: the meaning of such events. Its root covers the whole document, and its nodes are in order
+-- a tree of a document, as it is read. Its root covers the whole document, and its nodes are in order
 pub record IsTreeOf (tree : Node) (document : List ℕ) (constructs : Constructs) : Type 0 where
-  pub events : List Event
-  pub are_of : AreOf events document constructs
-  pub is_meaning : IsMeaning tree events (shown document events)
+  pub read : IsReadAsTree constructs document tree
   pub root : (view tree).position ≡ Some (whole_document document)
   pub ordered : IsOrdered (only (view tree))
 
@@ -54,7 +50,7 @@ IsPrintedTree text is_clean form name document constructs =
 -- a text is a form of a document: of its tree, or, without a tree, the outline or the text of its events
 abbrev pub IsPrinted : List ℕ → Bool → TreeForm → List ℕ → List ℕ → Constructs → Type 0
 IsPrinted text is_clean Outline name document constructs =
-    (events : List Event) × AreOf events document constructs × HasOutline text events (shown document events) × (is_clean ≡ true)
+    IsReadAsOutline constructs document text × (is_clean ≡ true)
 IsPrinted text is_clean PlainText name document constructs =
-    (events : List Event) × AreOf events document constructs × HasText text events (shown document events) × (is_clean ≡ true)
+    IsReadAsText constructs document text × (is_clean ≡ true)
 IsPrinted text is_clean form name document constructs = IsPrintedTree text is_clean form name document constructs
